@@ -150,6 +150,7 @@ asks_enclave : (k a7 a6 number : ℕ) (call : Call) → a7 ≡ 0x0A454E43 → a6
     → call_numbered (Enclave k) a7 a6 ≡ Some call
 asks_enclave k a7 a6 number call key same call_numbered_is = rw (key, same) call_numbered_is
 
+-- the shared state, the PMP entries of the hart, and its registers at the ecall
 module _ (shared : Shared) (entries : Entries) (regs : List ℕ) where
   -- the monitor refuses no requested call whose status is 0
   accepted : (world : World) (call : Call) → call_numbered world (register regs 17) (register regs 16) ≡ Some call

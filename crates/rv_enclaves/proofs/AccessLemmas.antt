@@ -50,13 +50,13 @@ permits-match_verdict e mode access i true = elim (cases_Bool (grants mode acces
 
 -- ---- the permissions of each entry's cfg byte
 
--- a cfg byte without permissions permits no access. Each case holds by computation
+-- A cfg byte without permissions permits no access. Each case holds by computation.
 no_permission_refuses : (access : Access) → has_permission access nothing_cfg ≡ false
 no_permission_refuses Fetch = refl
 no_permission_refuses Read = refl
 no_permission_refuses Write = refl
 
--- a cfg byte that switches its entry off permits no access. Each case holds by computation
+-- A cfg byte that switches its entry off permits no access. Each case holds by computation.
 off_refuses : (access : Access) → has_permission access 0 ≡ false
 off_refuses Fetch = refl
 off_refuses Read = refl
@@ -217,6 +217,8 @@ accessible_apart memory t w access a n k table_valid runs_other accessible b low
 
 -- ---- permitted accesses are accessible
 
+-- World w accesses the n bytes from address a on, in mode S or U. The bytes are in RAM, t is a valid table, and the hart has the PMP layout of t and
+-- w
 module _ (memory : List ℕ) (t : Slots) (w : World) (mode : Mode) (access : Access) (a n : ℕ) (ram_size : length memory ≤ 0x1000000)
     (table_valid : IsValid memory t) (mode_below_m : mode ≢ M) (some : 0 < n) (inside : (ram_base ≤ a) × (a + n ≤ ram_base + length memory)) where
   -- the PMP entries of the layout for table t and world w

@@ -77,6 +77,8 @@ read_alike hidden m n address count equiv not_hidden = elim (cases_Bool (is_insi
 
 -- ---- a live slot
 
+-- Two shared states have the same table, in which enclave e is live. Their memories m and n are equal outside the region of e, and their saved
+-- contexts are equal except e.
 module _ (e : ℕ) (table : Slots) (m n : List ℕ) (contexts_m contexts_n : Contexts) (equiv : EqualOutside (is_private table e) m n)
     (saved : SameContexts e contexts_m contexts_n)
     (live : is_live table e ≡ true) where

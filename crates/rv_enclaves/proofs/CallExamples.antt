@@ -35,6 +35,7 @@ with_one memory state = record (empty memory) {
   }));
 }
 
+-- examples for a memory of 256 KiB
 module _ (memory : List ℕ) (entries : Entries) (ram_size : length memory ≡ 0x40000) where
   -- a create of a valid region succeeds
   creates : call_status Host (empty memory) entries (asks 1 (arguments 0x80020000 0x80020000)) ≡ 0
@@ -51,6 +52,7 @@ module _ (memory : List ℕ) (entries : Entries) (ram_size : length memory ≡ 0
   unfolding call_status call_numbered create_rows
   bad_entry = rw ram_size refl
 
+-- examples for any memory
 module _ (memory : List ℕ) (entries : Entries) where
   -- a create of a region whose base is no multiple of its size is refused with the status BadRegion
   bad_region : call_status Host (empty memory) entries (asks 1 (arguments 0x80020800 0x80020800)) ≡ 0xFFFFFFFE

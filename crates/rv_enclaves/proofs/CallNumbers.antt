@@ -63,7 +63,7 @@ requests (Enclave k) a7 a6 =
       and-true (a6 == 7),
     ) refl
 
--- no refusal has the status 0, which is the status of success. Each case holds by computation, or has a false premise
+-- No refusal has the status 0, which is the status of success. Each case holds by computation, or has a false premise.
 pub no_success : (refusal : Refusal) → status_of refusal ≢ 0
 no_success refusals.NotSupported status_is_0 = cc
 no_success refusals.BadRegion status_is_0 = cc
@@ -119,21 +119,21 @@ states_by : (slots : Slots) (call : Call) (accepts : EnclaveState → Bool) (k :
 unfolding state_refusals state_rows
 states_by slots call accepts k same_tests = let rests = in_state call accepts same_tests (slot_at slots k) in rw rests refl
 
--- destroy accepts each state except Running. Each case holds by computation
+-- Destroy accepts each state except Running. Each case holds by computation.
 destroy_accepts_idle : (state : EnclaveState) → takes calls.Destroy state ≡ does_not_run state
 destroy_accepts_idle states.Fresh = refl
 destroy_accepts_idle states.Running = refl
 destroy_accepts_idle states.Stopped = refl
 destroy_accepts_idle states.Exited = refl
 
--- run accepts only the state Fresh. Each case holds by computation
+-- Run accepts only the state Fresh. Each case holds by computation.
 run_accepts_fresh : (state : EnclaveState) → takes calls.Run state ≡ is_fresh state
 run_accepts_fresh states.Fresh = refl
 run_accepts_fresh states.Running = refl
 run_accepts_fresh states.Stopped = refl
 run_accepts_fresh states.Exited = refl
 
--- resume accepts only the state Stopped. Each case holds by computation
+-- Resume accepts only the state Stopped. Each case holds by computation.
 resume_accepts_stopped : (state : EnclaveState) → takes calls.Resume state ≡ is_stopped state
 resume_accepts_stopped states.Fresh = refl
 resume_accepts_stopped states.Running = refl

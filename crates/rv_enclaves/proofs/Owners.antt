@@ -178,6 +178,7 @@ host_owned (Enclave k) before b below = refl
 host_owned Host before b below =
     rw all_ones_size (eq-eqb _ _ (div-eq_of_lt below))
 
+-- a byte b, and the PMP layout of the valid table t and the world w
 module _ (memory : List ℕ) (t : Slots) (w : World) (ram_size : length memory ≤ 0x1000000) (table_valid : IsValid memory t) (b : ℕ) where
   -- if `entry_at` i matches byte b exactly if `owned` holds, then so does entry i of the layout
   at_entry : (i : ℕ) (x : Entry) (owned : Bool) → i < 16 → entry_at t w i ≡ x

@@ -75,7 +75,7 @@ may_take slots call k no_refusal =
     let taken = no_row (not (has_state_for slots call k)) _ _ live.1 in
     taken_at slots call k (slot_at slots k) refl (not-false (has_state_for slots call k) taken.0)
 
--- no call accepts an enclave that runs. Each case holds by computation, or has a false premise
+-- No call accepts an enclave that runs. Each case holds by computation, or has a false premise.
 pub takes_rests : (call : Call) (state : EnclaveState) → takes call state ≡ true → is_running state ≡ false
 takes_rests call states.Fresh state_accepted = refl
 takes_rests call states.Stopped state_accepted = refl
@@ -100,6 +100,7 @@ may_measure shared entries k address no_refusal =
 
 -- ---- the rows depend on memory only by its size
 
+-- two shared states have the same table, and memories of the same size
 module _ (table : Slots) (m n : List ℕ) (contexts_m contexts_n : Contexts) where
   -- the shared state with the memory m and the saved contexts `contexts_m`
   abbrev here : Shared

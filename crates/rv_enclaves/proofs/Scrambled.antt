@@ -79,6 +79,7 @@ in_range : (shared : Shared) (k : ℕ) (o : Option SlotInfo) → slot_at shared.
 in_range shared k None slot_is table_length has_context = cc
 in_range shared k (Some info) slot_is table_length has_context = live_in_range shared.table k info table_length slot_is
 
+-- slot k of a shared state with the invariant may be scrambled
 module _ (shared : Shared) (worlds : List World) (k : ℕ) (shared_invariant : SharedInvariant shared worlds)
     (may_scramble : can_scramble shared.table k ≡ true) where
   -- a slot that may be scrambled has a live enclave that does not run

@@ -31,6 +31,8 @@ running_in o = option_case o false (λ info. is_running info.state)
 
 -- ---- a change of one slot and its context, and of a memory of the same size
 
+-- Slot k gets the record o and the saved context c, and the memory changes but keeps its size. The worlds of the harts change to `after_worlds`. The
+-- premises say that the record fits, and that slot k and the new worlds agree.
 module _ (shared : Shared) (worlds after_worlds : List World) (k : ℕ) (o : Option SlotInfo) (c : Option Context) (memory : List ℕ)
     (shared_invariant : SharedInvariant shared worlds) (in_range : k < slot_count) (same_length : length shared.memory ≡ length memory)
     (fits : Fits shared.memory shared.table k o) (saved_if_held : is_some c ≡ is_held o)
@@ -257,7 +259,7 @@ with_state_is : (slots : Slots) (k : ℕ) (info : SlotInfo) (state : EnclaveStat
     → with_state slots k state ≡ with_slot slots k (Some (record info { state = state }))
 with_state_is slots k info state slot_is = ap (λ o. option_case o slots (λ i. with_slot slots k (Some (record i { state = state })))) slot_is
 
--- `beside` has the worlds of the other harts. The world of the hart that switches changes from the host to enclave k, or back
+-- `beside` has the worlds of the other harts. The world of the hart that switches changes from the host to enclave k, or back.
 module _ (beside : List World) where
   -- the switch to enclave k changes for no other enclave whether it is among the worlds
   other_worlds_unchanged : (j k : ℕ) → j ≢ k → list_any (is_world_of j) (Host ∷ beside) ≡ list_any (is_world_of j) (Enclave k ∷ beside)
@@ -288,7 +290,7 @@ module _ (beside : List World) where
   running_live None running_in_is = cc
   running_live (Some info) running_in_is = (info, refl)
 
-  -- the exit of the running enclave preserves the invariant. If the host runs, the exit changes nothing
+  -- The exit of the running enclave preserves the invariant. If the host runs, the exit changes nothing.
   pub left_sound : (shared : Shared) (world : World) (state : EnclaveState) (kept : Context) → SharedInvariant shared (world ∷ beside)
       → is_running state ≡ false → can_go_on kept ≡ true
       → (let k = running_slot world in

@@ -18,6 +18,7 @@ pub record Fits (memory : List ℕ) (slots : Slots) (k : ℕ) (o : Option SlotIn
   pub region_free : meets monitor_block (region_of o) ≡ false
   pub window_free : meets monitor_block (window_of o) ≡ false
 
+-- slot k of a valid table gets the record o, which fits
 module _ (memory : List ℕ) (slots : Slots) (k : ℕ) (o : Option SlotInfo) (table_valid : IsValid memory slots) (inside : k < slot_count)
     (fits : Fits memory slots k o) where
   -- the table after the change: slot k has the new record

@@ -63,8 +63,8 @@ slot_named (Enclave k) regs = k
 
 -- ---- the conditions
 
--- whether a block may be a region. Its size is a power of two from 4096 on, and its base is a multiple of the size. The block is inside memory, which
--- begins at 80000000
+-- Whether a block may be a region. Its size is a power of two from 4096 on, and its base is a multiple of the size. The block is inside memory, which
+-- begins at 80000000.
 abbrev pub is_block_of : List ℕ → Block → Bool
 is_block_of memory block =
     list_any (λ k. block.size == 2 ^ k) (range_with_len 12 20) && (block.base % block.size == 0
@@ -166,8 +166,8 @@ call_status world shared entries regs =
 
 -- ---- the effects
 
--- the shared state after a create: the new enclave is Fresh, measured and in the lowest free slot. Its first registers are those of its region and
--- window, and it starts at its entry
+-- The shared state after a create: the new enclave is Fresh, measured and in the lowest free slot. Its first registers are those of its region and
+-- window, and it starts at its entry.
 unfoldable pub shared_with_new : Shared → List ℕ → Shared
 shared_with_new shared regs =
     let region = region_named regs in
@@ -293,7 +293,7 @@ pub record IsAccepted (world : World) (shared : Shared) (entries : Entries) (reg
   pub requested : call_numbered world (register regs 17) (register regs 16) ≡ Some call
   pub status : call_status world shared entries regs ≡ 0
 
--- each call is accepted under its conditions in numbers. A create gets the lowest free slot
+-- Each call is accepted under its conditions in numbers. A create gets the lowest free slot.
 pub record AcceptsCalls (shared : Shared) (entries : Entries) (regs : List ℕ) : Type 0 where
   pub create : (slot : ℕ) → Requests 1 regs → IsCreatable shared regs slot
       → IsAccepted Host shared entries regs Create × (lowest_free shared.table ≡ Some slot)

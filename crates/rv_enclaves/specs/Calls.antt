@@ -50,7 +50,7 @@ call_requested world a7 a6 =
 abbrev pub requested_call : World → List ℕ → Option Call
 requested_call world regs = call_requested world (register regs 17) (register regs 16)
 
--- whether a call accepts an enclave in a state. No call accepts an enclave that runs
+-- Whether a call accepts an enclave in a state. No call accepts an enclave that runs.
 abbrev pub takes : Call → EnclaveState → Bool
 takes _ Running = false
 takes Destroy Fresh = true

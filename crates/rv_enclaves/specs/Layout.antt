@@ -45,7 +45,7 @@ abbrev pub window_entry_of : Option SlotInfo → Entry
 window_entry_of None = unused
 window_entry_of (Some info) = if info.window.size == 0 then unused else napot read_write info.window
 
--- PMP entry 14, for the window of the enclave that runs. It is off for the host
+-- PMP entry 14, for the window of the enclave that runs. It is off for the host.
 abbrev pub window_entry : Slots → World → Entry
 window_entry slots Host = unused
 window_entry slots (Enclave k) = window_entry_of (slot_at slots k)

@@ -25,7 +25,7 @@ abbrev pub may_store : List ℕ → Entries → ℕ → Bool
 may_store memory entries address =
     is_inside memory address 1 && permits (verdict entries S Write (bytes_from address 1))
 
--- whether S-mode may store the 32 bytes of a measurement. Each byte is checked separately, and all bytes are checked before any byte is written
+-- Whether S-mode may store the 32 bytes of a measurement. Each byte is checked separately, and all bytes are checked before any byte is written.
 unfoldable pub may_store_all : List ℕ → Entries → ℕ → Bool
 may_store_all memory entries address = list_all (may_store memory entries) (range_with_len address 32)
 

@@ -71,6 +71,7 @@ pub some_identity : (o : Option SlotInfo) → is_some (option_map identity_of o)
 some_identity None = refl
 some_identity (Some info) = refl
 
+-- slot k is free before the trap handler
 module _ (k : ℕ) (shared : Shared) (valid : IsValid shared.memory shared.table) (contexts : length shared.contexts ≡ slot_count)
     (dead : is_live shared.table k ≡ false) where
   -- if slot k is live after the trap handler, then it has an enclave that is as create made it
@@ -149,6 +150,7 @@ same_block m n block same_length inside same =
       bytes = λ i not_hidden. index_same m n i (sym same_length) (same (ram_base + i) (not-false (has block (ram_base + i)) not_hidden));
     }) inside (λ byte low high. in_block block byte low high))
 
+-- the enclave in slot k is as create made it
 module _ (k : ℕ) (machine : MonitoredMachine) (invariant : Invariant machine) (as_created : IsAsCreated k machine.shared) where
   -- the record of an enclave that is as create made it is valid
   pub valid_slot : IsValidSlot machine.shared.memory as_created.info
@@ -221,6 +223,7 @@ plain_entry hart_state old slots k context hart_invariant =
     let tsr = hart_invariant.layout.tsr in
     rw (mie, mprv, tvm, tw, tsr) refl
 
+-- a step of the host enters the enclave of place p, whose saved context is `context`
 module _ (p : Place) (machine : MonitoredMachine) (context : Context) (invariant : Invariant machine)
     (has_context : context_at machine.shared.contexts p.slot ≡ Some context) (enters : IsEntry p machine) where
   -- the step of the host enters the enclave, which continues with its saved context

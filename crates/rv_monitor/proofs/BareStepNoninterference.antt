@@ -57,6 +57,7 @@ module _ (hidden : ℕ → Bool) (state : HartView) (view_invariant : HartViewIn
 
 -- ---- the hidden bytes are the region of an enclave other than the running world
 
+-- the hart of the view does not run enclave e
 module _ (e : ℕ) (state : HartView) (view_invariant : HartViewInvariant state) (runs_other : is_world_of e state.hart_state.world ≡ false) where
   -- a permitted access of the running world has no byte in the region of another enclave
   unseen : (mode : Mode) (access : Access) (span : Span) → is_machine mode ≡ false → MayTouch (bare_machine state) mode access (Some span)

@@ -16,8 +16,8 @@ pub left_if_nand_fails : (a b : Bool) → not (a && b) ≡ false → not a ≡ f
 left_if_nand_fails true b negation_fails = refl
 left_if_nand_fails false b negation_fails = cc
 
--- if the negation of a disjunction fails and its right part fails, then the negation of its left part fails. Each case holds by computation, or has a
--- false premise
+-- If the negation of a disjunction fails and its right part fails, then the negation of its left part fails. Each case holds by computation, or has a
+-- false premise.
 pub left_if_nor_fails : (a b : Bool) → not (a || b) ≡ false → b ≡ false → not a ≡ false
 left_if_nor_fails true b negation_fails right_fails = refl
 left_if_nor_fails false true negation_fails right_fails = cc

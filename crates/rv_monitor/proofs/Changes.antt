@@ -68,6 +68,7 @@ destroyed_changes hart_state shared byte valid requested is_taken =
       | inr outside_region ↦ inl (zeroed_integrity shared.memory (region shared.table slot) byte outside_region)
     ]
 
+-- The hart requests a measure. The lemmas are about one byte of memory.
 module _ (hart_state : HartState) (shared : Shared) (valid : IsValid shared.memory shared.table) (byte : ℕ)
     (asked : requested_call hart_state.world hart_state.hart.regs ≡ Some Measure) where
   -- the PMP entries of the hart
@@ -78,6 +79,7 @@ module _ (hart_state : HartState) (shared : Shared) (valid : IsValid shared.memo
   abbrev slot : ℕ
   slot = measured_slot hart_state.world (a0 hart_state)
 
+  -- the monitor does not refuse the measure
   module _ (live : is_live shared.table slot ≡ true) (may : may_store_all shared.memory entries (a1 hart_state) ≡ true) where
     -- the monitor does not refuse the measure
     not_refused : first_refusal (measure_refusals shared entries slot (a1 hart_state)) ≡ None
@@ -124,6 +126,7 @@ module _ (hart_state : HartState) (shared : Shared) (valid : IsValid shared.memo
     unfolding measured
     measured_changes = put_changes (slot_at shared.table slot) (valid.well_formed slot) live
 
+-- The hart has the PMP layout of the table and its world. The lemmas are about one byte of memory.
 module _ (hart_state : HartState) (shared : Shared) (valid : IsValid shared.memory shared.table)
     (laid : hart_state.hart.csrs.pmp ≡ layout shared.table hart_state.world) (byte : ℕ)
     (trap : Trap) where
@@ -159,6 +162,7 @@ module _ (hart_state : HartState) (shared : Shared) (valid : IsValid shared.memo
 
 -- ---- the bare step
 
+-- the bare step of a view with the invariant, and one byte of memory
 module _ (state : HartView) (view_invariant : HartViewInvariant state) (byte : ℕ) where
   -- a byte outside the store of the step is unchanged
   abbrev Stored : Option Span → List ℕ → Type 0

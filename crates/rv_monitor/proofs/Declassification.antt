@@ -39,6 +39,7 @@ hands_over (causes.Exception exception) a b same_handover = same_handover
 
 -- ---- related machines, and machines that are equivalent in the guest view
 
+-- two machines, and the enclave e that may differ in them
 module _ (e : ℕ) (one other : MonitoredMachine) where
   -- the relation is symmetric
   swapped : AreRelated e one other → AreRelated e other one
@@ -77,6 +78,7 @@ beyond_by false true true running shown = cc
 beyond_by true runs_now in_window running shown = cc
 beyond_by in_region false in_window running shown = cc
 
+-- two machines are related, and enclave e makes a step in the first machine that does not exit
 module _ (e hart : ℕ) (one other : MonitoredMachine) (invariant_one : Invariant one) (related : AreRelated e one other)
     (inside : IsInside e hart one) where
   -- the first machine after the step of the enclave
@@ -130,6 +132,7 @@ module _ (e hart : ℕ) (one other : MonitoredMachine) (invariant_one : Invarian
 
 -- ---- a step of both
 
+-- two machines are related, and the same hart makes a step in both
 module _ (e hart : ℕ) (one other : MonitoredMachine) (invariant_one : Invariant one) (invariant_other : Invariant other)
     (related : AreRelated e one other) where
   -- if both steps are low steps, then their outcomes are equal

@@ -30,6 +30,7 @@ agree a b state step entered =
     with_step ∙ ap (λ (k : Option ℕ). let outcome : Outcome = record { step = b.outcome.step; entered = k } in outcome) entered in
     with_state ∙ ap (λ (o : Outcome). let after : MonitoredStepped = record { state = b.state; outcome = o } in after) same_outcome
 
+-- two results a and b of one step both obey the five laws
 module _ (hart : ℕ) (machine : MonitoredMachine) (invariant : Invariant machine) (in_range : hart < count_of machine) (a b : MonitoredStepped)
     (a_obeys : ObeysCases hart machine a) (b_obeys : ObeysCases hart machine b) where
   -- both results have the same state and the same entered slot
@@ -68,6 +69,7 @@ module _ (hart : ℕ) (machine : MonitoredMachine) (invariant : Invariant machin
         cc
     by_context (Some host) context_is = claim host context_is
 
+  -- the step has this trap in both results
   module _ (trap : Trap) (traps : a.outcome.step.trap ≡ Some trap) (traps_too : b.outcome.step.trap ≡ Some trap) where
     -- two results of an interrupt of an enclave are equal, because the interrupt exits the enclave
     by_interrupt_of : (interrupt : Interrupt) → trap.cause ≡ causes.Interrupt interrupt → (world : World) → own_state.world ≡ world → Same
@@ -84,6 +86,7 @@ module _ (hart : ℕ) (machine : MonitoredMachine) (invariant : Invariant machin
         same_by ((a_obeys.exits k world_is_own).redirects trap traps is_redirection)
         ((b_obeys.exits k world_is_own).redirects trap traps_too is_redirection)
 
+    -- the trap is an ecall from S, and both results have the answer in numbers
     module _ (answers_a : AnswersInNumbers hart machine a trap) (answers_b : AnswersInNumbers hart machine b trap) where
       -- a call that `call_at` finds is offered to the running world
       offered : (call : Call) → call_at hart machine ≡ Some call → is_offered own_state.world call ≡ true

@@ -57,6 +57,7 @@ own_seen memory t k access a n is_accessible_to_k b low high = elim (own_reach m
 
 -- ---- the bare step
 
+-- the hart of the view runs enclave k
 module _ (k : ℕ) (state : HartView) (view_invariant : HartViewInvariant state) (runs_enclave : state.hart_state.world ≡ Enclave k) where
   -- each byte of a permitted access of the enclave is in its region or window
   accesses_own : (mode : Mode) (access : Access) (span : Span) → is_machine mode ≡ false → MayTouch (bare_machine state) mode access (Some span)
@@ -133,7 +134,9 @@ pub put_size : (m : List ℕ) (address : ℕ) (bytes : List ℕ) (o : Option (Li
 put_size m address bytes None written = refl
 put_size m address bytes (Some after) written = length-write m address bytes after written
 
+-- the hart runs enclave k, and its step has this trap
 module _ (k : ℕ) (hart_state : HartState) (runs_enclave : hart_state.world ≡ Enclave k) (trap : Trap) where
+  -- the shared state has a table with all slots
   module _ (shared : Shared) (table_length : length shared.table ≡ slot_count) where
     -- the trap handler keeps the region and the window of slot k, and the size of the memory
     abbrev Keeps : Handled → Type 0

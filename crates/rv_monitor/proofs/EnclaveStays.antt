@@ -45,6 +45,7 @@ rest_parts : (c : CsrState) → rest (machine_parts c) ≡ rest c
 unfolding machine_parts
 rest_parts c = refl
 
+-- the hart of the view runs enclave k
 module _ (k : ℕ) (state : HartView) (view_invariant : HartViewInvariant state) (runs_enclave : state.hart_state.world ≡ Enclave k) where
   -- a step of an enclave without a trap leaves unchanged what `StaysBehind` names
   quiet_stays : (step (bare_machine state)).outcome.trap ≡ None → StaysBehind state (untrapped state)
@@ -60,6 +61,7 @@ module _ (k : ℕ) (state : HartView) (view_invariant : HartViewInvariant state)
         size = step_size (bare_machine state) after (confined (bare_machine state));
       }
 
+  -- the bare step has this trap and this outcome
   module _ (trap : Trap) (outcome : StepOutcome) where
     -- the hart state at the trap, before the trap handler
     abbrev hart_state : HartState

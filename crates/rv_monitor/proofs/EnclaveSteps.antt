@@ -42,7 +42,7 @@ use Rattle.rv_monitor.proofs.Availability.{host_is}
 
 -- ---- the accesses that the PMP entries of an enclave permit
 
--- two results that are Ok under equal tests give the same value. Each case holds by computation, or has a false premise
+-- Two results that are Ok under equal tests give the same value. Each case holds by computation, or has a false premise.
 same_value_by_tests : {A : Type 0} (b c : Bool) (f h : AccessFault) (x : A) → b ≡ c
     → given (if b then Ok x else Err f) ≡ given (if c then Ok x else Err h)
 same_value_by_tests true true f h x same_tests = refl
@@ -99,6 +99,7 @@ record Alike (i j : ℕ) (a b : HartView) : Type 0 where
   slot : slot_at a.shared.table i ≡ slot_at b.shared.table j
   memory : a.shared.memory ≡ b.shared.memory
 
+-- the enclaves i and j run on two harts with equal memories, records and harts, as S and U see them
 module _ (i j : ℕ) (s t : HartState) (one two : Shared) (view_invariant_one : HartViewInvariant (on s one))
     (view_invariant_two : HartViewInvariant (on t two))
     (alike : Alike i j (on s one) (on t two)) where
@@ -197,7 +198,7 @@ module _ (i j : ℕ) (s t : HartState) (one two : Shared) (view_invariant_one : 
 
 -- ---- two steps of a hart: equal outcomes, and the same state again unless the enclaves exit
 
--- two steps have equal outcomes. After them both harts run the host, or the enclaves i and j are alike
+-- Two steps have equal outcomes. After them both harts run the host, or the enclaves i and j are alike.
 record StepAlike (i j : ℕ) (a b : HartViewStepped) : Type 0 where
   outcome : a.outcome ≡ b.outcome
   hosts : is_host a.state.hart_state.world ≡ is_host b.state.hart_state.world
@@ -226,6 +227,7 @@ apart d pc hart = record hart { csrs = apart_csrs hart.csrs d; pc = pc }
 abbrev running : ℕ → Option Context → Hart → HartState
 running k host hart = record { hart = hart; host_context = host; world = Enclave k }
 
+-- The enclaves i and j have the same trap on two harts. The second hart differs from `hart` in the parts of M-mode, which d has, and in the pc.
 module _ (i j : ℕ) (hart : Hart) (d : CsrState) (pc : ℕ) (g h : Option Context) (one two : Shared) (o : StepOutcome)
     (mprv : hart.csrs.mstatus.mprv ≡ false) (slot : slot_at one.table i ≡ slot_at two.table j) (memory : one.memory ≡ two.memory)
     (may_store_same : may_store_all one.memory hart.csrs.pmp (register hart.regs 11) ≡ may_store_all two.memory d.pmp (register hart.regs 11)) where
@@ -346,6 +348,7 @@ put_parts y x = record x {
   };
 }
 
+-- the enclaves i and j run on two harts with equal memories, records and harts, as S and U see them
 module _ (i j : ℕ) (s t : HartState) (one two : Shared) (view_invariant_one : HartViewInvariant (on s one))
     (view_invariant_two : HartViewInvariant (on t two))
     (alike : Alike i j (on s one) (on t two)) where
@@ -473,9 +476,10 @@ saved_same (causes.Exception exception) hart = refl
 beyond_same : (t s : Slots) (i j byte : ℕ) → slot_at t i ≡ slot_at s j → is_beyond t i byte ≡ is_beyond s j byte
 beyond_same t s i j byte same_slot = ap (λ (o : Option SlotInfo). not (has (region_of o) byte || has (window_of o) byte)) same_slot
 
+-- the enclaves of the places p and q have the same state in two machines
 module _ (p q : Place) (one other : MonitoredMachine) (invariant_one : Invariant one) (invariant_other : Invariant other)
     (same_enclave : SameEnclave p q one other) where
-  -- the second machine with the memory of the first one. Below, this machine is called the machine in between
+  -- The second machine with the memory of the first one. Below, this machine is called the machine in between.
   abbrev mid : MonitoredMachine
   mid = record other { shared = record other.shared { memory = one.shared.memory } }
 

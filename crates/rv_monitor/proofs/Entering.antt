@@ -17,6 +17,7 @@ use Rattle.rv_monitor.proofs.Switched.{aligned_again}
 use Rattle.rv_monitor.proofs.TrapSteps.{hart_state_after, quiet_world, trapped_step}
 use Rattle.rv_monitor.proofs.HandlerCases.{handler_cases, entering}
 
+-- the host has a trap, and slot k has the saved context `context`
 module _ (before : HartView) (k : ℕ) (context : Context) (from_host : before.hart_state.world ≡ Host)
     (has_context : context_at before.shared.contexts k ≡ Some context) (trap : Trap) where
   -- the hart state at the trap, before the trap handler
@@ -101,6 +102,7 @@ module _ (before : HartView) (k : ℕ) (context : Context) (from_host : before.h
 
 -- ---- an entry is a trap, and the slot had a saved context
 
+-- The host has a trap. The saved contexts agree with the table.
 module _ (before : HartView) (saves : SavedContextsInvariant before.shared) (runs : before.hart_state.world ≡ Host) (trap : Trap) where
   -- each slot that runs after the trap handler had a saved context before it
   abbrev HadContext : Handled → Type 0
@@ -156,6 +158,7 @@ enters_from hart machine invariant k context trap from_host kept_one trapped enc
     (hart_view_invariant hart machine invariant trapping.has) can_continue trapping.trapped view_ends_in_k in
     (trapping.state ∙ ap (programmed_by hart machine) view_enters.0, ap (λ (outcome : Outcome). outcome.entered) trapping.outcome ∙ view_enters.1)
 
+-- the hart runs the host before its step, and enclave k after it
 module _ (hart k : ℕ) (machine : MonitoredMachine) (invariant : Invariant machine) (from_host : (hart_state_of hart machine).world ≡ Host)
     (enclave_runs_after : (hart_state_of hart (step_of hart machine).state).world ≡ Enclave k) where
   -- the step of the hart's view ends in slot k

@@ -36,6 +36,7 @@ events_invariant (event ∷ more) machine invariant = events_invariant more (eve
 
 -- ---- noninterference
 
+-- the timer line of the same hart changes in two machines
 module _ (e hart : ℕ) (raised : Bool) (one other : MonitoredMachine) where
   -- the same change of a timer line leaves equivalent machines equivalent
   line_equiv : EquivExcept e one other → EquivExcept e (with_timer hart one raised) (with_timer hart other raised)

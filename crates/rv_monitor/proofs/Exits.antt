@@ -26,6 +26,7 @@ use Rattle.rv_monitor.proofs.HandlerCases.{asked-is}
 
 -- ---- the world after the trap handler
 
+-- the hart runs enclave k at the trap
 module _ (k : ℕ) (hart_state : HartState) (shared : Shared) (runs_enclave : hart_state.world ≡ Enclave k) where
   -- an enclave still runs after a measure, refused or not
   measure_stays : (o : Option Refusal) (call : Call)
@@ -86,12 +87,13 @@ cause_is_redirected hart_state shared trap (causes.Exception _) is_redirection =
 twice_aligned : (pc : ℕ) → aligned_to_4 (aligned_to_4 pc) ≡ aligned_to_4 pc
 twice_aligned pc = omega arith
 
--- both definitions of the bit SPP for a mode agree. Each case holds by computation
+-- Both definitions of the bit SPP for a mode agree. Each case holds by computation.
 same_spp : (mode : Mode) → is_supervisor mode ≡ spp_of mode
 same_spp U = refl
 same_spp S = refl
 same_spp M = refl
 
+-- a view with the invariant, and the trap of its step
 module _ (state : HartView) (view_invariant : HartViewInvariant state) (trap : Trap) where
   -- the view after a redirected trap
   abbrev redirected_view : HartView
@@ -142,6 +144,7 @@ redirects_step hart machine invariant trap trapped is_redirection =
       ap (λ (outcome : Outcome). outcome.entered) trapping.outcome ∙ view_is.1,
     )
 
+-- the hart of the view runs enclave k, and its step has this trap
 module _ (k : ℕ) (state : HartView) (runs_enclave : state.hart_state.world ≡ Enclave k) (trap : Trap) where
   -- after a step with a trap, the host runs if and only if the cause is one that exits
   exits_by_cause : (monitored_step state).outcome.step.trap ≡ Some trap

@@ -111,6 +111,7 @@ rest_of hart_state = unswitched (guest_csrs hart_state.hart.csrs)
 abbrev SameHostHandled : Handled → Handled → Type 0
 SameHostHandled a b = SameHost (guest_state (continuing_from a)) (guest_state (continuing_from b))
 
+-- the bit MPRV of the hart is 0
 module _ (hart_state : HartState) (mprv : hart_state.hart.csrs.mstatus.mprv ≡ false) where
   -- the trap handler on two shared states with equal tables gives results with the same host
   handled_host : (trap : Trap) (table : Slots) (m n : List ℕ) (contexts_m contexts_n : Contexts) → length m ≡ length n
@@ -135,6 +136,7 @@ on hart_state shared = record { hart_state = hart_state; shared = shared }
 abbrev SameHostAfter : HartViewStepped → HartViewStepped → Type 0
 SameHostAfter a b = SameHost (guest_state a.state.hart_state) (guest_state b.state.hart_state)
 
+-- the hart does not run enclave e, and makes a step over two shared states that are equivalent except e
 module _ (e : ℕ) (hart_state : HartState) (one two : Shared) (view_invariant_one : HartViewInvariant (on hart_state one))
     (runs_other : is_world_of e hart_state.world ≡ false)
     (shared_equiv : SharedEquivExcept e one two) where
@@ -198,6 +200,8 @@ pub runs_before : (e hart j : ℕ) (machine : MonitoredMachine) → j ≢ hart �
 runs_before e hart j machine distinct runs_after =
     sym (step_beside (λ (s : HartState). is_world_of e s.world) (λ slots hart_state. refl) hart j machine distinct) ∙ runs_after
 
+-- Two machines are equivalent except e in the guest view, and each hart that runs e has the same saved host in both. A hart that does not run e makes
+-- a step in both.
 module _ (e hart : ℕ) (one other : MonitoredMachine) (invariant_one : Invariant one) (invariant_other : Invariant other)
     (equiv : EquivToGuests e one other)
     (hosts : (j : ℕ) → runs_on e j one ≡ true → SameHostOn j one other)

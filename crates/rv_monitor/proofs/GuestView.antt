@@ -29,17 +29,18 @@ counted mcycle minstret hart_state = record hart_state {
 abbrev counted_work : ℕ → ℕ → Handled → Handled
 counted_work mcycle minstret h = record h { hart_state = counted mcycle minstret h.hart_state }
 
+-- the hart state with its own counters, and with other values of the counters
 module _ (mcycle minstret : ℕ) (hart_state : HartState) (shared : Shared) where
   -- the hart state with the other values of the counters
   abbrev counted_state : HartState
   counted_state = counted mcycle minstret hart_state
 
-  -- the refusals of a call do not depend on the counters. Each case holds by computation
+  -- The refusals of a call do not depend on the counters. Each case holds by computation.
   same_refusals : (call : Call) → call_refusals counted_state shared call ≡ call_refusals hart_state shared call
   same_refusals Create = refl
   same_refusals _ = refl
 
-  -- the effect of a call does not depend on the counters. Each case holds by computation
+  -- The effect of a call does not depend on the counters. Each case holds by computation.
   performed_too : (call : Call) → performed counted_state shared call ≡ counted_work mcycle minstret (performed hart_state shared call)
   unfolding performed entered_slot left
   performed_too Create = refl
@@ -98,6 +99,7 @@ returned_too : (outcome : StepOutcome) (h : Handled) (mcycle minstret : ℕ)
     → SameShown (returned outcome h) (returned outcome (counted_work mcycle minstret h))
 returned_too outcome h mcycle minstret = record { outcome = refl; shared = refl; hart_state = refl }
 
+-- the bare steps of the view and of the view with the guest state are the same to guests
 module _ (state : HartView) (alike : SameToGuests (step (bare_machine state)) (step (guest_machine (bare_machine state)))) where
   -- the view with the guest state of the hart
   abbrev other : HartView

@@ -11,6 +11,7 @@ use Rattle.rv_monitor.proofs.HandlerCases.{handler_cases_of_both, entering, save
 
 -- ---- the trap handler
 
+-- each effect of the trap handler leaves the two shared states equivalent except e
 module _ (e : ℕ) (table : Slots) (m n : List ℕ) (contexts_m contexts_n : Contexts)
     (cases : WorksAlike e (over table m contexts_m) (over table n contexts_n))
     (hart_state : HartState) (trap : Trap) where

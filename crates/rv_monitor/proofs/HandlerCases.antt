@@ -44,7 +44,7 @@ pub asked-is : (world : World) (regs : List ℕ) (call : Call) → requested_cal
 unfolding call_requested
 asked-is world regs call requested = found-call world (register regs 17) (register regs 16) (register regs 17 == call_key) call requested
 
--- a call that enters an enclave is offered only to the host. Each case holds by computation, or has a false premise
+-- A call that enters an enclave is offered only to the host. Each case holds by computation, or has a false premise.
 pub entered-by-host : (world : World) (call : Call) → is_entering (Some call) ≡ true → is_offered world call ≡ true → world ≡ Host
 entered-by-host Host call is_entry_call offered = refl
 entered-by-host (Enclave k) Run is_entry_call offered = cc
@@ -98,6 +98,7 @@ leaving cause hart_state shared = left (lowered_by cause hart_state) shared (enc
 abbrev pub entering : HartState → Shared → Handled
 entering hart_state shared = entered_slot hart_state shared (a0 hart_state) (saved_context shared.contexts (a0 hart_state)) (past_call hart_state)
 
+-- the claim P about the trap handler on two shared states with the same table
 module _ (hart_state : HartState) (trap : Trap) (table : Slots) (m n : List ℕ) (contexts_m contexts_n : Contexts)
     (P : Handled → Handled → Type 0) where
   -- the shared state with the memory m and the saved contexts `contexts_m`
@@ -129,6 +130,7 @@ module _ (hart_state : HartState) (trap : Trap) (table : Slots) (m n : List ℕ)
     pub leaves : Both (leaving trap.cause hart_state)
     pub redirects : Both (λ shared. redirected hart_state shared trap)
 
+  -- the claim P holds in each case, and the memories have the same size
   module _ (pieces : Pieces) (same_length : length m ≡ length n) where
     -- the claim holds for an exit by each cause
     by-leaving : (cause : Cause) → trap.cause ≡ cause → Both (leaving cause hart_state)

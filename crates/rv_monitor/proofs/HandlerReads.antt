@@ -38,6 +38,7 @@ same_byte m n address bytes i same_length same_element =
     let same_address : (ram_base + i == ram_base + i) ≡ true = eq-eqb (ram_base + i) (ram_base + i) refl in
     (write-alike other m n address bytes equiv).bytes i (rw same_address refl)
 
+-- two shared states have the same table, memories of the same size, and lists of contexts of the same length
 module _ (table : Slots) (m n : List ℕ) (contexts_m contexts_n : Contexts) (same_length : length m ≡ length n)
     (contexts_length : length contexts_m ≡ length contexts_n) where
   -- the shared state with the memory m and the saved contexts `contexts_m`
@@ -97,6 +98,7 @@ module _ (table : Slots) (m n : List ℕ) (contexts_m contexts_n : Contexts) (sa
   unfolding measured
   measured_same k address = with_put table address (measurement_at table k)
 
+  -- the trap handler reads the same from both shared states
   module _ (hart_state : HartState) (trap : Trap) (same_read : SameRead hart_state trap.cause here there) where
     -- two results of the trap handler are equal, and equal bytes and contexts stay equal
     abbrev HandlerCases : Handled → Handled → Type 0

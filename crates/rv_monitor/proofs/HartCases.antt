@@ -62,6 +62,7 @@ behind_at (Some trap) slots hart_states j in_range =
 
 -- ---- a step of a hart of the machine
 
+-- the view `after` of a hart of the machine is the view after its step
 module _ (hart : ℕ) (machine : MonitoredMachine) (after : HartViewStepped) where
   -- the trap of the step, if there is one
   abbrev o : Option Trap

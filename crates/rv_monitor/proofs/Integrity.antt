@@ -49,6 +49,7 @@ running_slot_is_other k (Enclave j) in_table not_running = not_running
 abbrev Keeps : ℕ → Shared → Handled → Type 0
 Keeps k before h = enters k h.next.entered ≡ false → is_live h.shared.table k ≡ true → KeepsSlot k before h.shared
 
+-- enclave k is live before the trap handler of a hart that does not run k
 module _ (k : ℕ) (hart_state : HartState) (shared : Shared) (valid : IsValid shared.memory shared.table)
     (not_running : is_world_of k hart_state.world ≡ false)
     (live : is_live shared.table k ≡ true) where

@@ -11,7 +11,7 @@ use Rattle.rv_monitor.specs.SwitchLaws.{reason, value}
 
 -- ---- the saved context of the enclave
 
--- the state of the enclave after the exit. For a call, the number in a6 decides the state
+-- The state of the enclave after the exit. For a call, the number in a6 decides the state.
 abbrev pub enclave_state_after : Cause → List ℕ → EnclaveState
 enclave_state_after (causes.Interrupt interrupt) regs = Stopped
 enclave_state_after (causes.Exception exception) regs = if register regs 16 == call_number Exit then Exited else Stopped
@@ -20,8 +20,8 @@ enclave_state_after (causes.Exception exception) regs = if register regs 16 == c
 abbrev pub stopped_at : Hart → Context
 stopped_at hart = record (saved hart (past_ecall hart) S) { regs = with_return_values hart.regs 0 0 }
 
--- the saved context after an exit. After a timer interrupt, the enclave will continue at the interrupted instruction. After the call exit, the saved
--- context is the empty context
+-- The saved context after an exit. After a timer interrupt, the enclave will continue at the interrupted instruction. After the call exit, the saved
+-- context is the empty context.
 abbrev pub saved_after : Cause → Hart → Context
 saved_after (causes.Interrupt interrupt) hart = saved hart (aligned_to_4 hart.pc) hart.mode
 saved_after (causes.Exception exception) hart = if register hart.regs 16 == call_number Exit then exited_context else stopped_at hart

@@ -84,6 +84,7 @@ record StoredAfter (h : Handled) : Type 0 where
   supervisor : Legal h.hart_state.hart.csrs
   contexts : AllLegal h.shared.contexts
 
+-- the S-mode registers, mepc and all saved contexts are legal at the trap
 module _ (hart_state : HartState) (shared : Shared) (trap : Trap) (legal : Legal hart_state.hart.csrs)
     (mepc : aligned_to_4 hart_state.hart.csrs.mepc ≡ hart_state.hart.csrs.mepc) (all_legal : AllLegal shared.contexts) where
   -- the trap handler leaves legal S-mode registers and legal saved contexts

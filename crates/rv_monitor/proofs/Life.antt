@@ -100,6 +100,7 @@ held_live : (o : Option SlotInfo) → is_held o ≡ true → is_some o ≡ true
 held_live None has_context = cc
 held_live (Some info) has_context = refl
 
+-- slot k of a machine with the invariant has the saved context `context`
 module _ (k : ℕ) (machine : MonitoredMachine) (context : Context) (invariant : Invariant machine)
     (saves : context_at machine.shared.contexts k ≡ Some context) where
   -- slot k has a live enclave that does not run, because it has a saved context
@@ -273,6 +274,7 @@ entered_worlds k hart machine enters_slot = elim (cases_lt hart (count_of machin
       (worlds_are.0, ap (λ (a : HartViewStepped). a.state.hart_state.world) step_is ∙ worlds_are.1)
 ]
 
+-- enclave k continues with this context before a step, and is live before and after the step
 module _ (k hart : ℕ) (machine : MonitoredMachine) (context : Context) (invariant : Invariant machine) (continues : ContinuesWith k context machine)
     (live : is_live machine.shared.table k ≡ true) (live_after : is_live (step_of hart machine).state.shared.table k ≡ true)
     (legal_machine : IsLegalMachine machine) where
@@ -471,6 +473,7 @@ own_only p machine invariant runs i byte_beyond =
     sym (index_same machine.shared.memory (step_at p machine).state.shared.memory i (sym same_length)
     (subst (λ (m : List ℕ). byte_at m (ram_base + i) ≡ byte_at machine.shared.memory (ram_base + i)) (sym shared) same))
 
+-- two enclaves are at one point of life, and make an own step in two machines
 module _ (p q : Place) (one other : MonitoredMachine) (invariant_one : Invariant one) (invariant_other : Invariant other)
     (point : AreAtOnePoint p.slot q.slot one other)
     (own_step_premises : IsOwnStep p q one other) where
@@ -482,7 +485,7 @@ module _ (p q : Place) (one other : MonitoredMachine) (invariant_one : Invariant
   abbrev j : ℕ
   j = q.slot
 
-  -- the second machine with the memory of the first one. Below, this machine is called the machine in between
+  -- The second machine with the memory of the first one. Below, this machine is called the machine in between.
   abbrev mid : MonitoredMachine
   mid = over_bytes other one.shared.memory
 

@@ -114,10 +114,11 @@ may_not_differ : (in_region runs_now in_window : Bool) → in_region ≡ false �
 may_not_differ in_region true in_window outside_region outside_window = rw (outside_region, outside_window refl) refl
 may_not_differ in_region false in_window outside_region outside_window = rw outside_region refl
 
+-- two machines are related, and the same hart makes a low step in both while enclave e runs on another hart
 module _ (e hart : ℕ) (one other : MonitoredMachine) (invariant_one : Invariant one) (invariant_other : Invariant other)
     (related : AreRelated e one other)
     (low : IsLowStep e hart one other) (running : runs one.shared.table e ≡ true) where
-  -- the second machine with the memory of the first one. Below, this machine is called the machine in between
+  -- The second machine with the memory of the first one. Below, this machine is called the machine in between.
   abbrev mid : MonitoredMachine
   mid = over_bytes other one.shared.memory
 

@@ -47,6 +47,7 @@ refused_by_status hart_state shared result ((false, refusal) ∷ rows) status_is
 
 -- ---- the handler
 
+-- the hart state at an ecall, and the shared state
 module _ (hart_state : HartState) (shared : Shared) where
   -- the definitions of the calls agree with the tables in numbers
   numbers : AreCallNumbers shared hart_state.hart.csrs.pmp hart_state.hart.regs
@@ -176,6 +177,7 @@ answered_view state trap shared v0 v1 =
     let machine : MonitoredMachine = record { hart_states = state.hart_state ∷ []; shared = state.shared } in
     record { hart_state = hart_state_of 0 (answered_machine 0 machine trap shared v0 v1); shared = shared }
 
+-- the trap handler returns to the caller with the values v0 and v1, and leaves this shared state
 module _ (state : HartView) (view_invariant : HartViewInvariant state) (trap : Trap) (shared : Shared) (v0 v1 : ℕ) where
   -- the return to the caller gives the view after a return to the caller
   returned_answered : (outcome : StepOutcome)
@@ -198,6 +200,7 @@ module _ (state : HartView) (view_invariant : HartViewInvariant state) (trap : T
   unfolding handled
   answered_at outcome handled_is = rw handled_is (returned_answered outcome, refl)
 
+-- the step of a hart of the machine has this trap
 module _ (hart : ℕ) (machine : MonitoredMachine) (invariant : Invariant machine) (trap : Trap) (trapping : IsTrapping hart machine trap) where
   -- the view of the hart before the step
   abbrev view : HartView
@@ -247,7 +250,7 @@ module _ (hart : ℕ) (machine : MonitoredMachine) (invariant : Invariant machin
 
 -- ---- exit
 
--- if an enclave requests exit, then a6 has the number 7. The four tests say whether a7 has the key, and whether a6 has 5, 6 or 7
+-- If an enclave requests exit, then a6 has the number 7. The four tests say whether a7 has the key, and whether a6 has 5, 6 or 7.
 exit_numbered : (is_key is_5 is_6 is_7 : Bool)
     → (if is_key then (if is_5 then Some Measure else (if is_6 then Some Stop else (if is_7 then Some Exit else None))) else None) ≡ Some Exit
     → is_7 ≡ true
@@ -257,7 +260,7 @@ exit_numbered true false true is_7 is_exit = cc
 exit_numbered true false false false is_exit = cc
 exit_numbered false is_5 is_6 is_7 is_exit = cc
 
--- if an enclave requests stop, then a6 has the number 6. The four tests say whether a7 has the key, and whether a6 has 5, 6 or 7
+-- If an enclave requests stop, then a6 has the number 6. The four tests say whether a7 has the key, and whether a6 has 5, 6 or 7.
 stop_numbered : (is_key is_5 is_6 is_7 : Bool)
     → (if is_key then (if is_5 then Some Measure else (if is_6 then Some Stop else (if is_7 then Some Exit else None))) else None) ≡ Some Stop
     → is_6 ≡ true
@@ -286,6 +289,7 @@ leaves_by : (hart_state : HartState) (cause : Cause) (call : Call) → cause ≡
     → requested_call hart_state.world hart_state.hart.regs ≡ Some call → is_exit_call (Some call) ≡ true → causes_exit hart_state cause ≡ true
 leaves_by hart_state cause call by_ecall requested is_exit = rw (by_ecall, requested) is_exit
 
+-- enclave k exits from a hart by this trap, to the host with this saved context
 module _ (hart : ℕ) (machine : MonitoredMachine) (k : ℕ) (trap : Trap) (host : Context) where
   -- the hart before the step
   abbrev own : Hart

@@ -5,7 +5,7 @@ use Rattle.std.proofs.lemmas.Bool.{or_from, or_parts}
 use Rattle.rv_monitor.specs.Prelude.{AreApart, SharedInvariant, Shared, World, is_world_of}
 use Rattle.rv_monitor.proofs.Prelude.{both_ways, cases_Bool, list_any}
 
--- the first two parts of a disjunction of three tests may be exchanged. Each case holds by computation
+-- The first two parts of a disjunction of three tests may be exchanged. Each case holds by computation.
 or_swap : (a b c : Bool) → (a || (b || c)) ≡ (b || (a || c))
 or_swap true true c = refl
 or_swap true false c = refl

@@ -17,6 +17,7 @@ pub record AreProgrammed (slots : Slots) (first now : List HartState) (n : ℕ) 
 pub none_programmed : (slots : Slots) (first : List HartState) → AreProgrammed slots first first 0
 none_programmed slots first = record { size = refl; done = λ j below. absurd (omega (arith, below)); rest = λ j past. refl }
 
+-- the loop is about to handle hart n
 module _ (slots : Slots) (first now : List HartState) (n : ℕ) (so_far : AreProgrammed slots first now n) where
   -- one iteration of the loop programs the next hart
   pub one_programmed : n < length now → AreProgrammed slots first (slice_set now n (reprogrammed slots (hart_state_in now n))) (n + 1)

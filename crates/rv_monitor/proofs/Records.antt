@@ -37,6 +37,7 @@ state_keeps slots k j state table_length = elim (cases_eq k j) [
   | inr distinct ↦ ap (option_map identity_of) (state_other slots k j (slot_at slots j) state distinct)
 ]
 
+-- enclave k is live before the trap handler
 module _ (k : ℕ) (hart_state : HartState) (shared : Shared) (valid : IsValid shared.memory shared.table) (live : is_live shared.table k ≡ true) where
   -- a create leaves the identity of the live slot k unchanged
   created_keeps : (new : CreateArgs) → MayCreate shared new → identity_at (created shared new).table k ≡ identity_at shared.table k

@@ -16,6 +16,7 @@ pub record ChangesAlike (e : ℕ) (one other : HartState) (change change_too : H
       → HartStatesEquivExcept e (guest_state (change one)) (guest_state (change_too other))
   pub host : SameHost (guest_state one) (guest_state other) → SameHost (guest_state (change one)) (guest_state (change_too other))
 
+-- the state of the same hart changes in two related machines by changes that are alike
 module _ (e hart : ℕ) (change change_too : HartState → HartState) (one other : MonitoredMachine) (related : AreRelated e one other)
     (alike : ChangesAlike e (hart_state_of hart one) (hart_state_of hart other) change change_too) where
   -- two changes of a hart of the machines that are alike leave the machines related

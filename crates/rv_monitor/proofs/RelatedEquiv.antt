@@ -11,6 +11,7 @@ use Rattle.rv_monitor.proofs.Prelude.{MonitoredMachine, hart_state_of, length-ma
 use Rattle.rv_monitor.proofs.EquivLemmas.{hart_states_equiv}
 use Rattle.rv_monitor.proofs.GuestView.{guest_hart_state}
 
+-- two machines, and the enclave e that may differ in them
 module _ (e : ℕ) (one other : MonitoredMachine) where
   -- two related machines are equivalent except e in the guest view, if the window of a running enclave has equal bytes in both
   pub related_equiv : AreRelated e one other → (runs one.shared.table e ≡ true → SameWindow e one other) → EquivToGuests e one other

@@ -41,6 +41,8 @@ state_live slots k (Some info) state table_length slot_is =
     let slot_in_range = live_in_range slots k info table_length slot_is in
     ap (λ (o : Option SlotInfo). is_some o) (at_same slots k (Some (record info { state = state })) (omega (arith, table_length, slot_in_range)))
 
+-- Enclave e exits by the same trap from the same hart of two machines that are equivalent except e. The enclave hands over the same, and both harts
+-- have the same saved host.
 module _ (e hart : ℕ) (one other : MonitoredMachine) (trap : Trap) (host : Context) (table_length : length one.shared.table ≡ slot_count)
     (live : is_live one.shared.table e ≡ true)
     (equiv : EquivExcept e one other) (there_is : hart < count_of one)

@@ -144,6 +144,7 @@ abbrev pub KeptBeside : List World → HartViewStepped → Type 0
 KeptBeside beside after =
     SharedInvariant after.state.shared (after.state.hart_state.world ∷ beside) × HartInvariant after.state.shared.table after.state.hart_state
 
+-- the hart and the shared state have their invariants, with the worlds of the other harts
 module _ (beside : List World) (hart_state : HartState) (shared : Shared) (shared_invariant : SharedInvariant shared (hart_state.world ∷ beside))
     (hart_invariant : HartInvariant shared.table hart_state) where
   -- the view of the hart before the step

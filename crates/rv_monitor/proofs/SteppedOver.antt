@@ -126,6 +126,7 @@ MeasuresSeen hidden world table saved_contexts =
     is_host world ≡ true → (memory : List ℕ) (new : CreateArgs) → MayCreate (over table memory saved_contexts) new → (i : ℕ)
     → has new.region (ram_base + i) ≡ true → hidden (ram_base + i) ≡ false
 
+-- Two shared states differ only in their memories m and n, which are equal outside the hidden bytes. A create measures no hidden byte.
 module _ (hidden : ℕ → Bool) (hart_state : HartState) (trap : Trap) (table : Slots) (m n : List ℕ) (saved_contexts : Contexts)
     (equal : EqualOutside hidden m n)
     (measures_seen : MeasuresSeen hidden hart_state.world table saved_contexts) where
@@ -275,6 +276,7 @@ abbrev after_bare : StepOutcome → HartState → Shared → HartViewStepped
 after_bare outcome hart_state shared =
     option_case outcome.trap (unhandled outcome hart_state shared) (λ trap. returned outcome (handled hart_state shared trap))
 
+-- A hart makes a step over two memories that are equal outside the hidden bytes. The step reads and measures no hidden byte.
 module _ (hidden : ℕ → Bool) (hart_state : HartState) (shared : Shared) (n : List ℕ) (equal : EqualOutside hidden shared.memory n)
     (reads_seen : ReadsSeen hidden (step (bare_machine (on hart_state shared))).outcome.touched)
     (measures_seen : MeasuresSeen hidden hart_state.world shared.table shared.contexts) where

@@ -123,6 +123,7 @@ same_context : (host : Context) (regs : List ℕ) (pc : ℕ) (mode : Mode) (supe
     → (let made : Context = record { regs = regs; pc = pc; mode = mode; supervisor = supervisor } in made) ≡ record host { regs = new_regs }
 same_context host regs pc mode supervisor new_regs regs_is pc_is mode_is supervisor_is = rw (regs_is, pc_is, mode_is, supervisor_is) refl
 
+-- the saved context of the host is legal and agrees with the world, and the step has this trap
 module _ (state : HartView) (host_invariant : HostContextInvariant state.hart_state) (legal : HostContextIsLegal state.hart_state) (trap : Trap) where
   -- the return from an exit to the host satisfies `StaysOrSwitches`
   returned_leaves : (outcome : StepOutcome) (h : Handled) → outcome.trap ≡ Some trap → LeavesFor (hart_state_after state.hart_state trap) trap h

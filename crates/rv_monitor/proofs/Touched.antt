@@ -38,6 +38,7 @@ fetches_at_pc state = step_ways state (FetchesAtPc state.hart.pc) (record {
 
 -- ---- the accesses
 
+-- a view with the invariant
 module _ (state : HartView) (view_invariant : HartViewInvariant state) where
   -- a permitted access below M is accessible to the running world
   accessible : (mode : Mode) (access : Access) (o : Option Span) → is_machine mode ≡ false → MayTouch (bare_machine state) mode access o

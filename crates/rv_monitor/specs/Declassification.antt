@@ -38,8 +38,8 @@ SameHostOn hart one other = SameHost (guest_state (hart_state_of hart one)) (gue
 abbrev pub may_differ : Slots → ℕ → ℕ → Bool
 may_differ slots e byte = has (region slots e) byte || (runs slots e && has (window slots e) byte)
 
--- two machines are equivalent except e in the guest view, and except for the window of e while e runs. The saved contexts of the host on the hart of
--- e are equal
+-- Two machines are equivalent except e in the guest view, and except for the window of e while e runs. The saved contexts of the host on the hart of
+-- e are equal.
 pub record AreRelated (e : ℕ) (one other : MonitoredMachine) : Type 0 where
   pub harts : count_of one ≡ count_of other
   pub hart_states : (hart : ℕ) → HartStatesEquivExcept e (guest_state (hart_state_of hart one)) (guest_state (hart_state_of hart other))
@@ -60,7 +60,7 @@ pub record SameHandover (one other : Hart) : Type 0 where
   pub a0 : register one.regs 10 ≡ register other.regs 10
   pub a6 : register one.regs 16 ≡ register other.regs 16
 
--- two harts hand over the same by this cause. An interrupt hands over no register
+-- Two harts hand over the same by this cause. An interrupt hands over no register.
 abbrev pub SameHandoverBy : Cause → Hart → Hart → Type 0
 SameHandoverBy (causes.Interrupt interrupt) one other = Unit {0}
 SameHandoverBy (causes.Exception exception) one other = SameHandover one other
@@ -89,7 +89,7 @@ pub record IsInside (e hart : ℕ) (machine : MonitoredMachine) : Type 0 where
   pub before : runs_on e hart machine ≡ true
   pub after : runs_on e hart (step_of hart machine).state ≡ true
 
--- the step is a low step. If the enclave runs on another hart, then the bytes of its window that the step reads are equal in both machines
+-- The step is a low step. If the enclave runs on another hart, then the bytes of its window that the step reads are equal in both machines.
 pub record IsLowStep (e hart : ℕ) (one other : MonitoredMachine) : Type 0 where
   pub low : runs_on e hart one ≡ false
   pub window : runs one.shared.table e ≡ true → SameWindowRead e hart one other

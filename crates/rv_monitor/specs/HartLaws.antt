@@ -58,7 +58,7 @@ LowStepsLaw =
 
 -- ---- noninterference
 
--- the outcomes are the same, and the final machines are equivalent except e. The steps are low steps in the other machine too
+-- The outcomes are the same, and the final machines are equivalent except e. The steps are low steps in the other machine too.
 pub record SchedAlike (e : ℕ) (harts : List ℕ) (one other : MonitoredMachine) : Type 0 where
   pub outcomes : (sched harts one).outcomes ≡ (sched harts other).outcomes
   pub state : EquivExcept e (sched harts one).state (sched harts other).state

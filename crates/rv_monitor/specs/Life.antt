@@ -61,8 +61,8 @@ pub record BothReturned (p q : Place) (one other : MonitoredMachine) : Type 0 wh
   pub first : HasReturned reason value p.hart one
   pub second : HasReturned reason value q.hart other
 
--- the own step is the same in both machines: the outcomes are equal, and every byte that changes in one machine is equal in both after the step. If
--- the enclave exits, then both hosts receive the same
+-- The own step is the same in both machines: the outcomes are equal, and every byte that changes in one machine is equal in both after the step. If
+-- the enclave exits, then both hosts receive the same.
 pub record SameOwnStep (p q : Place) (one other : MonitoredMachine) : Type 0 where
   pub outcome : (step_at p one).outcome ≡ (step_at q other).outcome
   pub changes : ChangeAlike one.shared.memory other.shared.memory (step_at p one).state.shared.memory (step_at q other).state.shared.memory

@@ -14,7 +14,7 @@ use Rattle.rv_monitor.specs.Switches.{Handled}
 abbrev pub continuing_from : Handled → HartState
 continuing_from h = record h.hart_state { hart = returned_to h.hart_state.hart h.next.pc h.next.mode }
 
--- two results of the trap handler enter the same slot and are equivalent except e. If this slot is e, then the hart states need not be equal
+-- Two results of the trap handler enter the same slot and are equivalent except e. If this slot is e, then the hart states need not be equal.
 pub record HandledAlike (e : ℕ) (one other : Handled) : Type 0 where
   pub entered : one.next.entered ≡ other.next.entered
   pub hart_state : HartStatesEquivExcept e (continuing_from one) (continuing_from other)

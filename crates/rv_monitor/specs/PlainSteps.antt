@@ -24,7 +24,7 @@ plainly_stepped own before =
       shared = record before.shared { memory = after.state.memory };
     }
 
--- the trap and the accesses of the step are those of the plain step. Without a trap, so is the rest of the result
+-- The trap and the accesses of the step are those of the plain step. Without a trap, so is the rest of the result.
 pub record IsPlain (hart : ℕ) (before : MonitoredMachine) (after : MonitoredStepped) : Type 0 where
   pub outcome : after.outcome.step ≡ (plain_step hart before).outcome
   pub quiet : after.outcome.step.trap ≡ None → (after.state ≡ plainly_stepped hart before) × (after.outcome.entered ≡ None)
