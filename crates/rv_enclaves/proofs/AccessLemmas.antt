@@ -24,6 +24,7 @@ use Rattle.rv_word.specs.declared.width.Width.TheVariants.{Byte, Half, Word}
 use Rattle.rv_enclaves.proofs.Napots.{same_test}
 use Rattle.rv_enclaves.proofs.Owners.{cfg_of-layout, entry_at-monitor, entry_at-slot, entry_at-window, entry_at-host, world_window, covers_monitor}
 use Rattle.rv_enclaves.proofs.Owners.{covers_slot, covers_window, covers_host, has_nothing, IsApart, apart}
+use Rattle.rv_enclaves.proofs.EqualMemory.{inside-is}
 
 -- ---- verdicts in S and U
 
@@ -118,7 +119,7 @@ window_gives (Some s) access b no_fetch in_window =
 -- ---- accessible memory, by world
 
 -- a world that passes the test `is_world_of k` is enclave k
-world_is : (k : ℕ) (w : World) → is_world_of k w ≡ true → w ≡ Enclave k
+pub world_is : (k : ℕ) (w : World) → is_world_of k w ≡ true → w ≡ Enclave k
 world_is k Host runs_enclave = absurd (false≢true runs_enclave)
 world_is k (Enclave j) runs_enclave = ap Enclave (eqb-true j k runs_enclave)
 
@@ -434,22 +435,15 @@ small_ram memory ram_size =
     let parts = and_parts (length memory % 65536 == 0 && nat_le 65536 (length memory)) (nat_le (length memory) 16777216) ram_size in
     leb-true (length memory) 16777216 parts.1
 
--- an access inside memory begins at or above the base of RAM and ends at or below the end of RAM
-pub inside_is : (m : List ℕ) (address count : ℕ) → is_inside m address count ≡ true
-    → (ram_base ≤ address) × (address + count ≤ ram_base + length m)
-inside_is m address count inside =
-    let parts = and_parts (nat_le ram_base address) (nat_le (address + count) (ram_base + length m)) inside in
-    (leb-true _ _ parts.0, leb-true _ _ parts.1)
-
 -- proves that the layout permits exactly the accessible accesses
 pub reach_law : LayoutAccessLaw
 reach_law memory slots world mode access address width valid below inside =
     reach_from memory slots world mode access address (bytes_in width) (small_ram memory valid.ram) valid below (some_bytes width)
-    (inside_is memory address (bytes_in width) inside)
+    (inside-is memory address (bytes_in width) inside)
 
 -- proves that no permitted access of S or U has a byte in the region of another enclave
 pub apart_law : ApartLaw
 apart_law memory slots world mode access address width k byte valid below inside other permitted low high =
     let apart = permitted_apart memory slots world mode access address (bytes_in width) (small_ram memory valid.ram) valid below (some_bytes width)
-    (inside_is memory address (bytes_in width) inside) in
+    (inside-is memory address (bytes_in width) inside) in
     apart k other permitted byte low high

@@ -47,7 +47,7 @@ same_read hidden m n address count equiv inside not_hidden =
     rw (← same_size, parts) refl
 
 -- a byte of the memory after a write, at an index inside the write, is the written byte
-index-within : (memory : List ℕ) (index : ℕ) (bytes : List ℕ) (k : ℕ) → index + length bytes ≤ length memory → index ≤ k
+pub index-within : (memory : List ℕ) (index : ℕ) (bytes : List ℕ) (k : ℕ) → index + length bytes ≤ length memory → index ≤ k
     → k < index + length bytes
     → get_or (write_bytes memory index bytes) k 0 ≡ get_or bytes (k - index) 0
 index-within memory index bytes k within at_least_index before_end = grind (arith, common_steps)

@@ -209,6 +209,12 @@ live_in_range slots k info table_length slot_is = elim (cases_lt k slot_count) [
       let contradiction : None ≡ Some info = sym nothing ∙ slot_is in cc
 ]
 
+-- the slot of a live enclave is a slot of the table
+pub live_slot_in_range : (slots : Slots) (k : ℕ) (o : Option SlotInfo) → length slots ≡ slot_count → slot_at slots k ≡ o → is_some o ≡ true
+    → k < slot_count
+live_slot_in_range slots k None table_length slot_is live = cc
+live_slot_in_range slots k (Some info) table_length slot_is live = live_in_range slots k info table_length slot_is
+
 -- zeroing a block does not change the size of the memory
 size_zeroed : (memory : List ℕ) (block : Block) (o : Option (List ℕ)) → write memory block.base (replicate block.size 0) ≡ o
     → length memory ≡ length (option_case o memory (λ after. after))

@@ -8,6 +8,7 @@ use Rattle.rv_pmp.proofs.VerdictLemmas.{each_from_all}
 use Rattle.rv_memory.proofs.MemoryLaws.{length-write}
 use Rattle.rv_memory.specs.declared.block.Block.{Block}
 use Rattle.rv_enclaves.proofs.EqualMemory.{IsSeen}
+pub use Rattle.rv_enclaves.proofs.AccessLemmas.{world_is}
 use Rattle.rv_enclaves.specs.Table.{region_of, window, window_of}
 use Rattle.rv_enclaves.specs.SlotNumbers.{slot_count}
 use Rattle.rv_monitor.specs.Prelude.{Access, EqualOutside, Call, Cause, Create, Destroy, Enclave, EnclaveState, Fetch, Hart, Host, Mode, Outcome, Read}
@@ -247,11 +248,6 @@ step_own k hart_state one other view_invariant_one runs_enclave slots same_for_k
     (after_bare a.outcome (record hart_state { hart = a.state.hart }) (stored hart_state one))
     (after_bare outcome (record hart_state { hart = hart }) (stored hart_state other)) in
     subst (λ hart. P hart b.outcome) (sym alike.hart) (subst (λ outcome. P a.state.hart outcome) (sym alike.outcome) base)
-
--- a world that passes the test `is_world_of k` is enclave k
-pub world_is : (k : ℕ) (world : World) → is_world_of k world ≡ true → world ≡ Enclave k
-world_is k Host runs_enclave = cc
-world_is k (Enclave j) runs_enclave = ap Enclave (eqb-true j k runs_enclave)
 
 -- a world that passes the test `is_world_of k` is not the host
 pub not_host_by : (k : ℕ) (world : World) → is_world_of k world ≡ true → is_host world ≡ false

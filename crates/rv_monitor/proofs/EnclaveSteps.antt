@@ -23,6 +23,7 @@ use Rattle.rv_monitor.specs.Prelude.{mie_of, option_case, permits, ram_base, reg
 use Rattle.rv_enclaves.specs.Table.{window_of}
 use Rattle.rv_enclaves.specs.declared.refusal.Refusal.TheVariants.{NoEnclave, BadAddress}
 use Rattle.rv_enclaves.specs.SlotNumbers.{slot_count}
+use Rattle.rv_enclaves.proofs.SharedInvariantLemmas.{live_slot_in_range}
 use Rattle.rv_monitor.specs.EnclaveSteps.{DependsOnEnclave, EnclaveRunLaw, HasReturned, Place, SameEnclave, SameEnclaveStep, SameExit, is_beyond, runs_at, step_at}
 use Rattle.rv_monitor.proofs.Prelude.{Handled, Invariant, HartViewInvariant, MonitoredMachine, HartView, HartViewStepped, a1, bare_machine, call_handled}
 use Rattle.rv_monitor.proofs.Prelude.{call_refusals, called, with_redirected_trap, handled, handled_cause, handled_exception, left, monitored_step, performed}
@@ -424,11 +425,6 @@ pub record HasExited (p : Place) (cause : Cause) (before after : MonitoredMachin
   pub memory : after.shared.memory ≡ before.shared.memory
   pub extent : KeepsExtent p.slot before.shared.table after.shared.table
 
--- the slot of a live enclave is a slot of the table
-live_slot : (slots : Slots) (k : ℕ) (o : Option SlotInfo) → length slots ≡ slot_count → slot_at slots k ≡ o → is_some o ≡ true → k < slot_count
-live_slot slots k None table_length slot_is is_present = absurd (false≢true is_present)
-live_slot slots k (Some info) table_length slot_is is_present = live_in_range slots k info table_length slot_is
-
 -- after a trap of an enclave after which the host runs, the enclave has exited
 pub exited : (p : Place) (machine : MonitoredMachine) (trap : Trap) → Invariant machine → runs_at p machine ≡ true
     → (step_at p machine).outcome.step.trap ≡ Some trap → (hart_state_of p.hart (step_at p machine).state).world ≡ Host
@@ -452,7 +448,7 @@ exited p machine trap invariant runs trapped host_runs_after (Some host) host_co
     let left = (leave_law p.hart machine invariant p.slot host trap world host_context_is trapped host_runs_after).0 in
     let hart_state_is = left_hart_state p.hart machine p.slot trap host in_range in
     let live = running_is_live p.slot p.hart machine invariant runs in
-    let slot_in_range = live_slot t p.slot o count refl live in
+    let slot_in_range = live_slot_in_range t p.slot o count refl live in
     rw left (record {
       returned = record {
         world = ap (λ (s : HartState). s.world) hart_state_is;

@@ -23,6 +23,7 @@ use Rattle.rv_monitor.proofs.PmpProgramming.{all_as_are}
 use Rattle.rv_monitor.proofs.HartCases.{is_trapping, programmed_by, step_seen}
 use Rattle.rv_monitor.proofs.TrapSteps.{same_outcome, hart_state_after, quiet_world, trapped_step}
 use Rattle.rv_monitor.proofs.HandlerCases.{asked-is}
+use Rattle.rv_monitor.proofs.Alignment.{aligned_twice}
 
 -- ---- the world after the trap handler
 
@@ -83,10 +84,6 @@ cause_is_redirected hart_state shared trap (causes.Interrupt interrupt) is_redir
 cause_is_redirected hart_state shared trap (causes.Exception EnvironmentCallFromS) is_redirection = cc
 cause_is_redirected hart_state shared trap (causes.Exception _) is_redirection = refl
 
--- an address that is rounded down to a multiple of 4 twice is the address that is rounded down once
-twice_aligned : (pc : ℕ) → aligned_to_4 (aligned_to_4 pc) ≡ aligned_to_4 pc
-twice_aligned pc = omega arith
-
 -- Both definitions of the bit SPP for a mode agree. Each case holds by computation.
 same_spp : (mode : Mode) → is_supervisor mode ≡ spp_of mode
 same_spp U = refl
@@ -108,7 +105,7 @@ module _ (state : HartView) (view_invariant : HartViewInvariant state) (trap : T
       let mprv = view_invariant.hart.layout.mprv in
       let entries = view_invariant.hart.layout.entries in
       let mie = view_invariant.hart.layout.mie in
-      rw (same_spp hart.mode, twice_aligned hart.csrs.stvec, or-false (is_set hart.csrs.mcountinhibit 0), mprv, ← entries, ← mie) refl
+      rw (same_spp hart.mode, aligned_twice hart.csrs.stvec, or-false (is_set hart.csrs.mcountinhibit 0), mprv, ← entries, ← mie) refl
 
   -- the view after the step is the view after a redirected trap, and the step enters no slot
   abbrev IsRedirectedTo : HartViewStepped → Type 0

@@ -4,6 +4,7 @@ use Rattle.std.specs.Prelude.{is_some}
 use Rattle.rv_memory.proofs.BlockLaws.{apart_at}
 use Rattle.rv_enclaves.specs.declared.create_args.CreateArgs.{CreateArgs}
 use Rattle.rv_enclaves.specs.SlotNumbers.{slot_count}
+use Rattle.rv_enclaves.proofs.SharedInvariantLemmas.{live_slot_in_range}
 use Rattle.rv_monitor.specs.Prelude.{Context, Destroy, Enclave, EnclaveState, Host, IsValid, Running, HartState, Shared, Slots, Trap, Write, byte_at, bytes_in}
 use Rattle.rv_monitor.specs.Prelude.{context_at, created, destroyed, first_context, has, is_live, is_world_of, measured, new_slot}
 use Rattle.rv_monitor.specs.Prelude.{World, option_case, create_args_of, recorded, region, register, running_slot, slot_at, with_context, with_slot}
@@ -19,6 +20,7 @@ use Rattle.rv_monitor.proofs.InvariantLemmas.{hart_view_invariant}
 use Rattle.rv_monitor.proofs.HartCases.{by_hart}
 use Rattle.rv_monitor.proofs.TrapSteps.{step_cases, hart_state_after}
 use Rattle.rv_monitor.proofs.HandlerCases.{handler_cases, saved_by}
+use Rattle.rv_monitor.proofs.Records.{state_other}
 
 -- ---- the record and the saved context of the enclave
 
@@ -27,18 +29,12 @@ record KeepsSlot (k : ℕ) (before after : Shared) : Type 0 where
   pub slot : slot_at after.table k ≡ slot_at before.table k
   pub context : context_at after.contexts k ≡ context_at before.contexts k
 
--- a new state of slot j leaves the record of each other slot unchanged
-state_by : (slots : Slots) (k j : ℕ) (o : Option SlotInfo) (state : EnclaveState) → k ≢ j
-    → slot_at (option_case o slots (λ info. with_slot slots j (Some (record info { state = state })))) k ≡ slot_at slots k
-state_by slots k j None state distinct = refl
-state_by slots k j (Some info) state distinct = at_other slots j k (Some (record info { state = state })) distinct
-
 -- a new state and a new saved context of slot j leave each other slot unchanged
 other_state : (k j : ℕ) (shared : Shared) (state : EnclaveState) (c : Option Context) → (j == k) ≡ false
     → KeepsSlot k shared (record shared { table = with_state shared.table j state; contexts = with_context shared.contexts j c })
 other_state k j shared state c distinct =
     let other : k ≢ j = λ same. both_ways _ distinct (eq-eqb j k (sym same)) in
-    record { slot = state_by shared.table k j (slot_at shared.table j) state other; context = at_other shared.contexts j k c other }
+    record { slot = state_other shared.table k j (slot_at shared.table j) state other; context = at_other shared.contexts j k c other }
 
 -- the slot of the running world is not slot k
 running_slot_is_other : (k : ℕ) (world : World) → k < slot_count → is_world_of k world ≡ false → (running_slot world == k) ≡ false
@@ -53,11 +49,6 @@ Keeps k before h = enters k h.next.entered ≡ false → is_live h.shared.table 
 module _ (k : ℕ) (hart_state : HartState) (shared : Shared) (valid : IsValid shared.memory shared.table)
     (not_running : is_world_of k hart_state.world ≡ false)
     (live : is_live shared.table k ≡ true) where
-  -- the slot of a live enclave is a slot of the table
-  live_below : (o : Option SlotInfo) → slot_at shared.table k ≡ o → is_some o ≡ true → k < slot_count
-  live_below None slot_is is_present = cc
-  live_below (Some info) slot_is is_present = live_in_range shared.table k info valid.count slot_is
-
   -- a create leaves the live slot k unchanged
   created_keeps : (new : CreateArgs) → MayCreate shared new → KeepsSlot k shared (created shared new)
   unfolding created
@@ -93,7 +84,7 @@ module _ (k : ℕ) (hart_state : HartState) (shared : Shared) (valid : IsValid s
     leaves = λ not_entered live_after.
         other_state k (running_slot hart_state.world) shared (enclave_state_after trap.cause hart_state.hart.regs)
         (Some (saved_by trap.cause hart_state))
-        (running_slot_is_other k hart_state.world (live_below (slot_at shared.table k) refl live) not_running);
+        (running_slot_is_other k hart_state.world (live_slot_in_range shared.table k (slot_at shared.table k) valid.count refl live) not_running);
     redirects = λ not_entered live_after. record { slot = refl; context = refl };
   })
 

@@ -23,19 +23,12 @@ use Rattle.rv_monitor.proofs.HartCases.{outside, step_beside, step_seen}
 use Rattle.rv_monitor.proofs.InvariantLemmas.{changed_of, hart_view_invariant}
 use Rattle.rv_monitor.proofs.Start.{start_cases}
 use Rattle.rv_monitor.proofs.TrapSteps.{hart_state_after, step_cases}
-
--- an address that is rounded down to a multiple of 4 twice is the address that is rounded down once
-aligned_twice : (address : ℕ) → aligned_to_4 (aligned_to_4 address) ≡ aligned_to_4 address
-aligned_twice address = omega arith
+use Rattle.rv_monitor.proofs.Alignment.{aligned_twice}
+use Rattle.rv_monitor.proofs.StepInvariant.{stays_if}
 
 -- the S-mode registers of the hart are legal in a context
 abbrev Legal : CsrState → Type 0
 Legal c = IsLegal (s_context c)
-
--- a claim that holds if there is no trap holds for a step without a trap
-if_none : (o : Option Trap) (P : Type 0) → o ≡ None → IfNone o P → P
-if_none None P no_trap holds = holds
-if_none (Some trap) P no_trap holds = cc
 
 -- ---- the trap handler
 
@@ -127,7 +120,7 @@ record ViewStored (state : HartView) : Type 0 where
 view_stored : (state : HartView) → HartViewInvariant state → ViewStored state → ViewStored (monitored_step state).state
 view_stored state view_invariant legal = step_cases state (λ after. ViewStored after.state)
     (λ none.
-    let hart = if_none _ _ none (keeps_stored (bare_machine state) view_invariant.hart.layout.mode (record {
+    let hart = stays_if _ _ none (keeps_stored (bare_machine state) view_invariant.hart.layout.mode (record {
       pc = legal.pc;
       csrs = record { stvec = legal.supervisor.stvec; sepc = legal.supervisor.sepc };
     })) in

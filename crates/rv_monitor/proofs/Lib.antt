@@ -2,6 +2,8 @@
 pub mod Prelude
 -- Lemmas about Boolean tests that several proofs use and std does not have
 pub mod Booleans
+-- Lemmas about addresses that are multiples of 4, and about addresses that are rounded down to a multiple of 4
+pub mod Alignment
 -- The return values of a call that switches no world, as the code computes them
 pub mod Concluded
 -- Case analysis of the trap handler: a claim that holds in each case holds for the trap handler

@@ -51,7 +51,7 @@ use Rattle.rv_monitor.proofs.Records.{record_law}
 use Rattle.rv_monitor.proofs.SchedNoninterference.{entered_some, entry_law}
 use Rattle.rv_monitor.proofs.SteppedOver.{MachineOver, MeasuresSeen, ReadsSeen, machine_over, over_bytes}
 use Rattle.rv_monitor.proofs.LegalMachine.{event_stored}
-use Rattle.rv_monitor.proofs.Switched.{Turns, handled_turns}
+use Rattle.rv_monitor.proofs.Switched.{Turns, handled_turns, legal_again}
 use Rattle.rv_monitor.proofs.Touched.{touch_law}
 use Rattle.rv_monitor.proofs.TrapSteps.{hart_state_after, step_cases}
 use Rattle.std.proofs.lemmas.Bool.{leb-true, ltb-true, not-false, not-true}
@@ -209,10 +209,6 @@ below_is slots hart_state hart_invariant =
     let tw = hart_invariant.layout.tw in
     let tsr = hart_invariant.layout.tsr in
     rw (mie, mprv, tvm, tw, tsr) refl
-
--- a legal context has the same S-mode registers after the monitor restores and saves it
-legal_again : (c : CsrState) (s : SContext) → IsLegal s → s_context (with_s_context c s) ≡ s
-legal_again c s legal = let stvec = legal.stvec in let sepc = legal.sepc in rw (stvec, sepc) refl
 
 -- ---- steps of others, and changes of timer lines
 

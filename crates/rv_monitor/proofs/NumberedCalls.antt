@@ -29,6 +29,7 @@ use Rattle.rv_monitor.proofs.InvariantLemmas.{hart_view_invariant}
 use Rattle.rv_monitor.proofs.Leaving.{leave_law}
 use Rattle.rv_monitor.proofs.HartCases.{IsTrapping, is_trapping, programmed_by, step_seen}
 use Rattle.rv_monitor.proofs.TrapSteps.{hart_state_after, trapped_step}
+use Rattle.rv_monitor.proofs.Alignment.{next_is_aligned}
 
 -- ---- the tables of the refusals
 
@@ -167,10 +168,6 @@ module _ (hart_state : HartState) (shared : Shared) where
 
 -- ---- the step of a call that enters or leaves no enclave
 
--- the pc after an ecall is a multiple of 4
-again_aligned : (pc : ℕ) → aligned_to_4 (sum_of (aligned_to_4 pc) 4) ≡ sum_of (aligned_to_4 pc) 4
-again_aligned pc = omega arith
-
 -- the view after a return to the caller
 abbrev answered_view : HartView → Trap → Shared → ℕ → ℕ → HartView
 answered_view state trap shared v0 v1 =
@@ -186,7 +183,7 @@ module _ (state : HartView) (view_invariant : HartViewInvariant state) (trap : T
   returned_answered outcome =
       let hart = state.hart_state.hart in
       let mprv = view_invariant.hart.layout.mprv in
-      rw (again_aligned hart.pc, or-false (is_set hart.csrs.mcountinhibit 0), mprv) refl
+      rw (next_is_aligned hart.pc, or-false (is_set hart.csrs.mcountinhibit 0), mprv) refl
 
   -- the view after the step is the view after a return to the caller, and the step enters no slot
   abbrev Answered : HartViewStepped → Type 0

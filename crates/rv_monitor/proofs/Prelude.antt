@@ -1,5 +1,5 @@
 -- Names that the proofs use in addition to those of specs/Prelude, re-exported from one place. Declares nothing.
-pub use Rattle.rv_enclaves.proofs.AccessLemmas.{inside_is, permitted_apart, reach_law, accessible_apart, small_ram, some_bytes}
+pub use Rattle.rv_enclaves.proofs.AccessLemmas.{permitted_apart, reach_law, accessible_apart, small_ram, some_bytes}
 pub use Rattle.rv_enclaves.proofs.Refusals.{IsTaken, MayCreate, MayMeasure, may_create, may_measure, may_take, same_create_refusals}
 pub use Rattle.rv_enclaves.proofs.Refusals.{same_measure_refusals, takes_rests}
 pub use Rattle.rv_enclaves.proofs.Slots.{at_other, at_same}

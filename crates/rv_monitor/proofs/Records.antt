@@ -15,7 +15,7 @@ use Rattle.rv_monitor.proofs.TrapSteps.{step_cases, hart_state_after}
 use Rattle.rv_monitor.proofs.HandlerCases.{handler_cases}
 
 -- a new state of slot j leaves the record of each other slot unchanged
-state_other : (slots : Slots) (k j : ℕ) (o : Option SlotInfo) (state : EnclaveState) → k ≢ j
+pub state_other : (slots : Slots) (k j : ℕ) (o : Option SlotInfo) (state : EnclaveState) → k ≢ j
     → slot_at (option_case o slots (λ info. with_slot slots j (Some (record info { state = state })))) k ≡ slot_at slots k
 state_other slots k j None state distinct = refl
 state_other slots k j (Some info) state distinct = at_other slots j k (Some (record info { state = state })) distinct

@@ -17,6 +17,7 @@ use Rattle.rv_monitor.proofs.Prelude.{keeps_machine_parts, keeps_mprv_clear, mon
 use Rattle.rv_monitor.proofs.Prelude.{unhandled}
 use Rattle.rv_monitor.proofs.Ready.{IsTrapped, IsDone, IsLaidOut, handled_done, handled_laid_out}
 use Rattle.rv_monitor.proofs.TrapSteps.{step_cases, hart_after, hart_state_after}
+use Rattle.rv_monitor.proofs.Alignment.{aligned_is_multiple}
 
 -- ---- no entry of a layout is locked
 
@@ -74,10 +75,6 @@ pub step_size : (before : Machine) (after : Stepped) → IsConfined before after
 step_size before after confined =
     let equiv = equiv_itself before.memory after.outcome.touched in
     stored_size confined.bytes before.memory after.state.memory after.outcome.touched.stored (confined.alike before.memory equiv).here
-
--- an address that is rounded down to a multiple of 4 is a multiple of 4
-multiple : (n : ℕ) → aligned_to_4 n % 4 ≡ 0
-multiple n = omega arith
 
 -- CSRs with equal machine's parts have equal PMP entries, mie and bits of mstatus
 same_parts : (a b : CsrState) → machine_parts a ≡ machine_parts b
@@ -164,7 +161,7 @@ module _ (beside : List World) (hart_state : HartState) (shared : Shared) (share
         };
         layout = record { entries = layout.entries; mie = layout.mie };
         mode = layout.mode;
-        pc = multiple hart_state.hart.pc;
+        pc = aligned_is_multiple hart_state.hart.pc;
       }
 
   -- a step without a trap satisfies `KeptBeside`

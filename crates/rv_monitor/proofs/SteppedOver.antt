@@ -8,7 +8,7 @@ use Rattle.std.specs.Prelude.{slice_set}
 use Rattle.rv_memory.specs.Memory.{write_bytes}
 use Rattle.rv_memory.specs.declared.touched.Touched.{Touched}
 use Rattle.rv_memory.proofs.MemoryLaws.{index-above, index-below, length-write}
-use Rattle.rv_enclaves.proofs.EqualMemory.{inside-is, or_same, same_read, write-none, write-some}
+use Rattle.rv_enclaves.proofs.EqualMemory.{index-within, inside-is, or_same, same_read, write-none, write-some}
 use Rattle.rv_enclaves.proofs.Measurement.{valid_inside}
 use Rattle.rv_enclaves.specs.declared.create_args.CreateArgs.{CreateArgs}
 use Rattle.rv_monitor.specs.Reads.{ChangeAlike, in_span, reads_byte}
@@ -27,12 +27,6 @@ use Rattle.rv_monitor.proofs.EnclaveMemory.{put_size}
 use Rattle.rv_monitor.proofs.TrapSteps.{same_outcome}
 
 -- ---- changes of two memories
-
--- a byte of the memory after a write, at an index inside the write, is the written byte
-index_within_write : (memory : List ℕ) (index : ℕ) (bytes : List ℕ) (k : ℕ) → index + length bytes ≤ length memory → index ≤ k
-    → k < index + length bytes
-    → get_or (write_bytes memory index bytes) k 0 ≡ get_or bytes (k - index) 0
-index_within_write memory index bytes k fits at_least_index before_end = grind (arith, common_steps)
 
 -- the same write changes two memories alike
 pub put_alike : (m n : List ℕ) (address : ℕ) (bytes : List ℕ) → length m ≡ length n
@@ -54,8 +48,8 @@ put_alike m n address bytes same_length i = elim (cases_Bool (is_inside m addres
         | inr from_start ↦ elim (cases_lt i (index + length bytes)) [
           | inl before_end ↦
               inr
-              (index_within_write m index bytes i fits from_start before_end
-              ∙ sym (index_within_write n index bytes i fits_too from_start before_end))
+              (index-within m index bytes i fits from_start before_end
+              ∙ sym (index-within n index bytes i fits_too from_start before_end))
           | inr after_end ↦ inl (index-above m index bytes i fits after_end, index-above n index bytes i fits_too after_end)
         ]
       ])

@@ -106,8 +106,8 @@ kept_between state enclave_runs =
 -- ---- the step
 
 -- a legal context has the same S-mode registers after the monitor restores and saves it
-stored_again : (c : CsrState) (s : SContext) → IsLegal s → s_context (with_s_context c s) ≡ s
-stored_again c s legal = let stvec = legal.stvec in let sepc = legal.sepc in rw (stvec, sepc) refl
+pub legal_again : (c : CsrState) (s : SContext) → IsLegal s → s_context (with_s_context c s) ≡ s
+legal_again c s legal = let stvec = legal.stvec in let sepc = legal.sepc in rw (stvec, sepc) refl
 
 -- the pc of a context with which a hart can continue is unchanged if it is rounded down to a multiple of 4
 pub aligned_again : (mode : Mode) (pc : ℕ) → (not (is_machine mode) && pc % 4 == 0) ≡ true → aligned_to_4 pc ≡ pc
@@ -148,7 +148,7 @@ module _ (state : HartView) (host_invariant : HostContextInvariant state.hart_st
         world = host_leaves.world;
         again = same_context host h.hart_state.hart.regs (aligned_to_4 h.next.pc) h.next.mode (s_context h.hart_state.hart.csrs) _ host_leaves.regs
             (ap aligned_to_4 host_leaves.pc ∙ aligned_again host.mode host.pc can_continue) host_leaves.mode
-            (host_leaves.supervisor ∙ stored_again state.hart_state.hart.csrs host.supervisor host_stored);
+            (host_leaves.supervisor ∙ legal_again state.hart_state.hart.csrs host.supervisor host_stored);
         forgotten = host_leaves.forgotten;
         entered = host_leaves.entered;
       }))
