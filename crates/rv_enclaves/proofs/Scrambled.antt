@@ -1,7 +1,7 @@
 -- Scramble preserves the invariant of the shared state, and changes only what is private to the scrambled enclave.
-use Rattle.std.proofs.Common.{◌≡◌, ℕ, ◌+◌, ◌-◌, ◌<◌, Bool, true, false, List, length, Option, Some, None, IfSome, refl, sym, ap, ◌∙◌, inl, inr, arith, subst}
+use Rattle.std.proofs.Common.{◌≡◌, ℕ, ◌+◌, ◌-◌, ◌<◌, true, false, List, length, Option, Some, None, IfSome, refl, sym, ap, ◌∙◌, inl, inr, arith, subst}
 use Rattle.std.proofs.Common.{length-set}
-use Rattle.std.specs.Prelude.{is_some, nat_le, nat_lt, not}
+use Rattle.std.specs.Prelude.{is_some, nat_le, nat_lt}
 use Rattle.std.specs.Option.{option_map}
 use Rattle.std.proofs.lemmas.Bool.{cases_lt, cases_eq, cases_Bool, and_from, le-leb, lt-ltb, not-true}
 use Rattle.rv_memory.proofs.Complements.{with_complements, length-with_complements, below, above, inside-index, complemented-is}

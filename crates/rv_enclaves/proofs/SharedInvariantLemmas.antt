@@ -18,7 +18,7 @@ use Rattle.rv_enclaves.proofs.Prelude.{can_go_on, context_at, created, destroyed
 use Rattle.rv_enclaves.proofs.Prelude.{is_window, is_world_of}
 use Rattle.rv_enclaves.proofs.Prelude.{length-write, measured, measurement_at, measurement_of, new_slot, option_case, overlaps, recorded}
 use Rattle.rv_enclaves.proofs.Prelude.{region, running_slot, runs}
-use Rattle.rv_enclaves.proofs.Prelude.{slot_at, window, with_bytes_at, with_context, with_slot, with_state, write, zeroed}
+use Rattle.rv_enclaves.proofs.Prelude.{slot_at, with_bytes_at, with_context, with_slot, with_state, write, zeroed}
 use Rattle.rv_enclaves.specs.CallLaws.{CallsKeepLaw}
 use Rattle.rv_enclaves.specs.SlotNumbers.{slot_count}
 use Rattle.rv_enclaves.proofs.Refusals.{MayCreate, IsTaken, may_create, may_take, takes_rests}

@@ -1,9 +1,9 @@
 -- Lemmas about a table after a change of one slot, and about the checks of a create that compare the new blocks with the table.
-use Rattle.std.proofs.Common.{◌≡◌, ◌≢◌, ℕ, zero, suc, ◌<◌, Bool, true, false, List, [], ◌∷◌, Option, Some, None, length, refl, inl, inr, arith}
+use Rattle.std.proofs.Common.{◌≡◌, ◌≢◌, ℕ, zero, suc, ◌<◌, Bool, false, List, [], ◌∷◌, Option, Some, None, length, refl, inl, inr, arith}
 use Rattle.std.proofs.Common.{get_or-set_same, get_or-set_other}
 use Rattle.std.proofs.lemmas.Bool.{cases_lt, lt-ltb, or_parts}
 use Rattle.std.proofs.lemmas.List.{get_or_past, set_past}
-use Rattle.std.specs.Prelude.{slice_index_or, slice_set, ◌||◌}
+use Rattle.std.specs.Prelude.{slice_index_or, slice_set}
 use Rattle.std.specs.List.{list_any}
 use Rattle.rv_memory.proofs.BlockLaws.{meets_nothing}
 use Rattle.rv_enclaves.specs.Create.{collides}

@@ -1,6 +1,6 @@
 -- An enclave that runs on some hart is live, has the state Running, and still runs on this hart after a step of another hart.
-use Rattle.std.proofs.Common.{◌≡◌, ◌≢◌, ◌<◌, ℕ, Bool, true, false, Option, Some, None, refl, sym, ◌∙◌, ap, inl, inr}
-use Rattle.std.specs.Prelude.{◌||◌, is_some}
+use Rattle.std.proofs.Common.{◌≡◌, ◌≢◌, ◌<◌, ℕ, true, false, Option, Some, None, refl, sym, ◌∙◌, ap, inl, inr}
+use Rattle.std.specs.Prelude.{is_some}
 use Rattle.std.proofs.lemmas.List.Folds.{list_any_at}
 use Rattle.rv_monitor.specs.Prelude.{Host, HartState, is_live, is_running, is_world_of, option_case, slot_at}
 use Rattle.rv_monitor.proofs.Prelude.{Invariant, MonitoredMachine, SlotInfo, both_ways, cases_lt, count_of, list_any, runs_on, hart_state_of, reprogrammed}

@@ -1,7 +1,7 @@
 -- A step of an enclave over two shared states with equal tables, whose memories have equal bytes in the region and the window of the enclave, has the
 -- same result.
 use Rattle.std.proofs.Common.{◌≡◌, ℕ, Bool, true, false, List, length, Option, Some, None, refl, sym, ◌∙◌, ap, ap₂, subst, inl, inr, arith}
-use Rattle.std.proofs.lemmas.Bool.{eqb-true, not_from_true, or_cases, or_left, or_right}
+use Rattle.std.proofs.lemmas.Bool.{not_from_true, or_cases, or_left, or_right}
 use Rattle.std.specs.Prelude.{◌||◌, ◌⊎◌, not}
 use Rattle.std.specs.List.{list_all}
 use Rattle.rv_pmp.proofs.VerdictLemmas.{each_from_all}

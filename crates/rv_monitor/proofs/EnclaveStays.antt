@@ -7,7 +7,7 @@ use Rattle.rv_state.specs.MachineParts.{machine_parts}
 use Rattle.rv_state.specs.GuestCsrs.{guest_csrs}
 use Rattle.rv_hart.specs.StepLaws.{StaysBelow}
 use Rattle.rv_monitor.specs.Prelude.{CsrState, Enclave, HartState, Shared}
-use Rattle.rv_monitor.specs.Prelude.{Slots, StepOutcome, Trap, World, Write, byte_at, bytes_from, bytes_in, has, is_accessible}
+use Rattle.rv_monitor.specs.Prelude.{Slots, StepOutcome, Trap, World, Write, byte_at, bytes_from, bytes_in, is_accessible}
 use Rattle.rv_monitor.specs.Prelude.{is_host, is_inside, measured, ram_base, step}
 use Rattle.rv_monitor.proofs.Prelude.{Handled, IsChanged, Invariant, HartViewInvariant, MonitoredMachine}
 use Rattle.rv_monitor.proofs.Prelude.{HartView, HartViewStepped, and_from, bare_machine}

@@ -22,7 +22,6 @@ use Rattle.rv_monitor.specs.Prelude.{is_machine, is_offered, is_world_of, may_st
 use Rattle.rv_monitor.specs.Prelude.{mie_of, option_case, permits, ram_base, region_of, register, slot_at, status_of, step, verdict, with_bytes_at, write, has, Context}
 use Rattle.rv_enclaves.specs.Table.{window_of}
 use Rattle.rv_enclaves.specs.declared.refusal.Refusal.TheVariants.{NoEnclave, BadAddress}
-use Rattle.rv_enclaves.specs.SlotNumbers.{slot_count}
 use Rattle.rv_enclaves.proofs.SharedInvariantLemmas.{live_slot_in_range}
 use Rattle.rv_monitor.specs.EnclaveSteps.{DependsOnEnclave, EnclaveRunLaw, HasReturned, Place, SameEnclave, SameEnclaveStep, SameExit, is_beyond, runs_at, step_at}
 use Rattle.rv_monitor.proofs.Prelude.{Handled, Invariant, HartViewInvariant, MonitoredMachine, HartView, HartViewStepped, a1, bare_machine, call_handled}
@@ -37,7 +36,7 @@ use Rattle.rv_monitor.proofs.HartCases.{inside, step_seen}
 use Rattle.rv_monitor.proofs.TrapSteps.{step_cases, hart_state_after, trapped_to, untrapped, hart_after}
 use Rattle.rv_monitor.proofs.HandlerCases.{asked-is}
 use Rattle.rv_monitor.specs.Prelude.{EnclaveState, EqualOutside, context_at}
-use Rattle.rv_monitor.proofs.Prelude.{false≢true, saved_after, both_ways, eq-eqb, at_same, live_in_range, enclave_state_after, reason, value}
+use Rattle.rv_monitor.proofs.Prelude.{false≢true, saved_after, both_ways, eq-eqb, at_same, enclave_state_after, reason, value}
 use Rattle.rv_monitor.proofs.Leaving.{leave_law, left_hart_state}
 use Rattle.rv_monitor.proofs.Availability.{host_is}
 

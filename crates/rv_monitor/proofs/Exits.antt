@@ -1,5 +1,5 @@
 -- An enclave exits only by the calls stop and exit, or by the timer interrupt. Every other exception of the enclave is redirected to its own S-mode.
-use Rattle.std.proofs.Common.{◌≡◌, ◌<◌, ℕ, Bool, true, false, List, slice_set, Option, Some, None, refl, sym, ◌∙◌, ap, subst, arith}
+use Rattle.std.proofs.Common.{◌≡◌, ◌<◌, ℕ, Bool, true, false, List, slice_set, Option, Some, None, refl, sym, ◌∙◌, ap, subst}
 use Rattle.std.proofs.Math.Bool.{and-false, and-true, or-false}
 use Rattle.std.specs.Prelude.{◌&&◌, if◌then◌else◌}
 use Rattle.rv_state.specs.declared.cause.Cause.TheVariants as causes
@@ -11,7 +11,7 @@ use Rattle.rv_state.specs.declared.cause.Interrupt.TheVariants.{SupervisorTimer}
 use Rattle.rv_hart.proofs.Interrupted.{takes_pending}
 use Rattle.rv_monitor.specs.Exits.{ExitsOnRequest, is_exit_call, redirected_hart, redirected_machine, is_redirected, causes_exit, spp_of}
 use Rattle.rv_monitor.specs.Prelude.{Call, Cause, Create, Destroy, Enclave, EnvironmentCallFromS, Exception, Exit, Measure, Outcome, Refusal, Resume}
-use Rattle.rv_monitor.specs.Prelude.{Run, HartState, M, S, U, Shared, StepOutcome, Stop, Trap, World, aligned_to_4, requested_call, first_refusal, is_host, is_offered}
+use Rattle.rv_monitor.specs.Prelude.{Run, HartState, M, S, U, Shared, StepOutcome, Stop, Trap, World, requested_call, first_refusal, is_host, is_offered}
 use Rattle.rv_monitor.specs.Prelude.{NotSupported, is_machine, is_set, is_world_of, mie_of, option_case, step, CsrState, Mode}
 use Rattle.rv_monitor.proofs.Prelude.{HartViewInvariant, Invariant, MonitoredMachine, HartView, HartViewStepped, bare_machine, call_handled, call_refusals, called, count_of}
 use Rattle.rv_monitor.proofs.Prelude.{eq-eqb, redirected, with_redirected_trap, handled, handled_cause, left, monitored_step, performed, refused, returned, hart_view}

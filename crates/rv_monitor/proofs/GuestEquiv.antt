@@ -6,7 +6,7 @@ use Rattle.std.proofs.lemmas.Simd.{map-map}
 use Rattle.rv_state.specs.GuestCsrs.{guest_csrs}
 use Rattle.rv_monitor.specs.GuestView.{guest_state, guest_view}
 use Rattle.rv_monitor.specs.Prelude.{Contexts, CsrState, SharedInvariant, HartState, Shared, SharedEquivExcept}
-use Rattle.rv_monitor.specs.Prelude.{Slots, StepOutcome, Trap, World, has}
+use Rattle.rv_monitor.specs.Prelude.{Slots, StepOutcome, Trap, World}
 use Rattle.rv_monitor.specs.Prelude.{is_world_of, measured, Hart}
 use Rattle.rv_monitor.proofs.Prelude.{EquivExcept, Handled, Invariant, HartViewInvariant, HartInvariant, MonitoredMachine}
 use Rattle.rv_monitor.proofs.Prelude.{MonitoredStepped, HartView, HartViewStepped, cases_eq}

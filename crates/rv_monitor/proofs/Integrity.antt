@@ -5,9 +5,9 @@ use Rattle.rv_memory.proofs.BlockLaws.{apart_at}
 use Rattle.rv_enclaves.specs.declared.create_args.CreateArgs.{CreateArgs}
 use Rattle.rv_enclaves.specs.SlotNumbers.{slot_count}
 use Rattle.rv_enclaves.proofs.SharedInvariantLemmas.{live_slot_in_range}
-use Rattle.rv_monitor.specs.Prelude.{Context, Destroy, Enclave, EnclaveState, Host, IsValid, Running, HartState, Shared, Slots, Trap, Write, byte_at, bytes_in}
+use Rattle.rv_monitor.specs.Prelude.{Context, Destroy, Enclave, EnclaveState, Host, IsValid, Running, HartState, Shared, Trap, Write, byte_at, bytes_in}
 use Rattle.rv_monitor.specs.Prelude.{context_at, created, destroyed, first_context, has, is_live, is_world_of, measured, new_slot}
-use Rattle.rv_monitor.specs.Prelude.{World, option_case, create_args_of, recorded, region, register, running_slot, slot_at, with_context, with_slot}
+use Rattle.rv_monitor.specs.Prelude.{World, create_args_of, recorded, region, register, running_slot, slot_at, with_context, with_slot}
 use Rattle.rv_monitor.specs.Prelude.{with_state}
 use Rattle.rv_monitor.specs.Integrity.{PreservesOthers}
 use Rattle.rv_monitor.proofs.Prelude.{Handled, HartViewInvariant, IsPreserved, IsTaken, MayCreate, HartView, SlotInfo, a0, at_other}

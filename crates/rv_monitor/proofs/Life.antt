@@ -4,7 +4,7 @@
 use Rattle.std.proofs.Common.{◌≡◌, ◌<◌, ℕ, zero, suc, ◌+◌, Bool, true, false, List, [], ◌∷◌, length, Option, Some, None, IfSome, refl, sym, ◌∙◌, ap, ap₂, subst}
 use Rattle.std.proofs.Common.{inl, inr, arith}
 use Rattle.std.proofs.lemmas.List.Folds.{list_any_at}
-use Rattle.std.specs.Prelude.{◌&&◌, ◌||◌, ◌⊎◌, is_some, not, map, slice_index, slice_index_or}
+use Rattle.std.specs.Prelude.{◌||◌, ◌⊎◌, is_some, not, map, slice_index, slice_index_or}
 use Rattle.std.specs.Option.{option_map}
 use Rattle.rv_state.specs.CsrState.{at_reset}
 use Rattle.rv_state.specs.GuestCsrs.{below_m_csrs}

@@ -16,9 +16,9 @@ use Rattle.rv_state.specs.declared.cause.Interrupt.{Interrupt}
 use Rattle.rv_monitor.specs.Exits.{causes_exit, is_exit_call}
 use Rattle.rv_monitor.proofs.LeftMachine.{left_machine}
 use Rattle.rv_monitor.specs.Prelude.{Call, Cause, Context, Create, Destroy, Enclave, EnvironmentCallFromS, Exit, Hart, Host, Measure, NotSupported, Outcome}
-use Rattle.rv_monitor.specs.Prelude.{Refusal, Resume, Run, HartState, Shared, StepOutcome, Stop, Trap, World, aligned_to_4}
+use Rattle.rv_monitor.specs.Prelude.{Refusal, Resume, Run, HartState, Shared, StepOutcome, Stop, Trap, World}
 use Rattle.rv_monitor.specs.Prelude.{first_refusal, is_set, measure_refusals, measured, option_case, register}
-use Rattle.rv_monitor.specs.Prelude.{call_number, requested_call, saved_context, step, sum_of}
+use Rattle.rv_monitor.specs.Prelude.{call_number, requested_call, saved_context, step}
 use Rattle.rv_monitor.proofs.Prelude.{Handled, HartViewInvariant, Invariant, MonitoredMachine, HartView, HartViewStepped, a0, a1, bare_machine}
 use Rattle.rv_monitor.proofs.Prelude.{call_handled, call_refusals, called, entered_slot, handled, handled_cause, hart_state_of, hart_view}
 use Rattle.rv_monitor.proofs.Prelude.{performed, refused, returned, returned_to_caller, step_of, with_reprogrammed_hart, past_call}

@@ -1,8 +1,8 @@
 -- Two machines that are related are equivalent except e in the guest view, if the window of a running enclave has equal bytes in both. Two machines
 -- that are equivalent except e in the guest view are related, if each hart that runs e has the same saved host in both.
-use Rattle.std.proofs.Common.{◌≡◌, ℕ, ◌+◌, Bool, true, false, refl, sym, ◌∙◌, ap, inl, inr}
+use Rattle.std.proofs.Common.{◌≡◌, ℕ, ◌+◌, true, false, refl, sym, ◌∙◌, ap, inl, inr}
 use Rattle.std.proofs.lemmas.Bool.{cases_Bool, or_parts}
-use Rattle.std.specs.Prelude.{◌||◌, not, slice_index}
+use Rattle.std.specs.Prelude.{not, slice_index}
 use Rattle.rv_enclaves.specs.Table.{runs, window}
 use Rattle.rv_monitor.specs.Declassification.{AreRelated, EquivToGuests, SameHostOn, SameWindow}
 use Rattle.rv_monitor.specs.GuestView.{guest_state, guest_view}

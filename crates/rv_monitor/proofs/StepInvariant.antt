@@ -1,6 +1,6 @@
 -- A step of one hart preserves the invariant of this hart and of the shared state.
 use Rattle.std.proofs.Common.{◌≡◌, ℕ, false, List, ◌∷◌, Option, Some, None, IfSome, length, refl, sym, ap, ◌∙◌, subst, inl, inr, arith}
-use Rattle.std.specs.Prelude.{◌%◌, IfNone}
+use Rattle.std.specs.Prelude.{IfNone}
 use Rattle.std.proofs.lemmas.List.FromFn.{get_or-map-range_with_len}
 use Rattle.rv_state.specs.MachineParts.{machine_parts}
 use Rattle.rv_hart.specs.StepLaws.{TrapKeeps, StaysBelow}
@@ -9,7 +9,7 @@ use Rattle.rv_memory.proofs.MemoryLaws.{length-write}
 use Rattle.rv_memory.specs.declared.touched.Touched.{Touched}
 use Rattle.rv_state.specs.declared.mstatus.Mstatus.{Mstatus}
 use Rattle.rv_monitor.specs.Prelude.{CsrState, Hart, SharedInvariant, HartState, Shared, Slots, Span, Machine, StepOutcome, Stepped, Trap, World}
-use Rattle.rv_monitor.specs.Prelude.{aligned_to_4, entry_at, is_machine, layout, mie_of, step}
+use Rattle.rv_monitor.specs.Prelude.{entry_at, is_machine, layout, mie_of, step}
 use Rattle.rv_monitor.specs.MonitoredMachine.{pmp_programmed}
 use Rattle.rv_monitor.proofs.Prelude.{EqualOn, Handled, HasPmpLayout, IsUnlocked, IsConfined, HartViewInvariant, HartInvariant, HostContextInvariant, HartView}
 use Rattle.rv_monitor.proofs.Prelude.{HartViewStepped, SameIn, Stores, bare_machine, cases_lt, cfg_of, confined, get_or_past, handled}

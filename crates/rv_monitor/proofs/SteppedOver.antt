@@ -1,11 +1,9 @@
 -- A step depends on memory only by the bytes that it reads. Over two memories that are equal at these bytes, the steps have equal outcomes, and
 -- change the same bytes to the same values.
-use Rattle.std.proofs.Common.{◌≡◌, ◌<◌, ◌≤◌, ℕ, ◌+◌, ◌-◌, Bool, true, false, List, [], length, get_or, replicate, Option, Some, None, refl, sym, ◌∙◌}
+use Rattle.std.proofs.Common.{◌≡◌, ◌≤◌, ℕ, ◌+◌, ◌-◌, Bool, true, false, List, [], length, replicate, Option, Some, None, refl, sym, ◌∙◌}
 use Rattle.std.proofs.Common.{ap, ap₂, subst, inl, inr, arith}
 use Rattle.std.proofs.lemmas.Bool.{or_right}
-use Rattle.std.proofs.lemmas.Grind.{common_steps}
 use Rattle.std.specs.Prelude.{slice_set}
-use Rattle.rv_memory.specs.Memory.{write_bytes}
 use Rattle.rv_memory.specs.declared.touched.Touched.{Touched}
 use Rattle.rv_memory.proofs.MemoryLaws.{index-above, index-below, length-write}
 use Rattle.rv_enclaves.proofs.EqualMemory.{index-within, inside-is, or_same, same_read, write-none, write-some}
