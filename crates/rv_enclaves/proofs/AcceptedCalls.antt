@@ -21,7 +21,7 @@ use Rattle.rv_enclaves.proofs.Prelude.{Block, Call, Enclave, EnclaveState, Entri
 any_in : (p : ℕ → Bool) (first n k : ℕ) → first ≤ k → k < first + n → p k ≡ true → list_any p (range_with_len first n) ≡ true
 any_in p first zero k at_least_first before_end holds = absurd (omega (arith, at_least_first, before_end))
 any_in p first (suc n) k at_least_first before_end holds = elim (cases_eq k first) [
-  | inl equal ↦ let here : p first ≡ true = subst (λ (j : ℕ). p j ≡ true) equal holds in rw here refl
+  | inl equal ↦ let passes_here : p first ≡ true = subst (λ (j : ℕ). p j ≡ true) equal holds in rw passes_here refl
   | inr distinct ↦
       let rest = any_in p (first + 1) n k (omega (arith, at_least_first, distinct)) (omega (arith, before_end)) holds in
       rw rest (or-true (p first))
@@ -31,9 +31,9 @@ any_in p first (suc n) k at_least_first before_end holds = elim (cases_eq k firs
 all_in : (p : ℕ → Bool) (first n : ℕ) → ((k : ℕ) → first ≤ k → k < first + n → p k ≡ true) → list_all p (range_with_len first n) ≡ true
 all_in p first zero each_holds = refl
 all_in p first (suc n) each_holds =
-    let here = each_holds first (omega arith) (omega arith) in
+    let passes_here = each_holds first (omega arith) (omega arith) in
     let rest = all_in p (first + 1) n (λ k from to. each_holds k (omega (arith, from)) (omega (arith, to))) in
-    rw (here, rest) refl
+    rw (passes_here, rest) refl
 
 -- the search `find` returns the lowest number of a range that passes the test p
 find_is : (p : ℕ → Bool) (first n k : ℕ) → first ≤ k → k < first + n → ((j : ℕ) → first ≤ j → j < k → p j ≡ false) → p k ≡ true
@@ -52,9 +52,9 @@ find_is p first (suc n) k at_least_first before_end lower_fail holds = elim (cas
 any_of : (p : Option SlotInfo → Bool) (xs : List (Option SlotInfo)) → ((k : ℕ) → p (slice_index_or xs k None) ≡ false) → list_any p xs ≡ false
 any_of p [] each_fails = refl
 any_of p (x ∷ xs) each_fails =
-    let here : p x ≡ false = each_fails 0 in
+    let passes_here : p x ≡ false = each_fails 0 in
     let rest = any_of p xs (λ k. each_fails (suc k)) in
-    rw (here, rest) refl
+    rw (passes_here, rest) refl
 
 -- ---- the conditions
 

@@ -113,7 +113,7 @@ window_gives (Some s) access b no_fetch in_window =
     let parts = and_parts _ _ in_window in
     let low = leb-true s.window.base b parts.0 in
     let high = ltb-true b (s.window.base + s.window.size) parts.1 in
-    let some = ne_eqb s.window.size 0 (λ none. omega arith) in
+    let some = ne_eqb s.window.size 0 (λ size_is_0. omega arith) in
     rw some (read_or_write access no_fetch)
 
 -- ---- accessible memory, by world
@@ -152,16 +152,29 @@ reach_cases : (memory : List ℕ) (t : Slots) (w : World) (access : Access) (byt
     ⊎ ((k : ℕ) × (w ≡ Enclave k)
     × ((list_all (has (region t k)) bytes ≡ true) ⊎ ((access ≢ Fetch) × (list_all (has (window t k)) bytes ≡ true))))
 unfolding is_accessible
-reach_cases memory t Host access bytes accessible = elim (or_cases _ _ accessible) [ inl all ↦ inl (refl, all) | inr none ↦ absurd (false≢true none) ]
+reach_cases memory t Host access bytes accessible =
+    elim (or_cases _ _ accessible) [ inl all_of_host ↦ inl (refl, all_of_host) | inr contradiction ↦ absurd (false≢true contradiction) ]
 reach_cases memory t (Enclave k) Fetch bytes accessible =
-    elim (or_cases _ _ accessible) [ inl all ↦ inr (k, refl, inl all) | inr none ↦ absurd (false≢true none) ]
+    elim (or_cases _ _ accessible) [ inl all_in_region ↦ inr (k, refl, inl all_in_region) | inr contradiction ↦ absurd (false≢true contradiction) ]
 reach_cases memory t (Enclave k) Read bytes accessible = elim (or_cases _ _ accessible) [
-  | inl all ↦ inr (k, refl, inl all)
-  | inr window ↦ elim (or_cases _ _ window) [ inl all ↦ inr (k, refl, inr (λ e. cc, all)) | inr none ↦ absurd (false≢true none) ]
+  | inl all_in_region ↦ inr (k, refl, inl all_in_region)
+  | inr not_in_region ↦
+      elim
+      (or_cases _ _ not_in_region) [
+        | inl all_in_window ↦ inr (k, refl, inr (λ e. cc, all_in_window))
+        | inr contradiction ↦ absurd
+            (false≢true contradiction)
+      ]
 ]
 reach_cases memory t (Enclave k) Write bytes accessible = elim (or_cases _ _ accessible) [
-  | inl all ↦ inr (k, refl, inl all)
-  | inr window ↦ elim (or_cases _ _ window) [ inl all ↦ inr (k, refl, inr (λ e. cc, all)) | inr none ↦ absurd (false≢true none) ]
+  | inl all_in_region ↦ inr (k, refl, inl all_in_region)
+  | inr not_in_region ↦
+      elim
+      (or_cases _ _ not_in_region) [
+        | inl all_in_window ↦ inr (k, refl, inr (λ e. cc, all_in_window))
+        | inr contradiction ↦ absurd
+            (false≢true contradiction)
+      ]
 ]
 
 -- one byte at an address between the two ends of RAM is inside memory
@@ -202,17 +215,19 @@ accessible_apart memory t w access a n k table_valid runs_other accessible b low
           let parts =
           and_parts (not (has monitor_block b)) (not (is_in_region t b))
           (and_parts (is_inside memory b 1) _ (each_from_all (host_has memory t) a n host.1 b low high)).1 in
-          false_from_ne_true _ (λ held. both_ways _
-          (none_from_any (λ j. has (region t j) b) 0 slot_count (not-true _ parts.1) k (omega arith) (slot_in_range memory t w k b table_valid held))
-          held)
+          false_from_ne_true _ (λ in_its_region. both_ways _
+          (none_from_any (λ j. has (region t j) b) 0 slot_count (not-true _ parts.1) k (omega arith)
+          (slot_in_range memory t w k b table_valid in_its_region))
+          in_its_region)
       | inr enclave ↦
           let j = enclave.0 in
-          let apart : j ≢ k = λ same. both_ways _ runs_other (rw enclave.1 (eq-eqb j k same)) in
+          let distinct : j ≢ k = λ same. both_ways _ runs_other (rw enclave.1 (eq-eqb j k same)) in
           elim enclave.2 [
-            | inl inner ↦ apart_bytes.regions_apart j k b apart (each_from_all (has (region t j)) a n inner b low high)
+            | inl inner ↦ apart_bytes.regions_apart j k b distinct (each_from_all (has (region t j)) a n inner b low high)
             | inr outer ↦
                 false_from_ne_true _
-                (λ held. both_ways _ (apart_bytes.windows_apart k j b held) (each_from_all (has (window t j)) a n outer.1 b low high))
+                (λ in_its_region. both_ways _ (apart_bytes.windows_apart k j b in_its_region)
+                (each_from_all (has (window t j)) a n outer.1 b low high))
           ]
     ]
 
@@ -318,10 +333,10 @@ module _ (memory : List ℕ) (t : Slots) (w : World) (mode : Mode) (access : Acc
   accessible_if_permitted permitted = elim (verdict_cases entries mode access bytes) [
     | inl found ↦
         let i = found.0 in
-        let all = list_all (covers entries i) bytes in
+        let covers_all = list_all (covers entries i) bytes in
         let parts =
-        and_parts all (grants mode access (cfg_of entries i))
-        (sym (permits-match_verdict entries mode access i all) ∙ ap permits (sym found.1) ∙ permitted) in
+        and_parts covers_all (grants mode access (cfg_of entries i))
+        (sym (permits-match_verdict entries mode access i covers_all) ∙ ap permits (sym found.1) ∙ permitted) in
         accessible_by i found.2 parts.0 parts.1
     | inr nothing ↦ absurd (both_ways _ (no_match_refuses mode mode_below_m) (ap permits (sym nothing) ∙ permitted))
   ]
@@ -386,11 +401,11 @@ module _ (memory : List ℕ) (t : Slots) (w : World) (mode : Mode) (access : Acc
   -- PMP entry 14 permits the enclave to load and store the bytes of its window
   permitted_by_window : (k : ℕ) → w ≡ Enclave k → access ≢ Fetch → list_all (has (window t k)) bytes ≡ true
       → permits (verdict entries mode access bytes) ≡ true
-  permitted_by_window k runs_k no_fetch all =
-      let each_in_window = each_from_all (has (window t k)) a n all in
+  permitted_by_window k runs_k no_fetch all_in_window =
+      let each_in_window = each_from_all (has (window t k)) a n all_in_window in
       let has_first = each_in_window a (omega arith) (omega arith) in
       permitted_by 14 (lit< tt)
-      (all_window ∙ rw runs_k all)
+      (all_window ∙ rw runs_k all_in_window)
       (given_at 14 _ cfg_of-window ∙ rw runs_k (window_gives (slot_at t k) access a no_fetch has_first))
       (λ j before. elim (place_cases j (omega arith)) [
         | inl first ↦

@@ -181,12 +181,12 @@ created_at_sound : (shared : Shared) (worlds : List World) (new : CreateArgs) (k
     → is_valid_block shared.memory new.region ≡ true → is_window shared.memory new.window ≡ true → overlaps shared.table new ≡ false
     → is_entry new ≡ true → free_slot shared.table ≡ Some k
     → SharedInvariant (with_enclave shared k (recorded shared.memory new)) worlds
-created_at_sound shared worlds new k shared_invariant is_valid is_window_valid apart entry_valid free_slot_is =
+created_at_sound shared worlds new k shared_invariant is_valid is_window_valid no_overlap entry_valid free_slot_is =
     let slot = free_slot_from shared.table k free_slot_is in
     let info = recorded shared.memory new in
     let before : false ≡ list_any (is_world_of k) worlds = sym (ap running_in slot.free) ∙ shared_invariant.running k in
     sound_with shared worlds worlds k (Some info) (Some (first_context info)) shared.memory shared_invariant slot.in_range refl
-    (new_fits shared new k is_valid is_window_valid entry_valid (free_from shared.table new apart)) refl
+    (new_fits shared new k is_valid is_window_valid entry_valid (free_from shared.table new no_overlap)) refl
     (first_goes_on info (entry_aligned new entry_valid)) before
     (λ j other. refl) shared_invariant.apart
 
@@ -269,7 +269,7 @@ with_state_is slots k info state slot_is = ap (λ o. option_case o slots (λ i. 
 module _ (beside : List World) where
   -- the switch to enclave k changes for no other enclave whether it is among the worlds
   other_worlds_unchanged : (j k : ℕ) → j ≢ k → list_any (is_world_of j) (Host ∷ beside) ≡ list_any (is_world_of j) (Enclave k ∷ beside)
-  other_worlds_unchanged j k distinct = let apart : (k == j) ≡ false = ne_eqb k j (λ same. distinct (sym same)) in rw apart refl
+  other_worlds_unchanged j k distinct = let k_is_not_j : (k == j) ≡ false = ne_eqb k j (λ same. distinct (sym same)) in rw k_is_not_j refl
 
   -- an enclave that runs on no other hart is not among the worlds of the other harts
   apart_from_others : (k j : ℕ) → list_any (is_world_of k) beside ≡ false → is_world_of j (Enclave k) ≡ true → list_any (is_world_of j) beside ≡ false
@@ -282,14 +282,14 @@ module _ (beside : List World) where
       (Enclave k ∷ beside)
   entered_sound shared k info shared_invariant slot_is not_running =
       let k_is_k : (k == k) ≡ true = eq-eqb k k refl in
-      let here : true ≡ list_any (is_world_of k) (Enclave k ∷ beside) = rw k_is_k refl in
-      let none : list_any (is_world_of k) beside ≡ false = sym (shared_invariant.running k) ∙ ap running_in slot_is ∙ not_running in
+      let is_among : true ≡ list_any (is_world_of k) (Enclave k ∷ beside) = rw k_is_k refl in
+      let runs_on_no_other : list_any (is_world_of k) beside ≡ false = sym (shared_invariant.running k) ∙ ap running_in slot_is ∙ not_running in
       rw (with_state_is shared.table k info Running slot_is)
       (sound_with shared (Host ∷ beside) (Enclave k ∷ beside) k (Some (record info { state = Running })) None shared.memory shared_invariant
       (live_in_range shared.table k info shared_invariant.valid.count slot_is) refl
-      (own_fits shared.memory shared.table k info Running shared_invariant.valid slot_is) refl tt here
+      (own_fits shared.memory shared.table k info Running shared_invariant.valid slot_is) refl tt is_among
       (λ j other. other_worlds_unchanged j k other)
-      (λ j k_is_k. apart_from_others k j none k_is_k, shared_invariant.apart.1))
+      (λ j k_is_k. apart_from_others k j runs_on_no_other k_is_k, shared_invariant.apart.1))
 
   -- a slot that is Running has a record
   running_live : (o : Option SlotInfo) → running_in o ≡ true → (info : SlotInfo) × (o ≡ Some info)
@@ -313,12 +313,12 @@ module _ (beside : List World) where
       let live = running_live (slot_at shared.table k) (shared_invariant.running k ∙ rw k_is_k refl) in
       let info = live.0 in
       let kept_is : true ≡ is_held (Some (record info { state = state })) = rw not_running refl in
-      let none : list_any (is_world_of k) beside ≡ false = shared_invariant.apart.0 k k_is_k in
+      let runs_on_no_other : list_any (is_world_of k) beside ≡ false = shared_invariant.apart.0 k k_is_k in
       rw (with_state_is shared.table k info state live.1)
       (sound_with shared (Enclave k ∷ beside) (Host ∷ beside) k (Some (record info { state = state })) (Some kept) shared.memory shared_invariant
       (live_in_range shared.table k info shared_invariant.valid.count live.1) refl
       (own_fits shared.memory shared.table k info state shared_invariant.valid live.1) kept_is can_continue
-      (not_running ∙ sym none) (λ j other. sym (other_worlds_unchanged j k other))
+      (not_running ∙ sym runs_on_no_other) (λ j other. sym (other_worlds_unchanged j k other))
       (λ j k_is_k. let contradiction : false ≡ true = k_is_k in cc, shared_invariant.apart.1))
 
 -- ---- the calls, not refused
@@ -326,7 +326,7 @@ module _ (beside : List World) where
 -- proves that each call that the monitor does not refuse preserves the invariant
 pub calls_keep : CallsKeepLaw
 calls_keep shared worlds shared_invariant = record {
-  creates = λ new none. created_sound shared worlds new (may_create shared new none) shared_invariant;
-  destroys = λ k none. destroyed_sound shared worlds k (may_take shared.table calls.Destroy k none) shared_invariant;
+  creates = λ new not_refused. created_sound shared worlds new (may_create shared new not_refused) shared_invariant;
+  destroys = λ k not_refused. destroyed_sound shared worlds k (may_take shared.table calls.Destroy k not_refused) shared_invariant;
   measures = λ k address. measured_sound shared worlds k address shared_invariant;
 }

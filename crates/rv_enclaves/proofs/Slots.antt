@@ -25,7 +25,8 @@ at_other {A} xs k j x distinct = get_or-set_other {A = Option A} xs k j x None d
 -- a new state for the number after the last slot leaves the table unchanged
 pub state_past : (slots : Slots) (state : EnclaveState) → length slots ≡ slot_count → with_state slots slot_count state ≡ slots
 state_past slots state table_length =
-    let none : slot_at slots slot_count ≡ None = get_or_past {X = Option SlotInfo} slots slot_count None (omega (arith, table_length)) in rw none refl
+    let no_entry : slot_at slots slot_count ≡ None = get_or_past {X = Option SlotInfo} slots slot_count None (omega (arith, table_length)) in
+    rw no_entry refl
 
 -- a new context for the number after the last slot leaves the contexts unchanged
 pub context_past : (contexts : Contexts) (c : Option Context) → length contexts ≡ slot_count → with_context contexts slot_count c ≡ contexts
@@ -34,7 +35,7 @@ context_past contexts c contexts_length = set_past {X = Option Context} contexts
 -- a number that is not the number of a slot has no record
 pub none_past : (slots : Slots) (number : ℕ) → length slots ≡ slot_count → slot_numbered number ≡ None → slot_at slots number ≡ None
 none_past slots number table_length not_a_slot = elim (cases_lt number slot_count) [
-  | inl in_range ↦ let is = rw (lt-ltb number slot_count in_range) at not_a_slot in cc
+  | inl in_range ↦ let number_is = rw (lt-ltb number slot_count in_range) at not_a_slot in cc
   | inr past_last ↦ get_or_past {X = Option SlotInfo} slots number None (omega (arith, table_length, past_last))
 ]
 
@@ -74,10 +75,10 @@ unfolding overlaps
 free_from slots new no_overlap =
     let region = or_parts (meets monitor_block new.region) _ no_overlap in
     let window = or_parts (meets monitor_block new.window) _ region.1 in
-    let own = or_parts (meets new.region new.window) (list_any (collides new) slots) window.1 in
+    let own_blocks = or_parts (meets new.region new.window) (list_any (collides new) slots) window.1 in
     record {
       region = region.0;
       window = window.0;
-      own = own.0;
-      others = λ k. apart_from new (slot_at slots k) (none_at (collides new) slots k refl own.1);
+      own = own_blocks.0;
+      others = λ k. apart_from new (slot_at slots k) (none_at (collides new) slots k refl own_blocks.1);
     }

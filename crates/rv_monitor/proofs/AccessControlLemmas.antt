@@ -19,4 +19,4 @@ below_M mode mode_below_m same =
 
 -- if MPRV is 0, then loads and stores use the mode of the hart
 pub data_below : (state : HartView) → HartViewInvariant state → is_machine (data_mode state.hart_state.hart) ≡ false
-data_below state view_invariant = let clear = view_invariant.hart.layout.mprv in rw clear view_invariant.hart.layout.mode
+data_below state view_invariant = let mprv_is_clear = view_invariant.hart.layout.mprv in rw mprv_is_clear view_invariant.hart.layout.mode

@@ -107,8 +107,8 @@ module _ (k : ℕ) (shared : Shared) (valid : IsValid shared.memory shared.table
   unfolding destroyed
   destroyed_is j is_taken live_after = elim (cases_eq k j) [
     | inl equal ↦
-        let there : is_live shared.table j ≡ true = ap (λ (o : Option SlotInfo). is_some o) is_taken.is in
-        absurd (both_ways _ dead (rw equal there))
+        let was_live : is_live shared.table j ≡ true = ap (λ (o : Option SlotInfo). is_some o) is_taken.is in
+        absurd (both_ways _ dead (rw equal was_live))
     | inr distinct ↦ still_dead (destroyed shared j) (ap (λ (o : Option SlotInfo). is_some o) (at_other shared.table j k None distinct)) live_after
   ]
 
@@ -194,7 +194,7 @@ as_created_law hart machine invariant = record {
       (λ live_here. absurd (both_ways _ dead live_here)) (λ in_range.
       let state : HartView = hart_view hart machine in
       step_cases state (λ after. is_live after.state.shared.table k ≡ true → IsAsCreated k after.state.shared)
-      (λ none live_here. absurd (both_ways _ dead live_here))
+      (λ no_trap live_here. absurd (both_ways _ dead live_here))
       (λ trap trapped. handled_created k state.shared invariant.shared.valid invariant.shared.contexts.count dead
       (hart_state_after state.hart_state trap) trap));
   keeps = λ k as_created. stays_as_created k machine invariant as_created hart;

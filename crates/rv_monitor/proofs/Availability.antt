@@ -43,18 +43,18 @@ stopped_ends slots k (Some info) table_length slot_is is_present =
 
 -- proves that an enclave exits by the timer interrupt if the timer line of its hart is set
 pub timer_exits : (hart : ℕ) (machine : MonitoredMachine) → Invariant machine → TimerExits hart machine (step_of hart machine)
-timer_exits hart machine invariant k host runs waiting up =
+timer_exits hart machine invariant k host runs host_is_saved timer_set =
     let in_range = runs_here k hart machine runs in
     let state = hart_view hart machine in
     let view_invariant = hart_view_invariant hart machine invariant in_range in
     let enabled : state.hart_state.hart.csrs.mie ≡ 0x80 = view_invariant.hart.layout.mie ∙ ap mie_of runs in
     let bare = taken (bare_machine state)
-    (waits state.hart_state.hart.csrs state.hart_state.hart.mode view_invariant.hart.layout.mode enabled ∙ ap timer_or_none up) in
+    (waits state.hart_state.hart.csrs state.hart_state.hart.mode view_invariant.hart.layout.mode enabled ∙ ap timer_or_none timer_set) in
     let trap_is : (step_of hart machine).outcome.step.trap ≡ Some timer_trap =
     ap (λ (after : HartViewStepped). after.outcome.step.trap) (step_seen hart machine in_range)
     ∙ ap (λ (o : StepOutcome). o.trap) (same_outcome state) ∙ bare in
     let world = host_is _ ((exits_law hart machine invariant k runs).exits timer_trap trap_is) in
-    let both = leave_law hart machine invariant k host timer_trap runs waiting trap_is world in
+    let both = leave_law hart machine invariant k host timer_trap runs host_is_saved trap_is world in
     let left = both.0 in
     let live : is_live machine.shared.table k ≡ true = running_is_live k hart machine invariant (ap (is_world_of k) runs ∙ eq-eqb k k refl) in
     record {

@@ -204,7 +204,7 @@ module _ (state : HartView) (view_invariant : HartViewInvariant state) (byte : �
 pub changes : (state : HartView) → HartViewInvariant state → ChangesAccessible state (monitored_step state)
 changes state view_invariant byte =
     step_cases state (λ after. byte_at after.state.shared.memory byte ≡ byte_at state.shared.memory byte ⊎ IsChanged state after byte)
-    (λ none. elim (bare_changes state view_invariant byte (step (bare_machine state)) (confined (bare_machine state))
+    (λ no_trap. elim (bare_changes state view_invariant byte (step (bare_machine state)) (confined (bare_machine state))
     (touches_permitted (bare_machine state))) [
       | inl same ↦ inl same
       | inr stored ↦ inr (inl stored)

@@ -118,9 +118,9 @@ module _ (e hart : ℕ) (one other : MonitoredMachine) (invariant_one : Invarian
           bytes = λ i not_hidden.
               let shown_before = ap (λ (t : Slots). may_differ t e (ram_base + i)) unchanged.table ∙ not_hidden in
               let running = invariant_one.shared.running e ∙ runs_among e hart one inside.before in
-              let beyond = beyond_by (has (region one.shared.table e) (ram_base + i)) (runs one.shared.table e)
+              let is_beyond_e = beyond_by (has (region one.shared.table e) (ram_base + i)) (runs one.shared.table e)
               (has (window one.shared.table e) (ram_base + i)) running shown_before in
-              sym (index_same one.shared.memory after.shared.memory i unchanged.size (unchanged.bytes (ram_base + i) beyond))
+              sym (index_same one.shared.memory after.shared.memory i unchanged.size (unchanged.bytes (ram_base + i) is_beyond_e))
               ∙ related.memory.bytes i shown_before;
         };
         contexts = record {

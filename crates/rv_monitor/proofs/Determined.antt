@@ -105,13 +105,13 @@ module _ (hart : ℕ) (machine : MonitoredMachine) (invariant : Invariant machin
 
       -- two results of a stop are equal
       by_stop : (world : World) → own_state.world ≡ world → call_at hart machine ≡ Some Stop → Same
-      by_stop Host host_runs requested =
-          let contradiction : true ≡ false = sym (offered Stop requested) ∙ ap (λ (w : World). is_offered w Stop) host_runs in
+      by_stop Host host requested =
+          let contradiction : true ≡ false = sym (offered Stop requested) ∙ ap (λ (w : World). is_offered w Stop) host in
           cc
       by_stop (Enclave k) world_is_own requested =
           with_saved_host k Same world_is_own
-          (λ host_runs waiting. same_by (answers_a.stops k host_runs world_is_own waiting requested)
-          (answers_b.stops k host_runs world_is_own waiting requested))
+          (λ host host_is_saved. same_by (answers_a.stops k host world_is_own host_is_saved requested)
+          (answers_b.stops k host world_is_own host_is_saved requested))
 
       -- two results of an exit are equal
       by_exit : (world : World) → own_state.world ≡ world → call_at hart machine ≡ Some Exit → Same
@@ -120,7 +120,8 @@ module _ (hart : ℕ) (machine : MonitoredMachine) (invariant : Invariant machin
           cc
       by_exit (Enclave k) world_is_own requested =
           with_saved_host k Same world_is_own
-          (λ host waiting. same_by (answers_a.exits k host world_is_own waiting requested) (answers_b.exits k host world_is_own waiting requested))
+          (λ host host_is_saved. same_by (answers_a.exits k host world_is_own host_is_saved requested)
+          (answers_b.exits k host world_is_own host_is_saved requested))
 
       -- a call that the monitor does not offer to the running world has the status of an unknown call
       no_call : call_at hart machine ≡ None → status_at hart machine ≡ 0xFFFFFFFF

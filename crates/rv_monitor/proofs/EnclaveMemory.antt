@@ -38,14 +38,14 @@ pub record SharedFor (k : ℕ) (one other : Shared) : Type 0 where
 own_reach : (memory : List ℕ) (t : Slots) (k : ℕ) (access : Access) (bytes : List ℕ) → is_accessible memory t (Enclave k) access bytes ≡ true
     → (list_all (has (region t k)) bytes ≡ true) ⊎ (list_all (has (window t k)) bytes ≡ true)
 unfolding is_accessible
-own_reach memory t k Fetch bytes reached = elim (or_cases _ _ reached) [ inl all ↦ inl all | inr none ↦ cc ]
+own_reach memory t k Fetch bytes reached = elim (or_cases _ _ reached) [ inl all_in_region ↦ inl all_in_region | inr contradiction ↦ cc ]
 own_reach memory t k Read bytes reached = elim (or_cases _ _ reached) [
-  | inl all ↦ inl all
-  | inr outer ↦ elim (or_cases _ _ outer) [ inl all ↦ inr all | inr none ↦ cc ]
+  | inl all_in_region ↦ inl all_in_region
+  | inr not_in_region ↦ elim (or_cases _ _ not_in_region) [ inl all_in_window ↦ inr all_in_window | inr contradiction ↦ cc ]
 ]
 own_reach memory t k Write bytes reached = elim (or_cases _ _ reached) [
-  | inl all ↦ inl all
-  | inr outer ↦ elim (or_cases _ _ outer) [ inl all ↦ inr all | inr none ↦ cc ]
+  | inl all_in_region ↦ inl all_in_region
+  | inr not_in_region ↦ elim (or_cases _ _ not_in_region) [ inl all_in_window ↦ inr all_in_window | inr contradiction ↦ cc ]
 ]
 
 -- each byte that is accessible to an enclave is in its region or window
@@ -196,18 +196,18 @@ trapped_own k outcome None hart_state one other runs_enclave count slots same_fo
 }
 trapped_own k outcome (Some trap) hart_state one other runs_enclave count slots same_for_k =
     let work = handler_reads_law hart_state trap one other (handled_asked k hart_state runs_enclave trap one other slots same_for_k) in
-    let here = handled_keeps k hart_state runs_enclave trap one count in
-    let there = handled_keeps k hart_state runs_enclave trap other (ap (λ (t : Slots). length t) (sym same_for_k.table) ∙ count) in
-    let back : HartState → Next → HartState = λ hart_state next. record hart_state { hart = returned_to hart_state.hart next.pc next.mode } in
+    let keeps_one = handled_keeps k hart_state runs_enclave trap one count in
+    let keeps_other = handled_keeps k hart_state runs_enclave trap other (ap (λ (t : Slots). length t) (sym same_for_k.table) ∙ count) in
+    let returned_by : HartState → Next → HartState = λ hart_state next. record hart_state { hart = returned_to hart_state.hart next.pc next.mode } in
     let shows : Next → Outcome = λ next. record { step = outcome; entered = next.entered } in
     record {
       outcome = ap shows work.next;
-      hart_state = ap₂ back work.hart_state work.next;
+      hart_state = ap₂ returned_by work.hart_state work.next;
       shared = record {
         table = work.shared.table;
         memory = record {
-          size = here.1 ∙ same_for_k.memory.size ∙ sym there.1;
-          bytes = λ i not_hidden. work.shared.bytes i (same_for_k.memory.bytes i (beyond_again k one.table _ _ here.0 not_hidden));
+          size = keeps_one.1 ∙ same_for_k.memory.size ∙ sym keeps_other.1;
+          bytes = λ i not_hidden. work.shared.bytes i (same_for_k.memory.bytes i (beyond_again k one.table _ _ keeps_one.0 not_hidden));
         };
         context = work.shared.contexts k same_for_k.context;
       };

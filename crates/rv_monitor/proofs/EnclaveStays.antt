@@ -49,9 +49,9 @@ rest_parts c = refl
 module _ (k : ℕ) (state : HartView) (view_invariant : HartViewInvariant state) (runs_enclave : state.hart_state.world ≡ Enclave k) where
   -- a step of an enclave without a trap leaves unchanged what `StaysBehind` names
   quiet_stays : (step (bare_machine state)).outcome.trap ≡ None → StaysBehind state (untrapped state)
-  quiet_stays none =
+  quiet_stays no_trap =
       let after = step (bare_machine state) in
-      let below = stays_if after.outcome.trap (StaysBelow state.hart_state.hart after.state.hart) none
+      let below = stays_if after.outcome.trap (StaysBelow state.hart_state.hart after.state.hart) no_trap
       (keeps_machine_parts (bare_machine state) view_invariant.hart.layout.mode view_invariant.hart.layout.mprv) in
       record {
         host = refl;
@@ -80,34 +80,34 @@ module _ (k : ℕ) (state : HartView) (view_invariant : HartViewInvariant state)
     work_stays =
         let mprv = view_invariant.hart.layout.mprv in
         handler_cases hart_state trap state.shared Stays (record {
-          answers = λ status result stays. (refl, rw mprv refl, refl, refl);
+          answers = λ status result enclave_runs_after. (refl, rw mprv refl, refl, refl);
           creates =
               λ requests no_refusal. no_create _ k hart_state.world runs_enclave (asked-is hart_state.world hart_state.hart.regs _ requests.asked).1;
           destroys =
               λ requests is_taken. no_destroy _ k hart_state.world runs_enclave (asked-is hart_state.world hart_state.hart.regs _ requests.asked).1;
-          measures = λ requests no_refusal stays. (refl, rw mprv refl, refl, refl);
+          measures = λ requests no_refusal enclave_runs_after. (refl, rw mprv refl, refl, refl);
           enters = λ call requests is_entry_call from_host is_taken. not_host _ k hart_state.world runs_enclave from_host;
-          leaves = λ stays. cc;
-          redirects = λ stays. (refl, rw mprv refl, refl, refl);
+          leaves = λ enclave_runs_after. cc;
+          redirects = λ enclave_runs_after. (refl, rw mprv refl, refl, refl);
         })
 
     -- a step with a trap after which an enclave still runs leaves unchanged what `StaysBehind` names
     trapped_stays : is_host (returned outcome (handled hart_state state.shared trap)).state.hart_state.world ≡ false
         → StaysBehind state (returned outcome (handled hart_state state.shared trap))
     trapped_stays enclave_runs_after =
-        let all = work_stays enclave_runs_after in
+        let stays = work_stays enclave_runs_after in
         record {
-          host = all.0;
-          rest = all.1;
-          table = all.2;
-          contexts = all.3;
+          host = stays.0;
+          rest = stays.1;
+          table = stays.2;
+          contexts = stays.3;
           size = sym (handled_keeps k hart_state runs_enclave trap state.shared view_invariant.valid.count).1;
         }
 
   -- each step after which an enclave still runs leaves unchanged what `StaysBehind` names
   stays_behind : is_host (monitored_step state).state.hart_state.world ≡ false → StaysBehind state (monitored_step state)
   stays_behind = step_cases state (λ after. is_host after.state.hart_state.world ≡ false → StaysBehind state after)
-      (λ none stays. quiet_stays none) (λ trap trapped. trapped_stays trap (step (bare_machine state)).outcome)
+      (λ no_trap enclave_runs_after. quiet_stays no_trap) (λ trap trapped. trapped_stays trap (step (bare_machine state)).outcome)
 
   -- a byte is not both within the enclave's memory and beyond it
   not_within_and_beyond : (byte : ℕ) → is_beyond state.shared.table k byte ≡ false → is_beyond state.shared.table k byte ≡ true → (P : Type 0) → P

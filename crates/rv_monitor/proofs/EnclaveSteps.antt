@@ -249,7 +249,7 @@ module _ (i j : ℕ) (hart : Hart) (d : CsrState) (pc : ℕ) (g h : Option Conte
   answers x y status result bytes slots = record {
     outcome = refl;
     hosts = refl;
-    runs = λ still. record { first = refl; second = refl; hart = rw mprv refl; slot = slots; memory = bytes };
+    runs = λ runs_after. record { first = refl; second = refl; hart = rw mprv refl; slot = slots; memory = bytes };
   }
 
   -- a measure is alike for both enclaves
@@ -277,8 +277,8 @@ module _ (i j : ℕ) (hart : Hart) (d : CsrState) (pc : ℕ) (g h : Option Conte
   called_too Measure offered =
       let rows = measure_refusals_same in
       rw rows (refused_too (first_refusal (call_refusals here one Measure)) (performed here one Measure) (performed there two Measure) measures)
-  called_too Stop offered = record { outcome = refl; hosts = refl; runs = λ still. cc }
-  called_too Exit offered = record { outcome = refl; hosts = refl; runs = λ still. cc }
+  called_too Stop offered = record { outcome = refl; hosts = refl; runs = λ runs_after. cc }
+  called_too Exit offered = record { outcome = refl; hosts = refl; runs = λ runs_after. cc }
   called_too _ offered = cc
 
   -- the requested call, if there is one, is alike for both enclaves
@@ -305,13 +305,13 @@ module _ (i j : ℕ) (hart : Hart) (d : CsrState) (pc : ℕ) (g h : Option Conte
   exception_too trap _ = record {
     outcome = refl;
     hosts = refl;
-    runs = λ still. record { first = refl; second = refl; hart = rw mprv refl; slot = slot; memory = memory };
+    runs = λ runs_after. record { first = refl; second = refl; hart = rw mprv refl; slot = slot; memory = memory };
   }
 
   -- the trap handler handles each cause alike for both enclaves
   cause_too : (trap : Trap) (cause : Cause) → WorkAlike (handled_cause here one trap cause) (handled_cause there two trap cause)
   unfolding timer_stopped left
-  cause_too trap (causes.Interrupt interrupt) = record { outcome = refl; hosts = refl; runs = λ still. cc }
+  cause_too trap (causes.Interrupt interrupt) = record { outcome = refl; hosts = refl; runs = λ runs_after. cc }
   cause_too trap (causes.Exception exception) = exception_too trap exception
 
   -- the results of the trap handler are alike for both enclaves
@@ -392,7 +392,7 @@ module _ (i j : ℕ) (s t : HartState) (one two : Shared) (view_invariant_one : 
   untrapped_alike none = record {
     outcome = ap (λ (x : StepOutcome). let o : Outcome = record { step = x; entered = None } in o) bare.outcome;
     hosts = ap is_host alike.first ∙ sym (ap is_host alike.second);
-    runs = λ still. record { first = alike.first; second = alike.second; hart = bare.hart none; slot = alike.slot; memory = bare.memory };
+    runs = λ runs_after. record { first = alike.first; second = alike.second; hart = bare.hart none; slot = alike.slot; memory = bare.memory };
   }
 
   -- the steps of both views are alike
@@ -542,20 +542,21 @@ module _ (p q : Place) (one other : MonitoredMachine) (invariant_one : Invariant
       let c = (monitored_step (hart_view q.hart mid)).state in
       let shared_one = ap (λ (x : HartViewStepped). x.state.shared) (step_seen p.hart one has_one) in
       let shared_other = ap (λ (x : HartViewStepped). x.state.shared) (step_seen q.hart other has_other) in
-      let is = first.runs (sym (ap (λ (x : HartState). is_host x.world) seen_one)
+      let alike = first.runs (sym (ap (λ (x : HartState). is_host x.world) seen_one)
       ∙ not_host_by p.slot (hart_state_of p.hart (step_at p one).state).world runs_after) in
       let bytes : EqualOutside (is_beyond a.shared.table p.slot) a.shared.memory (monitored_step (hart_view q.hart other)).state.shared.memory =
       record {
-        size = ap (λ (m : List ℕ). length m) is.memory ∙ own.shared.memory.size;
+        size = ap (λ (m : List ℕ). length m) alike.memory ∙ own.shared.memory.size;
         bytes = λ n not_hidden.
-            ap (λ (m : List ℕ). slice_index m n) is.memory
-            ∙ own.shared.memory.bytes n (sym (beyond_same a.shared.table c.shared.table p.slot q.slot (ram_base + n) is.slot) ∙ not_hidden);
+            ap (λ (m : List ℕ). slice_index m n) alike.memory
+            ∙ own.shared.memory.bytes n (sym (beyond_same a.shared.table c.shared.table p.slot q.slot (ram_base + n) alike.slot) ∙ not_hidden);
       } in
       record {
         first = runs_after;
-        second = ap (λ (x : HartState). is_world_of q.slot x.world) (sym seen_other) ∙ ap (is_world_of q.slot) is.second ∙ eq-eqb q.slot q.slot refl;
-        hart = ap (λ (x : HartState). below_m_hart x.hart) seen_one ∙ is.hart ∙ ap (λ (x : HartState). below_m_hart x.hart) seen_other;
-        slot = ap (λ (x : Shared). slot_at x.table p.slot) shared_one ∙ is.slot ∙ ap (λ (t : Slots). slot_at t q.slot) own.shared.table
+        second =
+            ap (λ (x : HartState). is_world_of q.slot x.world) (sym seen_other) ∙ ap (is_world_of q.slot) alike.second ∙ eq-eqb q.slot q.slot refl;
+        hart = ap (λ (x : HartState). below_m_hart x.hart) seen_one ∙ alike.hart ∙ ap (λ (x : HartState). below_m_hart x.hart) seen_other;
+        slot = ap (λ (x : Shared). slot_at x.table p.slot) shared_one ∙ alike.slot ∙ ap (λ (t : Slots). slot_at t q.slot) own.shared.table
             ∙ sym (ap (λ (x : Shared). slot_at x.table q.slot) shared_other);
         memory = subst (λ (x : Shared). EqualOutside (is_beyond x.table p.slot) x.memory (step_at q other).state.shared.memory) (sym shared_one)
             (subst (λ (x : Shared). EqualOutside (is_beyond a.shared.table p.slot) a.shared.memory x.memory) (sym shared_other) bytes);
@@ -563,12 +564,12 @@ module _ (p q : Place) (one other : MonitoredMachine) (invariant_one : Invariant
 
   -- if the first enclave does not run after the step, then its hart runs the host
   gone_one : runs_at p (step_at p one).state ≡ false → (hart_state_of p.hart (step_at p one).state).world ≡ Host
-  gone_one gone = elim (cases_Bool (is_host (monitored_step (hart_view p.hart one)).state.hart_state.world)) [
+  gone_one not_running = elim (cases_Bool (is_host (monitored_step (hart_view p.hart one)).state.hart_state.world)) [
     | inl host_runs_after ↦ host_is _ (ap (λ (x : HartState). is_host x.world) seen_one ∙ host_runs_after)
     | inr enclave_runs_after ↦
-        let still = ap (λ (x : HartState). is_world_of p.slot x.world) seen_one ∙ ap (is_world_of p.slot) (first.runs enclave_runs_after).first
+        let runs = ap (λ (x : HartState). is_world_of p.slot x.world) seen_one ∙ ap (is_world_of p.slot) (first.runs enclave_runs_after).first
         ∙ eq-eqb p.slot p.slot refl in
-        absurd (both_ways _ gone still)
+        absurd (both_ways _ not_running runs)
   ]
 
   -- if the first enclave exits, then so does the second one
@@ -580,7 +581,7 @@ module _ (p q : Place) (one other : MonitoredMachine) (invariant_one : Invariant
   -- if both enclaves exit, then they exit alike
   exits_by : (o : Option Trap) → (step_at p one).outcome.step.trap ≡ o → (hart_state_of p.hart (step_at p one).state).world ≡ Host
       → SameExit p q (step_at p one).state (step_at q other).state
-  exits_by None none host_runs_after = not_host _ p.slot _ ((exits_law p.hart one invariant_one p.slot world_one).quiet none) host_runs_after
+  exits_by None no_trap host_runs_after = not_host _ p.slot _ ((exits_law p.hart one invariant_one p.slot world_one).quiet no_trap) host_runs_after
   exits_by (Some trap) trapped host_runs_after =
       let traps_too = sym (ap (λ (x : Outcome). x.step.trap) same_outcome) ∙ trapped in
       let a = exited p one trap invariant_one same_enclave.first trapped host_runs_after (hart_state_of p.hart one).host_context refl in
@@ -616,7 +617,7 @@ module _ (p q : Place) (one other : MonitoredMachine) (invariant_one : Invariant
   pub enclave_step : SameEnclaveStep p q (step_at p one) (step_at q other)
   enclave_step = record {
     outcome = same_outcome;
-    state = record { runs = still_runs; exits = λ gone. exits_by (step_at p one).outcome.step.trap refl (gone_one gone) };
+    state = record { runs = still_runs; exits = λ not_running. exits_by (step_at p one).outcome.step.trap refl (gone_one not_running) };
   }
 
 -- proves that a step of an enclave depends only on the state of the enclave
@@ -628,7 +629,7 @@ enclave_step_law hart machine invariant k q other there same = enclave_step (rec
 -- proves the law of many steps of an enclave, by induction on the number of steps
 pub enclave_run_law : EnclaveRunLaw
 enclave_run_law p q zero one two _ _ same high =
-    record { outcomes = refl; state = record { runs = λ still. same; exits = λ gone. absurd (both_ways _ gone same.first) } }
+    record { outcomes = refl; state = record { runs = λ runs. same; exits = λ not_running. absurd (both_ways _ not_running same.first) } }
 enclave_run_law p q (suc zero) one two invariant_one invariant_two same high =
     let step = enclave_step p q one two invariant_one invariant_two same in
     record { outcomes = ap (λ (o : Outcome). o ∷ []) step.outcome; state = step.state }

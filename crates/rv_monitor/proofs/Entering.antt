@@ -97,8 +97,9 @@ module _ (before : HartView) (k : ℕ) (context : Context) (from_host : before.h
       → (monitored_step before).state.hart_state.world ≡ Enclave k → Entered (monitored_step before)
   step_is_entry view_invariant can_continue trapped enclave_runs_after =
       let step_is = trapped_step before trap trapped in
-      let there = subst (λ (after : HartViewStepped). after.state.hart_state.world ≡ Enclave k) step_is enclave_runs_after in
-      subst Entered (sym step_is) (entered_or_not (step (bare_machine before)).outcome _ view_invariant can_continue handled_host_or_entry there)
+      let handled_enclave = subst (λ (after : HartViewStepped). after.state.hart_state.world ≡ Enclave k) step_is enclave_runs_after in
+      subst Entered (sym step_is)
+      (entered_or_not (step (bare_machine before)).outcome _ view_invariant can_continue handled_host_or_entry handled_enclave)
 
 -- ---- an entry is a trap, and the slot had a saved context
 

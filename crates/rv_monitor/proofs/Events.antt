@@ -44,12 +44,12 @@ module _ (e hart : ℕ) (raised : Bool) (one other : MonitoredMachine) where
       let a = timer_line_set raised (hart_state_of hart one) in
       let b = timer_line_set raised (hart_state_of hart other) in
       let same_harts = equiv.harts in
-      let own = equiv.hart_states hart in
+      let same_hart = equiv.hart_states hart in
       elim (cases_lt hart (count_of one)) [
         | inl in_range ↦ record {
           harts = length-set one.hart_states hart a ∙ same_harts ∙ sym (length-set other.hart_states hart b);
           hart_states = hart_cases_of_both one.hart_states other.hart_states hart a b (λ j s t. HartStatesEquivExcept e s t) same_harts in_range
-              (record { world = own.world; same = λ low. ap (timer_line_set raised) (own.same low) }) (λ j apart. equiv.hart_states j);
+              (record { world = same_hart.world; same = λ low. ap (timer_line_set raised) (same_hart.same low) }) (λ j distinct. equiv.hart_states j);
           shared = equiv.shared;
         }
         | inr past ↦ rw (past_as_is hart a one past, past_as_is hart b other (omega (arith, same_harts, past))) equiv
@@ -94,7 +94,7 @@ but_line_twice k before between after first last = record {
 pub line_only : (k hart : ℕ) (raised : Bool) (machine : MonitoredMachine) → Invariant machine
     → IsUntouchedButLine k machine (with_timer hart machine raised)
 line_only k hart raised machine invariant = record {
-  preserved = record { slot = refl; bytes = λ byte own. refl; context = refl };
+  preserved = record { slot = refl; bytes = λ byte in_region. refl; context = refl };
   hart_state = λ j runs.
       changed_of (timer_line_set false) (timer_line_set raised) (λ s. refl) hart j machine
       ∙ ap (timer_line_set false)
@@ -114,7 +114,7 @@ undisturbed_live k (event ∷ more) machine undisturbed = undisturbed.0
 -- proves the integrity law for events, by induction on the list
 pub event_integrity : EventIntegrityLaw
 event_integrity k [] machine invariant undisturbed = record {
-  preserved = record { slot = refl; bytes = λ byte own. refl; context = refl };
+  preserved = record { slot = refl; bytes = λ byte in_region. refl; context = refl };
   hart_state = λ j runs.
       ap (timer_line_set false)
       (sym (as_is machine.shared.table (hart_state_of j machine) (invariant.hart_states j (runs_inside k j machine runs))));
@@ -140,37 +140,37 @@ line_worlds k hart j raised machine = changed_of (λ (s : HartState). is_world_o
 none_after_line : (k hart : ℕ) (raised : Bool) (list : List Event) (machine : MonitoredMachine) → StepsNone k list machine
     → StepsNone k list (with_timer hart machine raised)
 none_after_line k hart raised [] machine steps_none = tt
-none_after_line k hart raised (StepOf own ∷ more) machine steps_none =
-    (line_worlds k hart own raised machine ∙ steps_none.0, none_after_line k hart raised more machine steps_none.1)
-none_after_line k hart raised (LineOf own level ∷ more) machine steps_none = none_after_line k hart raised more machine steps_none
+none_after_line k hart raised (StepOf own_hart ∷ more) machine steps_none =
+    (line_worlds k hart own_hart raised machine ∙ steps_none.0, none_after_line k hart raised more machine steps_none.1)
+none_after_line k hart raised (LineOf own_hart level ∷ more) machine steps_none = none_after_line k hart raised more machine steps_none
 
 -- if no event of a list steps a hart that runs the enclave, then this also holds after a step that does not enter the enclave
 none_after_step : (k hart : ℕ) (list : List Event) (machine : MonitoredMachine) → StepsNone k list machine
     → enters k (step_of hart machine).outcome.entered ≡ false → StepsNone k list (step_of hart machine).state
 none_after_step k hart [] machine steps_none not_entered = tt
-none_after_step k hart (StepOf own ∷ more) machine steps_none not_entered =
-    (entry_law k hart own machine steps_none.0 not_entered, none_after_step k hart more machine steps_none.1 not_entered)
-none_after_step k hart (LineOf own level ∷ more) machine steps_none not_entered = none_after_step k hart more machine steps_none not_entered
+none_after_step k hart (StepOf own_hart ∷ more) machine steps_none not_entered =
+    (entry_law k hart own_hart machine steps_none.0 not_entered, none_after_step k hart more machine steps_none.1 not_entered)
+none_after_step k hart (LineOf own_hart level ∷ more) machine steps_none not_entered = none_after_step k hart more machine steps_none not_entered
 
 -- proves that events of other harts leave a running enclave undisturbed
 pub running_events : RunningEventLaw
-running_events k own [] machine invariant runs_on_own steps_none = running_is_live k own machine invariant runs_on_own
-running_events k own (StepOf hart ∷ more) machine invariant runs_on_own steps_none =
+running_events k own_hart [] machine invariant runs_on_own steps_none = running_is_live k own_hart machine invariant runs_on_own
+running_events k own_hart (StepOf hart ∷ more) machine invariant runs_on_own steps_none =
     let after = (step_of hart machine).state in
-    let live = running_is_live k own machine invariant runs_on_own in
-    let continues = go_on_law hart machine invariant k own runs_on_own steps_none.0 in
+    let live = running_is_live k own_hart machine invariant runs_on_own in
+    let continues = go_on_law hart machine invariant k own_hart runs_on_own steps_none.0 in
     let preserved = integrity hart machine invariant k steps_none.0 live continues.passes continues.live in
-    let runs_after : runs_on k own after ≡ true =
-    ap (λ (s : HartState). is_world_of k s.world) (preserved.hart_state own runs_on_own) ∙ runs_on_own in (
+    let runs_after : runs_on k own_hart after ≡ true =
+    ap (λ (s : HartState). is_world_of k s.world) (preserved.hart_state own_hart runs_on_own) ∙ runs_on_own in (
       live,
       (steps_none.0, continues.passes),
-      running_events k own more after (invariant_law hart machine invariant) runs_after
+      running_events k own_hart more after (invariant_law hart machine invariant) runs_after
           (none_after_step k hart more machine steps_none.1 continues.passes),
     )
-running_events k own (LineOf hart raised ∷ more) machine invariant runs_on_own steps_none = (
-  running_is_live k own machine invariant runs_on_own,
+running_events k own_hart (LineOf hart raised ∷ more) machine invariant runs_on_own steps_none = (
+  running_is_live k own_hart machine invariant runs_on_own,
   tt,
-  running_events k own more (with_timer hart machine raised) (line_invariant hart raised machine invariant)
-      (line_worlds k hart own raised machine ∙ runs_on_own)
+  running_events k own_hart more (with_timer hart machine raised) (line_invariant hart raised machine invariant)
+      (line_worlds k hart own_hart raised machine ∙ runs_on_own)
       (none_after_line k hart raised more machine steps_none),
 )

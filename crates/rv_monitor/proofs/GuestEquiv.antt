@@ -157,11 +157,11 @@ module _ (e : ℕ) (hart_state : HartState) (one two : Shared) (view_invariant_o
       let bare_steps_alike = bare_law e (on hart_state one) two.memory view_invariant_one runs_other shared_equiv.memory in
       let traps = ap (λ (o : StepOutcome). o.trap) bare_steps_alike.outcome in
       step_cases (on hart_state one) (λ after. SameHostAfter after (monitored_step (on hart_state two)))
-      (λ none. step_cases (on hart_state two) (λ after. SameHostAfter (untrapped (on hart_state one)) after)
-      (λ none_too. record { host = refl; rest = ap (λ (h : Hart). unswitched (guest_csrs h.csrs)) (sym bare_steps_alike.hart) })
-      (λ trap trapped. let contradiction : None ≡ Some trap = sym none ∙ sym traps ∙ trapped in cc))
+      (λ no_trap. step_cases (on hart_state two) (λ after. SameHostAfter (untrapped (on hart_state one)) after)
+      (λ no_trap_too. record { host = refl; rest = ap (λ (h : Hart). unswitched (guest_csrs h.csrs)) (sym bare_steps_alike.hart) })
+      (λ trap trapped. let contradiction : None ≡ Some trap = sym no_trap ∙ sym traps ∙ trapped in cc))
       (λ trap trapped. step_cases (on hart_state two) (λ after. SameHostAfter (trapped_to (on hart_state one) trap) after)
-      (λ none. let contradiction : Some trap ≡ None = sym trapped ∙ sym traps ∙ none in cc)
+      (λ no_trap. let contradiction : Some trap ≡ None = sym trapped ∙ sym traps ∙ no_trap in cc)
       (λ trap_too trapped_too.
       let equal : Some trap ≡ Some trap_too = sym trapped ∙ sym traps ∙ trapped_too in
       let same : trap ≡ trap_too = cc in

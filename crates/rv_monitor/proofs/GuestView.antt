@@ -131,10 +131,10 @@ module _ (state : HartView) (alike : SameToGuests (step (bare_machine state)) (s
   same_shown =
       let traps = ap (λ (o : StepOutcome). o.trap) alike.outcome in
       step_cases state (λ after. SameShown after (monitored_step other))
-      (λ none. step_cases other (λ after. SameShown (untrapped state) after) (λ none_too. untrapped_same)
-      (λ trap trapped. let contradiction : None ≡ Some trap = sym none ∙ traps ∙ trapped in cc))
+      (λ no_trap. step_cases other (λ after. SameShown (untrapped state) after) (λ no_trap_too. untrapped_same)
+      (λ trap trapped. let contradiction : None ≡ Some trap = sym no_trap ∙ traps ∙ trapped in cc))
       (λ trap trapped. step_cases other (λ after. SameShown (trapped_to state trap) after)
-      (λ none. let contradiction : Some trap ≡ None = sym trapped ∙ traps ∙ none in cc)
+      (λ no_trap. let contradiction : Some trap ≡ None = sym trapped ∙ traps ∙ no_trap in cc)
       (λ trap_too trapped_too.
       let equal : Some trap ≡ Some trap_too = sym trapped ∙ traps ∙ trapped_too in
       let same : trap ≡ trap_too = cc in

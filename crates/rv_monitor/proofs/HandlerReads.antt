@@ -159,8 +159,8 @@ handler_reads_law hart_state trap one other same =
     let tables = same.table in
     let same_read_over_table : SameRead hart_state trap.cause one (over one.table other.memory other.contexts) =
     record { table = refl; size = same.size; slots = same.slots; measured = same.measured; entered = same.entered } in
-    let there = λ (t : Slots). over t other.memory other.contexts in
-    subst (λ (t : Slots). SameHandling one (there t) (handled hart_state one trap) (handled hart_state (there t) trap)) tables
+    let with_table = λ (t : Slots). over t other.memory other.contexts in
+    subst (λ (t : Slots). SameHandling one (with_table t) (handled hart_state one trap) (handled hart_state (with_table t) trap)) tables
     (handled_same one.table one.memory other.memory one.contexts other.contexts same.size same.slots hart_state trap same_read_over_table)
 
 -- ---- the step
@@ -186,44 +186,44 @@ record SameOne (one other : Shared) (one_after other_after : HartViewStepped) : 
 returned_same : (one other : Shared) (x y : StepOutcome) (a b : Handled) → SameHandling one other a b
     → SameOne one other (returned x a) (returned y b)
 returned_same one other x y a b same =
-    let back : HartState → Next → HartState = λ hart_state next. record hart_state { hart = returned_to hart_state.hart next.pc next.mode } in
-    record { hart_state = ap₂ back same.hart_state same.next; entered = ap (λ (next : Next). next.entered) same.next; shared = same.shared }
+    let returned_by : HartState → Next → HartState = λ hart_state next. record hart_state { hart = returned_to hart_state.hart next.pc next.mode } in
+    record { hart_state = ap₂ returned_by same.hart_state same.next; entered = ap (λ (next : Next). next.entered) same.next; shared = same.shared }
 
 -- two steps with the same trap are equal, if the trap handler reads the same in both
 same_step : (hart_state : HartState) (one other : Shared) (trap : Trap)
-    → (let here : HartView = record { hart_state = hart_state; shared = one } in
-    let there : HartView = record { hart_state = hart_state; shared = other } in
-    (monitored_step here).outcome.step.trap ≡ Some trap →
-    (monitored_step there).outcome.step.trap ≡ Some trap → SameRead hart_state trap.cause one other
-    → SameOne one other (monitored_step here) (monitored_step there))
+    → (let view_one : HartView = record { hart_state = hart_state; shared = one } in
+    let view_other : HartView = record { hart_state = hart_state; shared = other } in
+    (monitored_step view_one).outcome.step.trap ≡ Some trap →
+    (monitored_step view_other).outcome.step.trap ≡ Some trap → SameRead hart_state trap.cause one other
+    → SameOne one other (monitored_step view_one) (monitored_step view_other))
 same_step hart_state one other trap trapped trapped_too same =
-    let here : HartView = record { hart_state = hart_state; shared = one } in
-    let there : HartView = record { hart_state = hart_state; shared = other } in
+    let view_one : HartView = record { hart_state = hart_state; shared = one } in
+    let view_other : HartView = record { hart_state = hart_state; shared = other } in
     let work = handler_reads_law (hart_state_after hart_state trap) trap one other (asked_after trap.cause hart_state trap one other same) in
-    rw (trapped_step here trap trapped, trapped_step there trap trapped_too)
-    (returned_same one other (step (bare_machine here)).outcome (step (bare_machine there)).outcome _ _ work)
+    rw (trapped_step view_one trap trapped, trapped_step view_other trap trapped_too)
+    (returned_same one other (step (bare_machine view_one)).outcome (step (bare_machine view_other)).outcome _ _ work)
 
 -- proves that the effect of a step with a trap depends only on what the trap handler reads
 pub step_reads_law : (hart : ℕ) (machine : MonitoredMachine) → ReadsOnly hart machine (step_of hart machine)
 step_reads_law hart machine other trap hart_states trapped trapped_too same =
     let trapping_one = is_trapping hart machine trap trapped in
     let trapping_other = is_trapping hart other trap trapped_too in
-    let hart_state : List HartState → HartState = λ all. slice_index_or all hart (hart_state_at_start 0) in
-    let over : HartState → HartView = λ s. record { hart_state = s; shared = other.shared } in
+    let hart_state : List HartState → HartState = λ states. slice_index_or states hart (hart_state_at_start 0) in
+    let view_of : HartState → HartView = λ s. record { hart_state = s; shared = other.shared } in
     let same_hart_state = ap hart_state hart_states in
-    let Same : HartState → Type 0 = λ s. SameOne machine.shared other.shared (monitored_step (hart_view hart machine)) (monitored_step (over s)) in
+    let Same : HartState → Type 0 = λ s. SameOne machine.shared other.shared (monitored_step (hart_view hart machine)) (monitored_step (view_of s)) in
     let trapped_there =
-    subst (λ (s : HartState). (monitored_step (over s)).outcome.step.trap ≡ Some trap) (sym same_hart_state) trapping_other.trapped in
+    subst (λ (s : HartState). (monitored_step (view_of s)).outcome.step.trap ≡ Some trap) (sym same_hart_state) trapping_other.trapped in
     let view_steps =
     subst Same same_hart_state
     (same_step (hart_state machine.hart_states) machine.shared other.shared trap trapping_one.trapped trapped_there same) in
-    let put : List HartState → Slots → HartState → List HartState = λ all slots s. slice_set (map (reprogrammed slots) all) hart s in
+    let put : List HartState → Slots → HartState → List HartState = λ states slots s. slice_set (map (reprogrammed slots) states) hart s in
     let table = view_steps.shared.table in
     let after = (monitored_step (hart_view hart other)).state in
     record {
       hart_states = ap (λ (m : MonitoredMachine). m.hart_states) trapping_one.state
-          ∙ ap (λ (all : List HartState). let first =
-          (monitored_step (hart_view hart machine)).state in put all first.shared.table first.hart_state) hart_states
+          ∙ ap (λ (states : List HartState). let first =
+          (monitored_step (hart_view hart machine)).state in put states first.shared.table first.hart_state) hart_states
           ∙ ap₂ (put other.hart_states) table view_steps.hart_state ∙ sym (ap (λ (m : MonitoredMachine). m.hart_states) trapping_other.state);
       entered =
           ap (λ (o : Outcome). o.entered) trapping_one.outcome ∙ view_steps.entered ∙ sym (ap (λ (o : Outcome). o.entered) trapping_other.outcome);

@@ -103,7 +103,7 @@ inside hart machine in_range = rw (lt-ltb hart (count_of machine) in_range) refl
 pub outside : (hart : ℕ) (machine : MonitoredMachine) → count_of machine ≤ hart → step_of hart machine ≡ not_stepped machine
 unfolding step_of
 outside hart machine past =
-    let none : nat_lt hart (count_of machine) ≡ false = grind (arith, nat_tests, past) in rw none refl
+    let not_a_hart : nat_lt hart (count_of machine) ≡ false = grind (arith, nat_tests, past) in rw not_a_hart refl
 
 -- a claim about a step holds if it holds for a step without effect, and for the step of a hart of the machine
 pub by_hart : (hart : ℕ) (machine : MonitoredMachine) (P : MonitoredStepped → Type 0) → P (not_stepped machine)
@@ -149,7 +149,7 @@ step_beside of preserved hart j machine distinct =
 -- a step without a trap leaves the table unchanged
 pub quiet_table : (state : HartView) → (monitored_step state).outcome.step.trap ≡ None
     → (monitored_step state).state.shared.table ≡ state.shared.table
-quiet_table state = step_cases state (λ after. after.outcome.step.trap ≡ None → after.state.shared.table ≡ state.shared.table) (λ none quiet. refl)
+quiet_table state = step_cases state (λ after. after.outcome.step.trap ≡ None → after.state.shared.table ≡ state.shared.table) (λ no_trap quiet. refl)
     (λ trap traps quiet. let contradiction : None ≡ Some trap = sym quiet ∙ traps in cc)
 
 -- a hart with the invariant has the state after a step of another hart that a reprogramming for the new table gives

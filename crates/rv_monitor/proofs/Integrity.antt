@@ -127,7 +127,7 @@ pub integrity_in : (state : HartView) → HartViewInvariant state → (k : ℕ) 
 integrity_in state view_invariant k not_running live not_entered live_after =
     let keeps = step_cases state
     (λ after. enters k after.outcome.entered ≡ false → is_live after.state.shared.table k ≡ true → KeepsSlot k state.shared after.state.shared)
-    (λ none not_entered live_after. record { slot = refl; context = refl })
+    (λ no_trap not_entered live_after. record { slot = refl; context = refl })
     (λ trap trapped. handled_keeps k (hart_state_after state.hart_state trap) state.shared view_invariant.valid not_running live trap) in
     let kept_slot = keeps not_entered live_after in
     record {

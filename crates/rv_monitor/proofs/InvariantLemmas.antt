@@ -130,7 +130,7 @@ written_in hart regs raised machine invariant in_range =
           (sym (map-set world_of machine.hart_states hart new ∙ worlds_are hart machine in_range)) invariant.shared;
       hart_states = λ j inside.
           hart_cases machine.hart_states hart new (λ i s. i < count_of machine → HartInvariant machine.shared.table s) in_range
-          (λ here. written_seated machine.shared.table regs raised hart_state (invariant.hart_states hart in_range))
+          (λ in_range_too. written_seated machine.shared.table regs raised hart_state (invariant.hart_states hart in_range))
           (λ i other. invariant.hart_states i) j
           (omega (arith, same_length, inside));
     }

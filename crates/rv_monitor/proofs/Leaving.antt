@@ -84,18 +84,18 @@ module _ (before : HartView) (k : ℕ) (host : Context) (runs_enclave : before.h
   -- if the host runs after the trap handler, then the return from it gives the view after an exit
   left_or_not : (outcome : StepOutcome) (h : Handled) → HartViewInvariant before → StaysOrExits h → h.hart_state.world ≡ Host
       → Left (returned outcome h)
-  left_or_not outcome h view_invariant (inl stays) gone = let contradiction : Enclave k ≡ Host = sym stays ∙ gone in cc
-  left_or_not outcome h view_invariant (inr same) gone =
+  left_or_not outcome h view_invariant (inl stays) host_runs_after = let contradiction : Enclave k ≡ Host = sym stays ∙ host_runs_after in cc
+  left_or_not outcome h view_invariant (inr same) host_runs_after =
       subst (λ (x : Handled). Left (returned outcome x)) (sym same) (returned_left outcome view_invariant)
 
   -- a step with a trap after which the host runs is an exit
   step_is_exit : HartViewInvariant before → (monitored_step before).outcome.step.trap ≡ Some trap
       → (monitored_step before).state.hart_state.world ≡ Host
       → Left (monitored_step before)
-  step_is_exit view_invariant trapped gone =
+  step_is_exit view_invariant trapped host_runs_after =
       let step_is = trapped_step before trap trapped in
-      let there = subst (λ (after : HartViewStepped). after.state.hart_state.world ≡ Host) step_is gone in
-      subst Left (sym step_is) (left_or_not (step (bare_machine before)).outcome _ view_invariant handled_stays_or_exits there)
+      let handled_host = subst (λ (after : HartViewStepped). after.state.hart_state.world ≡ Host) step_is host_runs_after in
+      subst Left (sym step_is) (left_or_not (step (bare_machine before)).outcome _ view_invariant handled_stays_or_exits handled_host)
 
 -- a step of an enclave with a trap after which the host runs leaves the machine after an exit, and enters no slot
 pub leave_law : (hart : ℕ) (machine : MonitoredMachine) → Invariant machine → (k : ℕ) (host : Context) (trap : Trap)
@@ -104,10 +104,10 @@ pub leave_law : (hart : ℕ) (machine : MonitoredMachine) → Invariant machine 
     → ((step_of hart machine).state ≡ left_machine hart machine k trap host) × ((step_of hart machine).outcome.entered ≡ None)
 leave_law hart machine invariant k host trap runs saved_host trapped host_runs_after =
     let trapping = is_trapping hart machine trap trapped in
-    let there = sym (ap (λ (after : HartViewStepped). after.state.hart_state.world) (step_seen hart machine trapping.has)) ∙ host_runs_after in
+    let view_host = sym (ap (λ (after : HartViewStepped). after.state.hart_state.world) (step_seen hart machine trapping.has)) ∙ host_runs_after in
     let one =
     step_is_exit (hart_view hart machine) k host runs saved_host trap
-    (hart_view_invariant hart machine invariant trapping.has) trapping.trapped there in
+    (hart_view_invariant hart machine invariant trapping.has) trapping.trapped view_host in
     (trapping.state ∙ ap (programmed_by hart machine) one.0, ap (λ (outcome : Outcome). outcome.entered) trapping.outcome ∙ one.1)
 
 -- the state of the hart after an exit is the state that `left_hart` gives

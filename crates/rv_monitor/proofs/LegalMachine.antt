@@ -203,10 +203,11 @@ none_legal k = subst (λ (o : Option Context). IfSome o (λ context. IsLegal con
 starts_stored : (memory : List ℕ) (entry harts : ℕ) → aligned_to_4 entry ≡ entry → IsLegalMachine (at_start memory entry harts)
 unfolding at_start
 starts_stored memory entry harts aligned =
-    let own = reset_stored entry aligned in
+    let reset_state = reset_stored entry aligned in
     record {
       harts = λ hart.
-          start_cases harts entry hart IsLegalHartState (λ n. record { pc = own.pc; supervisor = own.supervisor }) (reset_stored 0 refl);
+          start_cases harts entry hart IsLegalHartState (λ n. record { pc = reset_state.pc; supervisor = reset_state.supervisor })
+          (reset_stored 0 refl);
       contexts = none_legal;
     }
 

@@ -252,7 +252,7 @@ EntersHere k state after = after.outcome.entered ≡ Some k → (state.hart_stat
 
 -- each step of a view satisfies `EntersHere`
 entered_here : (k : ℕ) (state : HartView) → EntersHere k state (monitored_step state)
-entered_here k state = step_cases state (EntersHere k state) (λ none enters_slot. cc)
+entered_here k state = step_cases state (EntersHere k state) (λ no_trap enters_slot. cc)
     (λ trap traps enters_slot.
     entered_turn k (hart_state_after state.hart_state trap) trap (handled (hart_state_after state.hart_state trap) state.shared trap)
     (handled_turns (hart_state_after state.hart_state trap) state.shared trap) enters_slot)
@@ -393,20 +393,20 @@ first_event : (i j : ℕ) (event : Event) (one other : MonitoredMachine) → Inv
     → IsForeign i event one
     → AreAtOnePoint i j (event_of event one).state other
 first_event i j event one other invariant_one legal point foreign =
-    let stays = foreign_stays i event one point.context invariant_one legal point.first point.live foreign in
+    let stays_alike = foreign_stays i event one point.context invariant_one legal point.first point.live foreign in
     let table_after = (event_of event one).state.shared.table in
-    let block = same_region table_after one.shared.table i i stays.identity in
+    let block = same_region table_after one.shared.table i i stays_alike.identity in
     record {
       context = point.context;
-      first = stays.continues;
+      first = stays_alike.continues;
       second = point.second;
-      live = stays.live;
-      identity = stays.identity ∙ point.identity;
+      live = stays_alike.live;
+      identity = stays_alike.identity ∙ point.identity;
       memory = record {
-        size = stays.size ∙ point.memory.size;
+        size = stays_alike.size ∙ point.memory.size;
         bytes = λ n outside_region.
             let before = ap (λ (b : Block). not (has b (ram_base + n))) (sym block) ∙ outside_region in
-            stays.bytes n (not-false _ before) ∙ point.memory.bytes n before;
+            stays_alike.bytes n (not-false _ before) ∙ point.memory.bytes n before;
       };
     }
 

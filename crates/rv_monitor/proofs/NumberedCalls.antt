@@ -321,53 +321,60 @@ pub answers_calls : (hart : ℕ) (machine : MonitoredMachine) → Invariant mach
 answers_calls hart machine invariant trap traps by_ecall =
     let trapping = is_trapping hart machine trap traps in
     let shared = machine.shared in
-    let here = hart_state_of hart machine in
-    let hart_state = hart_state_after here trap in
+    let before = hart_state_of hart machine in
+    let hart_state = hart_state_after before trap in
     let done : (call : Call) → call_at hart machine ≡ Some call → status_at hart machine ≡ 0
     → handled_cause hart_state shared trap trap.cause ≡ performed hart_state shared call =
-    λ call call_is none. handled_done hart_state shared trap trap.cause call by_ecall call_is none in
-    let leaves : (k : ℕ) (host : Context) (call : Call) → here.world ≡ Enclave k → here.host_context ≡ Some host → call_at hart machine ≡ Some call
+    λ call call_is status_is_0. handled_done hart_state shared trap trap.cause call by_ecall call_is status_is_0 in
+    let leaves : (k : ℕ) (host : Context)
+    (call : Call) → before.world ≡ Enclave k → before.host_context ≡ Some host → call_at hart machine ≡ Some call
     → is_exit_call (Some call) ≡ true
     → ((step_of hart machine).state ≡ left_machine hart machine k trap host) × ((step_of hart machine).outcome.entered ≡ None) =
     λ k host call runs host_is_saved call_is exits.
     leave_law hart machine invariant k host trap runs host_is_saved traps
     (host_is _ ((exits_law hart machine invariant k runs).exits trap traps
-    ∙ leaves_by here trap.cause call by_ecall (asks here shared call call_is) exits)) in
-    let asked : (k : ℕ) (call : Call) → here.world ≡ Enclave k → call_at hart machine ≡ Some call
-    → call_numbered (Enclave k) (register here.hart.regs 17) (register here.hart.regs 16) ≡ Some call =
+    ∙ leaves_by before trap.cause call by_ecall (asks before shared call call_is) exits)) in
+    let asked : (k : ℕ) (call : Call) → before.world ≡ Enclave k → call_at hart machine ≡ Some call
+    → call_numbered (Enclave k) (register before.hart.regs 17) (register before.hart.regs 16) ≡ Some call =
     λ k call runs call_is. subst
-    (λ (world : World). call_numbered world (register here.hart.regs 17) (register here.hart.regs 16) ≡ Some call) runs call_is in
+    (λ (world : World). call_numbered world (register before.hart.regs 17) (register before.hart.regs 16) ≡ Some call) runs call_is in
     record {
       refuses = λ holds.
           returns hart machine invariant trap trapping shared (status_at hart machine) 0
           (handled_refused hart_state shared trap trap.cause by_ecall holds);
-      creates = λ call_is none. returns hart machine invariant trap trapping _ 0 _ (done Create call_is none ∙ performs_create hart_state shared);
-      destroys = λ call_is none. returns hart machine invariant trap trapping _ 0 0 (done Destroy call_is none ∙ performs_destroy hart_state shared);
-      measures = λ call_is none. returns hart machine invariant trap trapping _ 0 0 (done Measure call_is none ∙ performs_measure hart_state shared);
-      runs = λ host call_is none.
-          enters_with hart machine invariant trap trapping Run (performs_run hart_state shared) (done Run call_is none) host traps;
-      resumes = λ host call_is none.
-          enters_with hart machine invariant trap trapping Resume (performs_resume hart_state shared) (done Resume call_is none) host traps;
+      creates =
+          λ call_is status_is_0. returns hart machine invariant trap trapping _ 0 _
+          (done Create call_is status_is_0 ∙ performs_create hart_state shared);
+      destroys =
+          λ call_is status_is_0. returns hart machine invariant trap trapping _ 0 0
+          (done Destroy call_is status_is_0 ∙ performs_destroy hart_state shared);
+      measures =
+          λ call_is status_is_0. returns hart machine invariant trap trapping _ 0 0
+          (done Measure call_is status_is_0 ∙ performs_measure hart_state shared);
+      runs = λ host call_is status_is_0.
+          enters_with hart machine invariant trap trapping Run (performs_run hart_state shared) (done Run call_is status_is_0) host traps;
+      resumes = λ host call_is status_is_0.
+          enters_with hart machine invariant trap trapping Resume (performs_resume hart_state shared) (done Resume call_is status_is_0) host traps;
       stops = λ k host runs host_is_saved call_is.
           let left = leaves k host Stop runs host_is_saved call_is refl in
-          let test = stop_test k (register here.hart.regs 17) (register here.hart.regs 16) (asked k Stop runs call_is) in
+          let test = stop_test k (register before.hart.regs 17) (register before.hart.regs 16) (asked k Stop runs call_is) in
           (left.0 ∙ stopped_is hart machine k trap host by_ecall test, left.1);
       exits = λ k host runs host_is_saved call_is.
           let left = leaves k host Exit runs host_is_saved call_is refl in
-          let test = exit_test k (register here.hart.regs 17) (register here.hart.regs 16) (asked k Exit runs call_is) in
+          let test = exit_test k (register before.hart.regs 17) (register before.hart.regs 16) (asked k Exit runs call_is) in
           (left.0 ∙ exited_is hart machine k trap host by_ecall test, left.1);
     }
 
 -- proves that each call succeeds under its conditions in numbers
 pub calls_succeed : (hart : ℕ) (machine : MonitoredMachine) → Invariant machine → CallsSucceed hart machine (step_of hart machine)
 calls_succeed hart machine invariant trap traps by_ecall =
-    let here = hart_state_of hart machine in
-    let regs = here.hart.regs in
+    let before = hart_state_of hart machine in
+    let regs = before.hart.regs in
     let answers = answers_calls hart machine invariant trap traps by_ecall in
-    let accepts = accepts_calls machine.shared here.hart.csrs.pmp regs in
+    let accepts = accepts_calls machine.shared before.hart.csrs.pmp regs in
     -- `At world call`: the monitor accepts this call of this world
-    let At : World → Call → Type 0 = λ world call. IsAccepted world machine.shared here.hart.csrs.pmp regs call in
-    let of : (world : World) (call : Call) → here.world ≡ world → At world call → At here.world call =
+    let At : World → Call → Type 0 = λ world call. IsAccepted world machine.shared before.hart.csrs.pmp regs call in
+    let of : (world : World) (call : Call) → before.world ≡ world → At world call → At before.world call =
     λ world call world_is. subst (λ (w : World). At w call) (sym world_is) in
     record {
       create = λ slot host asks conditions.
@@ -387,7 +394,7 @@ calls_succeed hart machine invariant trap traps by_ecall =
           let accepted = of Host Resume host (accepts.resume asks conditions) in
           answers.resumes host accepted.requested accepted.status;
       measure = λ asks conditions.
-          let accepted = accepts.measure here.world asks conditions in
+          let accepted = accepts.measure before.world asks conditions in
           answers.measures accepted.requested accepted.status;
       stop = λ k host runs host_is_saved asks.
           let accepted = of (Enclave k) Stop runs (accepts.stop k asks) in

@@ -47,11 +47,11 @@ apart_back [] i w in_range worlds_apart = absurd (omega (arith, in_range))
 apart_back (x ∷ xs) zero w in_range worlds_apart = worlds_apart
 apart_back (x ∷ xs) (suc i) w in_range worlds_apart =
     let in_tail : i < length xs = omega (arith, in_range) in (
-      λ k own. any_prefix (is_world_of k) xs i w in_tail ∙ elim (cases_Bool (is_world_of k w)) [
-        | inl runs_enclave ↦ absurd (both_ways _ (or_parts _ _ (worlds_apart.0 k runs_enclave)).0 own)
-        | inr runs_other ↦ or_from (is_world_of k w) _ runs_other (worlds_apart.1.0 k own)
+      λ k world_is_x. any_prefix (is_world_of k) xs i w in_tail ∙ elim (cases_Bool (is_world_of k w)) [
+        | inl runs_enclave ↦ absurd (both_ways _ (or_parts _ _ (worlds_apart.0 k runs_enclave)).0 world_is_x)
+        | inr runs_other ↦ or_from (is_world_of k w) _ runs_other (worlds_apart.1.0 k world_is_x)
       ],
-      apart_back xs i w in_tail (λ k own. (or_parts _ _ (worlds_apart.0 k own)).1, worlds_apart.1.1),
+      apart_back xs i w in_tail (λ k world_is_x. (or_parts _ _ (worlds_apart.0 k world_is_x)).1, worlds_apart.1.1),
     )
 
 -- the shared invariant for a list of worlds holds for the list with the world at index i moved to the front

@@ -19,7 +19,7 @@ use Rattle.rv_monitor.proofs.TrapSteps.{same_outcome, step_cases, untrapped}
 
 -- a step of a view without a trap is the bare step
 quiet_step : (state : HartView) → (monitored_step state).outcome.step.trap ≡ None → monitored_step state ≡ untrapped state
-quiet_step state = step_cases state (λ after. after.outcome.step.trap ≡ None → after ≡ untrapped state) (λ none quiet. refl)
+quiet_step state = step_cases state (λ after. after.outcome.step.trap ≡ None → after ≡ untrapped state) (λ no_trap quiet. refl)
     (λ trap traps quiet. let contradiction : None ≡ Some trap = sym quiet ∙ traps in cc)
 
 -- ---- no interrupt
@@ -49,8 +49,8 @@ steps_plainly hart machine in_range =
     ap (λ (after : HartViewStepped). after.outcome.step) (step_seen hart machine in_range) ∙ same_outcome state in
     record {
       outcome = outcome;
-      quiet = λ none.
-          let bare : (step (bare_machine state)).outcome.trap ≡ None = sym (ap (λ (o : StepOutcome). o.trap) outcome) ∙ none in
+      quiet = λ no_trap.
+          let bare : (step (bare_machine state)).outcome.trap ≡ None = sym (ap (λ (o : StepOutcome). o.trap) outcome) ∙ no_trap in
           let one = quiet_step state (ap (λ (o : StepOutcome). o.trap) (same_outcome state) ∙ bare) in
           let all : step_of hart machine ≡ stepped_by hart machine (untrapped state) =
           inside hart machine in_range ∙ ap (stepped_by hart machine) one in

@@ -87,5 +87,5 @@ record_law hart machine invariant k live =
     let state : HartView = hart_view hart machine in
     let view_invariant = hart_view_invariant hart machine invariant in_range in
     step_cases state (λ after. is_live after.state.shared.table k ≡ true → identity_at after.state.shared.table k ≡ identity_at state.shared.table k)
-    (λ none live_after. refl)
+    (λ no_trap live_after. refl)
     (λ trap trapped. handled_keeps k (hart_state_after state.hart_state trap) state.shared view_invariant.valid live trap))

@@ -29,11 +29,11 @@ module _ (e hart : ℕ) (change change_too : HartState → HartState) (one other
         harts = length-set one.hart_states hart a ∙ same_harts ∙ sym (length-set other.hart_states hart b);
         hart_states = hart_cases_of_both one.hart_states other.hart_states hart a b
             (λ j s t. HartStatesEquivExcept e (guest_state s) (guest_state t)) same_harts in_range (alike.state (related.hart_states hart))
-            (λ j apart. related.hart_states j);
+            (λ j distinct. related.hart_states j);
         hosts = hart_cases_of_both one.hart_states other.hart_states hart a b
             (λ j s t. is_world_of e s.world ≡ true → SameHost (guest_state s) (guest_state t)) same_harts in_range
             (λ runs. alike.host (related.hosts hart (ap (is_world_of e) (sym alike.world) ∙ runs)))
-            (λ j apart. related.hosts j);
+            (λ j distinct. related.hosts j);
         table = related.table;
         memory = related.memory;
         contexts = related.contexts;
@@ -73,6 +73,6 @@ related_itself e machine = record {
   hosts = λ hart runs. record { host = refl; rest = refl };
   table = refl;
   memory = record { size = refl; bytes = λ i shown. refl };
-  contexts = record { size = refl; others = λ k apart. refl };
+  contexts = record { size = refl; others = λ k distinct. refl };
   gone = λ dead. refl;
 }

@@ -127,10 +127,10 @@ pub entered_is : (hart : ℕ) (machine : MonitoredMachine) → Invariant machine
 entered_is hart machine invariant host_runs enclave_runs_after =
     let in_range = enters_there hart machine enclave_runs_after in
     let step_is = step_seen hart machine in_range in
-    let own = hart_view hart machine in
+    let view = hart_view hart machine in
     let keeps = (invariant.hart_states hart in_range).host in
     ap (λ (after : HartViewStepped). after.state.hart_state.host_context) step_is
-    ∙ entered_from own (monitored_step own) (switch_law own keeps (host_stored own.hart_state keeps host_runs)) host_runs
+    ∙ entered_from view (monitored_step view) (switch_law view keeps (host_stored view.hart_state keeps host_runs)) host_runs
     (sym (ap (λ (after : HartViewStepped). is_host after.state.hart_state.world) step_is) ∙ enclave_runs_after)
 
 -- the exit restores the saved context of the host
@@ -140,9 +140,9 @@ pub comes_back : (hart : ℕ) (before : HartView) (machine : MonitoredMachine) �
     → is_host (monitored_step (hart_view hart machine)).state.hart_state.world ≡ true
     → HostIsRestored before (hart_view hart machine) (monitored_step (hart_view hart machine))
 comes_back hart before machine invariant legal host_on_is runs host =
-    let own = hart_view hart machine in
-    back_from before own (monitored_step own)
-    (switch_law own (invariant.hart_states hart (runs_there hart machine runs)).host legal) host_on_is runs host
+    let view = hart_view hart machine in
+    back_from before view (monitored_step view)
+    (switch_law view (invariant.hart_states hart (runs_there hart machine runs)).host legal) host_on_is runs host
 
 -- proves that the host gets its own context back when the enclave exits
 pub return_law : ReturnLaw

@@ -21,7 +21,7 @@ pub preserved_twice : (k : ℕ) (before between after : Shared) → IsPreserved 
     → IsPreserved k before after
 preserved_twice k before between after first last = record {
   slot = last.slot ∙ first.slot;
-  bytes = λ byte own. last.bytes byte (ap (λ slot. has (region_of slot) byte) first.slot ∙ own) ∙ first.bytes byte own;
+  bytes = λ byte in_region. last.bytes byte (ap (λ slot. has (region_of slot) byte) first.slot ∙ in_region) ∙ first.bytes byte in_region;
   context = last.context ∙ first.context;
 }
 
@@ -38,7 +38,7 @@ untouched_twice k before between after first last = record {
 -- an enclave is untouched by an empty list of steps
 untouched_itself : (k : ℕ) (machine : MonitoredMachine) → Invariant machine → IsUntouched k machine machine
 untouched_itself k machine invariant = record {
-  preserved = record { slot = refl; bytes = λ byte own. refl; context = refl };
+  preserved = record { slot = refl; bytes = λ byte in_region. refl; context = refl };
   hart_state =
       λ hart runs. sym (as_is machine.shared.table (hart_state_of hart machine) (invariant.hart_states hart (runs_inside k hart machine runs)));
 }
@@ -77,17 +77,17 @@ go_on_law hart machine invariant k hart_of_k runs not_running = by_hart hart mac
 
 -- proves that steps of other harts leave a running enclave undisturbed
 pub running_law : RunningLaw
-running_law k own [] machine invariant runs runs_on_none = running_is_live k own machine invariant runs
-running_law k own (hart ∷ harts) machine invariant runs runs_on_none =
+running_law k own_hart [] machine invariant runs runs_on_none = running_is_live k own_hart machine invariant runs
+running_law k own_hart (hart ∷ harts) machine invariant runs runs_on_none =
     let after = (step_of hart machine).state in
-    let live = running_is_live k own machine invariant runs in
-    let continues = go_on_law hart machine invariant k own runs runs_on_none.0 in
+    let live = running_is_live k own_hart machine invariant runs in
+    let continues = go_on_law hart machine invariant k own_hart runs runs_on_none.0 in
     let preserved = integrity hart machine invariant k runs_on_none.0 live continues.passes continues.live in
-    let runs_after : runs_on k own after ≡ true = ap (λ (s : HartState). is_world_of k s.world) (preserved.hart_state own runs) ∙ runs in (
+    let runs_after : runs_on k own_hart after ≡ true = ap (λ (s : HartState). is_world_of k s.world) (preserved.hart_state own_hart runs) ∙ runs in (
       live,
       runs_on_none.0,
       continues.passes,
-      running_law k own harts after (invariant_law hart machine invariant) runs_after
+      running_law k own_hart harts after (invariant_law hart machine invariant) runs_after
           (none_again k hart harts machine runs_on_none.1 continues.passes),
     )
 

@@ -45,7 +45,7 @@ entered_world e hart_state trap h (inr (inr leaves)) enters_slot = let contradic
 pub is_entered : (e : ℕ) (state : HartView) → (monitored_step state).outcome.entered ≡ Some e
     → is_world_of e (monitored_step state).state.hart_state.world ≡ true
 is_entered e state = step_cases state (λ after. after.outcome.entered ≡ Some e → is_world_of e after.state.hart_state.world ≡ true)
-    (λ none enters_slot. cc)
+    (λ no_trap enters_slot. cc)
     (λ trap traps enters_slot.
     let hart_state = hart_state_after state.hart_state trap in
     entered_world e hart_state trap (handled hart_state state.shared trap) (handled_turns hart_state state.shared trap) enters_slot)
@@ -76,7 +76,7 @@ pub own_apart : (e : ℕ) (state : HartView) → is_world_of e state.hart_state.
     → is_world_of e (monitored_step state).state.hart_state.world ≡ false
 own_apart e state not_running =
     step_cases state (λ after. enters e after.outcome.entered ≡ false → is_world_of e after.state.hart_state.world ≡ false)
-    (λ none not_entered. not_running)
+    (λ no_trap not_entered. not_running)
     (λ trap traps not_entered.
     let hart_state = hart_state_after state.hart_state trap in
     other_world e hart_state trap (handled hart_state state.shared trap) (handled_turns hart_state state.shared trap) not_running not_entered)

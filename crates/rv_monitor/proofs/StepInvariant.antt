@@ -30,8 +30,8 @@ layout_unlocked slots world i = elim (cases_lt i 16) [
       get_or-map-range_with_len (λ j. (entry_at slots world j).cfg) 0 16 i i 0 in_range (omega arith) in
       rw cfg_is (entry_is_plain slots world i).unlocked
   | inr past_last ↦
-      let is : cfg_of (layout slots world) i ≡ 0 = get_or_past {X = ℕ} (layout slots world).cfgs i 0 past_last in
-      rw is refl
+      let cfg_is_0 : cfg_of (layout slots world) i ≡ 0 = get_or_past {X = ℕ} (layout slots world).cfgs i 0 past_last in
+      rw cfg_is_0 refl
 ]
 
 -- no PMP entry of a hart with the invariant is locked

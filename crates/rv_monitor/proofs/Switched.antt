@@ -98,7 +98,7 @@ kept_between state enclave_runs =
     step_cases state
     (λ enclave_runs_after. is_host enclave_runs_after.state.hart_state.world ≡ false → enclave_runs_after.state.hart_state.host_context
     ≡ state.hart_state.host_context)
-    (λ none enclave_runs_after. refl)
+    (λ no_trap enclave_runs_after. refl)
     (λ trap trapped enclave_runs_after.
     let hart_state = hart_state_after state.hart_state trap in
     runs_on hart_state trap (handled hart_state state.shared trap) (handled_turns hart_state state.shared trap) enclave_runs enclave_runs_after)
@@ -166,6 +166,6 @@ module _ (state : HartView) (host_invariant : HostContextInvariant state.hart_st
 pub switch_law : (state : HartView) → HostContextInvariant state.hart_state → HostContextIsLegal state.hart_state
     → StaysOrSwitches state (monitored_step state)
 switch_law state host_invariant legal = step_cases state (StaysOrSwitches state)
-    (λ none. inl (record { world = refl; host = refl; entered = refl }))
+    (λ no_trap. inl (record { world = refl; host = refl; entered = refl }))
     (λ trap trapped. returned_turns state host_invariant legal trap (step (bare_machine state)).outcome _ trapped
     (handled_turns (hart_state_after state.hart_state trap) state.shared trap))

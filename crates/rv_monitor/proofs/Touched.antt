@@ -27,13 +27,13 @@ FetchesAtPc pc after =
 fetches_at_pc : (state : Machine) → FetchesAtPc state.hart.pc (step state)
 fetches_at_pc state = step_ways state (FetchesAtPc state.hart.pc) (record {
   interrupt = λ interrupt pending_is. inr (refl, refl);
-  fetch_refused = λ fault here. inr (refl, refl);
-  illegal = λ word here. inl refl;
-  no_access = λ word instr here. inl (fetched_still state.hart _ _ _ _ refl);
-  load = λ word instr address width number here done. inl (fetched_still state.hart _ _ _ _ refl);
-  load_refused = λ word instr address width fault here not_loaded. inl refl;
-  store = λ word instr address width value memory here done. inl (fetched_still state.hart _ _ _ _ refl);
-  store_refused = λ word instr address width value fault here not_stored. inl refl;
+  fetch_refused = λ fault fetched_word. inr (refl, refl);
+  illegal = λ word fetched_word. inl refl;
+  no_access = λ word instr fetched_word. inl (fetched_still state.hart _ _ _ _ refl);
+  load = λ word instr address width number fetched_word done. inl (fetched_still state.hart _ _ _ _ refl);
+  load_refused = λ word instr address width fault fetched_word not_loaded. inl refl;
+  store = λ word instr address width value memory fetched_word done. inl (fetched_still state.hart _ _ _ _ refl);
+  store_refused = λ word instr address width value fault fetched_word not_stored. inl refl;
 })
 
 -- ---- the accesses

@@ -50,16 +50,16 @@ step_cases state P quiet traps =
 -- the outcome of the step of a view contains the outcome of the bare step
 pub same_outcome : (state : HartView) → (monitored_step state).outcome.step ≡ (step (bare_machine state)).outcome
 same_outcome state =
-    step_cases state (λ after. after.outcome.step ≡ (step (bare_machine state)).outcome) (λ none. refl) (λ trap trapped. refl)
+    step_cases state (λ after. after.outcome.step ≡ (step (bare_machine state)).outcome) (λ no_trap. refl) (λ trap trapped. refl)
 
 -- a step with a trap is the trap handler on the hart state at the trap, followed by the return
 pub trapped_step : (state : HartView) (trap : Trap) → (monitored_step state).outcome.step.trap ≡ Some trap
     → monitored_step state ≡ trapped_to state trap
 trapped_step state trap =
     step_cases state (λ after. after.outcome.step.trap ≡ Some trap → after ≡ trapped_to state trap)
-    (λ none trapped. let contradiction : None ≡ Some trap = sym none ∙ trapped in cc)
-    (λ other there trapped.
-    let traps : Some other ≡ Some trap = sym there ∙ trapped in
+    (λ no_trap trapped. let contradiction : None ≡ Some trap = sym no_trap ∙ trapped in cc)
+    (λ other trapped_other trapped.
+    let traps : Some other ≡ Some trap = sym trapped_other ∙ trapped in
     let same : other ≡ trap = cc in
     ap (trapped_to state) same)
 
@@ -67,5 +67,5 @@ trapped_step state trap =
 pub quiet_world : (state : HartView) → (monitored_step state).outcome.step.trap ≡ None
     → (monitored_step state).state.hart_state.world ≡ state.hart_state.world
 quiet_world state =
-    step_cases state (λ after. after.outcome.step.trap ≡ None → after.state.hart_state.world ≡ state.hart_state.world) (λ none quiet. refl)
+    step_cases state (λ after. after.outcome.step.trap ≡ None → after.state.hart_state.world ≡ state.hart_state.world) (λ no_trap quiet. refl)
     (λ trap traps quiet. let contradiction : None ≡ Some trap = sym quiet ∙ traps in cc)
