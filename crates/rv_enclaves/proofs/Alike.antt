@@ -30,7 +30,7 @@ use Rattle.rv_enclaves.proofs.SharedInvariantLemmas.{free_slot_from, live_in_ran
 pub itself : (e : ℕ) (shared : Shared) → SharedEquivExcept e shared shared
 itself e shared = record {
   table = refl;
-  memory = record { size = refl; bytes = λ i seen. refl };
+  memory = record { size = refl; bytes = λ i shown. refl };
   contexts = record { size = refl; others = λ k other. refl };
   gone = λ dead. refl;
 }

@@ -28,6 +28,7 @@ equality_symmetric a b = grind (arith, nat_tests)
 -- the requested call is the call whose number is in a6
 requests : (world : World) (a7 a6 : ℕ) → call_requested world a7 a6 ≡ call_numbered world a7 a6
 unfolding call_requested call_numbered
+-- the monitor offers the calls 1 to 5 to the host
 requests Host a7 a6 =
     rw (
       equality_symmetric 1 a6,
@@ -45,6 +46,7 @@ requests Host a7 a6 =
       and-false (a6 == 6),
       and-false (a6 == 7),
     ) refl
+-- the monitor offers the calls 5 to 7 to an enclave
 requests (Enclave k) a7 a6 =
     rw (
       equality_symmetric 1 a6,

@@ -125,7 +125,7 @@ zeros-alike hidden hidden' m n base count equiv in_memory hidden_in_range =
     let fits' : index + length bytes ≤ length n = omega (arith, in_memory.0, in_memory.1, long, same_size) in
     rw (one, other) (record {
       size = alike.size;
-      bytes = λ i seen. elim (cases_Bool (hidden (ram_base + i))) [
+      bytes = λ i shown. elim (cases_Bool (hidden (ram_base + i))) [
         | inl is_hidden ↦
             let at = hidden_in_range (ram_base + i) is_hidden in
             let low : index ≤ i = omega (arith, at.0, in_memory.0) in

@@ -44,7 +44,7 @@ inside_agrees memory block inside =
 block_agrees : (memory : List ℕ) (block : Block) → EqualOutside (has block) memory (complemented_block memory block)
 block_agrees memory block = elim (cases_Bool (is_inside memory block.base block.size)) [
   | inl inside ↦ let complement_is = complemented-is memory block.base block.size inside in rw complement_is (inside_agrees memory block inside)
-  | inr outside ↦ let reads_none = read-none memory block.base block.size outside in rw reads_none (record { size = refl; bytes = λ i seen. refl })
+  | inr outside ↦ let reads_none = read-none memory block.base block.size outside in rw reads_none (record { size = refl; bytes = λ i shown. refl })
 ]
 
 -- ---- contexts

@@ -289,7 +289,7 @@ module _ (beside : List World) where
       (live_in_range shared.table k info shared_invariant.valid.count slot_is) refl
       (own_fits shared.memory shared.table k info Running shared_invariant.valid slot_is) refl tt is_among
       (λ j other. other_worlds_unchanged j k other)
-      (λ j k_is_k. apart_from_others k j runs_on_no_other k_is_k, shared_invariant.apart.1))
+      (λ j runs_j. apart_from_others k j runs_on_no_other runs_j, shared_invariant.apart.1))
 
   -- a slot that is Running has a record
   running_live : (o : Option SlotInfo) → running_in o ≡ true → (info : SlotInfo) × (o ≡ Some info)
@@ -319,7 +319,7 @@ module _ (beside : List World) where
       (live_in_range shared.table k info shared_invariant.valid.count live.1) refl
       (own_fits shared.memory shared.table k info state shared_invariant.valid live.1) kept_is can_continue
       (not_running ∙ sym runs_on_no_other) (λ j other. sym (other_worlds_unchanged j k other))
-      (λ j k_is_k. let contradiction : false ≡ true = k_is_k in cc, shared_invariant.apart.1))
+      (λ j runs_j. let contradiction : false ≡ true = runs_j in cc, shared_invariant.apart.1))
 
 -- ---- the calls, not refused
 

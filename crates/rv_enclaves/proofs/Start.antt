@@ -51,13 +51,13 @@ no_slots_valid memory ram_size_valid = record {
 pub start_sound : (memory : List ℕ) (ws : List World) → ((k : ℕ) → list_any (is_world_of k) ws ≡ false) → AreApart ws
     → is_ram_size (length memory) ≡ true
     → SharedInvariant (shared_at_start memory) ws
-start_sound memory ws none worlds_apart ram_size_valid = record {
+start_sound memory ws none_runs worlds_apart ram_size_valid = record {
   valid = no_slots_valid memory ram_size_valid;
   contexts = record {
     count = refl;
     kept = λ k. ap (λ (o : Option Context). is_some o) (no_context k) ∙ ap is_held (sym (no_slot k));
     held = λ k. let P : Option Context → Type 0 = λ o. IfSome o (λ c. can_go_on c ≡ true) in subst P (sym (no_context k)) tt;
   };
-  running = λ k. ap (λ o. option_case o false (λ (info : SlotInfo). is_running info.state)) (no_slot k) ∙ sym (none k);
+  running = λ k. ap (λ o. option_case o false (λ (info : SlotInfo). is_running info.state)) (no_slot k) ∙ sym (none_runs k);
   apart = worlds_apart;
 }

@@ -61,7 +61,7 @@ pub same_size : (hart : ℕ) (machine : MonitoredMachine) → length (step_of ha
 same_size hart machine = by_hart hart machine (λ after. length after.state.shared.memory ≡ length machine.shared.memory) refl (λ in_range.
     let state : HartView = hart_view hart machine in
     step_cases state (λ after. length after.state.shared.memory ≡ length state.shared.memory)
-    (λ none. sym (step_size (bare_machine state) (step (bare_machine state)) (confined (bare_machine state))))
+    (λ no_trap. sym (step_size (bare_machine state) (step (bare_machine state)) (confined (bare_machine state))))
     (λ trap trapped. handled_size (hart_state_after state.hart_state trap) state.shared trap))
 
 -- ---- create
@@ -320,6 +320,7 @@ attestation_law p q count one other invariant_one invariant_other same equal bot
     let digest : first_enclave.info.measurement ≡ second_enclave.info.measurement =
     first_enclave.measurement ∙ same_digest m n (args_of first_enclave.info) (args_of second_enclave.info) same.input
     ∙ sym second_enclave.measurement in
+    -- equal measured bytes give equal create arguments and equal measurements, so both records are equal
     let info = same_info first_enclave.info second_enclave.info measured.args digest first_enclave.fresh second_enclave.fresh in
     let some : SlotInfo → Option SlotInfo = λ i. Some i in
     let first : SlotInfo → Option Context = λ i. Some (first_context i) in

@@ -22,9 +22,9 @@ use Rattle.rv_enclaves.specs.SlotNumbers.{slot_count}
 -- ---- the timer interrupt
 
 -- if the timer interrupt is pending, then the next step takes this interrupt
-taken : (state : Machine) → pending state.hart.csrs state.hart.mode ≡ Some MachineTimer → (step state).outcome.trap ≡ Some timer_trap
+takes_timer : (state : Machine) → pending state.hart.csrs state.hart.mode ≡ Some MachineTimer → (step state).outcome.trap ≡ Some timer_trap
 unfolding step
-taken state pending_is = rw pending_is refl
+takes_timer state pending_is = rw pending_is refl
 
 -- a world that passes the test `is_host` is the host
 pub host_is : (world : World) → is_host world ≡ true → world ≡ Host
@@ -48,7 +48,7 @@ timer_exits hart machine invariant k host runs host_is_saved timer_set =
     let state = hart_view hart machine in
     let view_invariant = hart_view_invariant hart machine invariant in_range in
     let enabled : state.hart_state.hart.csrs.mie ≡ 0x80 = view_invariant.hart.layout.mie ∙ ap mie_of runs in
-    let bare = taken (bare_machine state)
+    let bare = takes_timer (bare_machine state)
     (waits state.hart_state.hart.csrs state.hart_state.hart.mode view_invariant.hart.layout.mode enabled ∙ ap timer_or_none timer_set) in
     let trap_is : (step_of hart machine).outcome.step.trap ≡ Some timer_trap =
     ap (λ (after : HartViewStepped). after.outcome.step.trap) (step_seen hart machine in_range)

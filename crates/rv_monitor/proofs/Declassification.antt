@@ -56,7 +56,7 @@ module _ (e : ℕ) (one other : MonitoredMachine) where
       size = sym related.memory.size;
       bytes = λ i not_hidden. sym (related.memory.bytes i (ap (λ (t : Slots). may_differ t e (ram_base + i)) related.table ∙ not_hidden));
     };
-    contexts = record { size = sym related.contexts.size; others = λ k apart. sym (related.contexts.others k apart) };
+    contexts = record { size = sym related.contexts.size; others = λ k distinct. sym (related.contexts.others k distinct) };
     gone = λ dead. sym (related.gone (ap (λ (t : Slots). is_live t e) related.table ∙ dead));
   }
 
@@ -91,15 +91,16 @@ module _ (e hart : ℕ) (one other : MonitoredMachine) (invariant_one : Invarian
       let unchanged = one_unchanged e hart one invariant_one inside.before inside.after in
       record {
         harts = sym unchanged.harts ∙ related.harts;
+        -- the hart of the enclave runs e before and after the step, and the other harts keep their states
         hart_states = λ j. elim (cases_eq j hart) [
           | inl equal ↦ rw equal (record {
             world = world_is e (hart_state_of hart after).world inside.after ∙ sym (world_is e (hart_state_of hart one).world inside.before)
                 ∙ (related.hart_states hart).world;
             same = λ low. absurd (both_ways _ low inside.after);
           })
-          | inr apart ↦
+          | inr distinct ↦
               hart_states_equiv e (guest_state (hart_state_of j after)) (guest_state (hart_state_of j one)) (guest_state (hart_state_of j other))
-              (guest_state (hart_state_of j other)) (ap guest_state (sym (unchanged.others j apart))) refl (related.hart_states j)
+              (guest_state (hart_state_of j other)) (ap guest_state (sym (unchanged.others j distinct))) refl (related.hart_states j)
         ];
         hosts = λ j runs_there. elim (cases_eq j hart) [
           | inl equal ↦
@@ -115,6 +116,7 @@ module _ (e hart : ℕ) (one other : MonitoredMachine) (invariant_one : Invarian
         table = sym unchanged.table ∙ related.table;
         memory = record {
           size = sym unchanged.size ∙ related.memory.size;
+          -- a byte in which the machines may not differ is beyond the enclave, so the step does not change this byte
           bytes = λ i not_hidden.
               let shown_before = ap (λ (t : Slots). may_differ t e (ram_base + i)) unchanged.table ∙ not_hidden in
               let running = invariant_one.shared.running e ∙ runs_among e hart one inside.before in

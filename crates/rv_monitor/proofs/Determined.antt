@@ -73,10 +73,10 @@ module _ (hart : ℕ) (machine : MonitoredMachine) (invariant : Invariant machin
   module _ (trap : Trap) (traps : a.outcome.step.trap ≡ Some trap) (traps_too : b.outcome.step.trap ≡ Some trap) where
     -- two results of an interrupt of an enclave are equal, because the interrupt exits the enclave
     by_interrupt_of : (interrupt : Interrupt) → trap.cause ≡ causes.Interrupt interrupt → (world : World) → own_state.world ≡ world → Same
-    by_interrupt_of interrupt cause_is Host host_runs = absurd ((a_obeys.host host_runs).uninterrupted trap interrupt traps cause_is)
-    by_interrupt_of interrupt cause_is (Enclave k) world_is_own = with_saved_host k Same world_is_own (λ host_runs waiting.
-        same_by (a_obeys.interrupts k host_runs trap interrupt world_is_own waiting traps cause_is)
-        (b_obeys.interrupts k host_runs trap interrupt world_is_own waiting traps_too cause_is))
+    by_interrupt_of interrupt cause_is Host host = absurd ((a_obeys.host host).uninterrupted trap interrupt traps cause_is)
+    by_interrupt_of interrupt cause_is (Enclave k) world_is_own = with_saved_host k Same world_is_own (λ host host_is_saved.
+        same_by (a_obeys.interrupts k host trap interrupt world_is_own host_is_saved traps cause_is)
+        (b_obeys.interrupts k host trap interrupt world_is_own host_is_saved traps_too cause_is))
 
     -- two results of a redirected exception are equal
     by_redirection : is_redirected trap.cause ≡ true → (world : World) → own_state.world ≡ world → Same

@@ -172,6 +172,7 @@ one_unchanged e hart machine invariant runs_on_hart runs_after =
     let table = stays.table ∙ sym (ap (λ (s : Shared). s.table) shared) in
     record {
       harts = sym (step_count hart machine);
+      -- the table is unchanged, so a hart that the monitor reprograms for the table keeps its state
       others = λ j distinct. elim (cases_lt j (count_of machine)) [
         | inl in_range ↦
             sym (step_programmed hart j machine invariant distinct in_range ∙ ap (λ (t : Slots). reprogrammed t (hart_state_of j machine)) (sym table)
@@ -188,7 +189,7 @@ one_unchanged e hart machine invariant runs_on_hart runs_after =
       table = table;
       contexts = stays.contexts ∙ sym (ap (λ (s : Shared). s.contexts) shared);
       size = stays.size ∙ sym (ap (λ (s : Shared). length s.memory) shared);
-      bytes = λ byte beyond. ap (λ (s : Shared). byte_at s.memory byte) shared ∙ own_bytes e state view_invariant world byte beyond;
+      bytes = λ byte is_beyond_e. ap (λ (s : Shared). byte_at s.memory byte) shared ∙ own_bytes e state view_invariant world byte is_beyond_e;
     }
 
 -- ---- bytes of equal memories

@@ -146,21 +146,23 @@ module _ (i j : ℕ) (s t : HartState) (one two : Shared) (view_invariant_one : 
       let q = t.hart.csrs.pmp in
       let mode = s.hart.mode in
       record {
+        -- only the timer interrupt is enabled, and both harts have the same timer line
         pending = waits s.hart.csrs s.hart.mode below (view_invariant_one.hart.layout.mie ∙ ap mie_of alike.first)
             ∙ ap (λ (x : Hart). timer_or_none x.csrs.timer) alike.hart
             ∙ sym (waits t.hart.csrs t.hart.mode view_invariant_two.hart.layout.mode (view_invariant_two.hart.layout.mie ∙ ap mie_of alike.second));
+        -- both machines have the same permissions for the bytes of an access
         fetched =
             let pc = s.hart.pc in
             same_value (read one.memory pc (bytes_in Word)) (verdict p mode Fetch (bytes_from pc (bytes_in Word)))
             (verdict q mode Fetch (bytes_from pc (bytes_in Word))) number_of_bytes _
-            (λ some. permits_same mode Fetch pc Word below (some_inside one.memory pc (bytes_in Word) some))
+            (λ some_read. permits_same mode Fetch pc Word below (some_inside one.memory pc (bytes_in Word) some_read))
             ∙ ap (λ (m : List ℕ). given (fetched m q mode pc)) alike.memory
             ∙ ap₂ (λ (o : Mode) (a : ℕ). given (fetched two.memory q o a)) mode_is pc_is;
         loaded = λ address width.
             ap (λ (o : Mode). given (loaded one.memory p o address width)) data_one
             ∙ same_value (read one.memory address (bytes_in width)) (verdict p mode Read (bytes_from address (bytes_in width)))
             (verdict q mode Read (bytes_from address (bytes_in width))) number_of_bytes _
-            (λ some. permits_same mode Read address width below (some_inside one.memory address (bytes_in width) some))
+            (λ some_read. permits_same mode Read address width below (some_inside one.memory address (bytes_in width) some_read))
             ∙ ap (λ (m : List ℕ). given (loaded m q mode address width)) alike.memory
             ∙ ap (λ (o : Mode). given (loaded two.memory q o address width)) (sym data_two);
         stored = λ address width value.
@@ -168,8 +170,8 @@ module _ (i j : ℕ) (s t : HartState) (one two : Shared) (view_invariant_one : 
             ap (λ (o : Mode). given (stored one.memory p o address width value)) data_one
             ∙ same_value (write one.memory address bytes) (verdict p mode Write (bytes_from address (bytes_in width)))
             (verdict q mode Write (bytes_from address (bytes_in width))) (λ after. after) _
-            (λ some. permits_same mode Write address width below
-            (ap (λ (n : ℕ). is_inside one.memory address n) (sym (length-bytes_of width value)) ∙ write_inside one.memory address bytes some))
+            (λ some_read. permits_same mode Write address width below
+            (ap (λ (n : ℕ). is_inside one.memory address n) (sym (length-bytes_of width value)) ∙ write_inside one.memory address bytes some_read))
             ∙ ap (λ (m : List ℕ). given (stored m q mode address width value)) alike.memory
             ∙ ap (λ (o : Mode). given (stored two.memory q o address width value)) (sym data_two);
       }
@@ -322,8 +324,8 @@ module _ (i j : ℕ) (hart : Hart) (d : CsrState) (pc : ℕ) (g h : Option Conte
       record {
         outcome = work.outcome;
         hosts = work.hosts;
-        runs = λ still.
-            let alike = work.runs still in
+        runs = λ runs_after.
+            let alike = work.runs runs_after in
             record { first = alike.first; second = alike.second; hart = alike.hart; slot = alike.slot; memory = alike.memory };
       }
 
@@ -389,10 +391,10 @@ module _ (i j : ℕ) (s t : HartState) (one two : Shared) (view_invariant_one : 
 
   -- the steps of both views without a trap are alike
   untrapped_alike : (step (bare_machine (on s one))).outcome.trap ≡ None → StepAlike i j (untrapped (on s one)) (untrapped (on t two))
-  untrapped_alike none = record {
+  untrapped_alike no_trap = record {
     outcome = ap (λ (x : StepOutcome). let o : Outcome = record { step = x; entered = None } in o) bare.outcome;
     hosts = ap is_host alike.first ∙ sym (ap is_host alike.second);
-    runs = λ runs_after. record { first = alike.first; second = alike.second; hart = bare.hart none; slot = alike.slot; memory = bare.memory };
+    runs = λ runs_after. record { first = alike.first; second = alike.second; hart = bare.hart no_trap; slot = alike.slot; memory = bare.memory };
   }
 
   -- the steps of both views are alike
@@ -400,10 +402,10 @@ module _ (i j : ℕ) (s t : HartState) (one two : Shared) (view_invariant_one : 
   step_alike =
       let traps = ap (λ (o : StepOutcome). o.trap) bare.outcome in
       step_cases (on s one) (λ after. StepAlike i j after (monitored_step (on t two)))
-      (λ none. step_cases (on t two) (λ after. StepAlike i j (untrapped (on s one)) after) (λ none_too. untrapped_alike none)
-      (λ trap trapped. let contradiction : None ≡ Some trap = sym none ∙ traps ∙ trapped in cc))
+      (λ no_trap. step_cases (on t two) (λ after. StepAlike i j (untrapped (on s one)) after) (λ no_trap_too. untrapped_alike no_trap)
+      (λ trap trapped. let contradiction : None ≡ Some trap = sym no_trap ∙ traps ∙ trapped in cc))
       (λ trap trapped. step_cases (on t two) (λ after. StepAlike i j (trapped_to (on s one) trap) after)
-      (λ none. let contradiction : Some trap ≡ None = sym trapped ∙ traps ∙ none in cc)
+      (λ no_trap. let contradiction : Some trap ≡ None = sym trapped ∙ traps ∙ no_trap in cc)
       (λ trap_too trapped_too.
       let equal : Some trap ≡ Some trap_too = sym trapped ∙ traps ∙ trapped_too in
       let e : trap ≡ trap_too = cc in
@@ -428,6 +430,7 @@ pub record HasExited (p : Place) (cause : Cause) (before after : MonitoredMachin
 pub exited : (p : Place) (machine : MonitoredMachine) (trap : Trap) → Invariant machine → runs_at p machine ≡ true
     → (step_at p machine).outcome.step.trap ≡ Some trap → (hart_state_of p.hart (step_at p machine).state).world ≡ Host
     → (o : Option Context) → (hart_state_of p.hart machine).host_context ≡ o → HasExited p trap.cause machine (step_at p machine).state
+-- a hart that runs an enclave has a saved context of the host
 exited p machine trap invariant runs trapped host_runs_after None host_context_is =
     let in_range = runs_inside p.slot p.hart machine runs in
     let world = world_is p.slot (hart_state_of p.hart machine).world runs in
@@ -435,6 +438,7 @@ exited p machine trap invariant runs trapped host_runs_after None host_context_i
     ap (λ (o : Option Context). is_some o) (sym host_context_is) ∙ (invariant.hart_states p.hart in_range).host.kept
     ∙ ap (λ (w : World). not (is_host w)) world in
     absurd (false≢true contradiction)
+-- the machine after the step is the machine that `leave_law` gives
 exited p machine trap invariant runs trapped host_runs_after (Some host) host_context_is =
     let in_range = runs_inside p.slot p.hart machine runs in
     let world = world_is p.slot (hart_state_of p.hart machine).world runs in
@@ -593,6 +597,7 @@ module _ (p q : Place) (one other : MonitoredMachine) (invariant_one : Invariant
       let regs : hart_one.regs ≡ hart_other.regs = ap (λ (x : Hart). x.regs) same_enclave.hart in
       let saved = sym (saved_same c hart_one) ∙ ap (saved_after c) same_enclave.hart ∙ saved_same c hart_other in
       let some : Context → Option Context = λ context. Some context in
+      -- both enclaves hand over what c and the registers of the first enclave determine
       record {
         reason = reason c hart_one.regs;
         value = value c hart_one.regs;

@@ -38,7 +38,7 @@ changed_in e hart change one other keeps_world in_range equiv =
       hart_states = hart_cases_of_both one.hart_states other.hart_states hart a b (λ j s t. HartStatesEquivExcept e s t) same_harts in_range (record {
         world = keeps_world (hart_state_of hart one) ∙ same_hart.world ∙ sym (keeps_world (hart_state_of hart other));
         same = λ not_running. ap change (same_hart.same (sym (ap (is_world_of e) (keeps_world (hart_state_of hart one))) ∙ not_running));
-      }) (λ j apart. equiv.hart_states j);
+      }) (λ j distinct. equiv.hart_states j);
       shared = equiv.shared;
     }
 

@@ -192,11 +192,11 @@ seen_world hart machine in_range = ap (λ (after : HartViewStepped). after.state
 -- proves that an enclave exits only by stop, by exit or by the timer interrupt
 pub exits_law : (hart : ℕ) (machine : MonitoredMachine) → Invariant machine → ExitsOnRequest hart machine (step_of hart machine)
 exits_law hart machine invariant k runs = record {
-  quiet = λ none.
+  quiet = λ no_trap.
       let in_range = runs_here k hart machine runs in
       seen_world hart machine in_range
       ∙ quiet_world (hart_view hart machine)
-      (sym (ap (λ (after : HartViewStepped). after.outcome.step.trap) (step_seen hart machine in_range)) ∙ none) ∙ runs;
+      (sym (ap (λ (after : HartViewStepped). after.outcome.step.trap) (step_seen hart machine in_range)) ∙ no_trap) ∙ runs;
   exits = λ trap trapped.
       let trapping = is_trapping hart machine trap trapped in
       let state = hart_view hart machine in

@@ -114,8 +114,7 @@ module _ (table : Slots) (m n : List ℕ) (contexts_m contexts_n : Contexts) (sa
         (with_reprogrammed_hart (returned_to_caller hart_state other status result))
     caller_same one other status result same =
         record {
-          hart_state = ap (λ (contexts_length : Slots). reprogrammed contexts_length
-              (returned_to_caller hart_state one status result).hart_state) same.table;
+          hart_state = ap (λ (slots : Slots). reprogrammed slots (returned_to_caller hart_state one status result).hart_state) same.table;
           next = refl;
           shared = same;
         }

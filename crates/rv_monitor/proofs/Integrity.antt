@@ -132,7 +132,7 @@ integrity_in state view_invariant k not_running live not_entered live_after =
     let kept_slot = keeps not_entered live_after in
     record {
       slot = kept_slot.slot;
-      bytes = λ byte own. not_changed state k byte view_invariant not_running live_after own;
+      bytes = λ byte in_its_region. not_changed state k byte view_invariant not_running live_after in_its_region;
       context = kept_slot.context;
     }
 
@@ -141,7 +141,7 @@ pub integrity : (hart : ℕ) (machine : MonitoredMachine) → Invariant machine 
 integrity hart machine invariant k not_running live not_entered live_after = record {
   preserved = by_hart hart machine
       (λ after. enters k after.outcome.entered ≡ false → is_live after.state.shared.table k ≡ true → IsPreserved k machine.shared after.state.shared)
-      (λ not_entered live_after. record { slot = refl; bytes = λ byte own. refl; context = refl })
+      (λ not_entered live_after. record { slot = refl; bytes = λ byte in_its_region. refl; context = refl })
       (λ in_range. integrity_in (hart_view hart machine)
       (hart_view_invariant hart machine invariant in_range) k not_running live) not_entered live_after;
   hart_state = hart_state_preserved k hart machine invariant not_running;

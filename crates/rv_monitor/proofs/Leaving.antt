@@ -53,7 +53,7 @@ module _ (before : HartView) (k : ℕ) (host : Context) (runs_enclave : before.h
     destroys = λ requests is_taken. inl runs_enclave;
     measures = λ requests no_refusal. inl runs_enclave;
     enters = λ call requests is_entry_call from_host is_taken. enters_never from_host _;
-    leaves = inr (ap (λ (host_is_saved : Context). with_reprogrammed_hart (leaving_with host_is_saved)) (kept_is trap.cause));
+    leaves = inr (ap (λ (host : Context). with_reprogrammed_hart (leaving_with host)) (kept_is trap.cause));
     redirects = inl runs_enclave;
   })
 

@@ -119,8 +119,8 @@ record ViewStored (state : HartView) : Type 0 where
 -- a step of a view leaves pc, the S-mode registers and the saved contexts legal
 view_stored : (state : HartView) → HartViewInvariant state → ViewStored state → ViewStored (monitored_step state).state
 view_stored state view_invariant legal = step_cases state (λ after. ViewStored after.state)
-    (λ none.
-    let hart = stays_if _ _ none (keeps_stored (bare_machine state) view_invariant.hart.layout.mode (record {
+    (λ no_trap.
+    let hart = stays_if _ _ no_trap (keeps_stored (bare_machine state) view_invariant.hart.layout.mode (record {
       pc = legal.pc;
       csrs = record { stvec = legal.supervisor.stvec; sepc = legal.supervisor.sepc };
     })) in

@@ -673,8 +673,8 @@ module _ (p q : Place) (one other : MonitoredMachine) (invariant_one : Invariant
   own_step = record {
     outcome = own.outcome ∙ same_over_memory.outcome;
     changes = changes;
-    exits = λ gone.
-        let exit = own.state.exits gone in
+    exits = λ not_running.
+        let exit = own.state.exits not_running in
         record {
           reason = exit.reason;
           value = exit.value;

@@ -217,6 +217,7 @@ module _ (e hart : ℕ) (one other : MonitoredMachine) (invariant_one : Invarian
           table = first_after.table ∙ last_step.shared.table;
           memory = record {
             size = first_after.memory.size ∙ last_step.shared.size;
+            -- each byte is unchanged in both memories, or has the same new value in both
             bytes = λ i not_hidden. elim (last_step.shared.changes i) [
               | inr same ↦ first_after.memory.bytes i not_hidden ∙ same
               | inl unchanged ↦

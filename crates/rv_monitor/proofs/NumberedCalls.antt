@@ -323,6 +323,7 @@ answers_calls hart machine invariant trap traps by_ecall =
     let shared = machine.shared in
     let before = hart_state_of hart machine in
     let hart_state = hart_state_after before trap in
+    -- the trap handler performs a requested call with status 0
     let done : (call : Call) → call_at hart machine ≡ Some call → status_at hart machine ≡ 0
     → handled_cause hart_state shared trap trap.cause ≡ performed hart_state shared call =
     λ call call_is status_is_0. handled_done hart_state shared trap trap.cause call by_ecall call_is status_is_0 in
@@ -334,6 +335,7 @@ answers_calls hart machine invariant trap traps by_ecall =
     leave_law hart machine invariant k host trap runs host_is_saved traps
     (host_is _ ((exits_law hart machine invariant k runs).exits trap traps
     ∙ leaves_by before trap.cause call by_ecall (asks before shared call call_is) exits)) in
+    -- the numbers in a7 and a6 are those of the call
     let asked : (k : ℕ) (call : Call) → before.world ≡ Enclave k → call_at hart machine ≡ Some call
     → call_numbered (Enclave k) (register before.hart.regs 17) (register before.hart.regs 16) ≡ Some call =
     λ k call runs call_is. subst

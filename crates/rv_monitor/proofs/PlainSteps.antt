@@ -52,20 +52,20 @@ steps_plainly hart machine in_range =
       quiet = λ no_trap.
           let bare : (step (bare_machine state)).outcome.trap ≡ None = sym (ap (λ (o : StepOutcome). o.trap) outcome) ∙ no_trap in
           let one = quiet_step state (ap (λ (o : StepOutcome). o.trap) (same_outcome state) ∙ bare) in
-          let all : step_of hart machine ≡ stepped_by hart machine (untrapped state) =
+          let step_is : step_of hart machine ≡ stepped_by hart machine (untrapped state) =
           inside hart machine in_range ∙ ap (stepped_by hart machine) one in
           let put : Option Trap → MonitoredMachine = λ o. record {
             hart_states = slice_set (hart_states_reprogrammed o machine.shared.table machine.hart_states) hart (untrapped state).state.hart_state;
             shared = (untrapped state).state.shared;
           } in
-          (ap (λ (after : MonitoredStepped). after.state) all ∙ ap put bare, ap (λ (after : MonitoredStepped). after.outcome.entered) all);
+          (ap (λ (after : MonitoredStepped). after.state) step_is ∙ ap put bare, ap (λ (after : MonitoredStepped). after.outcome.entered) step_is);
     }
 
 -- proves that a step of the host takes no interrupt, and redirects each exception that is not a call
 pub host_continues : (hart : ℕ) (machine : MonitoredMachine) → Invariant machine → HostContinues hart machine (step_of hart machine)
 host_continues hart machine invariant host = record {
-  uninterrupted = λ trap interrupt is by.
-      let trapping = is_trapping hart machine trap is in
+  uninterrupted = λ trap interrupt trapped cause_is.
+      let trapping = is_trapping hart machine trap trapped in
       let state = hart_view hart machine in
       let view_invariant = hart_view_invariant hart machine invariant trapping.has in
       let bare : (step (bare_machine state)).outcome.trap ≡ Some trap =
@@ -73,7 +73,7 @@ host_continues hart machine invariant host = record {
       let disabled : state.hart_state.hart.csrs.mie ≡ 0 = view_invariant.hart.layout.mie ∙ ap mie_of host in
       let contradiction : None ≡ Some interrupt =
       sym (nothing_waits state.hart_state.hart.csrs state.hart_state.hart.mode view_invariant.hart.layout.mode disabled)
-      ∙ takes_pending (bare_machine state) trap interrupt bare by in
+      ∙ takes_pending (bare_machine state) trap interrupt bare cause_is in
       cc;
   redirects = redirects_step hart machine invariant;
 }

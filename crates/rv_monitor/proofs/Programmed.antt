@@ -44,14 +44,14 @@ module _ (slots : Slots) (first now : List HartState) (n : ℕ) (so_far : ArePro
   pub all_programmed : n ≤ length first → take n now ≡ map (reprogrammed slots) (take n first)
   all_programmed inside =
       let past = hart_state_at_start 0 in
-      let here = length-take-le n now (omega (arith, so_far.size, inside)) in
-      let there = length-take-le n first inside in
-      same_lists (take n now) (map (reprogrammed slots) (take n first)) (here ∙ sym (length-map (take n first) (reprogrammed slots) ∙ there))
-      (λ k d has.
-      let below : k < n = omega (arith, here, has) in
-      get_or-take n now k d below ∙ get_or_default now k d past (omega (arith, so_far.size, inside, below)) ∙ so_far.done k below
+      let now_length = length-take-le n now (omega (arith, so_far.size, inside)) in
+      let first_length = length-take-le n first inside in
+      same_lists (take n now) (map (reprogrammed slots) (take n first)) (now_length ∙ sym (length-map (take n first) (reprogrammed slots) ∙ first_length))
+      (λ k default in_range.
+      let below : k < n = omega (arith, now_length, in_range) in
+      get_or-take n now k default below ∙ get_or_default now k default past (omega (arith, so_far.size, inside, below)) ∙ so_far.done k below
       ∙ ap (reprogrammed slots) (sym (get_or-take n first k past below))
-      ∙ sym (get_or-map (reprogrammed slots) (take n first) k past d (omega (arith, there, below))))
+      ∙ sym (get_or-map (reprogrammed slots) (take n first) k past default (omega (arith, first_length, below))))
 
 -- the loop changes nothing on a machine with one hart that is already programmed
 pub single_as_is : (slots : Slots) (by_hart : List HartState) (harts hart : ℕ) → hart < harts → harts ≤ 1 → harts ≤ length by_hart

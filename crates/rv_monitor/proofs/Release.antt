@@ -139,7 +139,7 @@ module _ (e hart : ℕ) (one other : MonitoredMachine) (trap : Trap) (host : Con
             (host_state (left_hart hart_one table_one trap host))
             (host_state (left_hart hart_other table_other trap host)) (λ j a b. HartStatesEquivExcept e a b) sizes
             (omega (arith, length_one, there_is))
-            (record { world = refl; same = λ low. ap host_state harts_same }) (λ j apart. other_harts_equiv j);
+            (record { world = refl; same = λ low. ap host_state harts_same }) (λ j distinct. other_harts_equiv j);
         shared = record {
           table = tables;
           memory = record {

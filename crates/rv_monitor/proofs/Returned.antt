@@ -47,8 +47,7 @@ back_from before state after (inr (inr leaves)) host_is_saved enclave_runs host_
       trapped = leaves.trapped;
       again =
           leaves.again
-          ∙ ap
-          (λ (host_runs_after : Context). record host_runs_after { regs = with_return_values host_runs_after.regs reason_value exit_value }) same;
+          ∙ ap (λ (host : Context). record host { regs = with_return_values host.regs reason_value exit_value }) same;
     }
 
 -- the saved context of the host on a hart

@@ -209,9 +209,9 @@ module _ (beside : List World) (hart_state : HartState) (shared : Shared) (share
       let after = step (bare_machine state) in
       let layout = hart_invariant.layout in
       step_cases state (KeptBeside beside)
-      (λ none.
+      (λ no_trap.
       let below =
-      stays_if after.outcome.trap (StaysBelow hart_state.hart after.state.hart) none
+      stays_if after.outcome.trap (StaysBelow hart_state.hart after.state.hart) no_trap
       (keeps_machine_parts (bare_machine state) layout.mode layout.mprv) in
       quiet_kept after (confined (bare_machine state)) below (keeps_mprv_clear (bare_machine state) (λ b. layout.mprv) below.1))
       (λ trap traps.

@@ -295,8 +295,8 @@ module _ (hidden : ℕ → Bool) (hart_state : HartState) (shared : Shared) (n :
       let touched = (step before).outcome.touched in
       record {
         size = equal.size;
-        fetched = span_same hart_state.hart.mode Fetch touched.fetched touches_permitted_bytes.fetched (λ i own. reads_seen i (rw own refl));
-        loaded = span_same (data_mode hart_state.hart) Read touched.loaded touches_permitted_bytes.loaded (λ i own. reads_seen i (or_right _ _ own));
+        fetched = span_same hart_state.hart.mode Fetch touched.fetched touches_permitted_bytes.fetched (λ i is_fetched. reads_seen i (rw is_fetched refl));
+        loaded = span_same (data_mode hart_state.hart) Read touched.loaded touches_permitted_bytes.loaded (λ i is_loaded. reads_seen i (or_right _ _ is_loaded));
       }
 
   -- the steps of the view over both memories satisfy `StepOver`
@@ -338,6 +338,7 @@ pub machine_over : (hidden : ℕ → Bool) (hart : ℕ) (machine : MonitoredMach
     → MeasuresSeen hidden (hart_state_of hart machine).world machine.shared.table machine.shared.contexts
     → MachineOver machine.shared.memory n (step_of hart machine) (step_of hart (over_bytes machine n))
 machine_over hidden hart machine n equal reads_seen measures_seen = elim (cases_lt hart (count_of machine)) [
+  -- a step of a hart that the machine does not have changes nothing
   | inr past_last ↦
       rw (outside hart machine past_last, outside hart (over_bytes machine n) past_last)
       (record {

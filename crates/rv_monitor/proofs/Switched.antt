@@ -96,8 +96,7 @@ pub kept_between : (state : HartView) → is_host state.hart_state.world ≡ fal
     → (monitored_step state).state.hart_state.host_context ≡ state.hart_state.host_context
 kept_between state enclave_runs =
     step_cases state
-    (λ enclave_runs_after. is_host enclave_runs_after.state.hart_state.world ≡ false → enclave_runs_after.state.hart_state.host_context
-    ≡ state.hart_state.host_context)
+    (λ after. is_host after.state.hart_state.world ≡ false → after.state.hart_state.host_context ≡ state.hart_state.host_context)
     (λ no_trap enclave_runs_after. refl)
     (λ trap trapped enclave_runs_after.
     let hart_state = hart_state_after state.hart_state trap in
