@@ -5,7 +5,7 @@ use Rattle.rv_monitor.proofs.Prelude.{EquivExcept, MonitoredMachine, HartStatesE
 use Rattle.rv_monitor.proofs.InvariantLemmas.{past_as_is}
 use Rattle.rv_monitor.proofs.HartCases.{hart_cases_of_both}
 
--- if two hart states are equivalent except e, then so are hart states that are equal to them
+-- hart states are equivalent except e, if they are equal to hart states that are equivalent except e
 pub hart_states_equiv : (e : ℕ) (a b c d : HartState) → a ≡ b → c ≡ d → HartStatesEquivExcept e b d → HartStatesEquivExcept e a c
 hart_states_equiv e a b c d a_is_b c_is_d equiv =
     subst (λ (s : HartState). HartStatesEquivExcept e s c) (sym a_is_b) (subst (HartStatesEquivExcept e b) (sym c_is_d) equiv)

@@ -218,11 +218,11 @@ step_reads_law hart machine other trap hart_states trapped trapped_too same =
     (same_step (hart_state machine.hart_states) machine.shared other.shared trap trapping_one.trapped trapped_there same) in
     let put : List HartState → Slots → HartState → List HartState = λ states slots s. slice_set (map (reprogrammed slots) states) hart s in
     let table = view_steps.shared.table in
-    let after = (monitored_step (hart_view hart other)).state in
+    let after_one = (monitored_step (hart_view hart machine)).state in
+    let after_other = (monitored_step (hart_view hart other)).state in
     record {
       hart_states = ap (λ (m : MonitoredMachine). m.hart_states) trapping_one.state
-          ∙ ap (λ (states : List HartState). let first =
-          (monitored_step (hart_view hart machine)).state in put states first.shared.table first.hart_state) hart_states
+          ∙ ap (λ (states : List HartState). put states after_one.shared.table after_one.hart_state) hart_states
           ∙ ap₂ (put other.hart_states) table view_steps.hart_state ∙ sym (ap (λ (m : MonitoredMachine). m.hart_states) trapping_other.state);
       entered =
           ap (λ (o : Outcome). o.entered) trapping_one.outcome ∙ view_steps.entered ∙ sym (ap (λ (o : Outcome). o.entered) trapping_other.outcome);

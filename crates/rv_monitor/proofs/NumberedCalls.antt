@@ -327,8 +327,9 @@ answers_calls hart machine invariant trap traps by_ecall =
     let done : (call : Call) → call_at hart machine ≡ Some call → status_at hart machine ≡ 0
     → handled_cause hart_state shared trap trap.cause ≡ performed hart_state shared call =
     λ call call_is status_is_0. handled_done hart_state shared trap trap.cause call by_ecall call_is status_is_0 in
-    let leaves : (k : ℕ) (host : Context)
-    (call : Call) → before.world ≡ Enclave k → before.host_context ≡ Some host → call_at hart machine ≡ Some call
+    -- a stop or an exit leaves the machine that `left_machine` gives, and enters no slot
+    let leaves : (k : ℕ) (host : Context) (call : Call)
+    → before.world ≡ Enclave k → before.host_context ≡ Some host → call_at hart machine ≡ Some call
     → is_exit_call (Some call) ≡ true
     → ((step_of hart machine).state ≡ left_machine hart machine k trap host) × ((step_of hart machine).outcome.entered ≡ None) =
     λ k host call runs host_is_saved call_is exits.

@@ -46,7 +46,8 @@ module _ (slots : Slots) (first now : List HartState) (n : ℕ) (so_far : ArePro
       let past = hart_state_at_start 0 in
       let now_length = length-take-le n now (omega (arith, so_far.size, inside)) in
       let first_length = length-take-le n first inside in
-      same_lists (take n now) (map (reprogrammed slots) (take n first)) (now_length ∙ sym (length-map (take n first) (reprogrammed slots) ∙ first_length))
+      same_lists (take n now) (map (reprogrammed slots) (take n first))
+      (now_length ∙ sym (length-map (take n first) (reprogrammed slots) ∙ first_length))
       (λ k default in_range.
       let below : k < n = omega (arith, now_length, in_range) in
       get_or-take n now k default below ∙ get_or_default now k default past (omega (arith, so_far.size, inside, below)) ∙ so_far.done k below

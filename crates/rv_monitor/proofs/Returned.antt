@@ -12,7 +12,7 @@ use Rattle.rv_monitor.proofs.InvariantLemmas.{invariant_law, sched_invariant}
 use Rattle.rv_monitor.proofs.HartCases.{past_hart_state, step_beside, step_count, step_seen}
 use Rattle.rv_monitor.proofs.Switched.{KeptStored, kept_between, switch_law}
 
--- if there is no saved context of the host, then it is legal
+-- no saved context of the host is a legal saved context of the host
 nothing_kept : (o : Option Context) → is_some o ≡ false → KeptStored o
 nothing_kept None no_context = tt
 nothing_kept (Some context) no_context = cc

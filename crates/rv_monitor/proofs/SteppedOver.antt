@@ -295,8 +295,11 @@ module _ (hidden : ℕ → Bool) (hart_state : HartState) (shared : Shared) (n :
       let touched = (step before).outcome.touched in
       record {
         size = equal.size;
-        fetched = span_same hart_state.hart.mode Fetch touched.fetched touches_permitted_bytes.fetched (λ i is_fetched. reads_seen i (rw is_fetched refl));
-        loaded = span_same (data_mode hart_state.hart) Read touched.loaded touches_permitted_bytes.loaded (λ i is_loaded. reads_seen i (or_right _ _ is_loaded));
+        fetched =
+            span_same hart_state.hart.mode Fetch touched.fetched touches_permitted_bytes.fetched (λ i is_fetched. reads_seen i (rw is_fetched refl));
+        loaded =
+            span_same (data_mode hart_state.hart) Read touched.loaded touches_permitted_bytes.loaded
+            (λ i is_loaded. reads_seen i (or_right _ _ is_loaded));
       }
 
   -- the steps of the view over both memories satisfy `StepOver`

@@ -60,7 +60,7 @@ pub record SameIdentity (i j : ℕ) (one other : Shared) : Type 0 where
   pub input : measured_bytes one.memory (args_of first.info) ≡ measured_bytes other.memory (args_of second.info)
 
 -- Let two machines have an enclave of the same identity, with equal bytes in its window and the same timer line, and let both enter it. The slots
--- and the harts may differ. It then takes the same steps in both, as long as it runs.
+-- and the harts may differ. The enclave then takes the same steps in both machines, as long as the enclave runs.
 abbrev pub AttestationLaw : Type 0
 AttestationLaw =
     (p q : Place) (count : ℕ) (one other : MonitoredMachine) → Invariant one → Invariant other → SameIdentity p.slot q.slot one.shared other.shared

@@ -1,4 +1,4 @@
--- The laws of a step determine it: whatever obeys these five is the step. (A law about the laws, not a rule of a standard.)
+-- Five laws determine each step: a result that obeys the five laws is the result of the step. (A law about the laws, not a rule of a standard.)
 use Rattle.std.specs.Prelude.{◌≡◌, ◌<◌, ℕ}
 use Rattle.rv_monitor.specs.Exits.{ExitsOnRequest}
 use Rattle.rv_monitor.specs.MonitoredMachine.{Invariant, MonitoredMachine, count_of}

@@ -1,5 +1,5 @@
--- A step that enters an enclave, by run or resume, gives the hart exactly its saved context. (A law about the monitor's definitions; Keystone,
--- EuroSys 2020, in this project's profile.)
+-- A step that enters an enclave, by run or resume, gives the hart exactly the saved context of the enclave. (A law about the monitor's
+-- definitions; Keystone, EuroSys 2020, in this project's profile.)
 use Rattle.std.specs.Prelude.{◌≡◌, ℕ, Some}
 use Rattle.rv_monitor.specs.Prelude.{Enclave, Host, Trap}
 use Rattle.rv_monitor.specs.MonitoredMachine.{MonitoredMachine, hart_state_of}

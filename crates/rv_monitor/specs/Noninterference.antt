@@ -1,4 +1,4 @@
--- Noninterference of a step: it depends on nothing that is private to an enclave that is not the world of its hart, wherever that enclave runs.
+-- Noninterference: a step depends on nothing that is private to an enclave that is not the world of its hart, wherever that enclave runs.
 -- (A law about the monitor's definitions, not a rule of a standard.)
 use Rattle.std.specs.Prelude.{◌≡◌, ℕ, Bool, false, List}
 use Rattle.rv_monitor.specs.Prelude.{EqualOutside, SharedInvariant, HartState, Shared, SharedEquivExcept, Machine, Stepped, Trap, World, is_private}

@@ -140,7 +140,7 @@ pub record Handover : Type 0 where
   pub kept : Context
   pub reason : ℕ
   pub value : ℕ
-  -- the timer line of the hart after it
+  -- the timer line of the hart after the exit
   pub line : Bool
 
 -- The machine after an enclave exits. The host continues with its saved context, except for a0 and a1. On every other hart only the PMP entries and
