@@ -73,18 +73,18 @@ module _ (q k : ℕ) (below_32 : k < 32) (fits : q * (8 * 2 ^ k) + 8 * 2 ^ k ≤
       let same = same_quotient (8 * 2 ^ k) q b (omega (arith, pow_pos k)) in
       rw (napot_size_is, quotient_is)
       (same_test _ _
-      (λ e. let w = same.0 e in and_from _ _ (le-leb _ _ w.0) (lt-ltb _ _ w.1))
-      (λ e. let w = and_parts _ _ e in same.1 (leb-true _ _ w.0, ltb-true _ _ w.1)))
+      (λ test_holds. let bounds = same.0 test_holds in and_from _ _ (le-leb _ _ bounds.0) (lt-ltb _ _ bounds.1))
+      (λ test_holds. let bounds = and_parts _ _ test_holds in same.1 (leb-true _ _ bounds.0, ltb-true _ _ bounds.1)))
 
 -- the NAPOT entry for a block with this base and size matches exactly the bytes of the block
 pub napot_matches : (base size k before b : ℕ) → k < 32 → size ≡ 2 ^ (k + 3) → base % size ≡ 0 → base + size ≤ 2 ^ 33
     → matches (matching_of 0x18) before (napot_addr base size) b ≡ is_within base size b
 napot_matches base size k before b below_32 power aligned fits =
-    let q = base / size in
+    let quotient = base / size in
     let size_is : size ≡ 8 * 2 ^ k = power ∙ pow-add 2 k 3 ∙ mul_comm (2 ^ k) 8 in
-    let base_is : base ≡ q * size = omega (arith, div-add-mod' base size) in
-    let base_is' : base ≡ q * (8 * 2 ^ k) = base_is ∙ ap (λ n. q * n) size_is in
-    let fits' : q * (8 * 2 ^ k) + 8 * 2 ^ k ≤ 2 ^ 33 = omega (arith, base_is', size_is) in
+    let base_is : base ≡ quotient * size = omega (arith, div-add-mod' base size) in
+    let base_is' : base ≡ quotient * (8 * 2 ^ k) = base_is ∙ ap (λ n. quotient * n) size_is in
+    let fits' : quotient * (8 * 2 ^ k) + 8 * 2 ^ k ≤ 2 ^ 33 = omega (arith, base_is', size_is) in
     let P : ℕ → ℕ → Type 0 = λ x y. matches (matching_of 0x18) before (napot_addr x y) b ≡ is_within x y b in
-    let at_product : P (q * (8 * 2 ^ k)) (8 * 2 ^ k) = block_matches q k below_32 fits' before b in
-    subst (λ x. P x size) (sym base_is') (subst (λ y. P (q * (8 * 2 ^ k)) y) (sym size_is) at_product)
+    let at_product : P (quotient * (8 * 2 ^ k)) (8 * 2 ^ k) = block_matches quotient k below_32 fits' before b in
+    subst (λ x. P x size) (sym base_is') (subst (λ y. P (quotient * (8 * 2 ^ k)) y) (sym size_is) at_product)

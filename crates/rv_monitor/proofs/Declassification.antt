@@ -177,19 +177,19 @@ module _ (e hart : ℕ) (one other : MonitoredMachine) (invariant_one : Invarian
   -- after an exit from both machines that hands over the same, the machines are equivalent in the guest view
   exit_equiv : ExitsAlike e hart one other → EquivToGuests e (step_of hart one).state (step_of hart other).state
   exit_equiv exits_alike =
-      let a = guest_view one in
-      let b = guest_view other in
+      let view_one = guest_view one in
+      let view_other = guest_view other in
       let equiv = related_equiv e one other related (λ running. exits_alike.window) in
-      let host : SameHost (hart_state_of hart a) (hart_state_of hart b) =
-      subst (λ (s : HartState). SameHost s (hart_state_of hart b)) (sym (guest_hart_state hart one))
+      let host : SameHost (hart_state_of hart view_one) (hart_state_of hart view_other) =
+      subst (λ (s : HartState). SameHost s (hart_state_of hart view_other)) (sym (guest_hart_state hart one))
       (subst (SameHost (guest_state (hart_state_of hart one))) (sym (guest_hart_state hart other)) (related.hosts hart exits_alike.runs)) in
-      let handover : SameHandoverBy exits_alike.trap.cause (hart_state_of hart a).hart (hart_state_of hart b).hart =
-      subst (λ (s : HartState). SameHandoverBy exits_alike.trap.cause s.hart (hart_state_of hart b).hart) (sym (guest_hart_state hart one))
+      let handover : SameHandoverBy exits_alike.trap.cause (hart_state_of hart view_one).hart (hart_state_of hart view_other).hart =
+      subst (λ (s : HartState). SameHandoverBy exits_alike.trap.cause s.hart (hart_state_of hart view_other).hart) (sym (guest_hart_state hart one))
       (subst (λ (s : HartState). SameHandoverBy exits_alike.trap.cause (guest_state (hart_state_of hart one)).hart s.hart)
       (sym (guest_hart_state hart other))
       (to_guests exits_alike.trap.cause (hart_state_of hart one) (hart_state_of hart other) exits_alike.handover)) in
       equiv_from_guests e hart one other invariant_one invariant_other
-      (release e hart a b exits_alike.trap (guest_invariant one invariant_one) (guest_invariant other invariant_other) equiv
+      (release e hart view_one view_other exits_alike.trap (guest_invariant one invariant_one) (guest_invariant other invariant_other) equiv
       (runs_too e hart one ∙ exits_alike.runs) host handover
       (trap_too one exits_alike.trap invariant_one exits_alike.first) (trap_too other exits_alike.trap invariant_other exits_alike.second)
       (world_after one invariant_one exits_alike.first_exits)

@@ -236,18 +236,19 @@ pub step_own : (k : ℕ) (hart_state : HartState) (one other : Shared) → HartV
     → OwnAlike k (monitored_step (on hart_state one)) (monitored_step (on hart_state other))
 unfolding monitored_step
 step_own k hart_state one other view_invariant_one runs_enclave slots same_for_k =
-    let a = stepped hart_state one in
-    let b = stepped hart_state other in
+    let bare_one = stepped hart_state one in
+    let bare_other = stepped hart_state other in
     let alike = memory_step k (on hart_state one) view_invariant_one runs_enclave other.memory same_for_k.memory in
     let shared : SharedFor k (stored hart_state one) (stored hart_state other) =
     record { table = same_for_k.table; memory = alike.memory; context = same_for_k.context } in
     let base =
-    trapped_own k a.outcome a.outcome.trap (record hart_state { hart = a.state.hart }) (stored hart_state one) (stored hart_state other) runs_enclave
+    trapped_own k bare_one.outcome bare_one.outcome.trap (record hart_state { hart = bare_one.state.hart }) (stored hart_state one)
+    (stored hart_state other) runs_enclave
     view_invariant_one.valid.count slots shared in
     let P : Hart → StepOutcome → Type 0 = λ hart outcome. OwnAlike k
-    (after_bare a.outcome (record hart_state { hart = a.state.hart }) (stored hart_state one))
+    (after_bare bare_one.outcome (record hart_state { hart = bare_one.state.hart }) (stored hart_state one))
     (after_bare outcome (record hart_state { hart = hart }) (stored hart_state other)) in
-    subst (λ hart. P hart b.outcome) (sym alike.hart) (subst (λ outcome. P a.state.hart outcome) (sym alike.outcome) base)
+    subst (λ hart. P hart bare_other.outcome) (sym alike.hart) (subst (λ outcome. P bare_one.state.hart outcome) (sym alike.outcome) base)
 
 -- a world that passes the test `is_world_of k` is not the host
 pub not_host_by : (k : ℕ) (world : World) → is_world_of k world ≡ true → is_host world ≡ false

@@ -142,8 +142,8 @@ module _ (i j : ℕ) (s t : HartState) (one two : Shared) (view_invariant_one : 
   -- fetches, loads and stores of both machines have the same results
   access_same : SameAccess (bare_machine (on s one)) (bare_machine (on t two))
   access_same =
-      let p = s.hart.csrs.pmp in
-      let q = t.hart.csrs.pmp in
+      let entries_one = s.hart.csrs.pmp in
+      let entries_other = t.hart.csrs.pmp in
       let mode = s.hart.mode in
       record {
         -- only the timer interrupt is enabled, and both harts have the same timer line
@@ -153,27 +153,27 @@ module _ (i j : ℕ) (s t : HartState) (one two : Shared) (view_invariant_one : 
         -- both machines have the same permissions for the bytes of an access
         fetched =
             let pc = s.hart.pc in
-            same_value (read one.memory pc (bytes_in Word)) (verdict p mode Fetch (bytes_from pc (bytes_in Word)))
-            (verdict q mode Fetch (bytes_from pc (bytes_in Word))) number_of_bytes _
+            same_value (read one.memory pc (bytes_in Word)) (verdict entries_one mode Fetch (bytes_from pc (bytes_in Word)))
+            (verdict entries_other mode Fetch (bytes_from pc (bytes_in Word))) number_of_bytes _
             (λ some_read. permits_same mode Fetch pc Word below (some_inside one.memory pc (bytes_in Word) some_read))
-            ∙ ap (λ (m : List ℕ). given (fetched m q mode pc)) alike.memory
-            ∙ ap₂ (λ (o : Mode) (a : ℕ). given (fetched two.memory q o a)) mode_is pc_is;
+            ∙ ap (λ (m : List ℕ). given (fetched m entries_other mode pc)) alike.memory
+            ∙ ap₂ (λ (o : Mode) (a : ℕ). given (fetched two.memory entries_other o a)) mode_is pc_is;
         loaded = λ address width.
-            ap (λ (o : Mode). given (loaded one.memory p o address width)) data_one
-            ∙ same_value (read one.memory address (bytes_in width)) (verdict p mode Read (bytes_from address (bytes_in width)))
-            (verdict q mode Read (bytes_from address (bytes_in width))) number_of_bytes _
+            ap (λ (o : Mode). given (loaded one.memory entries_one o address width)) data_one
+            ∙ same_value (read one.memory address (bytes_in width)) (verdict entries_one mode Read (bytes_from address (bytes_in width)))
+            (verdict entries_other mode Read (bytes_from address (bytes_in width))) number_of_bytes _
             (λ some_read. permits_same mode Read address width below (some_inside one.memory address (bytes_in width) some_read))
-            ∙ ap (λ (m : List ℕ). given (loaded m q mode address width)) alike.memory
-            ∙ ap (λ (o : Mode). given (loaded two.memory q o address width)) (sym data_two);
+            ∙ ap (λ (m : List ℕ). given (loaded m entries_other mode address width)) alike.memory
+            ∙ ap (λ (o : Mode). given (loaded two.memory entries_other o address width)) (sym data_two);
         stored = λ address width value.
             let bytes = bytes_of (bytes_in width) value in
-            ap (λ (o : Mode). given (stored one.memory p o address width value)) data_one
-            ∙ same_value (write one.memory address bytes) (verdict p mode Write (bytes_from address (bytes_in width)))
-            (verdict q mode Write (bytes_from address (bytes_in width))) (λ after. after) _
-            (λ some_read. permits_same mode Write address width below
-            (ap (λ (n : ℕ). is_inside one.memory address n) (sym (length-bytes_of width value)) ∙ write_inside one.memory address bytes some_read))
-            ∙ ap (λ (m : List ℕ). given (stored m q mode address width value)) alike.memory
-            ∙ ap (λ (o : Mode). given (stored two.memory q o address width value)) (sym data_two);
+            ap (λ (o : Mode). given (stored one.memory entries_one o address width value)) data_one
+            ∙ same_value (write one.memory address bytes) (verdict entries_one mode Write (bytes_from address (bytes_in width)))
+            (verdict entries_other mode Write (bytes_from address (bytes_in width))) (λ after. after) _
+            (λ some_write. permits_same mode Write address width below
+            (ap (λ (n : ℕ). is_inside one.memory address n) (sym (length-bytes_of width value)) ∙ write_inside one.memory address bytes some_write))
+            ∙ ap (λ (m : List ℕ). given (stored m entries_other mode address width value)) alike.memory
+            ∙ ap (λ (o : Mode). given (stored two.memory entries_other o address width value)) (sym data_two);
       }
 
   -- the bare steps of both machines are equal, as S and U see them
@@ -372,7 +372,7 @@ module _ (i j : ℕ) (s t : HartState) (one two : Shared) (view_invariant_one : 
   -- the steps of both views with a trap are alike
   trapped_alike : (trap : Trap) → StepAlike i j (trapped_to (on s one) trap) (trapped_to (on t two) trap)
   trapped_alike trap =
-      let o = (step (bare_machine (on s one))).outcome in
+      let bare_outcome = (step (bare_machine (on s one))).outcome in
       let put : Option Context → Hart → World → HartState = λ host hart world. record { hart = hart; host_context = host; world = world } in
       let first : hart_state_after s trap ≡ running i s.host_context (hart_after s.hart trap) =
       ap (put s.host_context (hart_after s.hart trap)) alike.first in
@@ -381,11 +381,12 @@ module _ (i j : ℕ) (s t : HartState) (one two : Shared) (view_invariant_one : 
       ap₂ (put t.host_context) (after_is trap) alike.second in
       let a1_is = ap (λ (x : Hart). register x.regs 11) alike.hart in
       let P : StepOutcome → HartState → HartState → Type 0 =
-      λ p x y. StepAlike i j (returned o (handled x one trap)) (returned p (handled y two trap)) in
+      λ p x y. StepAlike i j (returned bare_outcome (handled x one trap)) (returned p (handled y two trap)) in
       subst (λ (p : StepOutcome). P p (hart_state_after s trap) (hart_state_after t trap)) bare.outcome
-      (subst (λ (x : HartState). P o x (hart_state_after t trap)) (sym first)
-      (subst (λ (y : HartState). P o (running i s.host_context (hart_after s.hart trap)) y) (sym second)
-      (handled_too i j (hart_after s.hart trap) (hart_after t.hart trap).csrs (hart_after t.hart trap).pc s.host_context t.host_context one two o
+      (subst (λ (x : HartState). P bare_outcome x (hart_state_after t trap)) (sym first)
+      (subst (λ (y : HartState). P bare_outcome (running i s.host_context (hart_after s.hart trap)) y) (sym second)
+      (handled_too i j (hart_after s.hart trap) (hart_after t.hart trap).csrs
+      (hart_after t.hart trap).pc s.host_context t.host_context one two bare_outcome
       view_invariant_one.hart.layout.mprv alike.slot alike.memory
       (may_all_same i j s t one two view_invariant_one view_invariant_two alike (register s.hart.regs 11)) trap)))
 
@@ -408,8 +409,8 @@ module _ (i j : ℕ) (s t : HartState) (one two : Shared) (view_invariant_one : 
       (λ no_trap. let contradiction : Some trap ≡ None = sym trapped ∙ traps ∙ no_trap in cc)
       (λ trap_too trapped_too.
       let equal : Some trap ≡ Some trap_too = sym trapped ∙ traps ∙ trapped_too in
-      let e : trap ≡ trap_too = cc in
-      subst (λ (x : Trap). StepAlike i j (trapped_to (on s one) trap) (trapped_to (on t two) x)) e (trapped_alike trap)))
+      let same_trap : trap ≡ trap_too = cc in
+      subst (λ (x : Trap). StepAlike i j (trapped_to (on s one) trap) (trapped_to (on t two) x)) same_trap (trapped_alike trap)))
 
 -- ---- the exit of an enclave
 
@@ -429,7 +430,8 @@ pub record HasExited (p : Place) (cause : Cause) (before after : MonitoredMachin
 -- after a trap of an enclave after which the host runs, the enclave has exited
 pub exited : (p : Place) (machine : MonitoredMachine) (trap : Trap) → Invariant machine → runs_at p machine ≡ true
     → (step_at p machine).outcome.step.trap ≡ Some trap → (hart_state_of p.hart (step_at p machine).state).world ≡ Host
-    → (o : Option Context) → (hart_state_of p.hart machine).host_context ≡ o → HasExited p trap.cause machine (step_at p machine).state
+    → (saved_host : Option Context) → (hart_state_of p.hart machine).host_context ≡ saved_host
+    → HasExited p trap.cause machine (step_at p machine).state
 -- a hart that runs an enclave has a saved context of the host
 exited p machine trap invariant runs trapped host_runs_after None host_context_is =
     let in_range = runs_inside p.slot p.hart machine runs in
@@ -443,25 +445,25 @@ exited p machine trap invariant runs trapped host_runs_after (Some host) host_co
     let in_range = runs_inside p.slot p.hart machine runs in
     let world = world_is p.slot (hart_state_of p.hart machine).world runs in
     let hart = (hart_state_of p.hart machine).hart in
-    let t = machine.shared.table in
-    let o = slot_at t p.slot in
+    let table = machine.shared.table in
+    let slot = slot_at table p.slot in
     let after = enclave_state_after trap.cause hart.regs in
     let count = invariant.shared.valid.count in
     let contexts = invariant.shared.contexts.count in
     let left = (leave_law p.hart machine invariant p.slot host trap world host_context_is trapped host_runs_after).0 in
     let hart_state_is = left_hart_state p.hart machine p.slot trap host in_range in
     let live = running_is_live p.slot p.hart machine invariant runs in
-    let slot_in_range = live_slot_in_range t p.slot o count refl live in
+    let slot_in_range = live_slot_in_range table p.slot slot count refl live in
     rw left (record {
       returned = record {
         world = ap (λ (s : HartState). s.world) hart_state_is;
         host = host.regs;
         regs = ap (λ (s : HartState). s.hart.regs) hart_state_is;
       };
-      slot = state_slot t p.slot o after count refl;
+      slot = state_slot table p.slot slot after count refl;
       context = at_same machine.shared.contexts p.slot (Some (saved_after trap.cause hart)) (omega (arith, slot_in_range, contexts));
       memory = refl;
-      extent = state_extent t p.slot o after count refl;
+      extent = state_extent table p.slot slot after count refl;
     })
 
 -- the context that an exit saves has nothing of M-mode
@@ -542,18 +544,20 @@ module _ (p q : Place) (one other : MonitoredMachine) (invariant_one : Invariant
   -- if the first enclave still runs after the step, then both enclaves have the same state after the step
   still_runs : runs_at p (step_at p one).state ≡ true → SameEnclave p q (step_at p one).state (step_at q other).state
   still_runs runs_after =
-      let a = (monitored_step (hart_view p.hart one)).state in
-      let c = (monitored_step (hart_view q.hart mid)).state in
+      let after_one = (monitored_step (hart_view p.hart one)).state in
+      let after_mid = (monitored_step (hart_view q.hart mid)).state in
       let shared_one = ap (λ (x : HartViewStepped). x.state.shared) (step_seen p.hart one has_one) in
       let shared_other = ap (λ (x : HartViewStepped). x.state.shared) (step_seen q.hart other has_other) in
       let alike = first.runs (sym (ap (λ (x : HartState). is_host x.world) seen_one)
       ∙ not_host_by p.slot (hart_state_of p.hart (step_at p one).state).world runs_after) in
-      let bytes : EqualOutside (is_beyond a.shared.table p.slot) a.shared.memory (monitored_step (hart_view q.hart other)).state.shared.memory =
+      let bytes : EqualOutside (is_beyond after_one.shared.table p.slot) after_one.shared.memory
+      (monitored_step (hart_view q.hart other)).state.shared.memory =
       record {
         size = ap (λ (m : List ℕ). length m) alike.memory ∙ own.shared.memory.size;
         bytes = λ n not_hidden.
             ap (λ (m : List ℕ). slice_index m n) alike.memory
-            ∙ own.shared.memory.bytes n (sym (beyond_same a.shared.table c.shared.table p.slot q.slot (ram_base + n) alike.slot) ∙ not_hidden);
+            ∙ own.shared.memory.bytes n
+            (sym (beyond_same after_one.shared.table after_mid.shared.table p.slot q.slot (ram_base + n) alike.slot) ∙ not_hidden);
       } in
       record {
         first = runs_after;
@@ -563,7 +567,8 @@ module _ (p q : Place) (one other : MonitoredMachine) (invariant_one : Invariant
         slot = ap (λ (x : Shared). slot_at x.table p.slot) shared_one ∙ alike.slot ∙ ap (λ (t : Slots). slot_at t q.slot) own.shared.table
             ∙ sym (ap (λ (x : Shared). slot_at x.table q.slot) shared_other);
         memory = subst (λ (x : Shared). EqualOutside (is_beyond x.table p.slot) x.memory (step_at q other).state.shared.memory) (sym shared_one)
-            (subst (λ (x : Shared). EqualOutside (is_beyond a.shared.table p.slot) a.shared.memory x.memory) (sym shared_other) bytes);
+            (subst (λ (x : Shared). EqualOutside (is_beyond after_one.shared.table p.slot) after_one.shared.memory x.memory)
+            (sym shared_other) bytes);
       }
 
   -- if the first enclave does not run after the step, then its hart runs the host
@@ -588,32 +593,35 @@ module _ (p q : Place) (one other : MonitoredMachine) (invariant_one : Invariant
   exits_by None no_trap host_runs_after = not_host _ p.slot _ ((exits_law p.hart one invariant_one p.slot world_one).quiet no_trap) host_runs_after
   exits_by (Some trap) trapped host_runs_after =
       let traps_too = sym (ap (λ (x : Outcome). x.step.trap) same_outcome) ∙ trapped in
-      let a = exited p one trap invariant_one same_enclave.first trapped host_runs_after (hart_state_of p.hart one).host_context refl in
-      let b =
+      let exited_one = exited p one trap invariant_one same_enclave.first trapped host_runs_after (hart_state_of p.hart one).host_context refl in
+      let exited_other =
       exited q other trap invariant_other same_enclave.second traps_too (gone_other host_runs_after) (hart_state_of q.hart other).host_context refl in
-      let c = trap.cause in
+      let cause = trap.cause in
       let hart_one = (hart_state_of p.hart one).hart in
       let hart_other = (hart_state_of q.hart other).hart in
       let regs : hart_one.regs ≡ hart_other.regs = ap (λ (x : Hart). x.regs) same_enclave.hart in
-      let saved = sym (saved_same c hart_one) ∙ ap (saved_after c) same_enclave.hart ∙ saved_same c hart_other in
+      let saved = sym (saved_same cause hart_one) ∙ ap (saved_after cause) same_enclave.hart ∙ saved_same cause hart_other in
       let some : Context → Option Context = λ context. Some context in
       -- both enclaves hand over what c and the registers of the first enclave determine
       record {
-        reason = reason c hart_one.regs;
-        value = value c hart_one.regs;
-        first = a.returned;
-        second = subst (λ (x : List ℕ). HasReturned (reason c x) (value c x) q.hart (step_at q other).state) (sym regs) b.returned;
+        reason = reason cause hart_one.regs;
+        value = value cause hart_one.regs;
+        first = exited_one.returned;
+        second = subst (λ (x : List ℕ). HasReturned (reason cause x) (value cause x) q.hart (step_at q other).state) (sym regs) exited_other.returned;
         saved = record {
-          context = saved_after c hart_one;
-          first = a.context;
-          second = b.context ∙ ap some (sym saved);
-          slot = a.slot ∙ ap₂ (λ (x : List ℕ) (o : Option SlotInfo). with_its_state (enclave_state_after c x) o) regs same_enclave.slot ∙ sym b.slot;
+          context = saved_after cause hart_one;
+          first = exited_one.context;
+          second = exited_other.context ∙ ap some (sym saved);
+          slot =
+              exited_one.slot ∙ ap₂ (λ (x : List ℕ) (o : Option SlotInfo). with_its_state (enclave_state_after cause x) o) regs same_enclave.slot
+              ∙ sym exited_other.slot;
           memory = record {
-            size = ap (λ (m : List ℕ). length m) a.memory ∙ same_enclave.memory.size ∙ sym (ap (λ (m : List ℕ). length m) b.memory);
+            size =
+                ap (λ (m : List ℕ). length m) exited_one.memory ∙ same_enclave.memory.size ∙ sym (ap (λ (m : List ℕ). length m) exited_other.memory);
             bytes =
-                λ n shown. ap (λ (m : List ℕ). slice_index m n) a.memory
-                ∙ same_enclave.memory.bytes n (beyond_again p.slot _ _ (ram_base + n) a.extent shown)
-                ∙ sym (ap (λ (m : List ℕ). slice_index m n) b.memory);
+                λ n shown. ap (λ (m : List ℕ). slice_index m n) exited_one.memory
+                ∙ same_enclave.memory.bytes n (beyond_again p.slot _ _ (ram_base + n) exited_one.extent shown)
+                ∙ sym (ap (λ (m : List ℕ). slice_index m n) exited_other.memory);
           };
         };
       }

@@ -29,16 +29,18 @@ changed_in : (e hart : ℕ) (change : HartState → HartState) (one other : Moni
     → ((hart_state : HartState) → (change hart_state).world ≡ hart_state.world)
     → hart < count_of one → EquivExcept e one other → EquivExcept e (changed hart change one) (changed hart change other)
 changed_in e hart change one other keeps_world in_range equiv =
-    let a = change (hart_state_of hart one) in
-    let b = change (hart_state_of hart other) in
+    let changed_one = change (hart_state_of hart one) in
+    let changed_other = change (hart_state_of hart other) in
     let same_harts = equiv.harts in
     let same_hart = equiv.hart_states hart in
     record {
-      harts = length-set one.hart_states hart a ∙ equiv.harts ∙ sym (length-set other.hart_states hart b);
-      hart_states = hart_cases_of_both one.hart_states other.hart_states hart a b (λ j s t. HartStatesEquivExcept e s t) same_harts in_range (record {
-        world = keeps_world (hart_state_of hart one) ∙ same_hart.world ∙ sym (keeps_world (hart_state_of hart other));
-        same = λ not_running. ap change (same_hart.same (sym (ap (is_world_of e) (keeps_world (hart_state_of hart one))) ∙ not_running));
-      }) (λ j distinct. equiv.hart_states j);
+      harts = length-set one.hart_states hart changed_one ∙ equiv.harts ∙ sym (length-set other.hart_states hart changed_other);
+      hart_states =
+          hart_cases_of_both one.hart_states other.hart_states hart changed_one changed_other
+          (λ j s t. HartStatesEquivExcept e s t) same_harts in_range (record {
+            world = keeps_world (hart_state_of hart one) ∙ same_hart.world ∙ sym (keeps_world (hart_state_of hart other));
+            same = λ not_running. ap change (same_hart.same (sym (ap (is_world_of e) (keeps_world (hart_state_of hart one))) ∙ not_running));
+          }) (λ j distinct. equiv.hart_states j);
       shared = equiv.shared;
     }
 

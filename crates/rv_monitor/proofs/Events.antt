@@ -41,18 +41,20 @@ module _ (e hart : ℕ) (raised : Bool) (one other : MonitoredMachine) where
   -- the same change of a timer line leaves equivalent machines equivalent
   line_equiv : EquivExcept e one other → EquivExcept e (with_timer hart one raised) (with_timer hart other raised)
   line_equiv equiv =
-      let a = timer_line_set raised (hart_state_of hart one) in
-      let b = timer_line_set raised (hart_state_of hart other) in
+      let changed_one = timer_line_set raised (hart_state_of hart one) in
+      let changed_other = timer_line_set raised (hart_state_of hart other) in
       let same_harts = equiv.harts in
       let same_hart = equiv.hart_states hart in
       elim (cases_lt hart (count_of one)) [
         | inl in_range ↦ record {
-          harts = length-set one.hart_states hart a ∙ same_harts ∙ sym (length-set other.hart_states hart b);
-          hart_states = hart_cases_of_both one.hart_states other.hart_states hart a b (λ j s t. HartStatesEquivExcept e s t) same_harts in_range
+          harts = length-set one.hart_states hart changed_one ∙ same_harts ∙ sym (length-set other.hart_states hart changed_other);
+          hart_states =
+              hart_cases_of_both one.hart_states other.hart_states hart changed_one changed_other
+              (λ j s t. HartStatesEquivExcept e s t) same_harts in_range
               (record { world = same_hart.world; same = λ low. ap (timer_line_set raised) (same_hart.same low) }) (λ j distinct. equiv.hart_states j);
           shared = equiv.shared;
         }
-        | inr past ↦ rw (past_as_is hart a one past, past_as_is hart b other (omega (arith, same_harts, past))) equiv
+        | inr past ↦ rw (past_as_is hart changed_one one past, past_as_is hart changed_other other (omega (arith, same_harts, past))) equiv
       ]
 
   -- the same change of a timer line leaves related machines related

@@ -209,21 +209,25 @@ module _ (e hart : ℕ) (one other : MonitoredMachine) (invariant_one : Invarian
   -- the hart that steps has the same host in both machines after the step
   own_host : hart < count_of one → SameHostOn hart (step_of hart one).state (step_of hart other).state
   own_host in_range =
-      let a = guest_view one in
-      let b = guest_view other in
-      let size_a = length-map one.hart_states guest_state in
+      let view_one = guest_view one in
+      let view_other = guest_view other in
+      let size_one = length-map one.hart_states guest_state in
       let size_b = length-map other.hart_states guest_state in
       let related_harts = equiv.harts in
-      let not_running_a : runs_on e hart a ≡ false = ap (λ (s : HartState). is_world_of e s.world) (guest_hart_state hart one) ∙ not_running in
-      let hart_states = (equiv.hart_states hart).same not_running_a in
-      let view_invariant = hart_view_invariant hart a (guest_invariant one invariant_one) (omega (arith, size_a, in_range)) in
-      let same_over_shared = step_host e (hart_state_of hart a) a.shared b.shared view_invariant not_running_a equiv.shared in
-      let same_host_after : SameHostAfter (monitored_step (hart_view hart a)) (monitored_step (hart_view hart b)) =
-      subst (λ (s : HartState). SameHostAfter (monitored_step (hart_view hart a)) (monitored_step (on s b.shared))) hart_states same_over_shared in
+      let not_running_one : runs_on e hart view_one ≡ false =
+      ap (λ (s : HartState). is_world_of e s.world) (guest_hart_state hart one) ∙ not_running in
+      let hart_states = (equiv.hart_states hart).same not_running_one in
+      let view_invariant = hart_view_invariant hart view_one (guest_invariant one invariant_one) (omega (arith, size_one, in_range)) in
+      let same_over_shared =
+      step_host e (hart_state_of hart view_one) view_one.shared view_other.shared view_invariant not_running_one equiv.shared in
+      let same_host_after : SameHostAfter (monitored_step (hart_view hart view_one)) (monitored_step (hart_view hart view_other)) =
+      subst
+      (λ (s : HartState). SameHostAfter (monitored_step (hart_view hart view_one))
+      (monitored_step (on s view_other.shared))) hart_states same_over_shared in
       subst (λ (s : HartState). SameHost s (guest_state (hart_state_of hart (step_of hart other).state)))
       (sym (guest_state_after hart one invariant_one in_range))
-      (subst (SameHost (guest_state (monitored_step (hart_view hart a)).state.hart_state))
-      (sym (guest_state_after hart other invariant_other (omega (arith, size_a, size_b, related_harts, in_range)))) same_host_after)
+      (subst (SameHost (guest_state (monitored_step (hart_view hart view_one)).state.hart_state))
+      (sym (guest_state_after hart other invariant_other (omega (arith, size_one, size_b, related_harts, in_range)))) same_host_after)
 
   -- after low steps, each hart that runs the enclave has the same saved host in both machines
   pub hosts_after : (j : ℕ) → runs_on e j (step_of hart one).state ≡ true → SameHostOn j (step_of hart one).state (step_of hart other).state

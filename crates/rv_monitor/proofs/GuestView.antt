@@ -121,10 +121,11 @@ module _ (state : HartView) (alike : SameToGuests (step (bare_machine state)) (s
       let mcycle = guest_at_trap.hart.csrs.mcycle in
       let minstret = guest_at_trap.hart.csrs.minstret in
       let handled_state = handled hart_state state.shared trap in
-      let a = (step (bare_machine state)).outcome in
-      let P : StepOutcome → Handled → Type 0 = λ o h. SameShown (returned a handled_state) (returned o h) in
+      let bare_outcome = (step (bare_machine state)).outcome in
+      let P : StepOutcome → Handled → Type 0 = λ o h. SameShown (returned bare_outcome handled_state) (returned o h) in
       subst (λ (o : StepOutcome). P o (handled guest_at_trap state.shared trap)) alike.outcome
-      (subst (P a) (sym (handled_too mcycle minstret hart_state state.shared trap)) (returned_too a handled_state mcycle minstret))
+      (subst (P bare_outcome) (sym (handled_too mcycle minstret hart_state state.shared trap))
+      (returned_too bare_outcome handled_state mcycle minstret))
 
   -- a step is the same to guests from the view and from the view with the guest state
   same_shown : SameShown (monitored_step state) (monitored_step other)

@@ -22,12 +22,12 @@ find-passes : {X : Type 0} (p : X → Bool) (xs : List X) (x : X) → find p xs 
 find-passes p [] x found = cc
 find-passes {X} p (y ∷ ys) x found = elim (cases_Bool (p y)) [
   | inl holds ↦
-      let e : Some y ≡ Some x = sym (cond-true (p y) _ _ holds) ∙ found in
+      let some_is : Some y ≡ Some x = sym (cond-true (p y) _ _ holds) ∙ found in
       let same : y ≡ x = cc in
       subst (λ (z : X). p z ≡ true) same holds
   | inr fails ↦
-      let e : find p ys ≡ Some x = sym (cond-false (p y) _ _ fails) ∙ found in
-      find-passes p ys x e
+      let some_is : find p ys ≡ Some x = sym (cond-false (p y) _ _ fails) ∙ found in
+      find-passes p ys x some_is
 ]
 
 -- a call that the search for the call number finds has this number, and is offered to the world

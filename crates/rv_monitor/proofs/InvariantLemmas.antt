@@ -74,13 +74,13 @@ stepped_kept : (hart : ℕ) (machine : MonitoredMachine) → Invariant machine �
 stepped_kept hart machine invariant in_range =
     let after = monitored_step (hart_view hart machine) in
     let slots = after.state.shared.table in
-    let o = after.outcome.step.trap in
+    let trap = after.outcome.step.trap in
     let view_kept = invariant_of_others hart machine invariant in_range in
     let same_length = count_behind hart machine after in
     record {
       shared = subst (SharedInvariant after.state.shared)
-          (sym (map-set world_of (hart_states_reprogrammed o slots machine.hart_states) hart after.state.hart_state
-          ∙ ap (λ (ws : List World). slice_set ws hart after.state.hart_state.world) (worlds_behind o slots machine.hart_states)))
+          (sym (map-set world_of (hart_states_reprogrammed trap slots machine.hart_states) hart after.state.hart_state
+          ∙ ap (λ (ws : List World). slice_set ws hart after.state.hart_state.world) (worlds_behind trap slots machine.hart_states)))
           (sound_back after.state.shared (worlds machine) hart after.state.hart_state.world (has_world hart machine in_range) view_kept.0);
       hart_states = λ j inside.
           let j_in_range : j < count_of machine = omega (arith, same_length, inside) in

@@ -112,13 +112,13 @@ leave_law hart machine invariant k host trap runs saved_host trapped host_runs_a
 
 -- the state of the hart after an exit is the state that `left_hart` gives
 pub left_hart_state : (hart : ℕ) (machine : MonitoredMachine) (k : ℕ) (trap : Trap) (host : Context) → hart < count_of machine
-    → (let h = (hart_state_of hart machine).hart in
-    let shared = left_shared machine.shared k trap.cause h in
-    let hart_state : HartState = record { hart = left_hart h shared.table trap host; host_context = None; world = Host } in
+    → (let hart_before = (hart_state_of hart machine).hart in
+    let shared = left_shared machine.shared k trap.cause hart_before in
+    let hart_state : HartState = record { hart = left_hart hart_before shared.table trap host; host_context = None; world = Host } in
     hart_state_of hart (left_machine hart machine k trap host) ≡ hart_state)
 left_hart_state hart machine k trap host in_range =
-    let h = (hart_state_of hart machine).hart in
-    let shared = left_shared machine.shared k trap.cause h in
+    let hart_before = (hart_state_of hart machine).hart in
+    let shared = left_shared machine.shared k trap.cause hart_before in
     let same_length = length-map machine.hart_states (reprogrammed shared.table) in
     get_or-set_at (map (reprogrammed shared.table) machine.hart_states) hart hart _ (hart_state_at_start 0) refl
     (omega (arith, same_length, in_range))

@@ -69,8 +69,8 @@ step_equiv : (e : ℕ) (hart_state : HartState) (ws : List World) (one other : S
     → Agree e (monitored_step (on hart_state one)) (monitored_step (on hart_state other))
 unfolding monitored_step
 step_equiv e hart_state ws one other view_invariant_one shared_invariant_one shared_invariant_other not_running shared_equiv =
-    let a = stepped hart_state one in
-    let b = stepped hart_state other in
+    let bare_one = stepped hart_state one in
+    let bare_other = stepped hart_state other in
     let bare_steps_alike = bare_law e (on hart_state one) other.memory view_invariant_one not_running shared_equiv.memory in
     let shared : SharedEquivExcept e (stored hart_state one) (stored hart_state other) = record {
       table = shared_equiv.table;
@@ -79,12 +79,14 @@ step_equiv e hart_state ws one other view_invariant_one shared_invariant_one sha
       gone = λ dead. ap (stored hart_state) (shared_equiv.gone dead);
     } in
     let base =
-    trapped_equiv e a.outcome a.outcome.trap ws (record hart_state { hart = a.state.hart }) (stored hart_state one) (stored hart_state other)
+    trapped_equiv e bare_one.outcome bare_one.outcome.trap ws (record hart_state { hart = bare_one.state.hart }) (stored hart_state one)
+    (stored hart_state other)
     (stored_sound ws hart_state one shared_invariant_one) (stored_sound ws hart_state other shared_invariant_other) not_running shared in
     let P : Hart → StepOutcome → Type 0 = λ hart outcome. Agree e
-    (after_bare a.outcome (record hart_state { hart = a.state.hart }) (stored hart_state one))
+    (after_bare bare_one.outcome (record hart_state { hart = bare_one.state.hart }) (stored hart_state one))
     (after_bare outcome (record hart_state { hart = hart }) (stored hart_state other)) in
-    subst (λ hart. P hart b.outcome) (sym bare_steps_alike.hart) (subst (λ outcome. P a.state.hart outcome) (sym bare_steps_alike.outcome) base)
+    subst (λ hart. P hart bare_other.outcome) (sym bare_steps_alike.hart)
+    (subst (λ outcome. P bare_one.state.hart outcome) (sym bare_steps_alike.outcome) base)
 
 -- ---- a step of a hart of the machine
 
@@ -152,14 +154,14 @@ noninterference hart one invariant e other invariant_other equiv not_running =
       | inr past_last ↦
           rw (outside hart one past_last, outside hart other (omega (arith, same_harts, past_last))) (record { outcome = refl; state = equiv })
       | inl in_range ↦
-          let a = monitored_step (hart_view hart one) in
-          let b = monitored_step (hart_view hart other) in
+          let after_one = monitored_step (hart_view hart one) in
+          let after_other = monitored_step (hart_view hart other) in
           let step = views_equiv e hart one other invariant invariant_other equiv in_range not_running in
           rw (inside hart one in_range, inside hart other (omega (arith, same_harts, in_range))) (record {
             outcome = step.outcome;
             state = record {
-              harts = count_behind hart one a ∙ equiv.harts ∙ sym (count_behind hart other b);
-              hart_states = stepped_equiv e hart one other a b equiv in_range step;
+              harts = count_behind hart one after_one ∙ equiv.harts ∙ sym (count_behind hart other after_other);
+              hart_states = stepped_equiv e hart one other after_one after_other equiv in_range step;
               shared = step.shared;
             };
           })

@@ -22,15 +22,15 @@ module _ (e hart : ℕ) (change change_too : HartState → HartState) (one other
   -- two changes of a hart of the machines that are alike leave the machines related
   changed_in : hart < count_of one → AreRelated e (changed hart change one) (changed hart change_too other)
   changed_in in_range =
-      let a = change (hart_state_of hart one) in
-      let b = change_too (hart_state_of hart other) in
+      let changed_one = change (hart_state_of hart one) in
+      let changed_other = change_too (hart_state_of hart other) in
       let same_harts = related.harts in
       record {
-        harts = length-set one.hart_states hart a ∙ same_harts ∙ sym (length-set other.hart_states hart b);
-        hart_states = hart_cases_of_both one.hart_states other.hart_states hart a b
+        harts = length-set one.hart_states hart changed_one ∙ same_harts ∙ sym (length-set other.hart_states hart changed_other);
+        hart_states = hart_cases_of_both one.hart_states other.hart_states hart changed_one changed_other
             (λ j s t. HartStatesEquivExcept e (guest_state s) (guest_state t)) same_harts in_range (alike.state (related.hart_states hart))
             (λ j distinct. related.hart_states j);
-        hosts = hart_cases_of_both one.hart_states other.hart_states hart a b
+        hosts = hart_cases_of_both one.hart_states other.hart_states hart changed_one changed_other
             (λ j s t. is_world_of e s.world ≡ true → SameHost (guest_state s) (guest_state t)) same_harts in_range
             (λ runs. alike.host (related.hosts hart (ap (is_world_of e) (sym alike.world) ∙ runs)))
             (λ j distinct. related.hosts j);

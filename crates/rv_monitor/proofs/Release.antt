@@ -104,22 +104,23 @@ module _ (e hart : ℕ) (one other : MonitoredMachine) (trap : Trap) (host : Con
       let length_other = length-map other.hart_states (reprogrammed table_other) in
       elim (cases_lt j (count_of one)) [
         | inl in_range ↦
-            let a = get_or-map (reprogrammed table_one) one.hart_states j (hart_state_at_start 0) (hart_state_at_start 0) in_range in
-            let b =
+            let read_one = get_or-map (reprogrammed table_one) one.hart_states j (hart_state_at_start 0) (hart_state_at_start 0) in_range in
+            let read_other =
             get_or-map (reprogrammed table_other) other.hart_states j (hart_state_at_start 0) (hart_state_at_start 0)
             (omega (arith, same_harts, in_range)) in
             let hart_states = equiv.hart_states j in
             let harts_alike : HartStatesEquivExcept e (reprogrammed table_one (hart_state_of j one))
             (reprogrammed table_other (hart_state_of j other)) =
             record { world = hart_states.world; same = λ low. ap₂ (λ (t : Slots) (s : HartState). reprogrammed t s) tables (hart_states.same low) } in
-            subst (λ (x : HartState). HartStatesEquivExcept e x (hart_state_in (map (reprogrammed table_other) other.hart_states) j)) (sym a)
-            (subst (HartStatesEquivExcept e (reprogrammed table_one (hart_state_of j one))) (sym b) harts_alike)
+            subst (λ (x : HartState). HartStatesEquivExcept e x (hart_state_in (map (reprogrammed table_other) other.hart_states) j)) (sym read_one)
+            (subst (HartStatesEquivExcept e (reprogrammed table_one (hart_state_of j one))) (sym read_other) harts_alike)
         | inr past_last ↦
-            let a = past_hart_state (map (reprogrammed table_one) one.hart_states) j (omega (arith, length_one, past_last)) in
-            let b = past_hart_state (map (reprogrammed table_other) other.hart_states) j (omega (arith, length_other, same_harts, past_last)) in
+            let read_one = past_hart_state (map (reprogrammed table_one) one.hart_states) j (omega (arith, length_one, past_last)) in
+            let read_other =
+            past_hart_state (map (reprogrammed table_other) other.hart_states) j (omega (arith, length_other, same_harts, past_last)) in
             let both : HartStatesEquivExcept e (hart_state_at_start 0) (hart_state_at_start 0) = record { world = refl; same = λ low. refl } in
-            subst (λ (x : HartState). HartStatesEquivExcept e x (hart_state_in (map (reprogrammed table_other) other.hart_states) j)) (sym a)
-            (subst (HartStatesEquivExcept e (hart_state_at_start 0)) (sym b) both)
+            subst (λ (x : HartState). HartStatesEquivExcept e x (hart_state_in (map (reprogrammed table_other) other.hart_states) j)) (sym read_one)
+            (subst (HartStatesEquivExcept e (hart_state_at_start 0)) (sym read_other) both)
       ]
 
   -- both machines are equivalent after the exit
@@ -172,12 +173,12 @@ with_host e hart one other trap None saved invariant_one invariant_other equiv r
 with_host e hart one other trap (Some host) saved invariant_one invariant_other equiv runs_e same_host handed traps traps_too one_exits other_exits =
     let in_range = runs_inside e hart one runs_e in
     let world = world_is e (hart_state_of hart one).world runs_e in
-    let a = (leave_law hart one invariant_one e host trap world saved traps one_exits).0 in
-    let b =
+    let left_one = (leave_law hart one invariant_one e host trap world saved traps one_exits).0 in
+    let left_other =
     (leave_law hart other invariant_other e host trap (sym (equiv.hart_states hart).world ∙ world)
     (sym same_host.host ∙ saved) traps_too other_exits).0 in
     let live = running_is_live e hart one invariant_one runs_e in
-    rw (a, b) (left_agree e hart one other trap host invariant_one.shared.valid.count live equiv in_range same_host handed)
+    rw (left_one, left_other) (left_agree e hart one other trap host invariant_one.shared.valid.count live equiv in_range same_host handed)
 
 -- an exit from both machines to the same host that hands over the same leaves the machines equivalent except e
 pub release : (e hart : ℕ) (one other : MonitoredMachine) (trap : Trap) → Invariant one → Invariant other

@@ -236,8 +236,8 @@ ended_over hidden outcome None hart_state shared m n m1 n1 equal same_length cha
 ended_over hidden outcome (Some trap) hart_state shared m n m1 n1 equal same_length changes measures_seen =
     let work =
     handled_over hidden hart_state trap shared.table m1 n1 shared.contexts (equal_after hidden m n m1 n1 equal changes same_length) measures_seen in
-    let a = handled hart_state (with_bytes shared m1) trap in
-    let b = handled hart_state (with_bytes shared n1) trap in
+    let handled_one = handled hart_state (with_bytes shared m1) trap in
+    let handled_other = handled hart_state (with_bytes shared n1) trap in
     let back : HartState → Next → HartState = λ s next. record s { hart = returned_to s.hart next.pc next.mode } in
     let shows : Next → Outcome = λ next. record { step = outcome; entered = next.entered } in
     record {
@@ -247,7 +247,7 @@ ended_over hidden outcome (Some trap) hart_state shared m n m1 n1 equal same_len
         table = work.shared.table;
         contexts = work.shared.contexts;
         size = work.shared.size;
-        changes = alike_twice m n m1 n1 a.shared.memory b.shared.memory changes work.shared.changes;
+        changes = alike_twice m n m1 n1 handled_one.shared.memory handled_other.shared.memory changes work.shared.changes;
       };
     }
 
@@ -306,22 +306,24 @@ module _ (hidden : ℕ → Bool) (hart_state : HartState) (shared : Shared) (n :
   step_over : StepOver shared.memory n (monitored_step (on hart_state shared)) (monitored_step (on hart_state (with_bytes shared n)))
   unfolding monitored_step
   step_over =
-      let a = stepped hart_state shared in
-      let b = stepped hart_state (with_bytes shared n) in
+      let bare_one = stepped hart_state shared in
+      let bare_other = stepped hart_state (with_bytes shared n) in
       let is_confined = confined before in
       let alike = is_confined.alike n equal_on in
       let changes =
-      stored_alike a.outcome.touched.stored is_confined.bytes shared.memory n a.state.memory b.state.memory equal.size alike.here alike.there in
-      let same_length : length a.state.memory ≡ length b.state.memory =
-      stored_size a.outcome.touched.stored is_confined.bytes shared.memory a.state.memory alike.here ∙ equal.size
-      ∙ sym (stored_size a.outcome.touched.stored is_confined.bytes n b.state.memory alike.there) in
+      stored_alike bare_one.outcome.touched.stored is_confined.bytes shared.memory n bare_one.state.memory bare_other.state.memory equal.size
+      alike.here alike.there in
+      let same_length : length bare_one.state.memory ≡ length bare_other.state.memory =
+      stored_size bare_one.outcome.touched.stored is_confined.bytes shared.memory bare_one.state.memory alike.here ∙ equal.size
+      ∙ sym (stored_size bare_one.outcome.touched.stored is_confined.bytes n bare_other.state.memory alike.there) in
       let base =
-      ended_over hidden a.outcome a.outcome.trap (record hart_state { hart = a.state.hart }) shared shared.memory n a.state.memory b.state.memory
+      ended_over hidden bare_one.outcome bare_one.outcome.trap
+      (record hart_state { hart = bare_one.state.hart }) shared shared.memory n bare_one.state.memory bare_other.state.memory
       equal same_length changes measures_seen in
       let P : Hart → StepOutcome → Type 0 = λ hart outcome. StepOver shared.memory n
-      (after_bare a.outcome (record hart_state { hart = a.state.hart }) (with_bytes shared a.state.memory))
-      (after_bare outcome (record hart_state { hart = hart }) (with_bytes shared b.state.memory)) in
-      subst (λ hart. P hart b.outcome) (sym alike.hart) (subst (λ outcome. P a.state.hart outcome) (sym alike.outcome) base)
+      (after_bare bare_one.outcome (record hart_state { hart = bare_one.state.hart }) (with_bytes shared bare_one.state.memory))
+      (after_bare outcome (record hart_state { hart = hart }) (with_bytes shared bare_other.state.memory)) in
+      subst (λ hart. P hart bare_other.outcome) (sym alike.hart) (subst (λ outcome. P bare_one.state.hart outcome) (sym alike.outcome) base)
 
 -- ---- the step of the machine
 
@@ -354,18 +356,18 @@ machine_over hidden hart machine n equal reads_seen measures_seen = elim (cases_
       let other = inside hart (over_bytes machine n) in_range in
       let state = hart_view hart machine in
       let bare : (step_of hart machine).outcome.step ≡ (step (bare_machine state)).outcome =
-      ap (λ (a : MonitoredStepped). a.outcome.step) one ∙ same_outcome state in
+      ap (λ (after : MonitoredStepped). after.outcome.step) one ∙ same_outcome state in
       let reads_bare = subst (λ (o : StepOutcome). ReadsSeen hidden o.touched) bare reads_seen in
       let step = step_over hidden (hart_state_of hart machine) machine.shared n equal reads_bare measures_seen in
-      let a = monitored_step state in
-      let b = monitored_step (hart_view hart (over_bytes machine n)) in
+      let after_one = monitored_step state in
+      let after_other = monitored_step (hart_view hart (over_bytes machine n)) in
       let put : Outcome → Slots → HartState → List HartState =
       λ o slots s. slice_set (hart_states_reprogrammed o.step.trap slots machine.hart_states) hart s in
       rw (one, other)
       (record {
         outcome = step.outcome;
-        hart_states = ap (λ (o : Outcome). put o a.state.shared.table a.state.hart_state) step.outcome
-            ∙ ap₂ (λ (slots : Slots) (s : HartState). put b.outcome slots s) step.shared.table step.hart_state;
+        hart_states = ap (λ (o : Outcome). put o after_one.state.shared.table after_one.state.hart_state) step.outcome
+            ∙ ap₂ (λ (slots : Slots) (s : HartState). put after_other.outcome slots s) step.shared.table step.hart_state;
         shared = step.shared;
       })
 ]
