@@ -83,12 +83,12 @@ module _ (e : ℕ) (table : Slots) (m n : List ℕ) (contexts_m contexts_n : Con
     (saved : SameContexts e contexts_m contexts_n)
     (live : is_live table e ≡ true) where
   -- the shared state with the memory m and the saved contexts `contexts_m`
-  abbrev here : Shared
-  here = record { memory = m; table = table; contexts = contexts_m }
+  abbrev shared_m : Shared
+  shared_m = record { memory = m; table = table; contexts = contexts_m }
 
   -- the shared state with the memory n and the saved contexts `contexts_n`
-  abbrev there : Shared
-  there = record { memory = n; table = table; contexts = contexts_n }
+  abbrev shared_n : Shared
+  shared_n = record { memory = n; table = table; contexts = contexts_n }
 
   -- two shared states with a new table, in which e is live and has its old region, are equivalent except e if their memories and contexts are
   equiv_with_region : (after : Slots) (m' n' : List ℕ) (contexts_m' contexts_n' : Contexts) → region after e ≡ region table e → is_live after e ≡ true
@@ -111,7 +111,7 @@ module _ (e : ℕ) (table : Slots) (m n : List ℕ) (contexts_m contexts_n : Con
       equiv_with_region after m' n' contexts_m' contexts_n' (ap region_of same_slot) (ap (λ (o : Option SlotInfo). is_some o) same_slot ∙ live)
 
   -- the two shared states are equivalent except e
-  pub equiv_before : SharedEquivExcept e here there
+  pub equiv_before : SharedEquivExcept e shared_m shared_n
   equiv_before = equiv_with_slot table m n contexts_m contexts_n refl equiv saved
 
   -- ---- create
@@ -134,14 +134,14 @@ module _ (e : ℕ) (table : Slots) (m n : List ℕ) (contexts_m contexts_n : Con
       both_ways _ dead live
 
   -- a new enclave in a free slot leaves the two shared states equivalent except e
-  put_alike : (k : ℕ) (info : SlotInfo) → slot_at table k ≡ None → SharedEquivExcept e (with_enclave here k info) (with_enclave there k info)
+  put_alike : (k : ℕ) (info : SlotInfo) → slot_at table k ≡ None → SharedEquivExcept e (with_enclave shared_m k info) (with_enclave shared_n k info)
   put_alike k info slot_is_free =
       equiv_with_slot (with_slot table k (Some info)) m n (with_context contexts_m k (Some (first_context info)))
       (with_context contexts_n k (Some (first_context info)))
       (at_other table k e (Some info) (not_free k slot_is_free)) equiv (contexts_with e contexts_m contexts_n k (Some (first_context info)) saved)
 
   -- a create that the monitor does not refuse leaves two equivalent shared states equivalent except e
-  pub created_alike : (new : CreateArgs) → MayCreate here new → SharedEquivExcept e (created here new) (created there new)
+  pub created_alike : (new : CreateArgs) → MayCreate shared_m new → SharedEquivExcept e (created shared_m new) (created shared_n new)
   unfolding created
   created_alike new no_refusal =
       let same = recorded_alike new ((free_from table new no_refusal.apart).others e).regions in
@@ -150,7 +150,8 @@ module _ (e : ℕ) (table : Slots) (m n : List ℕ) (contexts_m contexts_n : Con
   -- ---- destroy
 
   -- the removal of enclave e itself leaves the two shared states equal
-  gone_alike : (block : Block) → region table e ≡ block → is_inside m block.base block.size ≡ true → without here e block ≡ without there e block
+  gone_alike : (block : Block) → region table e ≡ block → is_inside m block.base block.size ≡ true
+      → without shared_m e block ≡ without shared_n e block
   gone_alike block region_is inside =
       let at = inside-is m block.base block.size inside in
       let covers : (b : ℕ) → is_private table e b ≡ true → (block.base ≤ b) × (b < block.base + block.size) =
@@ -167,7 +168,7 @@ module _ (e : ℕ) (table : Slots) (m n : List ℕ) (contexts_m contexts_n : Con
 
   -- the removal of any enclave leaves the two shared states equivalent except e
   without_alike : (k : ℕ) → is_inside m (region table k).base (region table k).size ≡ true
-      → SharedEquivExcept e (without here k (region table k)) (without there k (region table k))
+      → SharedEquivExcept e (without shared_m k (region table k)) (without shared_n k (region table k))
   without_alike k inside = elim (cases_eq k e) [
     | inl equal ↦ rw equal (equal_agree e _ _ (gone_alike (region table e) refl (rw equal at inside)))
     | inr distinct ↦
@@ -184,7 +185,7 @@ module _ (e : ℕ) (table : Slots) (m n : List ℕ) (contexts_m contexts_n : Con
   region_inside (Some info) slot_valid is_present = (and_parts _ _ (and_parts (is_block_size info.region.size) _ slot_valid.region).1).1
 
   -- a destroy that the monitor does not refuse leaves two equivalent shared states equivalent except e
-  pub destroyed_alike : (k : ℕ) → IsValid m table → IsTaken table calls.Destroy k → SharedEquivExcept e (destroyed here k) (destroyed there k)
+  pub destroyed_alike : (k : ℕ) → IsValid m table → IsTaken table calls.Destroy k → SharedEquivExcept e (destroyed shared_m k) (destroyed shared_n k)
   unfolding destroyed
   destroyed_alike k table_valid is_taken =
       without_alike k (region_inside (slot_at table k) (table_valid.well_formed k) (ap (λ (o : Option SlotInfo). is_some o) is_taken.is))
@@ -192,7 +193,7 @@ module _ (e : ℕ) (table : Slots) (m n : List ℕ) (contexts_m contexts_n : Con
   -- ---- measure
 
   -- a measure leaves two equivalent shared states equivalent except e
-  pub measured_alike : (k address : ℕ) → SharedEquivExcept e (measured here k address) (measured there k address)
+  pub measured_alike : (k address : ℕ) → SharedEquivExcept e (measured shared_m k address) (measured shared_n k address)
   unfolding measured
   measured_alike k address =
       let bytes = measurement_at table k in
@@ -224,8 +225,8 @@ module _ (e : ℕ) (table : Slots) (m n : List ℕ) (contexts_m contexts_n : Con
   -- the same new state and saved context for slot k leave two equivalent shared states equivalent except e
   pub switched_alike : length table ≡ slot_count → (k : ℕ) (state : EnclaveState) (c : Option Context)
       → (let after = with_state table k state in
-      SharedEquivExcept e (record here { table = after; contexts = with_context contexts_m k c })
-      (record there { table = after; contexts = with_context contexts_n k c }))
+      SharedEquivExcept e (record shared_m { table = after; contexts = with_context contexts_m k c })
+      (record shared_n { table = after; contexts = with_context contexts_n k c }))
   switched_alike table_length k state c =
       let kept = state_keeps table_length k state in
       equiv_with_region (with_state table k state) m n (with_context contexts_m k c) (with_context contexts_n k c) kept.0 kept.1 equiv

@@ -82,7 +82,7 @@ no_success refusals.BadAddress status_is_0 = cc
 -- two tests that are equal for each element hold for some element of the same lists
 any_same : {X : Type 0} (f g : X → Bool) → ((x : X) → f x ≡ g x) → (xs : List X) → list_any f xs ≡ list_any g xs
 any_same f g same_tests [] = refl
-any_same f g same_tests (x ∷ xs) = let here = same_tests x in let rest = any_same f g same_tests xs in rw (here, rest) refl
+any_same f g same_tests (x ∷ xs) = let same_first = same_tests x in let rest = any_same f g same_tests xs in rw (same_first, rest) refl
 
 -- both definitions of the test for overlap agree
 same_overlap : (new : CreateArgs) (slot : Option SlotInfo) → collides new slot ≡ overlap_enclave new.region new.window slot

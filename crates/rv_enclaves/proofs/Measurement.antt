@@ -143,9 +143,9 @@ measurement_law m n one other ram size valid valid_too same =
     let bytes : bytes_of_block m one.region ≡ bytes_of_block n one.region = entry.1 ∙ ap (bytes_of_block n) (sym region) in
     let valid_block : is_valid_block n one.region ≡ true = ap (is_valid_block n) region ∙ valid_too.region in
     record {
-      args = made region window entry.0;
+      args = equal_args region window entry.0;
       bytes = record { size = size; bytes = λ i shown. same_bytes m n one.region i valid.region valid_block bytes shown };
     } where
       -- two creates with equal region, window and entry have equal arguments
-      made : one.region ≡ other.region → one.window ≡ other.window → one.entry ≡ other.entry → args_of one ≡ args_of other
-      made region window entry = rw (region, window, entry) refl
+      equal_args : one.region ≡ other.region → one.window ≡ other.window → one.entry ≡ other.entry → args_of one ≡ args_of other
+      equal_args region window entry = rw (region, window, entry) refl

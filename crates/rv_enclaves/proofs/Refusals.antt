@@ -103,15 +103,15 @@ may_measure shared entries k address no_refusal =
 -- two shared states have the same table, and memories of the same size
 module _ (table : Slots) (m n : List ℕ) (contexts_m contexts_n : Contexts) where
   -- the shared state with the memory m and the saved contexts `contexts_m`
-  abbrev here : Shared
-  here = record { memory = m; table = table; contexts = contexts_m }
+  abbrev shared_m : Shared
+  shared_m = record { memory = m; table = table; contexts = contexts_m }
 
   -- the shared state with the memory n and the saved contexts `contexts_n`
-  abbrev there : Shared
-  there = record { memory = n; table = table; contexts = contexts_n }
+  abbrev shared_n : Shared
+  shared_n = record { memory = n; table = table; contexts = contexts_n }
 
   -- the refusals of create do not depend on the bytes of the memory or on the saved contexts, only on the size of the memory
-  pub same_create_refusals : (new : CreateArgs) → length m ≡ length n → create_refusals here new ≡ create_refusals there new
+  pub same_create_refusals : (new : CreateArgs) → length m ≡ length n → create_refusals shared_m new ≡ create_refusals shared_n new
   unfolding create_refusals
   same_create_refusals new same_length =
       let well_formed = well_formed_by_size m n new.region same_length in
@@ -125,6 +125,6 @@ module _ (table : Slots) (m n : List ℕ) (contexts_m contexts_n : Contexts) whe
 
   -- the refusals of measure do not depend on the bytes of the memory or on the saved contexts, only on the size of the memory
   pub same_measure_refusals : (entries : Entries) (k address : ℕ) → length m ≡ length n
-      → measure_refusals here entries k address ≡ measure_refusals there entries k address
+      → measure_refusals shared_m entries k address ≡ measure_refusals shared_n entries k address
   unfolding measure_refusals
   same_measure_refusals entries k address same_length = let stores = same_stores entries address same_length in rw (← stores) refl

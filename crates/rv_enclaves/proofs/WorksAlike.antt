@@ -71,8 +71,8 @@ works_alike e one other worlds one_invariant other_invariant shared_equiv = elim
 
 -- proves that each call leaves two equivalent shared states equivalent except e
 pub calls_alike : CallsAlikeLaw
-calls_alike e one other worlds here there equiv =
-    let alike = works_alike e one other worlds here there equiv in
+calls_alike e one other worlds one_invariant other_invariant equiv =
+    let alike = works_alike e one other worlds one_invariant other_invariant equiv in
     record {
       creates = λ new accepted. alike.creates new (may_create one new accepted);
       destroys = λ k accepted. alike.destroys k (may_take one.table Destroy k accepted);

@@ -209,8 +209,8 @@ record StepAlike (i j : ℕ) (a b : HartViewStepped) : Type 0 where
 -- ---- the trap handler
 
 -- the CSRs c with the parts of M-mode from d
-abbrev apart_csrs : CsrState → CsrState → CsrState
-apart_csrs c d = record c {
+abbrev with_m_csrs : CsrState → CsrState → CsrState
+with_m_csrs c d = record c {
   mie = d.mie;
   mtvec = d.mtvec;
   mcountinhibit = d.mcountinhibit;
@@ -222,8 +222,8 @@ apart_csrs c d = record c {
 }
 
 -- the hart with the parts of M-mode from d, at another pc
-abbrev apart : CsrState → ℕ → Hart → Hart
-apart d pc hart = record hart { csrs = apart_csrs hart.csrs d; pc = pc }
+abbrev with_m_parts : CsrState → ℕ → Hart → Hart
+with_m_parts d pc hart = record hart { csrs = with_m_csrs hart.csrs d; pc = pc }
 
 -- the state of a hart that runs enclave k, with this saved context of the host
 abbrev running : ℕ → Option Context → Hart → HartState
@@ -234,12 +234,12 @@ module _ (i j : ℕ) (hart : Hart) (d : CsrState) (pc : ℕ) (g h : Option Conte
     (mprv : hart.csrs.mstatus.mprv ≡ false) (slot : slot_at one.table i ≡ slot_at two.table j) (memory : one.memory ≡ two.memory)
     (may_store_same : may_store_all one.memory hart.csrs.pmp (register hart.regs 11) ≡ may_store_all two.memory d.pmp (register hart.regs 11)) where
   -- the first hart state at the trap, which runs enclave i
-  abbrev here : HartState
-  here = running i g hart
+  abbrev hart_state_i : HartState
+  hart_state_i = running i g hart
 
   -- the second hart state at the trap, which runs enclave j
-  abbrev there : HartState
-  there = running j h (apart d pc hart)
+  abbrev hart_state_j : HartState
+  hart_state_j = running j h (with_m_parts d pc hart)
 
   -- the returns from two results of the trap handler are alike
   abbrev WorkAlike : Handled → Handled → Type 0
@@ -247,7 +247,7 @@ module _ (i j : ℕ) (hart : Hart) (d : CsrState) (pc : ℕ) (g h : Option Conte
 
   -- a return to the caller is alike for both enclaves
   answers : (x y : Shared) (status result : ℕ) → x.memory ≡ y.memory → slot_at x.table i ≡ slot_at y.table j
-      → WorkAlike (returned_to_caller here x status result) (returned_to_caller there y status result)
+      → WorkAlike (returned_to_caller hart_state_i x status result) (returned_to_caller hart_state_j y status result)
   answers x y status result bytes slots = record {
     outcome = refl;
     hosts = refl;
@@ -255,38 +255,40 @@ module _ (i j : ℕ) (hart : Hart) (d : CsrState) (pc : ℕ) (g h : Option Conte
   }
 
   -- a measure is alike for both enclaves
-  measures : WorkAlike (performed here one Measure) (performed there two Measure)
+  measures : WorkAlike (performed hart_state_i one Measure) (performed hart_state_j two Measure)
   unfolding performed measured
   measures =
-      answers (measured one i (a1 here)) (measured two j (a1 here)) _ _
-      (ap₂ (λ (m : List ℕ) (x : Option SlotInfo). with_bytes_at m (a1 here) (option_case x [] (λ info. info.measurement))) memory slot) slot
+      answers (measured one i (a1 hart_state_i)) (measured two j (a1 hart_state_i)) _ _
+      (ap₂ (λ (m : List ℕ) (x : Option SlotInfo). with_bytes_at m (a1 hart_state_i) (option_case x [] (λ info. info.measurement))) memory slot) slot
 
   -- a measure has the same refusals for both enclaves
-  measure_refusals_same : call_refusals there two Measure ≡ call_refusals here one Measure
+  measure_refusals_same : call_refusals hart_state_j two Measure ≡ call_refusals hart_state_i one Measure
   unfolding measure_refusals
   measure_refusals_same =
       ap₂ (λ (x : Option SlotInfo) (b : Bool). (not (is_some x), NoEnclave) ∷ (not b, BadAddress) ∷ []) (sym slot) (sym may_store_same)
 
   -- a call, refused or not, is alike for both enclaves, if its effect is alike
   refused_too : (x : Option Refusal) (a b : Handled) → WorkAlike a b
-      → WorkAlike (option_case x a (refused here one)) (option_case x b (refused there two))
+      → WorkAlike (option_case x a (refused hart_state_i one)) (option_case x b (refused hart_state_j two))
   refused_too None a b alike = alike
   refused_too (Some refusal) a b alike = answers one two (status_of refusal) 0 memory slot
 
   -- each call that is offered to an enclave is alike for both enclaves
-  called_too : (call : Call) → is_offered (Enclave i) call ≡ true → WorkAlike (called here one call) (called there two call)
+  called_too : (call : Call) → is_offered (Enclave i) call ≡ true → WorkAlike (called hart_state_i one call) (called hart_state_j two call)
   unfolding called performed left
   called_too Measure offered =
       let rows = measure_refusals_same in
-      rw rows (refused_too (first_refusal (call_refusals here one Measure)) (performed here one Measure) (performed there two Measure) measures)
+      rw rows
+      (refused_too (first_refusal (call_refusals hart_state_i one Measure)) (performed hart_state_i one Measure)
+      (performed hart_state_j two Measure) measures)
   called_too Stop offered = record { outcome = refl; hosts = refl; runs = λ runs_after. cc }
   called_too Exit offered = record { outcome = refl; hosts = refl; runs = λ runs_after. cc }
   called_too _ offered = cc
 
   -- the requested call, if there is one, is alike for both enclaves
   asked_too : (x : Option Call) → requested_call (Enclave i) hart.regs ≡ x
-      → WorkAlike (option_case x (refused here one NotSupported) (called here one))
-      (option_case x (refused there two NotSupported) (called there two))
+      → WorkAlike (option_case x (refused hart_state_i one NotSupported) (called hart_state_i one))
+      (option_case x (refused hart_state_j two NotSupported) (called hart_state_j two))
   asked_too None requested = answers one two (status_of NotSupported) 0 memory slot
   asked_too (Some call) requested = called_too call (asked-is (Enclave i) hart.regs call requested).1
 
@@ -297,12 +299,12 @@ module _ (i j : ℕ) (hart : Hart) (d : CsrState) (pc : ℕ) (g h : Option Conte
 
   -- the trap handler handles an exception alike for both enclaves
   exception_too : (trap : Trap) (exception : Exception)
-      → WorkAlike (handled_exception here one trap exception) (handled_exception there two trap exception)
+      → WorkAlike (handled_exception hart_state_i one trap exception) (handled_exception hart_state_j two trap exception)
   unfolding call_handled with_redirected_trap
   exception_too trap EnvironmentCallFromS =
       let P : Option Call → Type 0 = λ x.
-      WorkAlike (option_case (requested_call (Enclave i) hart.regs) (refused here one NotSupported) (called here one))
-      (option_case x (refused there two NotSupported) (called there two)) in
+      WorkAlike (option_case (requested_call (Enclave i) hart.regs) (refused hart_state_i one NotSupported) (called hart_state_i one))
+      (option_case x (refused hart_state_j two NotSupported) (called hart_state_j two)) in
       subst P same_request (asked_too (requested_call (Enclave i) hart.regs) refl)
   exception_too trap _ = record {
     outcome = refl;
@@ -311,13 +313,13 @@ module _ (i j : ℕ) (hart : Hart) (d : CsrState) (pc : ℕ) (g h : Option Conte
   }
 
   -- the trap handler handles each cause alike for both enclaves
-  cause_too : (trap : Trap) (cause : Cause) → WorkAlike (handled_cause here one trap cause) (handled_cause there two trap cause)
+  cause_too : (trap : Trap) (cause : Cause) → WorkAlike (handled_cause hart_state_i one trap cause) (handled_cause hart_state_j two trap cause)
   unfolding timer_stopped left
   cause_too trap (causes.Interrupt interrupt) = record { outcome = refl; hosts = refl; runs = λ runs_after. cc }
   cause_too trap (causes.Exception exception) = exception_too trap exception
 
   -- the results of the trap handler are alike for both enclaves
-  handled_too : (trap : Trap) → WorkAlike (handled here one trap) (handled there two trap)
+  handled_too : (trap : Trap) → WorkAlike (handled hart_state_i one trap) (handled hart_state_j two trap)
   unfolding handled
   handled_too trap =
       let work = cause_too trap trap.cause in
@@ -363,11 +365,11 @@ module _ (i j : ℕ) (s t : HartState) (one two : Shared) (view_invariant_one : 
   parts = ap (put_parts t.hart) alike.hart
 
   -- the second hart at the trap is the first one at the trap, with the parts of M-mode from the second
-  after_is : (trap : Trap) → hart_after t.hart trap ≡ apart (hart_after t.hart trap).csrs (hart_after t.hart trap).pc (hart_after s.hart trap)
+  after_is : (trap : Trap) → hart_after t.hart trap ≡ with_m_parts (hart_after t.hart trap).csrs (hart_after t.hart trap).pc (hart_after s.hart trap)
   after_is trap =
-      let F : Hart → Hart = λ x. apart (hart_after x trap).csrs (hart_after x trap).pc (hart_after s.hart trap) in
-      let here : hart_after (put_parts t.hart s.hart) trap ≡ F (put_parts t.hart s.hart) = refl in
-      sym (ap (λ (x : Hart). hart_after x trap) parts) ∙ here ∙ ap F parts
+      let F : Hart → Hart = λ x. with_m_parts (hart_after x trap).csrs (hart_after x trap).pc (hart_after s.hart trap) in
+      let parts_after : hart_after (put_parts t.hart s.hart) trap ≡ F (put_parts t.hart s.hart) = refl in
+      sym (ap (λ (x : Hart). hart_after x trap) parts) ∙ parts_after ∙ ap F parts
 
   -- the steps of both views with a trap are alike
   trapped_alike : (trap : Trap) → StepAlike i j (trapped_to (on s one) trap) (trapped_to (on t two) trap)
@@ -377,7 +379,7 @@ module _ (i j : ℕ) (s t : HartState) (one two : Shared) (view_invariant_one : 
       let first : hart_state_after s trap ≡ running i s.host_context (hart_after s.hart trap) =
       ap (put s.host_context (hart_after s.hart trap)) alike.first in
       let second : hart_state_after t trap
-      ≡ running j t.host_context (apart (hart_after t.hart trap).csrs (hart_after t.hart trap).pc (hart_after s.hart trap)) =
+      ≡ running j t.host_context (with_m_parts (hart_after t.hart trap).csrs (hart_after t.hart trap).pc (hart_after s.hart trap)) =
       ap₂ (put t.host_context) (after_is trap) alike.second in
       let a1_is = ap (λ (x : Hart). register x.regs 11) alike.hart in
       let P : StepOutcome → HartState → HartState → Type 0 =
@@ -635,7 +637,8 @@ module _ (p q : Place) (one other : MonitoredMachine) (invariant_one : Invariant
 
 -- proves that a step of an enclave depends only on the state of the enclave
 pub enclave_step_law : (hart : ℕ) (machine : MonitoredMachine) → Invariant machine → DependsOnEnclave hart machine (step_of hart machine)
-enclave_step_law hart machine invariant k q other there same = enclave_step (record { slot = k; hart = hart }) q machine other invariant there same
+enclave_step_law hart machine invariant k q other invariant_other same =
+    enclave_step (record { slot = k; hart = hart }) q machine other invariant invariant_other same
 
 -- ---- many steps
 

@@ -47,10 +47,10 @@ module _ (mcycle minstret : ℕ) (hart_state : HartState) (shared : Shared) wher
   performed_too _ = refl
 
   -- a call, refused or not, has the same result with other counters, if its effect has
-  refused_too : (o : Option Refusal) (here other : Handled) → other ≡ counted_work mcycle minstret here
-      → option_case o other (refused counted_state shared) ≡ counted_work mcycle minstret (option_case o here (refused hart_state shared))
-  refused_too None here other other_is = other_is
-  refused_too (Some refusal) here other other_is = refl
+  refused_too : (o : Option Refusal) (done done_too : Handled) → done_too ≡ counted_work mcycle minstret done
+      → option_case o done_too (refused counted_state shared) ≡ counted_work mcycle minstret (option_case o done (refused hart_state shared))
+  refused_too None done done_too done_too_is = done_too_is
+  refused_too (Some refusal) done done_too done_too_is = refl
 
   -- a call with its refusals has the same result with other counters
   called_too : (call : Call) → called counted_state shared call ≡ counted_work mcycle minstret (called hart_state shared call)

@@ -16,12 +16,12 @@ module _ (e : ℕ) (table : Slots) (m n : List ℕ) (contexts_m contexts_n : Con
     (cases : WorksAlike e (over table m contexts_m) (over table n contexts_n))
     (hart_state : HartState) (trap : Trap) where
   -- the shared state with the memory m and the saved contexts `contexts_m`
-  abbrev here : Shared
-  here = over table m contexts_m
+  abbrev shared_m : Shared
+  shared_m = over table m contexts_m
 
   -- the shared state with the memory n and the saved contexts `contexts_n`
-  abbrev there : Shared
-  there = over table n contexts_n
+  abbrev shared_n : Shared
+  shared_n = over table n contexts_n
 
   -- a return to the caller gives equivalent results, if the shared states after the call are equivalent except e
   returned_alike : (one other : Shared) (status result : ℕ) → SharedEquivExcept e one other
@@ -40,7 +40,7 @@ module _ (e : ℕ) (table : Slots) (m n : List ℕ) (contexts_m contexts_n : Con
 
   -- an entry of a slot other than e gives equivalent results
   enters_other : (a0 hart_state ≡ e → ⊥)
-      → HandledAlike e (with_reprogrammed_hart (entering hart_state here)) (with_reprogrammed_hart (entering hart_state there))
+      → HandledAlike e (with_reprogrammed_hart (entering hart_state shared_m)) (with_reprogrammed_hart (entering hart_state shared_n))
   unfolding entered_slot
   enters_other a0_is_not_e =
       let same = cases.contexts (a0 hart_state) a0_is_not_e in
@@ -52,7 +52,7 @@ module _ (e : ℕ) (table : Slots) (m n : List ℕ) (contexts_m contexts_n : Con
 
   -- an entry of slot e gives equivalent results
   enters_own : a0 hart_state ≡ e
-      → HandledAlike e (with_reprogrammed_hart (entering hart_state here)) (with_reprogrammed_hart (entering hart_state there))
+      → HandledAlike e (with_reprogrammed_hart (entering hart_state shared_m)) (with_reprogrammed_hart (entering hart_state shared_n))
   unfolding entered_slot
   enters_own a0_is_e = record {
     entered = refl;
@@ -61,12 +61,12 @@ module _ (e : ℕ) (table : Slots) (m n : List ℕ) (contexts_m contexts_n : Con
   }
 
   -- an entry of the slot in a0 gives equivalent results
-  enters_alike : HandledAlike e (with_reprogrammed_hart (entering hart_state here)) (with_reprogrammed_hart (entering hart_state there))
+  enters_alike : HandledAlike e (with_reprogrammed_hart (entering hart_state shared_m)) (with_reprogrammed_hart (entering hart_state shared_n))
   enters_alike = elim (cases_eq (a0 hart_state) e) [ inl own ↦ enters_own own | inr other ↦ enters_other other ]
 
   -- an exit of the running enclave gives equivalent results
-  leaves_alike : HandledAlike e (with_reprogrammed_hart (leaving trap.cause hart_state here))
-      (with_reprogrammed_hart (leaving trap.cause hart_state there))
+  leaves_alike : HandledAlike e (with_reprogrammed_hart (leaving trap.cause hart_state shared_m))
+      (with_reprogrammed_hart (leaving trap.cause hart_state shared_n))
   unfolding left
   leaves_alike = record {
     entered = refl;
@@ -76,9 +76,9 @@ module _ (e : ℕ) (table : Slots) (m n : List ℕ) (contexts_m contexts_n : Con
   }
 
   -- the trap handler gives equivalent results over both shared states
-  handled_alike : length m ≡ length n → HandledAlike e (handled hart_state here trap) (handled hart_state there trap)
+  handled_alike : length m ≡ length n → HandledAlike e (handled hart_state shared_m trap) (handled hart_state shared_n trap)
   handled_alike = handler_cases_of_both hart_state trap table m n contexts_m contexts_n (HandledAlike e) (record {
-    answers = λ status result. returned_alike here there status result cases.before;
+    answers = λ status result. returned_alike shared_m shared_n status result cases.before;
     creates = λ requests no_refusal. returned_alike _ _ 0 (new_slot table) (cases.creates (create_args_of hart_state.hart.regs) no_refusal);
     destroys = λ requests is_taken. returned_alike _ _ 0 0 (cases.destroys (a0 hart_state) is_taken);
     measures = λ requests no_refusal. returned_alike _ _ 0 0 (cases.measures (measured_slot hart_state.world (a0 hart_state)) (a1 hart_state));

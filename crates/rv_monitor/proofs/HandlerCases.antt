@@ -102,27 +102,27 @@ entering hart_state shared = entered_slot hart_state shared (a0 hart_state) (sav
 module _ (hart_state : HartState) (trap : Trap) (table : Slots) (m n : List ℕ) (contexts_m contexts_n : Contexts)
     (P : Handled → Handled → Type 0) where
   -- the shared state with the memory m and the saved contexts `contexts_m`
-  abbrev here : Shared
-  here = over table m contexts_m
+  abbrev shared_m : Shared
+  shared_m = over table m contexts_m
 
   -- the shared state with the memory n and the saved contexts `contexts_n`
-  abbrev there : Shared
-  there = over table n contexts_n
+  abbrev shared_n : Shared
+  shared_n = over table n contexts_n
 
   -- the claim P about one case, for both shared states
   abbrev Both : (Shared → Handled) → Type 0
-  Both work = P (work here) (work there)
+  Both work = P (work shared_m) (work shared_n)
 
   -- the proof obligations of a proof by cases: the claim P for each case of the trap handler on both shared states
   pub record Pieces : Type 0 where
     -- a refusal, or a call that changes nothing in the shared state
     pub answers : (status result : ℕ) → Both (λ shared. returned_to_caller hart_state shared status result)
-    pub creates : Requests hart_state trap.cause Create → MayCreate here (create_args_of hart_state.hart.regs)
+    pub creates : Requests hart_state trap.cause Create → MayCreate shared_m (create_args_of hart_state.hart.regs)
         → Both (λ shared. returned_to_caller hart_state (created shared (create_args_of hart_state.hart.regs)) 0 (new_slot shared.table))
     pub destroys : Requests hart_state trap.cause Destroy → IsTaken table Destroy (a0 hart_state)
         → Both (λ shared. returned_to_caller hart_state (destroyed shared (a0 hart_state)) 0 0)
     pub measures : Requests hart_state trap.cause Measure
-        → MayMeasure here hart_state.hart.csrs.pmp (measured_slot hart_state.world (a0 hart_state)) (a1 hart_state)
+        → MayMeasure shared_m hart_state.hart.csrs.pmp (measured_slot hart_state.world (a0 hart_state)) (a1 hart_state)
         → Both (λ shared. returned_to_caller hart_state (measured shared (measured_slot hart_state.world (a0 hart_state)) (a1 hart_state)) 0 0)
     pub enters : (call : Call) → Requests hart_state trap.cause call → is_entering (Some call) ≡ true → hart_state.world ≡ Host
         → IsTaken table call (a0 hart_state)
@@ -137,10 +137,10 @@ module _ (hart_state : HartState) (trap : Trap) (table : Slots) (m n : List ℕ)
     by-leaving cause cause_is = subst (λ (c : Cause). Both (leaving c hart_state)) cause_is pieces.leaves
 
     -- the claim holds for each requested call that is not refused
-    by-accepted : (call : Call) → Requests hart_state trap.cause call → first_refusal (call_refusals hart_state here call) ≡ None
+    by-accepted : (call : Call) → Requests hart_state trap.cause call → first_refusal (call_refusals hart_state shared_m call) ≡ None
         → Both (λ shared. performed hart_state shared call)
     unfolding performed
-    by-accepted Create requests no_refusal = pieces.creates requests (may_create here (create_args_of hart_state.hart.regs) no_refusal)
+    by-accepted Create requests no_refusal = pieces.creates requests (may_create shared_m (create_args_of hart_state.hart.regs) no_refusal)
     by-accepted Destroy requests no_refusal = pieces.destroys requests (may_take table Destroy (a0 hart_state) no_refusal)
     by-accepted Run requests no_refusal =
         let asked = asked-is hart_state.world hart_state.hart.regs Run requests.asked in
@@ -150,7 +150,7 @@ module _ (hart_state : HartState) (trap : Trap) (table : Slots) (m n : List ℕ)
         pieces.enters Resume requests refl (entered-by-host hart_state.world Resume refl asked.1) (may_take table Resume (a0 hart_state) no_refusal)
     by-accepted Measure requests no_refusal =
         pieces.measures requests
-        (may_measure here hart_state.hart.csrs.pmp (measured_slot hart_state.world (a0 hart_state)) (a1 hart_state) no_refusal)
+        (may_measure shared_m hart_state.hart.csrs.pmp (measured_slot hart_state.world (a0 hart_state)) (a1 hart_state) no_refusal)
     by-accepted Stop requests no_refusal =
         let test = not_exit (register hart_state.hart.regs 16) (asked-is hart_state.world hart_state.hart.regs Stop requests.asked).0 in
         rw test at (by-leaving (causes.Exception EnvironmentCallFromS) requests.is_call)
@@ -159,7 +159,7 @@ module _ (hart_state : HartState) (trap : Trap) (table : Slots) (m n : List ℕ)
         rw test at (by-leaving (causes.Exception EnvironmentCallFromS) requests.is_call)
 
     -- a call has the same refusals in both shared states
-    same-refusals : (call : Call) → call_refusals hart_state here call ≡ call_refusals hart_state there call
+    same-refusals : (call : Call) → call_refusals hart_state shared_m call ≡ call_refusals hart_state shared_n call
     same-refusals Create = same_create_refusals table m n contexts_m contexts_n (create_args_of hart_state.hart.regs) same_length
     same-refusals Measure =
         same_measure_refusals table m n contexts_m contexts_n hart_state.hart.csrs.pmp (measured_slot hart_state.world (a0 hart_state))
@@ -168,7 +168,7 @@ module _ (hart_state : HartState) (trap : Trap) (table : Slots) (m n : List ℕ)
 
     -- the claim holds for a call, refused or not
     by-refusal : (o : Option Refusal) (one other : Handled) → (o ≡ None → P one other)
-        → P (option_case o one (refused hart_state here)) (option_case o other (refused hart_state there))
+        → P (option_case o one (refused hart_state shared_m)) (option_case o other (refused hart_state shared_n))
     by-refusal None one other claim = claim refl
     by-refusal (Some refusal) one other claim = pieces.answers (status_of refusal) 0
 
@@ -177,7 +177,7 @@ module _ (hart_state : HartState) (trap : Trap) (table : Slots) (m n : List ℕ)
     unfolding called
     by-called call requests =
         let rows = same-refusals call in
-        rw (← rows) (by-refusal (first_refusal (call_refusals hart_state here call)) _ _ (by-accepted call requests))
+        rw (← rows) (by-refusal (first_refusal (call_refusals hart_state shared_m call)) _ _ (by-accepted call requests))
 
     -- the claim holds for an ecall from S, whether it requests a call or not
     by-call : (o : Option Call) → requested_call hart_state.world hart_state.hart.regs ≡ o → trap.cause ≡ causes.Exception EnvironmentCallFromS
@@ -199,7 +199,7 @@ module _ (hart_state : HartState) (trap : Trap) (table : Slots) (m n : List ℕ)
     by-cause (causes.Exception exception) cause_is = by-exception exception cause_is
 
     -- the claim holds for the trap handler before it reprograms the PMP of the hart, if it holds in each case
-    pub by_pieces : P (handled_cause hart_state here trap trap.cause) (handled_cause hart_state there trap trap.cause)
+    pub by_pieces : P (handled_cause hart_state shared_m trap trap.cause) (handled_cause hart_state shared_n trap trap.cause)
     by_pieces = by-cause trap.cause refl
 
 -- ---- the case analysis principles. The trap handler reprograms the PMP entries and mie last

@@ -42,19 +42,19 @@ same_byte m n address bytes i same_length same_element =
 module _ (table : Slots) (m n : List ℕ) (contexts_m contexts_n : Contexts) (same_length : length m ≡ length n)
     (contexts_length : length contexts_m ≡ length contexts_n) where
   -- the shared state with the memory m and the saved contexts `contexts_m`
-  abbrev here : Shared
-  here = over table m contexts_m
+  abbrev shared_m : Shared
+  shared_m = over table m contexts_m
 
   -- the shared state with the memory n and the saved contexts `contexts_n`
-  abbrev there : Shared
-  there = over table n contexts_n
+  abbrev shared_n : Shared
+  shared_n = over table n contexts_n
 
-  -- bytes and contexts that are equal in `here` and `there` are equal in the two shared states after the trap handler
+  -- bytes and contexts that are equal in `shared_m` and `shared_n` are equal in the two shared states after the trap handler
   abbrev Same : Shared → Shared → Type 0
-  Same one other = SameWhereSame here there one other
+  Same one other = SameWhereSame shared_m shared_n one other
 
   -- bytes and contexts that are equal stay equal if nothing changes
-  same_if_unchanged : Same here there
+  same_if_unchanged : Same shared_m shared_n
   same_if_unchanged = record { table = refl; bytes = λ i same. same; contexts = λ k same. same }
 
   -- equal bytes and contexts stay equal after the same write to both memories
@@ -77,7 +77,7 @@ module _ (table : Slots) (m n : List ℕ) (contexts_m contexts_n : Contexts) (sa
   same_record new bytes = rw bytes refl
 
   -- equal bytes and contexts stay equal after a create, if the bytes of the region are equal
-  created_same : (new : CreateArgs) → bytes_of_block m new.region ≡ bytes_of_block n new.region → Same (created here new) (created there new)
+  created_same : (new : CreateArgs) → bytes_of_block m new.region ≡ bytes_of_block n new.region → Same (created shared_m new) (created shared_n new)
   unfolding created
   created_same new bytes =
       let info = same_record new bytes in
@@ -85,7 +85,7 @@ module _ (table : Slots) (m n : List ℕ) (contexts_m contexts_n : Contexts) (sa
       rw (← info) (with_kept (with_slot table k (Some (recorded m new))) k (Some (first_context (recorded m new))))
 
   -- equal bytes and contexts stay equal after a destroy
-  destroyed_same : (k : ℕ) → Same (destroyed here k) (destroyed there k)
+  destroyed_same : (k : ℕ) → Same (destroyed shared_m k) (destroyed shared_n k)
   unfolding destroyed
   destroyed_same k =
       let block = region table k in
@@ -94,15 +94,15 @@ module _ (table : Slots) (m n : List ℕ) (contexts_m contexts_n : Contexts) (sa
       record { table = refl; bytes = put.bytes; contexts = kept.contexts }
 
   -- equal bytes and contexts stay equal after a measure
-  measured_same : (k address : ℕ) → Same (measured here k address) (measured there k address)
+  measured_same : (k address : ℕ) → Same (measured shared_m k address) (measured shared_n k address)
   unfolding measured
   measured_same k address = with_put table address (measurement_at table k)
 
   -- the trap handler reads the same from both shared states
-  module _ (hart_state : HartState) (trap : Trap) (same_read : SameRead hart_state trap.cause here there) where
+  module _ (hart_state : HartState) (trap : Trap) (same_read : SameRead hart_state trap.cause shared_m shared_n) where
     -- two results of the trap handler are equal, and equal bytes and contexts stay equal
     abbrev HandlerCases : Handled → Handled → Type 0
-    HandlerCases one other = SameHandling here there one other
+    HandlerCases one other = SameHandling shared_m shared_n one other
 
     -- a requested call is the call that the definition `requested_by` gives
     asks_for : (call : Call) → Requests hart_state trap.cause call → requested_by trap.cause hart_state ≡ Some call
@@ -121,7 +121,7 @@ module _ (table : Slots) (m n : List ℕ) (contexts_m contexts_n : Contexts) (sa
 
     -- an entry gives equal results, if both saved contexts of the slot are equal
     enters_same : context_at contexts_m (a0 hart_state) ≡ context_at contexts_n (a0 hart_state)
-        → HandlerCases (with_reprogrammed_hart (entering hart_state here)) (with_reprogrammed_hart (entering hart_state there))
+        → HandlerCases (with_reprogrammed_hart (entering hart_state shared_m)) (with_reprogrammed_hart (entering hart_state shared_n))
     unfolding entered_slot
     enters_same own =
         let contexts : saved_context contexts_m (a0 hart_state) ≡ saved_context contexts_n (a0 hart_state) =
@@ -135,10 +135,10 @@ module _ (table : Slots) (m n : List ℕ) (contexts_m contexts_n : Contexts) (sa
     entering_call call is_entry_call requests = let call_is = asks_for call requests in rw call_is is_entry_call
 
     -- the trap handler gives equal results
-    handled_same : HandlerCases (handled hart_state here trap) (handled hart_state there trap)
+    handled_same : HandlerCases (handled hart_state shared_m trap) (handled hart_state shared_n trap)
     unfolding left
     handled_same = handler_cases_of_both hart_state trap table m n contexts_m contexts_n HandlerCases (record {
-      answers = λ status result. caller_same here there status result same_if_unchanged;
+      answers = λ status result. caller_same shared_m shared_n status result same_if_unchanged;
       creates =
           λ requests no_refusal. caller_same _ _ 0 (new_slot table)
           (created_same (create_args_of hart_state.hart.regs) (same_read.measured (asks_for Create requests)));

@@ -66,11 +66,11 @@ nothing_legal c stvec sepc =
 saved_legal : (cause : Cause) (hart_state : HartState) → Legal hart_state.hart.csrs → IsLegal (saved_by cause hart_state).supervisor
 saved_legal (causes.Interrupt interrupt) hart_state legal = legal
 saved_legal (causes.Exception exception) hart_state legal =
-    either (register hart_state.hart.regs 16 == call_number Exit) where
+    stopped_or_exited_legal (register hart_state.hart.regs 16 == call_number Exit) where
       -- both the empty context and the context that stop saves are legal
-      either : (b : Bool) → IsLegal (if b then exited_context else stopped_context hart_state).supervisor
-      either true = nothing_legal exited_context refl refl
-      either false = legal
+      stopped_or_exited_legal : (b : Bool) → IsLegal (if b then exited_context else stopped_context hart_state).supervisor
+      stopped_or_exited_legal true = nothing_legal exited_context refl refl
+      stopped_or_exited_legal false = legal
 
 -- the S-mode registers and all saved contexts are legal after the trap handler
 record StoredAfter (h : Handled) : Type 0 where

@@ -104,16 +104,16 @@ held_live (Some info) has_context = refl
 module _ (k : ℕ) (machine : MonitoredMachine) (context : Context) (invariant : Invariant machine)
     (saves : context_at machine.shared.contexts k ≡ Some context) where
   -- slot k has a live enclave that does not run, because it has a saved context
-  held : is_held (slot_at machine.shared.table k) ≡ true
-  held = sym (invariant.shared.contexts.kept k) ∙ ap (λ (o : Option Context). is_some o) saves
+  held_in_slot : is_held (slot_at machine.shared.table k) ≡ true
+  held_in_slot = sym (invariant.shared.contexts.kept k) ∙ ap (λ (o : Option Context). is_some o) saves
 
   -- the enclave of slot k does not have the state Running
   saved_idle : runs machine.shared.table k ≡ false
-  saved_idle = held_idle (slot_at machine.shared.table k) held
+  saved_idle = held_idle (slot_at machine.shared.table k) held_in_slot
 
   -- the enclave of slot k is live
   saved_live : is_live machine.shared.table k ≡ true
-  saved_live = held_live (slot_at machine.shared.table k) held
+  saved_live = held_live (slot_at machine.shared.table k) held_in_slot
 
   -- the enclave of slot k continues with its saved context
   pub saved_continues : ContinuesWith k context machine
@@ -519,8 +519,8 @@ module _ (p q : Place) (one other : MonitoredMachine) (invariant_one : Invariant
   }
 
   -- the step of the enclave is the same in the first machine and in the machine in between
-  own : SameEnclaveStep p q (step_at p one) (step_at q mid)
-  own = enclave_step p q one mid invariant_one mid_kept enclave
+  same_own_step : SameEnclaveStep p q (step_at p one) (step_at q mid)
+  same_own_step = enclave_step p q one mid invariant_one mid_kept enclave
 
   -- each byte that the step reads is equal in the memories of both machines
   read_same : (n : ℕ) → reads_byte (step_at p one).outcome.step.touched (ram_base + n) ≡ true
@@ -534,7 +534,7 @@ module _ (p q : Place) (one other : MonitoredMachine) (invariant_one : Invariant
   -- the step reads no byte in which the memories of both machines differ
   reads : ReadsSeen (differs one.shared.memory other.shared.memory) (step_at q mid).outcome.step.touched
   reads n read =
-      let touched = ap (λ (o : Outcome). reads_byte o.step.touched (ram_base + n)) own.outcome in
+      let touched = ap (λ (o : Outcome). reads_byte o.step.touched (ram_base + n)) same_own_step.outcome in
       same_does_not_differ one.shared.memory other.shared.memory n (read_same n (touched ∙ read))
 
   -- the step measures no byte in which the memories of both machines differ, because no enclave may create
@@ -572,7 +572,8 @@ module _ (p q : Place) (one other : MonitoredMachine) (invariant_one : Invariant
   a_live : is_live after_one.shared.table i ≡ true
   a_live = elim (cases_Bool (runs_at p after_one)) [
     | inl runs_still ↦ running_is_live i p.hart after_one after_one_kept runs_still
-    | inr has_left ↦ saved_live i after_one (own.state.exits has_left).saved.context after_one_kept (own.state.exits has_left).saved.first
+    | inr has_left ↦
+        saved_live i after_one (same_own_step.state.exits has_left).saved.context after_one_kept (same_own_step.state.exits has_left).saved.first
   ]
 
   -- the first enclave keeps its identity
@@ -583,8 +584,8 @@ module _ (p q : Place) (one other : MonitoredMachine) (invariant_one : Invariant
   own_same : (n : ℕ) → is_beyond after_one.shared.table i (ram_base + n) ≡ false
       → slice_index after_one.shared.memory n ≡ slice_index after_mid.shared.memory n
   own_same n byte_within = elim (cases_Bool (runs_at p after_one)) [
-    | inl runs_still ↦ (own.state.runs runs_still).memory.bytes n byte_within
-    | inr has_left ↦ (own.state.exits has_left).saved.memory.bytes n byte_within
+    | inl runs_still ↦ (same_own_step.state.runs runs_still).memory.bytes n byte_within
+    | inr has_left ↦ (same_own_step.state.exits has_left).saved.memory.bytes n byte_within
   ]
 
   -- each byte that the step changes in a machine is equal in both machines after the step
@@ -607,8 +608,8 @@ module _ (p q : Place) (one other : MonitoredMachine) (invariant_one : Invariant
   slot_after =
       let table = ap (λ (t : Slots). slot_at t j) same_over_memory.shared.table in
       elim (cases_Bool (runs_at p after_one)) [
-        | inl runs_still ↦ (own.state.runs runs_still).slot ∙ table
-        | inr has_left ↦ (own.state.exits has_left).saved.slot ∙ table
+        | inl runs_still ↦ (same_own_step.state.runs runs_still).slot ∙ table
+        | inr has_left ↦ (same_own_step.state.exits has_left).saved.slot ∙ table
       ]
 
   -- the hart has the same state after the step in the machine in between and in the second machine
@@ -625,7 +626,7 @@ module _ (p q : Place) (one other : MonitoredMachine) (invariant_one : Invariant
   continue_alike : ContinueAlike
   continue_alike = elim (cases_Bool (runs_at p after_one)) [
     | inl runs_still ↦
-        let same = own.state.runs runs_still in
+        let same = same_own_step.state.runs runs_still in
         let runs_too : runs_at q after_other ≡ true = ap (λ (s : HartState). is_world_of j s.world) (sym hart_after) ∙ same.second in
         let below : continuation (hart_state_of p.hart after_one).hart ≡ continuation (hart_state_of q.hart after_mid).hart =
         ap (λ (h : Hart). continuation h) same.hart in
@@ -636,7 +637,7 @@ module _ (p q : Place) (one other : MonitoredMachine) (invariant_one : Invariant
               (ap (λ (s : HartState). continuation s.hart) (sym hart_after) ∙ sym below);
         }
     | inr has_left ↦
-        let saves = (own.state.exits has_left).saved in
+        let saves = (same_own_step.state.exits has_left).saved in
         record {
           context = saves.context;
           first = saved_continues i after_one saves.context after_one_kept saves.first;
@@ -671,10 +672,10 @@ module _ (p q : Place) (one other : MonitoredMachine) (invariant_one : Invariant
   -- the own step of the enclave is the same in both machines
   own_step : SameOwnStep p q one other
   own_step = record {
-    outcome = own.outcome ∙ same_over_memory.outcome;
+    outcome = same_own_step.outcome ∙ same_over_memory.outcome;
     changes = changes;
     exits = λ not_running.
-        let exit = own.state.exits not_running in
+        let exit = same_own_step.state.exits not_running in
         record {
           reason = exit.reason;
           value = exit.value;

@@ -200,12 +200,12 @@ module _ (state : HartView) (view_invariant : HartViewInvariant state) (trap : T
 -- the step of a hart of the machine has this trap
 module _ (hart : ℕ) (machine : MonitoredMachine) (invariant : Invariant machine) (trap : Trap) (trapping : IsTrapping hart machine trap) where
   -- the view of the hart before the step
-  abbrev view : HartView
-  view = hart_view hart machine
+  abbrev view_before : HartView
+  view_before = hart_view hart machine
 
   -- the hart state at the trap, before the trap handler
   abbrev after_trap : HartState
-  after_trap = hart_state_after view.hart_state trap
+  after_trap = hart_state_after view_before.hart_state trap
 
   -- if the trap handler returns to the caller, then the step of the machine returns to the caller
   returns : (shared : Shared) (a0_value a1_value : ℕ)
@@ -213,10 +213,10 @@ module _ (hart : ℕ) (machine : MonitoredMachine) (invariant : Invariant machin
       → Returns hart machine (step_of hart machine) trap shared a0_value a1_value
   returns shared a0_value a1_value handled_is =
       let view_answers =
-      subst (Answered view (hart_view_invariant hart machine invariant trapping.has) trap shared a0_value a1_value)
-      (sym (trapped_step view trap trapping.trapped))
-      (answered_at view (hart_view_invariant hart machine invariant trapping.has) trap shared a0_value a1_value
-      (step (bare_machine view)).outcome handled_is) in
+      subst (Answered view_before (hart_view_invariant hart machine invariant trapping.has) trap shared a0_value a1_value)
+      (sym (trapped_step view_before trap trapping.trapped))
+      (answered_at view_before (hart_view_invariant hart machine invariant trapping.has) trap shared a0_value a1_value
+      (step (bare_machine view_before)).outcome handled_is) in
       (trapping.state ∙ ap (programmed_by hart machine) view_answers.0, ap (λ (outcome : Outcome). outcome.entered) trapping.outcome ∙ view_answers.1)
 
   -- ---- entry
@@ -226,11 +226,12 @@ module _ (hart : ℕ) (machine : MonitoredMachine) (invariant : Invariant machin
       → (hart_state_of hart (step_of hart machine).state).world ≡ Enclave (a0 after_trap)
   unfolding handled entered_slot
   slot_runs_after_entry handled_is =
-      ap (λ (after : HartViewStepped). after.state.hart_state.world) (step_seen hart machine trapping.has ∙ trapped_step view trap trapping.trapped)
+      ap (λ (after : HartViewStepped). after.state.hart_state.world)
+      (step_seen hart machine trapping.has ∙ trapped_step view_before trap trapping.trapped)
       ∙ ap (λ (h : Handled). h.hart_state.world) handled_is
 
   -- a step of the host after which enclave k runs is an entry of slot k by a call
-  enters_by : (k : ℕ) → view.hart_state.world ≡ Host → (step_of hart machine).outcome.step.trap ≡ Some trap
+  enters_by : (k : ℕ) → view_before.hart_state.world ≡ Host → (step_of hart machine).outcome.step.trap ≡ Some trap
       → (hart_state_of hart (step_of hart machine).state).world ≡ Enclave k → EntersByCall hart machine (step_of hart machine) trap k
   enters_by k from_host traps enclave_runs_after =
       let has_entered = enter_law hart machine invariant k from_host enclave_runs_after in
@@ -240,7 +241,7 @@ module _ (hart : ℕ) (machine : MonitoredMachine) (invariant : Invariant machin
 
   -- a call that enters the slot in a0 makes the step of the machine an entry of this slot
   enters_with : (call : Call) → performed after_trap machine.shared call ≡ entry after_trap machine.shared
-      → handled_cause after_trap machine.shared trap trap.cause ≡ performed after_trap machine.shared call → view.hart_state.world ≡ Host
+      → handled_cause after_trap machine.shared trap trap.cause ≡ performed after_trap machine.shared call → view_before.hart_state.world ≡ Host
       → (step_of hart machine).outcome.step.trap ≡ Some trap → EntersByCall hart machine (step_of hart machine) trap (a0 after_trap)
   enters_with call performs_entry handled_is from_host trapped =
       enters_by (a0 after_trap) from_host trapped (slot_runs_after_entry (handled_is ∙ performs_entry))
@@ -289,22 +290,22 @@ leaves_by hart_state cause call by_ecall requested is_exit = rw (by_ecall, reque
 -- enclave k exits from a hart by this trap, to the host with this saved context
 module _ (hart : ℕ) (machine : MonitoredMachine) (k : ℕ) (trap : Trap) (host : Context) where
   -- the hart before the step
-  abbrev own : Hart
-  own = (hart_state_of hart machine).hart
+  abbrev hart_before : Hart
+  hart_before = (hart_state_of hart machine).hart
 
   -- both definitions of the machine after a stop agree
-  stopped_is : trap.cause ≡ causes.Exception EnvironmentCallFromS → (register own.regs 16 == call_number Exit) ≡ false
-      → left_machine hart machine k trap host ≡ handed_over_machine hart machine k trap host (by_stop_call own)
+  stopped_is : trap.cause ≡ causes.Exception EnvironmentCallFromS → (register hart_before.regs 16 == call_number Exit) ≡ false
+      → left_machine hart machine k trap host ≡ handed_over_machine hart machine k trap host (by_stop_call hart_before)
   stopped_is by_ecall is_not_exit = rw (by_ecall, is_not_exit) refl
 
   -- both definitions of the machine after an exit agree
-  exited_is : trap.cause ≡ causes.Exception EnvironmentCallFromS → (register own.regs 16 == call_number Exit) ≡ true
-      → left_machine hart machine k trap host ≡ handed_over_machine hart machine k trap host (by_exit_call own)
+  exited_is : trap.cause ≡ causes.Exception EnvironmentCallFromS → (register hart_before.regs 16 == call_number Exit) ≡ true
+      → left_machine hart machine k trap host ≡ handed_over_machine hart machine k trap host (by_exit_call hart_before)
   exited_is by_ecall is_exit = rw (by_ecall, is_exit) refl
 
   -- both definitions of the machine after a timer interrupt agree
   interrupted_is : (interrupt : Interrupt) → trap.cause ≡ causes.Interrupt interrupt
-      → left_machine hart machine k trap host ≡ handed_over_machine hart machine k trap host (by_interrupt own)
+      → left_machine hart machine k trap host ≡ handed_over_machine hart machine k trap host (by_interrupt hart_before)
   interrupted_is interrupt cause_is = rw cause_is refl
 
 -- ---- the law

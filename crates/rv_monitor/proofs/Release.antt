@@ -69,21 +69,23 @@ module _ (e hart : ℕ) (one other : MonitoredMachine) (trap : Trap) (host : Con
   table_other = with_state other.shared.table e (enclave_state_after trap.cause hart_other.regs)
 
   -- the tables after both exits are equal
-  tables : table_one ≡ table_other
-  tables = ap₂ (λ (t : Slots) (s : EnclaveState). with_state t e s) equiv.shared.table (same_state trap.cause hart_one hart_other same_handover)
+  same_table : table_one ≡ table_other
+  same_table = ap₂ (λ (t : Slots) (s : EnclaveState). with_state t e s) equiv.shared.table (same_state trap.cause hart_one hart_other same_handover)
 
   -- the hart after an exit, from the table t, the CSRs c, the reason r and the value v
-  abbrev made : Slots → CsrState → ℕ → ℕ → Hart
-  made t c r v = record { regs = with_return_values host.regs r v; csrs = left_csrs c t trap host; pc = host.pc; mode = host.mode }
+  abbrev returned_hart : Slots → CsrState → ℕ → ℕ → Hart
+  returned_hart t c r v = record { regs = with_return_values host.regs r v; csrs = left_csrs c t trap host; pc = host.pc; mode = host.mode }
 
   -- both harts are equal after the exit
   harts_same : left_hart hart_one table_one trap host ≡ left_hart hart_other table_other trap host
   harts_same =
-      let first : made table_one (unswitched hart_one.csrs) (reason trap.cause hart_one.regs) (value trap.cause hart_one.regs)
-      ≡ made table_other (unswitched hart_other.csrs) (reason trap.cause hart_one.regs) (value trap.cause hart_one.regs) =
-      ap₂ (λ (t : Slots) (c : CsrState). made t c (reason trap.cause hart_one.regs) (value trap.cause hart_one.regs)) tables same_host.rest in
+      let first : returned_hart table_one (unswitched hart_one.csrs) (reason trap.cause hart_one.regs) (value trap.cause hart_one.regs)
+      ≡ returned_hart table_other (unswitched hart_other.csrs) (reason trap.cause hart_one.regs) (value trap.cause hart_one.regs) =
+      ap₂
+      (λ (t : Slots) (c : CsrState). returned_hart t c (reason trap.cause hart_one.regs)
+      (value trap.cause hart_one.regs)) same_table same_host.rest in
       first
-      ∙ ap₂ (λ (r v : ℕ). made table_other (unswitched hart_other.csrs) r v) (same_reason trap.cause hart_one hart_other same_handover)
+      ∙ ap₂ (λ (r v : ℕ). returned_hart table_other (unswitched hart_other.csrs) r v) (same_reason trap.cause hart_one hart_other same_handover)
       (same_value trap.cause hart_one hart_other same_handover)
 
   -- the state of the hart after the exit, which runs the host
@@ -91,8 +93,8 @@ module _ (e hart : ℕ) (one other : MonitoredMachine) (trap : Trap) (host : Con
   host_state h = record { hart = h; host_context = None; world = Host }
 
   -- both machines have the same number of harts
-  sizes : length (map (reprogrammed table_one) one.hart_states) ≡ length (map (reprogrammed table_other) other.hart_states)
-  sizes = length-map one.hart_states (reprogrammed table_one) ∙ equiv.harts ∙ sym (length-map other.hart_states (reprogrammed table_other))
+  same_count : length (map (reprogrammed table_one) one.hart_states) ≡ length (map (reprogrammed table_other) other.hart_states)
+  same_count = length-map one.hart_states (reprogrammed table_one) ∙ equiv.harts ∙ sym (length-map other.hart_states (reprogrammed table_other))
 
   -- the states of each other hart are equivalent after the exit
   other_harts_equiv : (j : ℕ)
@@ -111,7 +113,10 @@ module _ (e hart : ℕ) (one other : MonitoredMachine) (trap : Trap) (host : Con
             let hart_states = equiv.hart_states j in
             let harts_alike : HartStatesEquivExcept e (reprogrammed table_one (hart_state_of j one))
             (reprogrammed table_other (hart_state_of j other)) =
-            record { world = hart_states.world; same = λ low. ap₂ (λ (t : Slots) (s : HartState). reprogrammed t s) tables (hart_states.same low) } in
+            record {
+              world = hart_states.world;
+              same = λ low. ap₂ (λ (t : Slots) (s : HartState). reprogrammed t s) same_table (hart_states.same low);
+            } in
             subst (λ (x : HartState). HartStatesEquivExcept e x (hart_state_in (map (reprogrammed table_other) other.hart_states) j)) (sym read_one)
             (subst (HartStatesEquivExcept e (reprogrammed table_one (hart_state_of j one))) (sym read_other) harts_alike)
         | inr past_last ↦
@@ -133,16 +138,16 @@ module _ (e hart : ℕ) (one other : MonitoredMachine) (trap : Trap) (host : Con
       let c1 = Some (saved_after trap.cause hart_one) in
       let c2 = Some (saved_after trap.cause hart_other) in
       record {
-        harts = length-set (map (reprogrammed table_one) one.hart_states) hart (host_state (left_hart hart_one table_one trap host)) ∙ sizes
+        harts = length-set (map (reprogrammed table_one) one.hart_states) hart (host_state (left_hart hart_one table_one trap host)) ∙ same_count
             ∙ sym (length-set (map (reprogrammed table_other) other.hart_states) hart (host_state (left_hart hart_other table_other trap host)));
         hart_states =
             hart_cases_of_both (map (reprogrammed table_one) one.hart_states) (map (reprogrammed table_other) other.hart_states) hart
             (host_state (left_hart hart_one table_one trap host))
-            (host_state (left_hart hart_other table_other trap host)) (λ j a b. HartStatesEquivExcept e a b) sizes
+            (host_state (left_hart hart_other table_other trap host)) (λ j a b. HartStatesEquivExcept e a b) same_count
             (omega (arith, length_one, there_is))
             (record { world = refl; same = λ low. ap host_state harts_same }) (λ j distinct. other_harts_equiv j);
         shared = record {
-          table = tables;
+          table = same_table;
           memory = record {
             size = equiv.shared.memory.size;
             bytes = λ i not_hidden. equiv.shared.memory.bytes i (ap (λ (r : Block). has r (ram_base + i)) (sym extent.region) ∙ not_hidden);

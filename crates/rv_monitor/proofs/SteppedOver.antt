@@ -123,19 +123,19 @@ module _ (hidden : ℕ → Bool) (hart_state : HartState) (trap : Trap) (table :
     (equal : EqualOutside hidden m n)
     (measures_seen : MeasuresSeen hidden hart_state.world table saved_contexts) where
   -- the shared state with the memory m
-  abbrev here : Shared
-  here = over table m saved_contexts
+  abbrev shared_m : Shared
+  shared_m = over table m saved_contexts
 
   -- the shared state with the memory n
-  abbrev there : Shared
-  there = over table n saved_contexts
+  abbrev shared_n : Shared
+  shared_n = over table n saved_contexts
 
   -- two results of the trap handler are equal, except that their memories are changed alike from m and n
   abbrev Over : Handled → Handled → Type 0
   Over a b = HandledOver m n a b
 
   -- the two shared states are equal, except for their memories m and n
-  same_shared : SharedOver m n here there
+  same_shared : SharedOver m n shared_m shared_n
   same_shared = record { table = refl; contexts = refl; size = equal.size; changes = unchanged m n }
 
   -- a return to the caller satisfies `Over`, if the shared states after the call satisfy `SharedOver`
@@ -159,7 +159,8 @@ module _ (hidden : ℕ → Bool) (hart_state : HartState) (trap : Trap) (table :
   }
 
   -- the bytes of a region that the host creates are equal in both memories
-  block_same : (new : CreateArgs) → is_host hart_state.world ≡ true → MayCreate here new → bytes_of_block m new.region ≡ bytes_of_block n new.region
+  block_same : (new : CreateArgs) → is_host hart_state.world ≡ true → MayCreate shared_m new
+      → bytes_of_block m new.region ≡ bytes_of_block n new.region
   block_same new host_runs no_refusal =
       let inner = valid_inside m new.region no_refusal.well_formed in
       let low = (inside-is m new.region.base new.region.size inner).0 in
@@ -172,7 +173,7 @@ module _ (hidden : ℕ → Bool) (hart_state : HartState) (trap : Trap) (table :
 
   -- a create gives shared states that satisfy `SharedOver`, if the bytes of the region are equal
   created_over : (new : CreateArgs) → bytes_of_block m new.region ≡ bytes_of_block n new.region
-      → SharedOver m n (created here new) (created there new)
+      → SharedOver m n (created shared_m new) (created shared_n new)
   unfolding created measurement_of
   created_over new bytes =
       let info : recorded m new ≡ recorded n new = rw bytes refl in
@@ -185,22 +186,22 @@ module _ (hidden : ℕ → Bool) (hart_state : HartState) (trap : Trap) (table :
       }
 
   -- a destroy gives shared states that satisfy `SharedOver`
-  destroyed_over : (k : ℕ) → SharedOver m n (destroyed here k) (destroyed there k)
+  destroyed_over : (k : ℕ) → SharedOver m n (destroyed shared_m k) (destroyed shared_n k)
   unfolding destroyed
   destroyed_over k =
       let block = region table k in
       put_over (with_slot table k None) (with_context saved_contexts k None) block.base (replicate block.size 0)
 
   -- a measure gives shared states that satisfy `SharedOver`
-  measured_over : (k address : ℕ) → SharedOver m n (measured here k address) (measured there k address)
+  measured_over : (k address : ℕ) → SharedOver m n (measured shared_m k address) (measured shared_n k address)
   unfolding measured
   measured_over k address = put_over table saved_contexts address (measurement_at table k)
 
   -- the results of the trap handler satisfy `HandledOver`
-  handled_over : HandledOver m n (handled hart_state here trap) (handled hart_state there trap)
+  handled_over : HandledOver m n (handled hart_state shared_m trap) (handled hart_state shared_n trap)
   unfolding left entered_slot
   handled_over = handler_cases_of_both hart_state trap table m n saved_contexts saved_contexts Over (record {
-    answers = λ status result. caller_over here there status result same_shared;
+    answers = λ status result. caller_over shared_m shared_n status result same_shared;
     creates = λ requests no_refusal.
         let host = offered_host hart_state.world (asked-is hart_state.world hart_state.hart.regs Create requests.asked).1 in
         caller_over _ _ 0 (new_slot table)
