@@ -114,7 +114,7 @@ module _ (hart_state : HartState) (trap : Trap) (table : Slots) (m n : List ℕ)
   Both work = P (work shared_m) (work shared_n)
 
   -- the proof obligations of a proof by cases: the claim P for each case of the trap handler on both shared states
-  pub record Pieces : Type 0 where
+  pub record CauseCases : Type 0 where
     -- a refusal, or a call that changes nothing in the shared state
     pub answers : (status result : ℕ) → Both (λ shared. returned_to_caller hart_state shared status result)
     pub creates : Requests hart_state trap.cause Create → MayCreate shared_m (create_args_of hart_state.hart.regs)
@@ -131,25 +131,25 @@ module _ (hart_state : HartState) (trap : Trap) (table : Slots) (m n : List ℕ)
     pub redirects : Both (λ shared. redirected hart_state shared trap)
 
   -- the claim P holds in each case, and the memories have the same size
-  module _ (pieces : Pieces) (same_length : length m ≡ length n) where
+  module _ (cases : CauseCases) (same_length : length m ≡ length n) where
     -- the claim holds for an exit by each cause
     by-leaving : (cause : Cause) → trap.cause ≡ cause → Both (leaving cause hart_state)
-    by-leaving cause cause_is = subst (λ (c : Cause). Both (leaving c hart_state)) cause_is pieces.leaves
+    by-leaving cause cause_is = subst (λ (c : Cause). Both (leaving c hart_state)) cause_is cases.leaves
 
     -- the claim holds for each requested call that is not refused
     by-accepted : (call : Call) → Requests hart_state trap.cause call → first_refusal (call_refusals hart_state shared_m call) ≡ None
         → Both (λ shared. performed hart_state shared call)
     unfolding performed
-    by-accepted Create requests no_refusal = pieces.creates requests (may_create shared_m (create_args_of hart_state.hart.regs) no_refusal)
-    by-accepted Destroy requests no_refusal = pieces.destroys requests (may_take table Destroy (a0 hart_state) no_refusal)
+    by-accepted Create requests no_refusal = cases.creates requests (may_create shared_m (create_args_of hart_state.hart.regs) no_refusal)
+    by-accepted Destroy requests no_refusal = cases.destroys requests (may_take table Destroy (a0 hart_state) no_refusal)
     by-accepted Run requests no_refusal =
         let asked = asked-is hart_state.world hart_state.hart.regs Run requests.asked in
-        pieces.enters Run requests refl (entered-by-host hart_state.world Run refl asked.1) (may_take table Run (a0 hart_state) no_refusal)
+        cases.enters Run requests refl (entered-by-host hart_state.world Run refl asked.1) (may_take table Run (a0 hart_state) no_refusal)
     by-accepted Resume requests no_refusal =
         let asked = asked-is hart_state.world hart_state.hart.regs Resume requests.asked in
-        pieces.enters Resume requests refl (entered-by-host hart_state.world Resume refl asked.1) (may_take table Resume (a0 hart_state) no_refusal)
+        cases.enters Resume requests refl (entered-by-host hart_state.world Resume refl asked.1) (may_take table Resume (a0 hart_state) no_refusal)
     by-accepted Measure requests no_refusal =
-        pieces.measures requests
+        cases.measures requests
         (may_measure shared_m hart_state.hart.csrs.pmp (measured_slot hart_state.world (a0 hart_state)) (a1 hart_state) no_refusal)
     by-accepted Stop requests no_refusal =
         let test = not_exit (register hart_state.hart.regs 16) (asked-is hart_state.world hart_state.hart.regs Stop requests.asked).0 in
@@ -170,7 +170,7 @@ module _ (hart_state : HartState) (trap : Trap) (table : Slots) (m n : List ℕ)
     by-refusal : (o : Option Refusal) (one other : Handled) → (o ≡ None → P one other)
         → P (option_case o one (refused hart_state shared_m)) (option_case o other (refused hart_state shared_n))
     by-refusal None one other claim = claim refl
-    by-refusal (Some refusal) one other claim = pieces.answers (status_of refusal) 0
+    by-refusal (Some refusal) one other claim = cases.answers (status_of refusal) 0
 
     -- the claim holds for a requested call with its refusals
     by-called : (call : Call) → Requests hart_state trap.cause call → Both (λ shared. called hart_state shared call)
@@ -182,7 +182,7 @@ module _ (hart_state : HartState) (trap : Trap) (table : Slots) (m n : List ℕ)
     -- the claim holds for an ecall from S, whether it requests a call or not
     by-call : (o : Option Call) → requested_call hart_state.world hart_state.hart.regs ≡ o → trap.cause ≡ causes.Exception EnvironmentCallFromS
         → Both (λ shared. option_case o (refused hart_state shared NotSupported) (called hart_state shared))
-    by-call None requested by_ecall = pieces.answers (status_of NotSupported) 0
+    by-call None requested by_ecall = cases.answers (status_of NotSupported) 0
     by-call (Some call) requested by_ecall = by-called call (record { is_call = by_ecall; asked = requested })
 
     -- the claim holds for each exception
@@ -190,7 +190,7 @@ module _ (hart_state : HartState) (trap : Trap) (table : Slots) (m n : List ℕ)
         → Both (λ shared. handled_exception hart_state shared trap exception)
     unfolding call_handled
     by-exception EnvironmentCallFromS cause_is = by-call (requested_call hart_state.world hart_state.hart.regs) refl cause_is
-    by-exception _ cause_is = pieces.redirects
+    by-exception _ cause_is = cases.redirects
 
     -- the claim holds for each cause
     by-cause : (cause : Cause) → trap.cause ≡ cause → Both (λ shared. handled_cause hart_state shared trap cause)
@@ -199,15 +199,15 @@ module _ (hart_state : HartState) (trap : Trap) (table : Slots) (m n : List ℕ)
     by-cause (causes.Exception exception) cause_is = by-exception exception cause_is
 
     -- the claim holds for the trap handler before it reprograms the PMP of the hart, if it holds in each case
-    pub by_pieces : P (handled_cause hart_state shared_m trap trap.cause) (handled_cause hart_state shared_n trap trap.cause)
-    by_pieces = by-cause trap.cause refl
+    pub by_cause_cases : P (handled_cause hart_state shared_m trap trap.cause) (handled_cause hart_state shared_n trap trap.cause)
+    by_cause_cases = by-cause trap.cause refl
 
 -- ---- the case analysis principles. The trap handler reprograms the PMP entries and mie last
 
 -- the proof obligations for a claim about the trap handler on two shared states, with the PMP entries and mie reprogrammed at the end
 abbrev pub HandlerCasesOfBoth : HartState → Trap → Slots → List ℕ → List ℕ → Contexts → Contexts → (Handled → Handled → Type 0) → Type 0
 HandlerCasesOfBoth hart_state trap table m n contexts_m contexts_n P =
-    Pieces hart_state trap table m n contexts_m contexts_n (λ one other. P (with_reprogrammed_hart one) (with_reprogrammed_hart other))
+    CauseCases hart_state trap table m n contexts_m contexts_n (λ one other. P (with_reprogrammed_hart one) (with_reprogrammed_hart other))
 
 -- a claim about the trap handler on two shared states with one table holds if it holds in each case
 pub handler_cases_of_both : (hart_state : HartState) (trap : Trap) (table : Slots) (m n : List ℕ) (contexts_m contexts_n : Contexts)
@@ -215,9 +215,9 @@ pub handler_cases_of_both : (hart_state : HartState) (trap : Trap) (table : Slot
     → HandlerCasesOfBoth hart_state trap table m n contexts_m contexts_n P → length m ≡ length n
     → P (handled hart_state (over table m contexts_m) trap) (handled hart_state (over table n contexts_n) trap)
 unfolding handled
-handler_cases_of_both hart_state trap table m n contexts_m contexts_n P pieces same_length =
-    by_pieces hart_state trap table m n contexts_m contexts_n
-    (λ one other. P (with_reprogrammed_hart one) (with_reprogrammed_hart other)) pieces same_length
+handler_cases_of_both hart_state trap table m n contexts_m contexts_n P cases same_length =
+    by_cause_cases hart_state trap table m n contexts_m contexts_n
+    (λ one other. P (with_reprogrammed_hart one) (with_reprogrammed_hart other)) cases same_length
 
 -- the proof obligations for a claim about the trap handler on one shared state
 abbrev pub OneHandlerCases : HartState → Trap → Shared → (Handled → Type 0) → Type 0
@@ -227,5 +227,5 @@ OneHandlerCases hart_state trap shared P =
 -- a claim about the trap handler on one shared state holds if it holds in each case
 pub handler_cases : (hart_state : HartState) (trap : Trap) (shared : Shared) (P : Handled → Type 0) → OneHandlerCases hart_state trap shared P
     → P (handled hart_state shared trap)
-handler_cases hart_state trap shared P pieces =
-    handler_cases_of_both hart_state trap shared.table shared.memory shared.memory shared.contexts shared.contexts (λ one _. P one) pieces refl
+handler_cases hart_state trap shared P cases =
+    handler_cases_of_both hart_state trap shared.table shared.memory shared.memory shared.contexts shared.contexts (λ one _. P one) cases refl

@@ -5,7 +5,7 @@ use Rattle.std.specs.Prelude.{map, slice_index_or}
 use Rattle.rv_monitor.specs.Prelude.{Cause, HartState, Shared, Slots, Trap}
 use Rattle.rv_monitor.proofs.Prelude.{Entries, Handled, IsUnlocked, HartInvariant, entered_slot, redirected, with_redirected_trap, handled_cause}
 use Rattle.rv_monitor.proofs.Prelude.{left, hart_state_at_start, reprogrammed, with_reprogrammed_hart}
-use Rattle.rv_monitor.proofs.HandlerCases.{by_pieces}
+use Rattle.rv_monitor.proofs.HandlerCases.{by_cause_cases}
 
 -- ---- a hart whose PMP entries and mie are already programmed
 
@@ -46,7 +46,7 @@ pub work_entries : (hart_state : HartState) (shared : Shared) (trap : Trap)
     → entries_of (handled_cause hart_state shared trap trap.cause) ≡ hart_state.hart.csrs.pmp
 unfolding entered_slot left with_redirected_trap
 work_entries hart_state shared trap =
-    by_pieces hart_state trap shared.table shared.memory shared.memory shared.contexts shared.contexts
+    by_cause_cases hart_state trap shared.table shared.memory shared.memory shared.contexts shared.contexts
     (λ h _. entries_of h ≡ hart_state.hart.csrs.pmp)
     (record {
       answers = λ status result. refl;

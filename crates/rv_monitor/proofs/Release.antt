@@ -133,10 +133,10 @@ module _ (e hart : ℕ) (one other : MonitoredMachine) (trap : Trap) (host : Con
   left_agree =
       let length_one = length-map one.hart_states (reprogrammed table_one) in
       let extent = state_extent one.shared.table e (slot_at one.shared.table e) state_after table_length refl in
-      let cs1 = one.shared.contexts in
-      let cs2 = other.shared.contexts in
-      let c1 = Some (saved_after trap.cause hart_one) in
-      let c2 = Some (saved_after trap.cause hart_other) in
+      let contexts_one = one.shared.contexts in
+      let contexts_other = other.shared.contexts in
+      let saved_one = Some (saved_after trap.cause hart_one) in
+      let saved_other = Some (saved_after trap.cause hart_other) in
       record {
         harts = length-set (map (reprogrammed table_one) one.hart_states) hart (host_state (left_hart hart_one table_one trap host)) ∙ same_count
             ∙ sym (length-set (map (reprogrammed table_other) other.hart_states) hart (host_state (left_hart hart_other table_other trap host)));
@@ -153,8 +153,10 @@ module _ (e hart : ℕ) (one other : MonitoredMachine) (trap : Trap) (host : Con
             bytes = λ i not_hidden. equiv.shared.memory.bytes i (ap (λ (r : Block). has r (ram_base + i)) (sym extent.region) ∙ not_hidden);
           };
           contexts = record {
-            size = length-set cs1 e c1 ∙ equiv.shared.contexts.size ∙ sym (length-set cs2 e c2);
-            others = λ k distinct. at_other cs1 e k c1 distinct ∙ equiv.shared.contexts.others k distinct ∙ sym (at_other cs2 e k c2 distinct);
+            size = length-set contexts_one e saved_one ∙ equiv.shared.contexts.size ∙ sym (length-set contexts_other e saved_other);
+            others =
+                λ k distinct. at_other contexts_one e k saved_one distinct ∙ equiv.shared.contexts.others k distinct
+                ∙ sym (at_other contexts_other e k saved_other distinct);
           };
           gone = λ dead. absurd (both_ways _ dead (state_live one.shared.table e (slot_at one.shared.table e) state_after table_length refl ∙ live));
         };
