@@ -72,8 +72,8 @@ block_is memory block valid_block =
 -- a window that is empty, or is a valid block, passes the test of a window
 window_is : (memory : List ℕ) (regs : List ℕ) → (register regs 13 ≡ 0) ⊎ IsBlockOf memory (window_named regs)
     → (register regs 13 == 0 || is_block_of memory (window_named regs)) ≡ true
-window_is memory regs (inl none) = let none_is = eq-eqb (register regs 13) 0 none in rw none_is refl
-window_is memory regs (inr block) = let good = block_is memory (window_named regs) block in rw good (or-true (register regs 13 == 0))
+window_is memory regs (inl size_is_0) = let test_is = eq-eqb (register regs 13) 0 size_is_0 in rw test_is refl
+window_is memory regs (inr block) = let is_valid = block_is memory (window_named regs) block in rw is_valid (or-true (register regs 13 == 0))
 
 -- a slot with a record is not free
 live : (o : Option SlotInfo) → is_some o ≡ true → is_none o ≡ false

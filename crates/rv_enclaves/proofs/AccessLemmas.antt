@@ -103,7 +103,10 @@ host_gives_to_host (Enclave k) access permission = absurd (both_ways _ (off_refu
 -- the PMP entry of a window permits no fetch
 window_gives_no_fetch : (o : Option SlotInfo) → has_permission Fetch (window_entry_of o).cfg ≡ false
 window_gives_no_fetch None = refl
-window_gives_no_fetch (Some s) = elim (cases_Bool (s.window.size == 0)) [ inl none ↦ rw none refl | inr some ↦ rw some refl ]
+window_gives_no_fetch (Some s) = elim (cases_Bool (s.window.size == 0)) [
+  | inl window_empty ↦ rw window_empty refl
+  | inr window_nonempty ↦ rw window_nonempty refl
+]
 
 -- the PMP entry of a window that has a byte permits loads and stores
 window_gives : (o : Option SlotInfo) (access : Access) (b : ℕ) → access ≢ Fetch → has (window_of o) b ≡ true
@@ -113,8 +116,8 @@ window_gives (Some s) access b no_fetch in_window =
     let parts = and_parts _ _ in_window in
     let low = leb-true s.window.base b parts.0 in
     let high = ltb-true b (s.window.base + s.window.size) parts.1 in
-    let some = ne_eqb s.window.size 0 (λ size_is_0. omega arith) in
-    rw some (read_or_write access no_fetch)
+    let window_nonempty = ne_eqb s.window.size 0 (λ size_is_0. omega arith) in
+    rw window_nonempty (read_or_write access no_fetch)
 
 -- ---- accessible memory, by world
 
@@ -236,7 +239,8 @@ accessible_apart memory t w access a n k table_valid runs_other accessible b low
 -- World w accesses the n bytes from address a on, in mode S or U. The bytes are in RAM, t is a valid table, and the hart has the PMP layout of t and
 -- w
 module _ (memory : List ℕ) (t : Slots) (w : World) (mode : Mode) (access : Access) (a n : ℕ) (ram_size : length memory ≤ 0x1000000)
-    (table_valid : IsValid memory t) (mode_below_m : mode ≢ M) (some : 0 < n) (inside : (ram_base ≤ a) × (a + n ≤ ram_base + length memory)) where
+    (table_valid : IsValid memory t) (mode_below_m : mode ≢ M) (has_bytes : 0 < n)
+    (inside : (ram_base ≤ a) × (a + n ≤ ram_base + length memory)) where
   -- the PMP entries of the layout for table t and world w
   abbrev entries : Entries
   entries = layout t w

@@ -90,9 +90,9 @@ same_overlap new None = refl
 same_overlap new (Some info) = refl
 
 -- the test of a window holds if and only if the window has size 0 or is a valid block
-window_by : (memory : List ℕ) (base size : ℕ) (none : Bool) → (size == 0) ≡ none
-    → is_window memory (if none then record { base = 0; size = 0 } else record { base = base; size = size })
-    ≡ (none || is_block_of memory (if none then record { base = 0; size = 0 } else record { base = base; size = size }))
+window_by : (memory : List ℕ) (base size : ℕ) (is_empty : Bool) → (size == 0) ≡ is_empty
+    → is_window memory (if is_empty then record { base = 0; size = 0 } else record { base = base; size = size })
+    ≡ (is_empty || is_block_of memory (if is_empty then record { base = 0; size = 0 } else record { base = base; size = size }))
 unfolding is_window is_valid_block
 window_by memory base size true test_is = refl
 window_by memory base size false test_is = rw (test_is, and-false (base == 0)) refl

@@ -68,8 +68,8 @@ block_words m block ram_size is_valid = let block_is = valid_block m block is_va
 window_words : (m : List ℕ) (block : Block) → length m ≤ 0x1000000 → is_window m block ≡ true → block.base + block.size < 2 ^ 32
 unfolding is_window
 window_words m block ram_size is_window_valid = elim (or_cases _ _ is_window_valid) [
-  | inl none ↦
-      let parts = and_parts (block.base == 0) (block.size == 0) none in
+  | inl is_empty ↦
+      let parts = and_parts (block.base == 0) (block.size == 0) is_empty in
       let base = eqb-true _ _ parts.0 in
       let size = eqb-true _ _ parts.1 in
       omega (arith, base, size)

@@ -39,11 +39,11 @@ trailing_ones-block half k below_32 fits =
     ∙ ap (bit_at (2 * half)) none_left
     ∙ bit_at_lowest (2 * half)
     ∙ omega arith in
-    let below : (i : ℕ) → i < k → bit_at n i ≡ 1 = λ i h. bit_at_cat_low (2 * half) k (2 ^ k - 1) i h ∙ bit_at_ones k i h in
+    let below : (i : ℕ) → i < k → bit_at n i ≡ 1 = λ i below_k. bit_at_cat_low (2 * half) k (2 ^ k - 1) i below_k ∙ bit_at_ones k i below_k in
     elim (cases_order count k) [
       | inl same ↦ same
       | inr other ↦ elim other [
-        | inl less ↦ let one = below count less in let none = lowest.1 in absurd (omega (arith, one, none))
+        | inl less ↦ let one = below count less in let bit_at_count = lowest.1 in absurd (omega (arith, one, bit_at_count))
         | inr more ↦ let one = lowest.2 k more in absurd (omega (arith, one, ends))
       ]
     ]

@@ -97,8 +97,8 @@ region_covers memory w k (Some info) before b ram_size slot_valid =
 -- a window with at least one byte is a valid block
 some_window : (memory : List ℕ) (block : Block) → is_window memory block ≡ true → block.size ≢ 0 → is_valid_block memory block ≡ true
 unfolding is_window
-some_window memory block is_window_valid some = elim (or_cases (block.base == 0 && block.size == 0) _ is_window_valid) [
-  | inl none ↦ absurd (some (eqb-true _ _ (and_parts (block.base == 0) _ none).1))
+some_window memory block is_window_valid nonempty = elim (or_cases (block.base == 0 && block.size == 0) _ is_window_valid) [
+  | inl is_empty ↦ absurd (nonempty (eqb-true _ _ (and_parts (block.base == 0) _ is_empty).1))
   | inr well_formed ↦ well_formed
 ]
 

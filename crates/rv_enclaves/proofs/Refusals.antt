@@ -33,8 +33,8 @@ pub record MayCreate (shared : Shared) (new : CreateArgs) : Type 0 where
 
 -- an option of a slot that is not None has some slot
 is_slot : (o : Option ℕ) → is_none o ≡ false → o ≡ Some (option_case o slot_count (λ k. k))
-is_slot None some = cc
-is_slot (Some k) some = refl
+is_slot None is_present = cc
+is_slot (Some k) is_present = refl
 
 -- a create without a refusal passes every check
 pub may_create : (shared : Shared) (new : CreateArgs) → first_refusal (create_refusals shared new) ≡ None → MayCreate shared new

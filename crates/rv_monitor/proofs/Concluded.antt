@@ -9,5 +9,5 @@ pub concluded : (hart_state : HartState) (rows : Option Refusal) (r : Result ℕ
     → MatchResult r (λ v. (rows ≡ None) × (v ≡ value) × (after ≡ done)) (λ refusal. (rows ≡ Some refusal) × (after ≡ before))
     → option_case rows (returned_to_caller hart_state done 0 value) (refused hart_state before)
     ≡ result_case r (returned_to_caller hart_state after 0) (refused hart_state after)
-concluded hart_state rows (Ok v) before after done value (none, value_is, same) = rw (none, value_is, same) refl
-concluded hart_state rows (Err refusal) before after done value (some, same) = rw (some, same) refl
+concluded hart_state rows (Ok v) before after done value (no_refusal, value_is, same) = rw (no_refusal, value_is, same) refl
+concluded hart_state rows (Err refusal) before after done value (refusal_is, same) = rw (refusal_is, same) refl

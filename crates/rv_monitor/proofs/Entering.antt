@@ -169,13 +169,13 @@ module _ (hart k : ℕ) (machine : MonitoredMachine) (invariant : Invariant mach
 
   -- if a step without a trap ended in slot k, then the host would be an enclave
   never_quiet : (step_of hart machine).outcome.step.trap ≡ None → Host ≡ Enclave k
-  never_quiet none = elim (cases_lt hart (count_of machine)) [
+  never_quiet no_trap = elim (cases_lt hart (count_of machine)) [
     | inr past_last ↦
         sym (ap (λ (after : MonitoredStepped). (hart_state_of hart after.state).world) (outside hart machine past_last) ∙ from_host)
         ∙ enclave_runs_after
     | inl in_range ↦
         let view_step = step_seen hart machine in_range in
-        let quiet = sym (ap (λ (after : HartViewStepped). after.outcome.step.trap) view_step) ∙ none in
+        let quiet = sym (ap (λ (after : HartViewStepped). after.outcome.step.trap) view_step) ∙ no_trap in
         sym from_host ∙ sym (quiet_world (hart_view hart machine) quiet) ∙ view_ends_in_k in_range
   ]
 
