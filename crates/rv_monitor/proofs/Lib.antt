@@ -47,7 +47,7 @@ pub mod HandlerReads
 pub mod Switched
 -- The host gets its own context back when an enclave exits
 pub mod Returned
--- A step of a view is the bare step of the hart
+-- A step of a view is the bare step of the hart, followed by the trap handler if the bare step traps
 pub mod TrapSteps
 -- Steps of a hart without a trap are steps of the monitored machine, because the trap handler does not run after such steps
 pub mod FastSteps

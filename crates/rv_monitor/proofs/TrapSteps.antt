@@ -1,4 +1,4 @@
--- A step of a view is the bare step of the hart. If the bare step traps, then the trap handler follows.
+-- A step of a view is the bare step of the hart, followed by the trap handler if the bare step traps.
 use Rattle.std.proofs.Common.{◌≡◌, ℕ, false, List, Option, Some, None, IfSome, refl, sym, ap, ◌∙◌}
 use Rattle.rv_hart.specs.Hart.{step_counted}
 use Rattle.rv_hart.specs.Hart.{trapped}
