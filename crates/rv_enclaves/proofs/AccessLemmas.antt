@@ -463,6 +463,7 @@ reach_law memory slots world mode access address width valid below inside =
 -- proves that no permitted access of S or U has a byte in the region of another enclave
 pub apart_law : ApartLaw
 apart_law memory slots world mode access address width k byte valid below inside other permitted low high =
-    let apart = permitted_apart memory slots world mode access address (bytes_in width) (small_ram memory valid.ram) valid below (some_bytes width)
+    let outside_other_regions =
+    permitted_apart memory slots world mode access address (bytes_in width) (small_ram memory valid.ram) valid below (some_bytes width)
     (inside-is memory address (bytes_in width) inside) in
-    apart k other permitted byte low high
+    outside_other_regions k other permitted byte low high

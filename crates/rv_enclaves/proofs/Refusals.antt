@@ -42,13 +42,13 @@ unfolding create_refusals
 may_create shared new no_refusal =
     let region = no_row _ _ _ no_refusal in
     let window = no_row _ _ _ region.1 in
-    let apart = no_row _ _ _ window.1 in
-    let entry = no_row _ _ _ apart.1 in
+    let no_overlap = no_row _ _ _ window.1 in
+    let entry = no_row _ _ _ no_overlap.1 in
     let slot = no_row _ _ _ entry.1 in
     record {
       well_formed = not-false _ region.0;
       window = not-false _ window.0;
-      apart = apart.0;
+      apart = no_overlap.0;
       entry = not-false _ entry.0;
       free = is_slot (free_slot shared.table) slot.0;
     }

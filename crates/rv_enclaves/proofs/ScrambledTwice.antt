@@ -15,8 +15,8 @@ words_twice : (words : List ℕ) → ((n : ℕ) → get_or words n 0 < 2 ^ 32)
 words_twice [] are_words = refl
 words_twice (word ∷ words) are_words =
     let first : word < 2 ^ 32 = are_words 0 in
-    let back : 2 ^ 32 - 1 - (2 ^ 32 - 1 - word) ≡ word = omega (arith, first) in
-    ap₂ (λ (x : ℕ) (xs : List ℕ). x ∷ xs) back (words_twice words (λ n. are_words (suc n)))
+    let complement_twice : 2 ^ 32 - 1 - (2 ^ 32 - 1 - word) ≡ word = omega (arith, first) in
+    ap₂ (λ (x : ℕ) (xs : List ℕ). x ∷ xs) complement_twice (words_twice words (λ n. are_words (suc n)))
 
 -- two complements of the registers give the registers again
 registers_twice : (regs : List ℕ) → ((n : ℕ) → get_or regs n 0 < 2 ^ 32) → complemented_registers (complemented_registers regs) ≡ regs

@@ -301,9 +301,9 @@ reentry_law p q count one other invariant_one invariant_other saved both_enter h
 pub same_info : (one other : SlotInfo) → args_of one ≡ args_of other → one.measurement ≡ other.measurement → one.state ≡ Fresh → other.state ≡ Fresh
     → one ≡ other
 same_info one other args digest fresh fresh_too =
-    let made : CreateArgs → List ℕ → SlotInfo = λ new digest.
+    let record_of : CreateArgs → List ℕ → SlotInfo = λ new digest.
     record { region = new.region; window = new.window; entry = new.entry; measurement = digest; state = Fresh } in
-    ap (λ (s : EnclaveState). record one { state = s }) fresh ∙ ap₂ made args digest
+    ap (λ (s : EnclaveState). record one { state = s }) fresh ∙ ap₂ record_of args digest
     ∙ sym (ap (λ (s : EnclaveState). record other { state = s }) fresh_too)
 
 -- proves the attestation law: two enclaves with equal measured bytes take the same steps in their first run

@@ -65,10 +65,11 @@ module _ (e : ℕ) (state : HartView) (view_invariant : HartViewInvariant state)
       → IsSeen (is_private state.shared.table e) span.addr (bytes_in span.len)
   unseen mode access span mode_below_m may_touch byte low high =
       let entries = view_invariant.hart.layout.entries in
-      let apart = permitted_apart state.shared.memory state.shared.table state.hart_state.world mode access span.addr (bytes_in span.len)
+      let outside_other_regions =
+      permitted_apart state.shared.memory state.shared.table state.hart_state.world mode access span.addr (bytes_in span.len)
       (small_ram state.shared.memory view_invariant.valid.ram) view_invariant.valid (below_M mode mode_below_m) (some_bytes span.len)
       (inside-is state.shared.memory span.addr (bytes_in span.len) may_touch.0) in
-      apart e runs_other (rw (← entries) may_touch.1) byte low high
+      outside_other_regions e runs_other (rw (← entries) may_touch.1) byte low high
 
 -- proves the bare law: a bare step depends on no byte in the region of another enclave
 pub bare_law : BareLaw

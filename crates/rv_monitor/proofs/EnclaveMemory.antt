@@ -85,8 +85,8 @@ not_host P k world runs host = let contradiction : Host ≡ Enclave k = sym host
 asked_offered : (cause : Cause) (hart_state : HartState) (b : Bool) (call : Call) → is_call cause ≡ b → requested_by cause hart_state ≡ Some call
     → is_offered hart_state.world call ≡ true
 asked_offered cause hart_state true call test_is requested =
-    let reads : requested_call hart_state.world hart_state.hart.regs ≡ Some call = rw test_is at requested in
-    (asked-is hart_state.world hart_state.hart.regs call reads).1
+    let request_is : requested_call hart_state.world hart_state.hart.regs ≡ Some call = rw test_is at requested in
+    (asked-is hart_state.world hart_state.hart.regs call request_is).1
 asked_offered cause hart_state false call test_is requested = let contradiction : None ≡ Some call = rw test_is at requested in cc
 
 -- create is offered to no enclave
@@ -155,8 +155,9 @@ module _ (k : ℕ) (hart_state : HartState) (runs_enclave : hart_state.world ≡
       measures = λ requests no_refusal. (record { region = refl; window = refl }, put_size shared.memory _ _ (write shared.memory _ _) refl);
       enters = λ call requests is_entry_call from_host is_taken. not_host _ k hart_state.world runs_enclave from_host;
       leaves =
-          let own : running_slot hart_state.world ≡ k = rw runs_enclave refl in
-          rw own (state_extent shared.table k (slot_at shared.table k) (enclave_state_after trap.cause hart_state.hart.regs) table_length refl, refl);
+          let slot_is_k : running_slot hart_state.world ≡ k = rw runs_enclave refl in
+          rw slot_is_k
+          (state_extent shared.table k (slot_at shared.table k) (enclave_state_after trap.cause hart_state.hart.regs) table_length refl, refl);
       redirects = (record { region = refl; window = refl }, refl);
     })
 

@@ -186,8 +186,8 @@ module _ (i j : ℕ) (s t : HartState) (one two : Shared) (view_invariant_one : 
   may_same : (byte : ℕ) → may_store one.memory s.hart.csrs.pmp byte ≡ may_store one.memory t.hart.csrs.pmp byte
   may_same byte = elim (cases_Bool (is_inside one.memory byte 1)) [
     | inl inside ↦
-        let one_byte = permits_same S Write byte Byte refl inside in
-        ap (λ (b : Bool). is_inside one.memory byte 1 && b) one_byte
+        let permits_byte = permits_same S Write byte Byte refl inside in
+        ap (λ (b : Bool). is_inside one.memory byte 1 && b) permits_byte
     | inr outside ↦ rw outside refl
   ]
 

@@ -97,13 +97,13 @@ not_changed : (state : HartView) (k byte : ℕ) → HartViewInvariant state → 
 not_changed state k byte view_invariant not_running live_after in_region =
     let shared = state.shared in
     let valid = view_invariant.valid in
-    let apart = accessible_apart shared.memory shared.table state.hart_state.world Write in
+    let outside_other_regions = accessible_apart shared.memory shared.table state.hart_state.world Write in
     elim (changes state view_invariant byte) [
       | inl same ↦ same
       | inr changed ↦ elim changed [
         | inl stored ↦
             absurd
-            (both_ways _ (apart stored.span.addr
+            (both_ways _ (outside_other_regions stored.span.addr
             (bytes_in stored.span.len) k valid not_running stored.accessible byte stored.low stored.high) in_region)
         | inr call ↦ elim call.change [
           | inl cleared ↦ elim (cases_eq k (register state.hart_state.hart.regs 10)) [
@@ -112,7 +112,8 @@ not_changed state k byte view_invariant not_running live_after in_region =
                 absurd (both_ways _ (apart_at (region shared.table k) (region shared.table (register state.hart_state.hart.regs 10)) byte
                 (valid.regions_apart k (register state.hart_state.hart.regs 10) distinct) in_region) cleared.own)
           ]
-          | inr put ↦ absurd (both_ways _ (apart byte 1 k valid not_running put.accessible byte (omega arith) (omega arith)) in_region)
+          | inr put ↦
+              absurd (both_ways _ (outside_other_regions byte 1 k valid not_running put.accessible byte (omega arith) (omega arith)) in_region)
         ]
       ]
     ]

@@ -183,4 +183,7 @@ gone_equal e one other invariant_one equiv dead =
     -- an enclave that is not live runs on no hart
     not_running : (j : ℕ) → runs_on e j one ≡ false
     not_running j =
-        elim (cases_Bool (runs_on e j one)) [ inl runs ↦ absurd (both_ways _ dead (running_is_live e j one invariant_one runs)) | inr none ↦ none ]
+        elim (cases_Bool (runs_on e j one)) [
+          | inl runs ↦ absurd (both_ways _ dead (running_is_live e j one invariant_one runs))
+          | inr runs_other ↦ runs_other
+        ]

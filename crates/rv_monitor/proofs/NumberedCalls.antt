@@ -382,12 +382,12 @@ calls_succeed hart machine invariant trap traps by_ecall =
     λ world call world_is. subst (λ (w : World). At w call) (sym world_is) in
     record {
       create = λ slot host asks conditions.
-          let made = accepts.create slot asks conditions in
-          let accepted = of Host Create host made.0 in
+          let accepted_create = accepts.create slot asks conditions in
+          let accepted = of Host Create host accepted_create.0 in
           subst
           (λ (o : Option ℕ). Returns hart machine (step_of hart machine) trap (shared_with_new machine.shared regs) 0
           (option_case o slot_count (λ k. k)))
-          made.1 (answers.creates accepted.requested accepted.status);
+          accepted_create.1 (answers.creates accepted.requested accepted.status);
       destroy = λ host asks conditions.
           let accepted = of Host Destroy host (accepts.destroy asks conditions) in
           answers.destroys accepted.requested accepted.status;

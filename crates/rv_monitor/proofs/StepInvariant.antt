@@ -110,16 +110,16 @@ pub reprogrammed_by : (before after : Slots) (hart_state : HartState) (hart : Ha
     → hart.csrs.mie ≡ mie_of hart_state.world → hart.mode ≡ hart_state.hart.mode → hart.csrs.mstatus ≡ hart_state.hart.csrs.mstatus
     → HartInvariant after (record hart_state { hart = hart })
 reprogrammed_by before after hart_state hart hart_invariant entries mie mode status =
-    let own = hart_invariant.layout in
+    let own_layout = hart_invariant.layout in
     hart_seated after hart_state hart hart_invariant.host (record {
       entries = entries;
       mie = mie;
-      mode = ap is_machine mode ∙ own.mode;
-      mstatus_mie = ap (λ (s : Mstatus). s.mie) status ∙ own.mstatus_mie;
-      mprv = ap (λ (s : Mstatus). s.mprv) status ∙ own.mprv;
-      tvm = ap (λ (s : Mstatus). s.tvm) status ∙ own.tvm;
-      tw = ap (λ (s : Mstatus). s.tw) status ∙ own.tw;
-      tsr = ap (λ (s : Mstatus). s.tsr) status ∙ own.tsr;
+      mode = ap is_machine mode ∙ own_layout.mode;
+      mstatus_mie = ap (λ (s : Mstatus). s.mie) status ∙ own_layout.mstatus_mie;
+      mprv = ap (λ (s : Mstatus). s.mprv) status ∙ own_layout.mprv;
+      tvm = ap (λ (s : Mstatus). s.tvm) status ∙ own_layout.tvm;
+      tw = ap (λ (s : Mstatus). s.tw) status ∙ own_layout.tw;
+      tsr = ap (λ (s : Mstatus). s.tsr) status ∙ own_layout.tsr;
     })
 
 -- a hart has the invariant for a new table after it is reprogrammed for this table

@@ -239,11 +239,11 @@ ended_over hidden outcome (Some trap) hart_state shared m n m1 n1 equal same_len
     handled_over hidden hart_state trap shared.table m1 n1 shared.contexts (equal_after hidden m n m1 n1 equal changes same_length) measures_seen in
     let handled_one = handled hart_state (with_bytes shared m1) trap in
     let handled_other = handled hart_state (with_bytes shared n1) trap in
-    let back : HartState → Next → HartState = λ s next. record s { hart = returned_to s.hart next.pc next.mode } in
+    let returned_by : HartState → Next → HartState = λ s next. record s { hart = returned_to s.hart next.pc next.mode } in
     let shows : Next → Outcome = λ next. record { step = outcome; entered = next.entered } in
     record {
       outcome = ap shows work.next;
-      hart_state = ap₂ back work.hart_state work.next;
+      hart_state = ap₂ returned_by work.hart_state work.next;
       shared = record {
         table = work.shared.table;
         contexts = work.shared.contexts;
