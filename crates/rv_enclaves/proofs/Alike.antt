@@ -1,4 +1,5 @@
--- The trap handler's calls over two shared states that are equivalent except for what is private to an enclave.
+-- Create, destroy, measure and context switches preserve equivalence except e. If two shared states differ only in what is private to enclave e, then
+-- so do the shared states after the call.
 use Rattle.std.proofs.Common.{◌≡◌, ◌≢◌, ℕ, ◌+◌, ◌<◌, ◌≤◌, Bool, true, false, List, length, replicate, Option, Some, None, IfSome, refl, sym, ◌∙◌, ap, subst}
 use Rattle.std.proofs.Common.{inl, inr, arith}
 use Rattle.std.specs.Prelude.{nat_le, nat_lt, is_some}
@@ -10,6 +11,7 @@ use Rattle.rv_enclaves.specs.SharedEquivExcept.{SameContexts}
 use Rattle.rv_enclaves.specs.Create.{with_enclave}
 use Rattle.rv_enclaves.specs.Destroy.{without}
 use Rattle.rv_enclaves.specs.declared.call.Call.TheVariants as calls
+use Rattle.rv_enclaves.specs.SlotNumbers.{slot_count}
 use Rattle.rv_enclaves.proofs.Prelude.{EqualOutside, Block, Context, Contexts, EnclaveState, IsValidSlot, IsValid, CreateArgs, Shared}
 use Rattle.rv_enclaves.proofs.Prelude.{SharedEquivExcept, SlotInfo}
 use Rattle.rv_enclaves.proofs.Prelude.{Slots, context_at, created, destroyed, first_context, has, is_block_size, is_inside, is_valid_block, is_live, is_private}
@@ -24,36 +26,37 @@ use Rattle.rv_enclaves.proofs.SharedInvariantLemmas.{free_slot_from, live_in_ran
 
 -- ---- equivalence
 
--- a shared state is equivalent to itself
+-- a shared state is equivalent except e to itself
 pub itself : (e : ℕ) (shared : Shared) → SharedEquivExcept e shared shared
 itself e shared = record {
   table = refl;
-  memory = record { size = refl; bytes = λ i seen. refl };
+  memory = record { size = refl; bytes = λ i shown. refl };
   contexts = record { size = refl; others = λ k other. refl };
   gone = λ dead. refl;
 }
 
--- equal shared states are equivalent except for e
+-- two equal shared states are equivalent except e
 pub equal_agree : (e : ℕ) (one other : Shared) → one ≡ other → SharedEquivExcept e one other
 equal_agree e one other same = subst (SharedEquivExcept e one) same (itself e one)
 
--- contexts that are equal except for e, and also for e, are equal
-same_contexts : (e : ℕ) (cs ds : Contexts) → SameContexts e cs ds → context_at cs e ≡ context_at ds e → cs ≡ ds
-same_contexts e cs ds saved own = same_lists cs ds saved.size (λ k d inside.
-    let inside' : k < length ds = omega (arith, saved.size) in
-    get_or_default cs k d None inside
+-- two lists of contexts that are equal except e, and also equal at e, are equal
+same_contexts : (e : ℕ) (contexts_m contexts_n : Contexts) → SameContexts e contexts_m contexts_n → context_at contexts_m e ≡ context_at contexts_n e
+    → contexts_m ≡ contexts_n
+same_contexts e contexts_m contexts_n saved own = same_lists contexts_m contexts_n saved.size (λ k d inside.
+    let inside' : k < length contexts_n = omega (arith, saved.size) in
+    get_or_default contexts_m k d None inside
     ∙ elim (cases_eq k e) [ inl is ↦ rw is own | inr other ↦ saved.others k other ]
-    ∙ sym (get_or_default ds k d None inside'))
+    ∙ sym (get_or_default contexts_n k d None inside'))
 
--- the same new context of slot k leaves the contexts equal except for e
-contexts_with : (e : ℕ) (cs ds : Contexts) (k : ℕ) (c : Option Context) → SameContexts e cs ds
-    → SameContexts e (with_context cs k c) (with_context ds k c)
-contexts_with e cs ds k c saved = record {
-  size = length_after cs ds k c saved.size;
-  others = λ j other. same_after_set cs ds k j c None saved.size (saved.others j other);
+-- two lists of contexts that are equal except e stay equal except e after the same write to slot k
+contexts_with : (e : ℕ) (contexts_m contexts_n : Contexts) (k : ℕ) (c : Option Context) → SameContexts e contexts_m contexts_n
+    → SameContexts e (with_context contexts_m k c) (with_context contexts_n k c)
+contexts_with e contexts_m contexts_n k c saved = record {
+  size = length_after contexts_m contexts_n k c saved.size;
+  others = λ j distinct. same_after_set contexts_m contexts_n k j c None saved.size (saved.others j distinct);
 }
 
--- a block that does not overlap another has none of its bytes
+-- a block that does not overlap another block has none of the bytes of the other block
 pub seen_block : (p q : Block) → meets p q ≡ false → IsSeen (has q) p.base p.size
 seen_block p q apart b low high = elim (cases_Bool (has q b)) [
   | inr shown ↦ shown
@@ -62,137 +65,149 @@ seen_block p q apart b low high = elim (cases_Bool (has q b)) [
       absurd (both_ways _ apart (meets_at p q b in_p hidden))
 ]
 
--- a read without hidden bytes is equal in both memories
+-- a read that reads no hidden byte returns the same bytes from both memories
 read_alike : (hidden : ℕ → Bool) (m n : List ℕ) (address count : ℕ) → EqualOutside hidden m n → IsSeen hidden address count
     → read m address count ≡ read n address count
-read_alike hidden m n address count equiv seen = elim (cases_Bool (is_inside m address count)) [
-  | inl inside ↦ same_read hidden m n address count equiv inside seen
+read_alike hidden m n address count equiv not_hidden = elim (cases_Bool (is_inside m address count)) [
+  | inl inside ↦ same_read hidden m n address count equiv inside not_hidden
   | inr outside ↦
-      let sizes = equiv.size in
-      read-none m address count outside ∙ sym (read-none n address count (rw (← sizes) outside))
+      let same_size = equiv.size in
+      read-none m address count outside ∙ sym (read-none n address count (rw (← same_size) outside))
 ]
 
 -- ---- a live slot
 
-module _ (e : ℕ) (table : Slots) (m n : List ℕ) (cs ds : Contexts) (equiv : EqualOutside (is_private table e) m n) (saved : SameContexts e cs ds)
+-- Two shared states have the same table, in which enclave e is live. Their memories m and n are equal outside the region of e, and their saved
+-- contexts are equal except e.
+module _ (e : ℕ) (table : Slots) (m n : List ℕ) (contexts_m contexts_n : Contexts) (equiv : EqualOutside (is_private table e) m n)
+    (saved : SameContexts e contexts_m contexts_n)
     (live : is_live table e ≡ true) where
-  -- the first shared state
-  abbrev here : Shared
-  here = record { memory = m; table = table; contexts = cs }
+  -- the shared state with the memory m and the saved contexts `contexts_m`
+  abbrev shared_m : Shared
+  shared_m = record { memory = m; table = table; contexts = contexts_m }
 
-  -- the second shared state
-  abbrev there : Shared
-  there = record { memory = n; table = table; contexts = ds }
+  -- the shared state with the memory n and the saved contexts `contexts_n`
+  abbrev shared_n : Shared
+  shared_n = record { memory = n; table = table; contexts = contexts_n }
 
-  -- slot e is live, and its region is as before
-  with_region : (after : Slots) (m' n' : List ℕ) (cs' ds' : Contexts) → region after e ≡ region table e → is_live after e ≡ true
-      → EqualOutside (is_private table e) m' n' → SameContexts e cs' ds'
-      → SharedEquivExcept e (record { memory = m'; table = after; contexts = cs' }) (record { memory = n'; table = after; contexts = ds' })
-  with_region after m' n' cs' ds' same lives equiv' saved' = record {
+  -- two shared states with a new table, in which e is live and has its old region, are equivalent except e if their memories and contexts are
+  equiv_with_region : (after : Slots) (m' n' : List ℕ) (contexts_m' contexts_n' : Contexts) → region after e ≡ region table e → is_live after e ≡ true
+      → EqualOutside (is_private table e) m' n' → SameContexts e contexts_m' contexts_n'
+      → SharedEquivExcept e (record { memory = m'; table = after; contexts = contexts_m' })
+      (record { memory = n'; table = after; contexts = contexts_n' })
+  equiv_with_region after m' n' contexts_m' contexts_n' same lives equiv' saved' = record {
     table = refl;
     memory = subst (λ (b : Block). EqualOutside (has b) m' n') (sym same) equiv';
     contexts = saved';
     gone = λ dead. absurd (both_ways _ dead lives);
   }
 
-  -- slot e is as before
-  still : (after : Slots) (m' n' : List ℕ) (cs' ds' : Contexts) → slot_at after e ≡ slot_at table e
-      → EqualOutside (is_private table e) m' n' → SameContexts e cs' ds'
-      → SharedEquivExcept e (record { memory = m'; table = after; contexts = cs' }) (record { memory = n'; table = after; contexts = ds' })
-  still after m' n' cs' ds' same_slot = with_region after m' n' cs' ds' (ap region_of same_slot) (ap (λ (o : Option SlotInfo). is_some o) same_slot ∙ live)
+  -- two shared states with a new table, in which e has its old record, are equivalent except e if their memories and contexts are
+  equiv_with_slot : (after : Slots) (m' n' : List ℕ) (contexts_m' contexts_n' : Contexts) → slot_at after e ≡ slot_at table e
+      → EqualOutside (is_private table e) m' n' → SameContexts e contexts_m' contexts_n'
+      → SharedEquivExcept e (record { memory = m'; table = after; contexts = contexts_m' })
+      (record { memory = n'; table = after; contexts = contexts_n' })
+  equiv_with_slot after m' n' contexts_m' contexts_n' same_slot =
+      equiv_with_region after m' n' contexts_m' contexts_n' (ap region_of same_slot) (ap (λ (o : Option SlotInfo). is_some o) same_slot ∙ live)
 
-  -- two states with one table, memories that are equal outside e's region, and contexts that are equal except e's are equivalent
-  pub as_before : SharedEquivExcept e here there
-  as_before = still table m n cs ds refl equiv saved
+  -- the two shared states are equivalent except e
+  pub equiv_before : SharedEquivExcept e shared_m shared_n
+  equiv_before = equiv_with_slot table m n contexts_m contexts_n refl equiv saved
 
   -- ---- create
 
-  -- a measurement of a region that does not meet e's is equal in both memories
+  -- the measurement of a region that does not meet e's region is equal in both memories
   measurement_alike : (new : CreateArgs) → meets new.region (region table e) ≡ false → measurement_of m new ≡ measurement_of n new
   unfolding measurement_of
   measurement_alike new apart =
       let reads = read_alike (is_private table e) m n new.region.base new.region.size equiv (seen_block new.region (region table e) apart) in
       rw reads refl
 
-  -- a record of a region that does not meet e's is equal in both memories
+  -- the record of a new enclave whose region does not meet e's region is equal in both shared states
   recorded_alike : (new : CreateArgs) → meets new.region (region table e) ≡ false → recorded m new ≡ recorded n new
   recorded_alike new apart = let digests = measurement_alike new apart in rw digests refl
 
-  -- a slot without an enclave is not e, which is live
+  -- a free slot is not slot e, because e is live
   not_free : (k : ℕ) → slot_at table k ≡ None → e ≢ k
-  not_free k free same =
-      let dead : is_live table e ≡ false = rw (same, free) refl in
+  not_free k slot_is_free same =
+      let dead : is_live table e ≡ false = rw (same, slot_is_free) refl in
       both_ways _ dead live
 
-  -- a new enclave in a free slot leaves the states equivalent
-  put_alike : (k : ℕ) (info : SlotInfo) → slot_at table k ≡ None → SharedEquivExcept e (with_enclave here k info) (with_enclave there k info)
-  put_alike k info free =
-      still (with_slot table k (Some info)) m n (with_context cs k (Some (first_context info))) (with_context ds k (Some (first_context info)))
-      (at_other table k e (Some info) (not_free k free)) equiv (contexts_with e cs ds k (Some (first_context info)) saved)
+  -- a new enclave in a free slot leaves the two shared states equivalent except e
+  put_alike : (k : ℕ) (info : SlotInfo) → slot_at table k ≡ None → SharedEquivExcept e (with_enclave shared_m k info) (with_enclave shared_n k info)
+  put_alike k info slot_is_free =
+      equiv_with_slot (with_slot table k (Some info)) m n (with_context contexts_m k (Some (first_context info)))
+      (with_context contexts_n k (Some (first_context info)))
+      (at_other table k e (Some info) (not_free k slot_is_free)) equiv (contexts_with e contexts_m contexts_n k (Some (first_context info)) saved)
 
-  -- a create that is permitted has equivalent effects on equivalent shared states
-  pub created_alike : (new : CreateArgs) → MayCreate here new → SharedEquivExcept e (created here new) (created there new)
+  -- a create that the monitor does not refuse leaves two equivalent shared states equivalent except e
+  pub created_alike : (new : CreateArgs) → MayCreate shared_m new → SharedEquivExcept e (created shared_m new) (created shared_n new)
   unfolding created
-  created_alike new may =
-      let same = recorded_alike new ((free_from table new may.apart).others e).regions in
-      rw (← same) (put_alike (new_slot table) (recorded m new) (free_slot_from table (new_slot table) may.free).free)
+  created_alike new no_refusal =
+      let same = recorded_alike new ((free_from table new no_refusal.apart).others e).regions in
+      rw (← same) (put_alike (new_slot table) (recorded m new) (free_slot_from table (new_slot table) no_refusal.free).free)
 
   -- ---- destroy
 
-  -- e has ended in both, and with it every difference
-  gone_alike : (block : Block) → region table e ≡ block → is_inside m block.base block.size ≡ true → without here e block ≡ without there e block
+  -- the removal of enclave e itself leaves the two shared states equal
+  gone_alike : (block : Block) → region table e ≡ block → is_inside m block.base block.size ≡ true
+      → without shared_m e block ≡ without shared_n e block
   gone_alike block region_is inside =
       let at = inside-is m block.base block.size inside in
       let covers : (b : ℕ) → is_private table e b ≡ true → (block.base ≤ b) × (b < block.base + block.size) =
-      λ b hidden. let parts = and_parts (nat_le block.base b) (nat_lt b (block.base + block.size)) (sym (ap (λ (r : Block). has r b) region_is) ∙ hidden) in
+      λ b hidden. let parts =
+      and_parts (nat_le block.base b) (nat_lt b (block.base + block.size)) (sym (ap (λ (r : Block). has r b) region_is) ∙ hidden) in
       (leb-true _ _ parts.0, ltb-true _ _ parts.1) in
       let zeros : EqualOutside (λ b. false) (zeroed m block) (zeroed n block) =
       zeros-alike (is_private table e) (λ b. false) m n block.base block.size equiv at covers in
       let memories : zeroed m block ≡ zeroed n block = same_number_lists _ _ zeros.size (λ i within. zeros.bytes i refl) in
-      let contexts : with_context cs e None ≡ with_context ds e None =
-      same_contexts e (with_context cs e None) (with_context ds e None) (contexts_with e cs ds e None saved) (same_at_set cs ds e None None saved.size) in
+      let contexts : with_context contexts_m e None ≡ with_context contexts_n e None =
+      same_contexts e (with_context contexts_m e None) (with_context contexts_n e None) (contexts_with e contexts_m contexts_n e None saved)
+      (same_at_set contexts_m contexts_n e None None saved.size) in
       rw (memories, contexts) refl
 
-  -- an enclave that is removed leaves the states equivalent
+  -- the removal of any enclave leaves the two shared states equivalent except e
   without_alike : (k : ℕ) → is_inside m (region table k).base (region table k).size ≡ true
-      → SharedEquivExcept e (without here k (region table k)) (without there k (region table k))
+      → SharedEquivExcept e (without shared_m k (region table k)) (without shared_n k (region table k))
   without_alike k inside = elim (cases_eq k e) [
-    | inl own ↦ rw own (equal_agree e _ _ (gone_alike (region table e) refl (rw own at inside)))
-    | inr other ↦
+    | inl equal ↦ rw equal (equal_agree e _ _ (gone_alike (region table e) refl (rw equal at inside)))
+    | inr distinct ↦
         let block = region table k in
-        still (with_slot table k None) (zeroed m block) (zeroed n block) (with_context cs k None) (with_context ds k None)
-        (at_other table k e None (λ same. other (sym same))) (write-alike (is_private table e) m n block.base (replicate block.size 0) equiv)
-        (contexts_with e cs ds k None saved)
+        equiv_with_slot (with_slot table k None) (zeroed m block) (zeroed n block) (with_context contexts_m k None) (with_context contexts_n k None)
+        (at_other table k e None (λ same. distinct (sym same))) (write-alike (is_private table e) m n block.base (replicate block.size 0) equiv)
+        (contexts_with e contexts_m contexts_n k None saved)
   ]
 
   -- the region of a valid record is inside memory
   region_inside : (o : Option SlotInfo) → IfSome o (IsValidSlot m) → is_some o ≡ true → is_inside m (region_of o).base (region_of o).size ≡ true
   unfolding is_valid_block
-  region_inside None law live = cc
-  region_inside (Some info) law live = (and_parts _ _ (and_parts (is_block_size info.region.size) _ law.region).1).1
+  region_inside None slot_valid is_present = cc
+  region_inside (Some info) slot_valid is_present = (and_parts _ _ (and_parts (is_block_size info.region.size) _ slot_valid.region).1).1
 
-  -- a destroy that is permitted has equivalent effects on equivalent shared states
-  pub destroyed_alike : (k : ℕ) → IsValid m table → IsTaken table calls.Destroy k → SharedEquivExcept e (destroyed here k) (destroyed there k)
+  -- a destroy that the monitor does not refuse leaves two equivalent shared states equivalent except e
+  pub destroyed_alike : (k : ℕ) → IsValid m table → IsTaken table calls.Destroy k → SharedEquivExcept e (destroyed shared_m k) (destroyed shared_n k)
   unfolding destroyed
-  destroyed_alike k valid taken = without_alike k (region_inside (slot_at table k) (valid.well_formed k) (ap (λ (o : Option SlotInfo). is_some o) taken.is))
+  destroyed_alike k table_valid is_taken =
+      without_alike k (region_inside (slot_at table k) (table_valid.well_formed k) (ap (λ (o : Option SlotInfo). is_some o) is_taken.is))
 
   -- ---- measure
 
-  -- a measure has equivalent effects on equivalent shared states
-  pub measured_alike : (k address : ℕ) → SharedEquivExcept e (measured here k address) (measured there k address)
+  -- a measure leaves two equivalent shared states equivalent except e
+  pub measured_alike : (k address : ℕ) → SharedEquivExcept e (measured shared_m k address) (measured shared_n k address)
   unfolding measured
   measured_alike k address =
       let bytes = measurement_at table k in
-      still table (with_bytes_at m address bytes) (with_bytes_at n address bytes) cs ds refl (write-alike (is_private table e) m n address bytes equiv) saved
+      equiv_with_slot table (with_bytes_at m address bytes) (with_bytes_at n address bytes) contexts_m contexts_n refl
+      (write-alike (is_private table e) m n address bytes equiv) saved
 
   -- ---- a switch
 
-  -- slot e is live after the switch too, and its region is as before
-  state_keeps : length table ≡ 13 → (k : ℕ) (state : EnclaveState)
+  -- after a change of the state of slot k, slot e is still live and has its old region
+  state_keeps : length table ≡ slot_count → (k : ℕ) (state : EnclaveState)
       → (region (with_state table k state) e ≡ region table e) × (is_live (with_state table k state) e ≡ true)
-  state_keeps count k state = of_slot (slot_at table k) refl
+  state_keeps table_length k state = of_slot (slot_at table k) refl
     where
-      -- a new state of slot k changes neither the region of e nor that it is live
+      -- after a change of the state in the record `o` of slot k, slot e is still live and has its old region
       of_slot : (o : Option SlotInfo) → slot_at table k ≡ o
           → (let after = option_case o table (λ info. with_slot table k (Some (record info { state = state }))) in
           (region after e ≡ region table e) × (is_live after e ≡ true))
@@ -200,17 +215,19 @@ module _ (e : ℕ) (table : Slots) (m n : List ℕ) (cs ds : Contexts) (equiv : 
       of_slot (Some info) slot_is =
           let new = Some (record info { state = state }) in
           elim (cases_eq e k) [
-            | inl own ↦
-                let there = at_same table k new (omega (arith, count, live_in_range table k info count slot_is)) in
-                rw own (ap region_of there ∙ sym (ap region_of slot_is), ap (λ (o : Option SlotInfo). is_some o) there)
-            | inr other ↦
-                let same = at_other table k e new other in (ap region_of same, ap (λ (o : Option SlotInfo). is_some o) same ∙ live)
+            | inl equal ↦
+                let at_k = at_same table k new (omega (arith, table_length, live_in_range table k info table_length slot_is)) in
+                rw equal (ap region_of at_k ∙ sym (ap region_of slot_is), ap (λ (o : Option SlotInfo). is_some o) at_k)
+            | inr distinct ↦
+                let same = at_other table k e new distinct in (ap region_of same, ap (λ (o : Option SlotInfo). is_some o) same ∙ live)
           ]
 
-  -- the same new state and saved context of slot k have equivalent effects on equivalent shared states
-  pub switched_alike : length table ≡ 13 → (k : ℕ) (state : EnclaveState) (c : Option Context)
+  -- the same new state and saved context for slot k leave two equivalent shared states equivalent except e
+  pub switched_alike : length table ≡ slot_count → (k : ℕ) (state : EnclaveState) (c : Option Context)
       → (let after = with_state table k state in
-      SharedEquivExcept e (record here { table = after; contexts = with_context cs k c }) (record there { table = after; contexts = with_context ds k c }))
-  switched_alike count k state c =
-      let kept = state_keeps count k state in
-      with_region (with_state table k state) m n (with_context cs k c) (with_context ds k c) kept.0 kept.1 equiv (contexts_with e cs ds k c saved)
+      SharedEquivExcept e (record shared_m { table = after; contexts = with_context contexts_m k c })
+      (record shared_n { table = after; contexts = with_context contexts_n k c }))
+  switched_alike table_length k state c =
+      let kept = state_keeps table_length k state in
+      equiv_with_region (with_state table k state) m n (with_context contexts_m k c) (with_context contexts_n k c) kept.0 kept.1 equiv
+      (contexts_with e contexts_m contexts_n k c saved)

@@ -1,4 +1,5 @@
--- Examples of the calls in numbers, by computation: each call of the host succeeds in some state, and refusals have their statuses.
+-- Examples of calls in numbers. Each example holds by computation. Each call of the host succeeds in some state, and some refused calls have the
+-- status of their refusal.
 use Rattle.std.proofs.Common.{◌≡◌, ℕ, List, length, Some, refl}
 use Rattle.std.specs.Prelude.{replicate}
 use Rattle.rv_state.specs.Registers.{with_register}
@@ -8,19 +9,21 @@ use Rattle.rv_enclaves.specs.Table.{no_slots, with_slot}
 use Rattle.rv_enclaves.specs.declared.slot_info.EnclaveState.TheVariants.{Fresh, Exited, Stopped}
 use Rattle.rv_enclaves.proofs.Prelude.{EnclaveState, Enclave, Entries, Host, Shared}
 
--- a call with its number in a6
+-- registers with the key in a7, the number of a call in a6, and the given arguments
 abbrev asks : ℕ → List ℕ → List ℕ
 asks number regs = with_register (with_register regs 16 number) 17 0x0A454E43
 
--- the arguments of a create at a region with an entry, without a window
+-- the arguments of a create: a region and an entry, without a window
 abbrev arguments : ℕ → ℕ → List ℕ
-arguments region entry = with_register (with_register (with_register (with_register (with_register (replicate 32 0) 10 region) 11 0x1000) 12 0x80030000) 13 0x1000) 14 entry
+arguments region entry =
+    with_register
+    (with_register (with_register (with_register (with_register (replicate 32 0) 10 region) 11 0x1000) 12 0x80030000) 13 0x1000) 14 entry
 
--- no enclave, or one in slot 0
+-- a shared state without enclaves
 abbrev empty : List ℕ → Shared
 empty memory = record { memory = memory; table = no_slots; contexts = no_contexts }
 
--- the shared state with the enclave of the example in slot 0, in this state
+-- a shared state with the enclave of the examples in slot 0, in the given state
 abbrev with_one : List ℕ → EnclaveState → Shared
 with_one memory state = record (empty memory) {
   table = with_slot no_slots 0 (Some (record {
@@ -32,59 +35,61 @@ with_one memory state = record (empty memory) {
   }));
 }
 
+-- examples for a memory of 256 KiB
 module _ (memory : List ℕ) (entries : Entries) (ram_size : length memory ≡ 0x40000) where
-  -- the create of a valid region succeeds
+  -- a create of a valid region succeeds
   creates : call_status Host (empty memory) entries (asks 1 (arguments 0x80020000 0x80020000)) ≡ 0
   unfolding call_status call_numbered create_rows
   creates = rw ram_size refl
 
-  -- the create of the same region again is refused as an overlap
+  -- a second create of the same region is refused with the status Overlap
   overlap : call_status Host (with_one memory Fresh) entries (asks 1 (arguments 0x80020000 0x80020000)) ≡ 0xFFFFFFFC
   unfolding call_status call_numbered create_rows
   overlap = rw ram_size refl
 
-  -- the create with an entry after the region is refused as a bad entry
+  -- a create whose entry is after the region is refused with the status BadEntry
   bad_entry : call_status Host (empty memory) entries (asks 1 (arguments 0x80020000 0x80021000)) ≡ 0xFFFFFFFB
   unfolding call_status call_numbered create_rows
   bad_entry = rw ram_size refl
 
+-- examples for any memory
 module _ (memory : List ℕ) (entries : Entries) where
-  -- the create of a region that is no multiple of its size is refused as a bad region
+  -- a create of a region whose base is no multiple of its size is refused with the status BadRegion
   bad_region : call_status Host (empty memory) entries (asks 1 (arguments 0x80020800 0x80020800)) ≡ 0xFFFFFFFE
   unfolding call_status call_numbered create_rows
   bad_region = refl
 
-  -- run of a Fresh enclave succeeds
+  -- a run of a Fresh enclave succeeds
   runs_fresh : call_status Host (with_one memory Fresh) entries (asks 3 (replicate 32 0)) ≡ 0
   unfolding call_status call_numbered state_rows
   runs_fresh = refl
 
-  -- run of a Stopped enclave is refused by its state
+  -- a run of a Stopped enclave is refused with the status BadState
   runs_stopped : call_status Host (with_one memory Stopped) entries (asks 3 (replicate 32 0)) ≡ 0xFFFFFFF8
   unfolding call_status call_numbered state_rows
   runs_stopped = refl
 
-  -- resume of a Stopped enclave succeeds
+  -- a resume of a Stopped enclave succeeds
   resumes_stopped : call_status Host (with_one memory Stopped) entries (asks 4 (replicate 32 0)) ≡ 0
   unfolding call_status call_numbered state_rows
   resumes_stopped = refl
 
-  -- destroy of an Exited enclave succeeds
+  -- a destroy of an Exited enclave succeeds
   destroys_exited : call_status Host (with_one memory Exited) entries (asks 2 (replicate 32 0)) ≡ 0
   unfolding call_status call_numbered state_rows
   destroys_exited = refl
 
-  -- destroy of a free slot is refused: no enclave
+  -- a destroy of a free slot is refused with the status NoEnclave
   no_enclave : call_status Host (empty memory) entries (asks 2 (replicate 32 0)) ≡ 0xFFFFFFF9
   unfolding call_status call_numbered state_rows
   no_enclave = refl
 
-  -- stop by the host is refused as not supported
+  -- a stop by the host is refused with the status NotSupported
   stop_of_host : call_status Host (with_one memory Fresh) entries (asks 6 (replicate 32 0)) ≡ 0xFFFFFFFF
   unfolding call_status call_numbered
   stop_of_host = refl
 
-  -- stop by an enclave succeeds
+  -- a stop by an enclave succeeds
   stop_of_enclave : call_status (Enclave 0) (with_one memory Fresh) entries (asks 6 (replicate 32 0)) ≡ 0
   unfolding call_status call_numbered
   stop_of_enclave = refl

@@ -1,4 +1,4 @@
--- The entries that the code sets are those of the layout.
+-- The PMP entries that the code writes are the entries of the layout, and the PMP stores them unchanged.
 use Rattle.std.proofs.Common.{◌≡◌, ℕ, ◌-◌, ◌<◌, ◌==◌, Bool, true, false, List, Option, Some, None, refl, ◌∙◌, ap, ap₂, inl, inr, arith, length, map}
 use Rattle.std.proofs.Common.{slice_index}
 use Rattle.std.specs.Prelude.{if◌then◌else◌, nat_lt}
@@ -23,8 +23,8 @@ region_is_plain : (w : World) (k : ℕ) (o : Option SlotInfo) → IsPlain (regio
 unfolding stored_cfg
 region_is_plain w k None = record { stored = refl; unlocked = refl }
 region_is_plain w k (Some s) = elim (cases_Bool (is_world_of k w)) [
-  | inl own ↦ rw own (record { stored = refl; unlocked = refl })
-  | inr other ↦ rw other (record { stored = refl; unlocked = refl })
+  | inl runs_enclave ↦ rw runs_enclave (record { stored = refl; unlocked = refl })
+  | inr runs_other ↦ rw runs_other (record { stored = refl; unlocked = refl })
 ]
 
 -- the cfg byte of a window is stored unchanged and unlocked
@@ -32,8 +32,8 @@ window_of_is_plain : (o : Option SlotInfo) → IsPlain (window_entry_of o).cfg
 unfolding stored_cfg
 window_of_is_plain None = record { stored = refl; unlocked = refl }
 window_of_is_plain (Some s) = elim (cases_Bool (s.window.size == 0)) [
-  | inl none ↦ rw none (record { stored = refl; unlocked = refl })
-  | inr some ↦ rw some (record { stored = refl; unlocked = refl })
+  | inl window_empty ↦ rw window_empty (record { stored = refl; unlocked = refl })
+  | inr window_nonempty ↦ rw window_nonempty (record { stored = refl; unlocked = refl })
 ]
 
 -- the cfg byte of entry 14 is stored unchanged and unlocked
@@ -48,10 +48,11 @@ unfolding stored_cfg
 host_is_plain Host = record { stored = refl; unlocked = refl }
 host_is_plain (Enclave k) = record { stored = refl; unlocked = refl }
 
--- the cfg byte of each entry is stored unchanged and unlocked
+-- the cfg byte of each kind of entry is stored unchanged and unlocked
 plain_by : (a b c : Bool) (t : Slots) (w : World) (k : ℕ)
     → IsPlain
-    (if a then napot no_permission monitor_block else (if b then region_entry w k (slot_at t k) else (if c then window_entry t w else host_entry w))).cfg
+    (if a then napot no_permission monitor_block else
+    (if b then region_entry w k (slot_at t k) else (if c then window_entry t w else host_entry w))).cfg
 unfolding stored_cfg
 plain_by true b c t w k = record { stored = refl; unlocked = refl }
 plain_by false true c t w k = region_is_plain w k (slot_at t k)
@@ -63,13 +64,13 @@ pub entry_is_plain : (t : Slots) (w : World) (i : ℕ) → IsPlain (entry_at t w
 unfolding entry_at
 entry_is_plain t w i = plain_by (i == 0) (nat_lt i 14) (i == 14) t w (i - 1)
 
--- two lists of entries are equal if their cfg bytes and addresses are
+-- two lists of PMP entries are equal if their cfg bytes and their addresses are equal
 entries_are : (e d : Entries) → e.cfgs ≡ d.cfgs → e.addrs ≡ d.addrs → e ≡ d
 entries_are e d cfgs addrs =
     let at : List ℕ → List ℕ → Entries = λ xs ys. record { cfgs = xs; addrs = ys } in
     ap₂ at cfgs addrs
 
--- entries that are each set to their value in the layout are the layout
+-- PMP entries with the layout's cfg byte and address at each number are the PMP entries of the layout
 pub layout_from_each : (t : Slots) (w : World) (cfgs addrs : List ℕ) → length cfgs ≡ 16 → length addrs ≡ 16
     → ((j : ℕ) → j < 16 → slice_index cfgs j ≡ (entry_at t w j).cfg)
     → ((j : ℕ) → j < 16 → slice_index addrs j ≡ (entry_at t w j).addr) → with_entries cfgs addrs ≡ layout t w
@@ -77,10 +78,11 @@ unfolding layout
 layout_from_each t w cfgs addrs cfgs_long addrs_long each_cfg each_addr =
     entries_are (with_entries cfgs addrs) (layout t w)
     (fill_by_all (λ i. (entry_at t w i).cfg) (map stored_cfg cfgs) 16 0 (length-map cfgs stored_cfg ∙ cfgs_long)
-    (λ j below. get_or-map stored_cfg cfgs j 0 0 (omega (arith, below, cfgs_long)) ∙ ap stored_cfg (each_cfg j below) ∙ (entry_is_plain t w j).stored))
+    (λ j below. get_or-map stored_cfg cfgs j 0 0 (omega (arith, below, cfgs_long)) ∙ ap stored_cfg (each_cfg j below)
+    ∙ (entry_is_plain t w j).stored))
     (fill_by_all (λ i. (entry_at t w i).addr) addrs 16 0 addrs_long each_addr)
 
--- the monitor's value of mie is stored unchanged
+-- mie stores the monitor's value unchanged
 pub mie_stored : (w : World) → enabled_of (mie_of w) ≡ mie_of w
 unfolding kept_bits
 mie_stored Host = refl

@@ -1,42 +1,44 @@
 -- Names that most proofs of this crate use, re-exported from one place
 pub mod Prelude
--- The entries that the code sets are those of the layout
+-- The PMP entries that the code writes are the entries of the layout, and the PMP stores them unchanged
 pub mod InvariantLemmas
--- A table after a change of one slot, and create's checks of the blocks in its arguments
+-- Lemmas about a table after a change of one slot, and about the checks of a create that compare the new blocks with the table
 pub mod Slots
--- A table stays valid if one slot changes, or if memory keeps its size
+-- A table stays valid if the record of one slot changes to a record that fits, or if the memory changes but keeps its size
 pub mod Valid
--- The facts that hold if no row of a call's table does
+-- The facts about a call that the monitor does not refuse
 pub mod Refusals
--- Each call preserves the invariant of the shared state
+-- Each call and each context switch preserves the invariant of the shared state (specs/SharedInvariant)
 pub mod SharedInvariantLemmas
--- The shared state at reset satisfies the invariant: no enclave is live
+-- The shared state at reset satisfies the invariant, because no enclave is live
 pub mod Start
--- One write to each of two lists
+-- The same write to two lists of equal length keeps equal elements equal
 pub mod SavedLists
 -- Reads and writes of two memories that are equal outside the hidden bytes
 pub mod EqualMemory
--- The trap handler's calls over two shared states that are equivalent except for what is private to an enclave
+-- Create, destroy, measure and context switches preserve equivalence except e
 pub mod Alike
--- The facts that the trap handler's noninterference needs about two shared states
+-- The facts about two shared states that the noninterference of the trap handler needs
 pub mod WorksAlike
--- A NAPOT entry for a block covers the block
+-- A NAPOT entry for a block covers exactly the bytes of the block (Privileged 3.7.1)
 pub mod Napots
--- Equal tests, and the verdict by its matching entry
+-- Tests of a range of numbers that are equal for each number, and the PMP verdict by the matching entry. (The file VerdictLemmas of rv_pmp does
+-- not have these lemmas.)
 pub mod Scans
--- The bytes that each of the monitor's entries covers, and the blocks of a valid table that share none
+-- Each PMP entry of the monitor's layout covers exactly the bytes of its block
 pub mod Owners
--- S and U are permitted an access if and only if it is accessible
+-- Access control: under the PMP layout of the monitor, S and U are permitted an access if and only if the accessed bytes are accessible to the
+-- running world
 pub mod AccessLemmas
--- A scrambled shared state is equivalent to the one before except for its slot, and satisfies the invariant
+-- Scramble preserves the invariant of the shared state, and changes only what is private to the scrambled enclave
 pub mod Scrambled
--- Scrambling twice restores the state
+-- Two scrambles of the same enclave restore the shared state
 pub mod ScrambledTwice
--- The input of the measurement determines the arguments of create and the bytes of the region
+-- Two valid enclaves with equal measured bytes have equal create arguments and equal bytes in their regions
 pub mod Measurement
--- The tables of the calls say what the calls do in numbers
+-- The definitions of the calls agree with the tables of specs/CallNumbers, which describe the calls in numbers
 pub mod CallNumbers
--- Examples of the calls in numbers, by computation
+-- Examples of calls in numbers
 pub mod CallExamples
--- Each call is accepted if its arguments are good
+-- The monitor accepts each call whose arguments meet the conditions of the call
 pub mod AcceptedCalls

@@ -1,4 +1,5 @@
--- The bytes that each of the monitor's entries covers, and the blocks of a valid table that share none.
+-- Each PMP entry of the monitor's layout covers exactly the bytes of its block. The regions of a valid table share no byte with each other, with a
+-- window or with the monitor's range.
 use Rattle.std.proofs.Common.{◌≡◌, ◌≢◌, ℕ, ◌+◌, ◌-◌, ◌^◌, ◌<◌, ◌≤◌, Bool, true, false, List, length, Option, Some, None, IfSome, refl, sym, ◌∙◌, ap, ap₂, inl}
 use Rattle.std.proofs.Common.{inr, arith, lit<, lit≤}
 use Rattle.std.specs.Prelude.{◌%◌, ◌==◌, ◌&&◌, nat_le, nat_lt}
@@ -12,6 +13,7 @@ use Rattle.rv_pmp.specs.Covers.{matches, napot_size, ones_at_end}
 use Rattle.rv_pmp.proofs.VerdictLemmas.{some_from_any}
 use Rattle.rv_memory.specs.Blocks.{no_block}
 use Rattle.rv_enclaves.specs.Layout.{Entry, napot, no_permission}
+use Rattle.rv_enclaves.specs.SlotNumbers.{slot_count}
 use Rattle.rv_enclaves.proofs.Prelude.{Block, Enclave, Host, IsValidSlot, IsValid, SlotInfo, Slots, World, cfg_of, covers, entry_at, has, host_entry}
 use Rattle.rv_enclaves.proofs.Prelude.{is_block_size, is_host, is_valid_block, is_window, is_world_of, layout, monitor_block, ram_base, region}
 use Rattle.rv_enclaves.proofs.Prelude.{region_entry, region_of, slot_at, window, window_entry, window_entry_of, window_of}
@@ -20,7 +22,7 @@ use Rattle.rv_enclaves.proofs.Napots.{napot_addr, napot_matches}
 
 -- ---- blocks
 
--- a block without bytes has none
+-- a block of size 0 has no byte
 empty_has : (base size b : ℕ) → size ≡ 0 → (nat_le base b && nat_lt b (base + size)) ≡ false
 empty_has base size b empty = grind (arith, nat_tests, empty)
 
@@ -28,36 +30,36 @@ empty_has base size b empty = grind (arith, nat_tests, empty)
 pub has_nothing : (b : ℕ) → has no_block b ≡ false
 has_nothing b = empty_has 0 0 b refl
 
--- the blocks that share no byte in a valid table, byte by byte
+-- no byte is in two regions, in a region and a window, or in the monitor's range and a region or window
 pub record IsApart (slots : Slots) : Type 0 where
   pub regions_apart : (j k b : ℕ) → j ≢ k → has (region slots j) b ≡ true → has (region slots k) b ≡ false
   pub windows_apart : (j k b : ℕ) → has (region slots j) b ≡ true → has (window slots k) b ≡ false
   pub regions_free : (k b : ℕ) → has (region slots k) b ≡ true → has monitor_block b ≡ false
   pub windows_free : (k b : ℕ) → has (window slots k) b ≡ true → has monitor_block b ≡ false
 
--- the regions of a valid table do not meet each other, the monitor's range or any window
+-- the regions of a valid table share no byte with each other, with a window or with the monitor's range
 pub apart : (memory : List ℕ) (slots : Slots) → IsValid memory slots → IsApart slots
-apart memory slots valid = record {
-  regions_apart = λ j k b other. apart_at (region slots j) (region slots k) b (valid.regions_apart j k other);
-  windows_apart = λ j k b. apart_at (region slots j) (window slots k) b (valid.windows_apart j k);
-  regions_free = λ k b. apart_from monitor_block (region slots k) b (valid.regions_free k);
-  windows_free = λ k b. apart_from monitor_block (window slots k) b (valid.windows_free k);
+apart memory slots table_valid = record {
+  regions_apart = λ j k b distinct. apart_at (region slots j) (region slots k) b (table_valid.regions_apart j k distinct);
+  windows_apart = λ j k b. apart_at (region slots j) (window slots k) b (table_valid.windows_apart j k);
+  regions_free = λ k b. apart_from monitor_block (region slots k) b (table_valid.regions_free k);
+  windows_free = λ k b. apart_from monitor_block (window slots k) b (table_valid.windows_free k);
 }
 
 -- ---- the bytes that an entry for a block covers
 
--- the properties of a valid block
+-- the size of a block is a power of two from 2 ^ 12 on, the base is a multiple of the size, and the block is inside memory
 pub record IsBlock (memory : List ℕ) (base size : ℕ) : Type 0 where
   pub power : (m : ℕ) × (12 ≤ m) × (m < 32) × (size ≡ 2 ^ m)
   pub aligned : base % size ≡ 0
   pub low : ram_base ≤ base
   pub high : base + size ≤ ram_base + length memory
 
--- a valid block has a size that is a power of two, is a multiple of its size, and is inside memory
+-- a block that passes the test `is_valid_block` has the properties `IsBlock`
 pub valid_block : (memory : List ℕ) (block : Block) → is_valid_block memory block ≡ true → IsBlock memory block.base block.size
 unfolding is_valid_block
-valid_block memory block well_formed =
-    let parts = and_parts (is_block_size block.size) _ well_formed in
+valid_block memory block is_valid =
+    let parts = and_parts (is_block_size block.size) _ is_valid in
     let rest = and_parts (block.base % block.size == 0) _ parts.1 in
     let inside = and_parts (nat_le ram_base block.base) _ rest.1 in
     let power = some_from_any (λ k. block.size == 2 ^ k) 12 20 parts.0 in
@@ -68,11 +70,11 @@ valid_block memory block well_formed =
       high = leb-true _ _ inside.1;
     }
 
--- a NAPOT entry for a valid block matches exactly its bytes
+-- the NAPOT entry for a valid block matches exactly the bytes of the block
 block_covers : (memory : List ℕ) (block : Block) (before b : ℕ) → length memory ≤ 0x1000000 → is_valid_block memory block ≡ true
     → matches (matching_of 0x18) before (napot_addr block.base block.size) b ≡ has block b
-block_covers memory block before b ram_size well_formed =
-    let block_is = valid_block memory block well_formed in
+block_covers memory block before b ram_size is_valid =
+    let block_is = valid_block memory block is_valid in
     let m = block_is.power.0 in
     let at_least : 12 ≤ m = block_is.power.1 in
     let below : m < 32 = block_is.power.2 in
@@ -80,56 +82,58 @@ block_covers memory block before b ram_size well_formed =
     let power : block.size ≡ 2 ^ ((m - 3) + 3) = block_is.power.3 ∙ ap (λ n. 2 ^ n) same in
     napot_matches block.base block.size (m - 3) before b (omega arith) power block_is.aligned (omega (arith, block_is.high))
 
--- the entry of a slot matches exactly the bytes of its region
+-- the PMP entry of a slot matches exactly the bytes of the slot's region
 region_covers : (memory : List ℕ) (w : World) (k : ℕ) (o : Option SlotInfo) (before b : ℕ) → length memory ≤ 0x1000000
     → IfSome o (IsValidSlot memory)
     → matches (matching_of (region_entry w k o).cfg) before (region_entry w k o).addr b ≡ has (region_of o) b
-region_covers memory w k None before b ram_size well_formed = sym (has_nothing b)
-region_covers memory w k (Some info) before b ram_size well_formed =
-    let covered = block_covers memory info.region before b ram_size well_formed.region in
+region_covers memory w k None before b ram_size slot_valid = sym (has_nothing b)
+region_covers memory w k (Some info) before b ram_size slot_valid =
+    let covered = block_covers memory info.region before b ram_size slot_valid.region in
     elim (cases_Bool (is_world_of k w)) [
-      | inl runs ↦ rw runs covered
-      | inr not_running ↦ rw not_running covered
+      | inl runs_enclave ↦ rw runs_enclave covered
+      | inr runs_other ↦ rw runs_other covered
     ]
 
--- a window with bytes is a valid block
+-- a window with at least one byte is a valid block
 some_window : (memory : List ℕ) (block : Block) → is_window memory block ≡ true → block.size ≢ 0 → is_valid_block memory block ≡ true
 unfolding is_window
-some_window memory block window some = elim (or_cases (block.base == 0 && block.size == 0) _ window) [
-  | inl none ↦ absurd (some (eqb-true _ _ (and_parts (block.base == 0) _ none).1))
+some_window memory block is_window_valid nonempty = elim (or_cases (block.base == 0 && block.size == 0) _ is_window_valid) [
+  | inl is_empty ↦ absurd (nonempty (eqb-true _ _ (and_parts (block.base == 0) _ is_empty).1))
   | inr well_formed ↦ well_formed
 ]
 
--- the entry of a window matches exactly its bytes
+-- the PMP entry of a window matches exactly the bytes of the window
 window_covers : (memory : List ℕ) (o : Option SlotInfo) (before b : ℕ) → length memory ≤ 0x1000000 → IfSome o (IsValidSlot memory)
     → matches (matching_of (window_entry_of o).cfg) before (window_entry_of o).addr b ≡ has (window_of o) b
-window_covers memory None before b ram_size well_formed = sym (has_nothing b)
-window_covers memory (Some info) before b ram_size well_formed = elim (cases_eq info.window.size 0) [
-  | inl none ↦ rw (eq-eqb _ _ none) (sym (empty_has info.window.base info.window.size b none))
-  | inr some ↦ rw (ne_eqb _ _ some) (block_covers memory info.window before b ram_size (some_window memory info.window well_formed.window some))
+window_covers memory None before b ram_size slot_valid = sym (has_nothing b)
+window_covers memory (Some info) before b ram_size slot_valid = elim (cases_eq info.window.size 0) [
+  | inl window_empty ↦ rw (eq-eqb _ _ window_empty) (sym (empty_has info.window.base info.window.size b window_empty))
+  | inr window_nonempty ↦
+      rw (ne_eqb _ _ window_nonempty)
+      (block_covers memory info.window before b ram_size (some_window memory info.window slot_valid.window window_nonempty))
 ]
 
 -- ---- the entries of the layout
 
--- the cfg byte of entry i of the layout is that of its definition
+-- the cfg byte of entry i of the layout is the cfg byte of `entry_at` i
 pub cfg_of-layout : (t : Slots) (w : World) (i : ℕ) → i < 16 → cfg_of (layout t w) i ≡ (entry_at t w i).cfg
 unfolding layout
 cfg_of-layout t w i in_range = get_or-map-range_with_len (λ j. (entry_at t w j).cfg) 0 16 i i 0 in_range (omega arith)
 
--- the pmpaddr value of entry i of the layout is that of its definition
+-- the pmpaddr value of entry i of the layout is the pmpaddr value of `entry_at` i
 addr_of-layout : (t : Slots) (w : World) (i : ℕ) → i < 16 → addr_of (layout t w) i ≡ (entry_at t w i).addr
 unfolding layout
 addr_of-layout t w i in_range = get_or-map-range_with_len (λ j. (entry_at t w j).addr) 0 16 i i 0 in_range (omega arith)
 
--- entry i of the layout matches as its definition does
+-- entry i of the layout covers the bytes that `entry_at` i matches
 covers-layout : (t : Slots) (w : World) (i b : ℕ) → i < 16
     → covers (layout t w) i b ≡ matches (matching_of (entry_at t w i).cfg) (addr_before (layout t w) i) (entry_at t w i).addr b
 unfolding covers
 covers-layout t w i b in_range =
     ap₂ (λ cfg addr. matches (matching_of cfg) (addr_before (layout t w) i) addr b) (cfg_of-layout t w i in_range) (addr_of-layout t w i in_range)
 
--- entry k + 1 is the region of slot k
-pub entry_at-slot : (t : Slots) (w : World) (k : ℕ) → k < 13 → entry_at t w (k + 1) ≡ region_entry w k (slot_at t k)
+-- entry k + 1 of the layout is the entry for the region of slot k
+pub entry_at-slot : (t : Slots) (w : World) (k : ℕ) → k < slot_count → entry_at t w (k + 1) ≡ region_entry w k (slot_at t k)
 unfolding entry_at
 entry_at-slot t w k in_range =
     let same : k + 1 - 1 ≡ k = omega arith in
@@ -137,17 +141,17 @@ entry_at-slot t w k in_range =
     ∙ cond-true _ _ _ (lt-ltb (k + 1) 14 (omega arith))
     ∙ ap (λ j. region_entry w j (slot_at t j)) same
 
--- entry 0 is the monitor's range without permissions
+-- entry 0 of the layout is the entry for the monitor's range, without permissions
 pub entry_at-monitor : (t : Slots) (w : World) → entry_at t w 0 ≡ napot no_permission monitor_block
 unfolding entry_at
 entry_at-monitor t w = refl
 
--- entry 14 is the window of the world
+-- entry 14 of the layout is the entry for the window of the world
 pub entry_at-window : (t : Slots) (w : World) → entry_at t w 14 ≡ window_entry t w
 unfolding entry_at
 entry_at-window t w = refl
 
--- entry 15 is everything for the host, and off for an enclave
+-- entry 15 of the layout covers all addresses while the host runs, and is off while an enclave runs
 pub entry_at-host : (t : Slots) (w : World) → entry_at t w 15 ≡ host_entry w
 unfolding entry_at
 entry_at-host t w = refl
@@ -157,25 +161,26 @@ abbrev pub world_window : Slots → World → Block
 world_window t Host = no_block
 world_window t (Enclave k) = window t k
 
--- entry 14 matches exactly the bytes of the world's window
+-- the PMP entry for the window of a world matches exactly the bytes of this window
 window_owned : (memory : List ℕ) (t : Slots) (w : World) (before b : ℕ) → length memory ≤ 0x1000000 → IsValid memory t
     → matches (matching_of (window_entry t w).cfg) before (window_entry t w).addr b ≡ has (world_window t w) b
-window_owned memory t Host before b ram_size valid = sym (has_nothing b)
-window_owned memory t (Enclave k) before b ram_size valid = window_covers memory (slot_at t k) before b ram_size (valid.well_formed k)
+window_owned memory t Host before b ram_size table_valid = sym (has_nothing b)
+window_owned memory t (Enclave k) before b ram_size table_valid = window_covers memory (slot_at t k) before b ram_size (table_valid.well_formed k)
 
--- a NAPOT entry with all ones matches 2 ^ 35 bytes
+-- a NAPOT entry whose pmpaddr value has only ones matches 2 ^ 35 bytes
 all_ones_size : napot_size 0xffffffff ≡ 2 ^ 35
 unfolding ones_at_end
 all_ones_size = refl
 
--- the pmpaddr value of all ones covers 2 ^ 35 bytes from 0
+-- PMP entry 15 matches each byte below 2 ^ 35 while the host runs, and no byte while an enclave runs
 host_owned : (w : World) (before b : ℕ) → b < 2 ^ 35 → matches (matching_of (host_entry w).cfg) before (host_entry w).addr b ≡ is_host w
 host_owned (Enclave k) before b below = refl
 host_owned Host before b below =
     rw all_ones_size (eq-eqb _ _ (div-eq_of_lt below))
 
-module _ (memory : List ℕ) (t : Slots) (w : World) (ram_size : length memory ≤ 0x1000000) (valid : IsValid memory t) (b : ℕ) where
-  -- what entry i matches, by its definition
+-- a byte b, and the PMP layout of the valid table t and the world w
+module _ (memory : List ℕ) (t : Slots) (w : World) (ram_size : length memory ≤ 0x1000000) (table_valid : IsValid memory t) (b : ℕ) where
+  -- if `entry_at` i matches byte b exactly if `owned` holds, then so does entry i of the layout
   at_entry : (i : ℕ) (x : Entry) (owned : Bool) → i < 16 → entry_at t w i ≡ x
       → ((before : ℕ) → matches (matching_of x.cfg) before x.addr b ≡ owned) → covers (layout t w) i b ≡ owned
   at_entry i x owned in_range entry_at_is held =
@@ -183,20 +188,21 @@ module _ (memory : List ℕ) (t : Slots) (w : World) (ram_size : length memory �
       ∙ ap (λ (y : Entry). matches (matching_of y.cfg) (addr_before (layout t w) i) y.addr b) entry_at_is
       ∙ held (addr_before (layout t w) i)
 
-  -- entry 0 matches exactly the bytes of the monitor's range
+  -- entry 0 of the layout covers exactly the bytes of the monitor's range
   pub covers_monitor : covers (layout t w) 0 b ≡ has monitor_block b
-  covers_monitor = at_entry 0 _ _ (lit< tt) (entry_at-monitor t w) (λ before. napot_matches ram_base 0x10000 13 before b (lit< tt) refl refl (lit≤ tt))
+  covers_monitor =
+      at_entry 0 _ _ (lit< tt) (entry_at-monitor t w) (λ before. napot_matches ram_base 0x10000 13 before b (lit< tt) refl refl (lit≤ tt))
 
-  -- entry k + 1 matches exactly the bytes of the region of slot k
-  pub covers_slot : (k : ℕ) → k < 13 → covers (layout t w) (k + 1) b ≡ has (region t k) b
+  -- entry k + 1 of the layout covers exactly the bytes of the region of slot k
+  pub covers_slot : (k : ℕ) → k < slot_count → covers (layout t w) (k + 1) b ≡ has (region t k) b
   covers_slot k in_range =
       at_entry (k + 1) _ _ (omega arith) (entry_at-slot t w k in_range)
-      (λ before. region_covers memory w k (slot_at t k) before b ram_size (valid.well_formed k))
+      (λ before. region_covers memory w k (slot_at t k) before b ram_size (table_valid.well_formed k))
 
-  -- entry 14 matches exactly the bytes of the world's window
+  -- entry 14 of the layout covers exactly the bytes of the world's window
   pub covers_window : covers (layout t w) 14 b ≡ has (world_window t w) b
-  covers_window = at_entry 14 _ _ (lit< tt) (entry_at-window t w) (λ before. window_owned memory t w before b ram_size valid)
+  covers_window = at_entry 14 _ _ (lit< tt) (entry_at-window t w) (λ before. window_owned memory t w before b ram_size table_valid)
 
-  -- entry 15 matches every byte while the host runs, and none while an enclave runs
+  -- entry 15 of the layout covers every byte while the host runs, and no byte while an enclave runs
   pub covers_host : b < 2 ^ 35 → covers (layout t w) 15 b ≡ is_host w
   covers_host below = at_entry 15 _ _ (lit< tt) (entry_at-host t w) (λ before. host_owned w before b below)

@@ -1,12 +1,13 @@
--- A scrambled shared state is equivalent to the one before except for its slot, and satisfies the invariant.
-use Rattle.std.proofs.Common.{◌≡◌, ℕ, ◌+◌, ◌-◌, ◌<◌, Bool, true, false, List, length, Option, Some, None, IfSome, refl, sym, ap, ◌∙◌, inl, inr, arith, subst}
+-- Scramble preserves the invariant of the shared state, and changes only what is private to the scrambled enclave.
+use Rattle.std.proofs.Common.{◌≡◌, ℕ, ◌+◌, ◌-◌, ◌<◌, true, false, List, length, Option, Some, None, IfSome, refl, sym, ap, ◌∙◌, inl, inr, arith, subst}
 use Rattle.std.proofs.Common.{length-set}
-use Rattle.std.specs.Prelude.{is_some, nat_le, nat_lt, not}
+use Rattle.std.specs.Prelude.{is_some, nat_le, nat_lt}
 use Rattle.std.specs.Option.{option_map}
-use Rattle.std.proofs.lemmas.Bool.{cases_lt, cases_eq, cases_Bool, and_from, le-leb, lt-ltb}
+use Rattle.std.proofs.lemmas.Bool.{cases_lt, cases_eq, cases_Bool, and_from, le-leb, lt-ltb, not-true}
 use Rattle.rv_memory.proofs.Complements.{with_complements, length-with_complements, below, above, inside-index, complemented-is}
 use Rattle.rv_enclaves.specs.CallLaws.{ScrambledLaw}
 use Rattle.rv_enclaves.specs.Scramble.{can_scramble, complemented_context, complemented_block, scrambled_shared}
+use Rattle.rv_enclaves.specs.SlotNumbers.{slot_count}
 use Rattle.rv_enclaves.proofs.Prelude.{EqualOutside, Block, Context, Contexts, SharedInvariant, Shared, SharedEquivExcept, SlotInfo, World}
 use Rattle.rv_enclaves.proofs.Prelude.{can_go_on, context_at, has}
 use Rattle.rv_enclaves.proofs.Prelude.{is_held, is_inside, is_live, is_running, option_case, ram_base, region, runs, slot_at, with_context}
@@ -17,7 +18,7 @@ use Rattle.rv_enclaves.proofs.Valid.{valid_by_size}
 
 -- ---- memory
 
--- outside the block no byte changes
+-- the complement of a block inside memory changes no byte outside the block
 inside_agrees : (memory : List ℕ) (block : Block) → is_inside memory block.base block.size ≡ true
     → EqualOutside (has block) memory (with_complements memory (block.base - ram_base) block.size)
 inside_agrees memory block inside =
@@ -26,104 +27,109 @@ inside_agrees memory block inside =
     let fits = inside-index memory block.base block.size inside in
     record {
       size = sym (length-with_complements memory index block.size fits);
-      bytes = λ i seen. elim (cases_lt i index) [
-        | inl low ↦ sym (below memory index block.size i fits low)
-        | inr low ↦ elim (cases_lt i (index + block.size)) [
-          | inl high ↦
+      bytes = λ i not_hidden. elim (cases_lt i index) [
+        | inl before_start ↦ sym (below memory index block.size i fits before_start)
+        | inr from_start ↦ elim (cases_lt i (index + block.size)) [
+          | inl before_end ↦
               let from : nat_le block.base (ram_base + i) ≡ true = le-leb block.base (ram_base + i) (omega (arith, bounds.0)) in
-              let to : nat_lt (ram_base + i) (block.base + block.size) ≡ true = lt-ltb (ram_base + i) (block.base + block.size) (omega (arith, bounds.0)) in
-              let never : true ≡ false = sym (and_from _ _ from to) ∙ seen in cc
-          | inr high ↦ sym (above memory index block.size i fits high)
+              let to : nat_lt (ram_base + i) (block.base + block.size) ≡ true =
+              lt-ltb (ram_base + i) (block.base + block.size) (omega (arith, bounds.0)) in
+              let contradiction : true ≡ false = sym (and_from _ _ from to) ∙ not_hidden in cc
+          | inr after_end ↦ sym (above memory index block.size i fits after_end)
         ]
       ];
     }
 
--- a scrambled block leaves the memory equal outside the block
+-- the complement of any block changes no byte outside the block
 block_agrees : (memory : List ℕ) (block : Block) → EqualOutside (has block) memory (complemented_block memory block)
 block_agrees memory block = elim (cases_Bool (is_inside memory block.base block.size)) [
-  | inl inside ↦ let is = complemented-is memory block.base block.size inside in rw is (inside_agrees memory block inside)
-  | inr outside ↦ let is = read-none memory block.base block.size outside in rw is (record { size = refl; bytes = λ i seen. refl })
+  | inl inside ↦ let complement_is = complemented-is memory block.base block.size inside in rw complement_is (inside_agrees memory block inside)
+  | inr outside ↦ let reads_none = read-none memory block.base block.size outside in rw reads_none (record { size = refl; bytes = λ i shown. refl })
 ]
 
 -- ---- contexts
 
--- a complemented context is there if the context is
+-- the complement of a context is a context, and the complement of None is None
 some_after : (o : Option Context) → is_some (option_map complemented_context o) ≡ is_some o
 some_after None = refl
 some_after (Some context) = refl
 
--- a hart can continue with a complemented context, if it can with the context
+-- a hart can continue with the complement of each context with which it can continue
 goes_on_after : (o : Option Context) → IfSome o (λ context. can_go_on context ≡ true)
     → IfSome (option_map complemented_context o) (λ context. can_go_on context ≡ true)
-goes_on_after None held = tt
-goes_on_after (Some context) held = held
+goes_on_after None can_continue = tt
+goes_on_after (Some context) can_continue = can_continue
 
 -- ---- the slot
 
--- the slot is live, does not run, and is one of the 13
+-- slot k has a live enclave that does not run, and is a slot of the table
 record MayScramble (shared : Shared) (k : ℕ) : Type 0 where
   pub live : is_live shared.table k ≡ true
   pub not_running : runs shared.table k ≡ false
-  pub in_range : k < 13
+  pub in_range : k < slot_count
 
--- a test whose negation holds fails
-not-true : (b : Bool) → not b ≡ true → b ≡ false
-not-true true is = cc
-not-true false is = refl
-
--- a slot whose enclave has a saved context is live and does not run
+-- a slot with a saved context has a live enclave that does not run
 pub slot_rests : (o : Option SlotInfo) → is_held o ≡ true → (is_some o ≡ true) × (option_case o false (λ info. is_running info.state) ≡ false)
-slot_rests None held = cc
-slot_rests (Some info) held = (refl, not-true (is_running info.state) held)
+slot_rests None has_context = cc
+slot_rests (Some info) has_context = (refl, not-true (is_running info.state) has_context)
 
--- a slot with a saved context is one of the 13
-in_range : (shared : Shared) (k : ℕ) (o : Option SlotInfo) → slot_at shared.table k ≡ o → length shared.table ≡ 13 → is_held o ≡ true → k < 13
-in_range shared k None slot_is count held = cc
-in_range shared k (Some info) slot_is count held = live_in_range shared.table k info count slot_is
+-- a slot with a saved context is a slot of the table
+in_range : (shared : Shared) (k : ℕ) (o : Option SlotInfo) → slot_at shared.table k ≡ o → length shared.table ≡ slot_count → is_held o ≡ true
+    → k < slot_count
+in_range shared k None slot_is table_length has_context = cc
+in_range shared k (Some info) slot_is table_length has_context = live_in_range shared.table k info table_length slot_is
 
-module _ (shared : Shared) (worlds : List World) (k : ℕ) (sound : SharedInvariant shared worlds) (may : can_scramble shared.table k ≡ true) where
-  -- a slot that may be scrambled is live and does not run
+-- slot k of a shared state with the invariant may be scrambled
+module _ (shared : Shared) (worlds : List World) (k : ℕ) (shared_invariant : SharedInvariant shared worlds)
+    (may_scramble : can_scramble shared.table k ≡ true) where
+  -- a slot that may be scrambled has a live enclave that does not run
   may_be : MayScramble shared k
   may_be =
-      let parts = slot_rests (slot_at shared.table k) may in
-      record { live = parts.0; not_running = parts.1; in_range = in_range shared k (slot_at shared.table k) refl sound.valid.count may }
+      let parts = slot_rests (slot_at shared.table k) may_scramble in
+      record {
+        live = parts.0;
+        not_running = parts.1;
+        in_range = in_range shared k (slot_at shared.table k) refl shared_invariant.valid.count may_scramble;
+      }
 
-  -- the saved context of slot k
+  -- the saved context of slot k before the scramble
   abbrev kept_one : Option Context
   kept_one = context_at shared.contexts k
 
-  -- the saved contexts with that of slot k complemented
+  -- the saved contexts after the scramble: the context of slot k is complemented
   abbrev new_contexts : Contexts
   new_contexts = with_context shared.contexts k (option_map complemented_context kept_one)
 
-  -- the new context of slot k is the complemented one
-  here : context_at new_contexts k ≡ option_map complemented_context kept_one
-  here = at_same shared.contexts k (option_map complemented_context kept_one) (let range = may_be.in_range in omega (arith, sound.contexts.count, range))
+  -- the context of slot k after the scramble is the complement of the old context
+  context_of_k : context_at new_contexts k ≡ option_map complemented_context kept_one
+  context_of_k =
+      at_same shared.contexts k (option_map complemented_context kept_one)
+      (let range = may_be.in_range in omega (arith, shared_invariant.contexts.count, range))
 
-  -- the scrambled state has the invariant
+  -- the scrambled shared state satisfies the invariant
   pub scrambled_sound : SharedInvariant (scrambled_shared shared k) worlds
   unfolding scrambled_shared
   scrambled_sound = record {
     valid = valid_by_size shared.memory (complemented_block shared.memory (region shared.table k)) shared.table
-        (block_agrees shared.memory (region shared.table k)).size sound.valid;
+        (block_agrees shared.memory (region shared.table k)).size shared_invariant.valid;
     contexts = record {
-      count = length-set shared.contexts k (option_map complemented_context kept_one) ∙ sound.contexts.count;
+      count = length-set shared.contexts k (option_map complemented_context kept_one) ∙ shared_invariant.contexts.count;
       kept = λ j. elim (cases_eq j k) [
-        | inl at ↦ rw at (ap (λ (x : Option Context). is_some x) here ∙ some_after kept_one ∙ sound.contexts.kept k)
-        | inr other ↦ ap (λ (x : Option Context). is_some x) (at_other shared.contexts k j _ other) ∙ sound.contexts.kept j
+        | inl equal ↦ rw equal (ap (λ (x : Option Context). is_some x) context_of_k ∙ some_after kept_one ∙ shared_invariant.contexts.kept k)
+        | inr distinct ↦ ap (λ (x : Option Context). is_some x) (at_other shared.contexts k j _ distinct) ∙ shared_invariant.contexts.kept j
       ];
       held = λ j.
           let P : Option Context → Type 0 = λ x. IfSome x (λ context. can_go_on context ≡ true) in
           elim (cases_eq j k) [
-            | inl at ↦ rw at (subst P (sym here) (goes_on_after kept_one (sound.contexts.held k)))
-            | inr other ↦ subst P (sym (at_other shared.contexts k j _ other)) (sound.contexts.held j)
+            | inl equal ↦ rw equal (subst P (sym context_of_k) (goes_on_after kept_one (shared_invariant.contexts.held k)))
+            | inr distinct ↦ subst P (sym (at_other shared.contexts k j _ distinct)) (shared_invariant.contexts.held j)
           ];
     };
-    running = sound.running;
-    apart = sound.apart;
+    running = shared_invariant.running;
+    apart = shared_invariant.apart;
   }
 
-  -- the scrambled state is equivalent to the state except for k
+  -- the scrambled shared state is equivalent except k to the state before the scramble
   pub scrambled_agrees : SharedEquivExcept k shared (scrambled_shared shared k)
   unfolding scrambled_shared
   scrambled_agrees = record {
@@ -131,15 +137,15 @@ module _ (shared : Shared) (worlds : List World) (k : ℕ) (sound : SharedInvari
     memory = block_agrees shared.memory (region shared.table k);
     contexts = record {
       size = sym (length-set shared.contexts k (option_map complemented_context kept_one));
-      others = λ j other. sym (at_other shared.contexts k j _ other);
+      others = λ j distinct. sym (at_other shared.contexts k j _ distinct);
     };
-    gone = λ free. let never : true ≡ false = sym may_be.live ∙ free in cc;
+    gone = λ dead. let contradiction : true ≡ false = sym may_be.live ∙ dead in cc;
   }
 
--- proves that a scramble preserves the invariant and changes only what is private to slot k
+-- proves that scramble preserves the invariant and changes only what is private to slot k
 pub scrambled_law : ScrambledLaw
-scrambled_law shared worlds k sound may = record {
-  not_running = (slot_rests (slot_at shared.table k) may).1;
-  sound = scrambled_sound shared worlds k sound may;
-  equivalent = scrambled_agrees shared worlds k sound may;
+scrambled_law shared worlds k shared_invariant may_scramble = record {
+  not_running = (slot_rests (slot_at shared.table k) may_scramble).1;
+  sound = scrambled_sound shared worlds k shared_invariant may_scramble;
+  equivalent = scrambled_agrees shared worlds k shared_invariant may_scramble;
 }

@@ -1,4 +1,4 @@
--- Scrambling twice restores the state.
+-- Two scrambles of the same enclave restore the shared state.
 use Rattle.std.proofs.Common.{◌≡◌, ℕ, zero, suc, ◌-◌, ◌^◌, ◌<◌, true, List, [], ◌∷◌, map, get_or, Option, Some, None, IfSome, refl, ap, ap₂, inl, inr, arith}
 use Rattle.std.specs.Prelude.{slice_index, slice_index_or, slice_set}
 use Rattle.std.specs.Option.{option_map}
@@ -9,34 +9,34 @@ use Rattle.rv_enclaves.specs.Scramble.{complemented_registers, complemented_cont
 use Rattle.rv_enclaves.proofs.Prelude.{Block, Context, context_at, is_inside, ram_base, region}
 use Rattle.rv_enclaves.proofs.EqualMemory.{read-none}
 
--- 32-bit words complemented twice are the words
+-- two complements of a list of 32-bit words give the list again
 words_twice : (words : List ℕ) → ((n : ℕ) → get_or words n 0 < 2 ^ 32)
     → map (λ word. 2 ^ 32 - 1 - word) (map (λ word. 2 ^ 32 - 1 - word) words) ≡ words
-words_twice [] small = refl
-words_twice (word ∷ words) small =
-    let first : word < 2 ^ 32 = small 0 in
-    let back : 2 ^ 32 - 1 - (2 ^ 32 - 1 - word) ≡ word = omega (arith, first) in
-    ap₂ (λ (x : ℕ) (xs : List ℕ). x ∷ xs) back (words_twice words (λ n. small (suc n)))
+words_twice [] are_words = refl
+words_twice (word ∷ words) are_words =
+    let first : word < 2 ^ 32 = are_words 0 in
+    let complement_twice : 2 ^ 32 - 1 - (2 ^ 32 - 1 - word) ≡ word = omega (arith, first) in
+    ap₂ (λ (x : ℕ) (xs : List ℕ). x ∷ xs) complement_twice (words_twice words (λ n. are_words (suc n)))
 
--- registers complemented twice are the registers
+-- two complements of the registers give the registers again
 registers_twice : (regs : List ℕ) → ((n : ℕ) → get_or regs n 0 < 2 ^ 32) → complemented_registers (complemented_registers regs) ≡ regs
-registers_twice [] small = refl
-registers_twice (x0 ∷ words) small = ap (λ rest. x0 ∷ rest) (words_twice words (λ n. small (suc n)))
+registers_twice [] are_words = refl
+registers_twice (x0 ∷ words) are_words = ap (λ rest. x0 ∷ rest) (words_twice words (λ n. are_words (suc n)))
 
--- a context complemented twice is the context
+-- two complements of a context give the context again
 context_twice : (o : Option Context) → IfSome o (λ context. (n : ℕ) → slice_index context.regs n < 2 ^ 32)
     → option_map complemented_context (option_map complemented_context o) ≡ o
-context_twice None small = refl
-context_twice (Some context) small = ap (λ regs. Some (record context { regs = regs })) (registers_twice context.regs small)
+context_twice None are_words = refl
+context_twice (Some context) are_words = ap (λ regs. Some (record context { regs = regs })) (registers_twice context.regs are_words)
 
--- an entry of a list, changed and changed back
+-- if f applied twice to the element at index k gives this element, then two writes of f of the element at index k restore the list
 place_twice : {X : Type 0} (f : Option X → Option X) (xs : List (Option X)) (k : ℕ) → f (f (slice_index_or xs k None)) ≡ slice_index_or xs k None
     → (let once = slice_set xs k (f (slice_index_or xs k None)) in slice_set once k (f (slice_index_or once k None))) ≡ xs
-place_twice f [] k back = refl
-place_twice f (x ∷ xs) zero back = ap (λ y. y ∷ xs) back
-place_twice f (x ∷ xs) (suc k) back = ap (λ ys. x ∷ ys) (place_twice f xs k back)
+place_twice f [] k restores = refl
+place_twice f (x ∷ xs) zero restores = ap (λ y. y ∷ xs) restores
+place_twice f (x ∷ xs) (suc k) restores = ap (λ ys. x ∷ ys) (place_twice f xs k restores)
 
--- a block complemented twice is the block
+-- two complements of a block of bytes restore the memory
 block_twice : (memory : List ℕ) (block : Block) → ((i : ℕ) → get_or memory i 0 < 2 ^ 8)
     → complemented_block (complemented_block memory block) block ≡ memory
 block_twice memory block bytes = elim (cases_Bool (is_inside memory block.base block.size)) [
@@ -46,13 +46,13 @@ block_twice memory block bytes = elim (cases_Bool (is_inside memory block.base b
       let fits = inside-index memory block.base block.size inside in
       let same_length = length-with_complements memory index block.size fits in
       let inside' : is_inside once block.base block.size ≡ true = rw same_length inside in
-      let is = complemented-is memory block.base block.size inside in
+      let complement_is = complemented-is memory block.base block.size inside in
       let again = complemented-is once block.base block.size inside' in
-      rw (is, again) (complemented_twice memory index block.size fits bytes)
-  | inr outside ↦ let is = read-none memory block.base block.size outside in rw (is, is) refl
+      rw (complement_is, again) (complemented_twice memory index block.size fits bytes)
+  | inr outside ↦ let reads_none = read-none memory block.base block.size outside in rw (reads_none, reads_none) refl
 ]
 
--- proves that scrambling twice restores the shared state
+-- proves that two scrambles restore the shared state
 pub shared_twice : ScrambledTwiceLaw
 unfolding scrambled_shared
 shared_twice shared k bytes words =

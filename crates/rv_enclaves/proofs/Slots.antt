@@ -1,9 +1,9 @@
--- A table after a change of one slot, and create's checks of the blocks in its arguments.
-use Rattle.std.proofs.Common.{◌≡◌, ◌≢◌, ℕ, zero, suc, ◌<◌, Bool, true, false, List, [], ◌∷◌, Option, Some, None, length, refl, inl, inr, arith}
+-- Lemmas about a table after a change of one slot, and about the checks of a create that compare the new blocks with the table.
+use Rattle.std.proofs.Common.{◌≡◌, ◌≢◌, ℕ, zero, suc, ◌<◌, Bool, false, List, [], ◌∷◌, Option, Some, None, length, refl, inl, inr, arith}
 use Rattle.std.proofs.Common.{get_or-set_same, get_or-set_other}
-use Rattle.std.proofs.lemmas.Bool.{cases_lt, lt-ltb}
+use Rattle.std.proofs.lemmas.Bool.{cases_lt, lt-ltb, or_parts}
 use Rattle.std.proofs.lemmas.List.{get_or_past, set_past}
-use Rattle.std.specs.Prelude.{slice_index_or, slice_set, ◌||◌}
+use Rattle.std.specs.Prelude.{slice_index_or, slice_set}
 use Rattle.std.specs.List.{list_any}
 use Rattle.rv_memory.proofs.BlockLaws.{meets_nothing}
 use Rattle.rv_enclaves.specs.Create.{collides}
@@ -13,85 +13,72 @@ use Rattle.rv_enclaves.proofs.Prelude.{CreateArgs, SlotInfo, Slots, meets, monit
 
 -- ---- lists of options
 
--- the entry at k after a change at k is the new one
+-- after a write to slot k of a list, slot k has the new entry
 pub at_same : {A : Type 0} (xs : List (Option A)) (k : ℕ) (x : Option A) → k < length xs → slice_index_or (slice_set xs k x) k None ≡ x
 at_same {A} xs k x inside = get_or-set_same {A = Option A} xs k x None inside
 
--- the entry at j after a change at another index is unchanged
+-- after a write to another slot of a list, slot j has its old entry
 pub at_other : {A : Type 0} (xs : List (Option A)) (k j : ℕ) (x : Option A) → j ≢ k
     → slice_index_or (slice_set xs k x) j None ≡ slice_index_or xs j None
-at_other {A} xs k j x other = get_or-set_other {A = Option A} xs k j x None other
+at_other {A} xs k j x distinct = get_or-set_other {A = Option A} xs k j x None distinct
 
--- no slot has the number after the last, so a write there changes nothing
+-- a new state for the number after the last slot leaves the table unchanged
 pub state_past : (slots : Slots) (state : EnclaveState) → length slots ≡ slot_count → with_state slots slot_count state ≡ slots
-state_past slots state count =
-    let none : slot_at slots slot_count ≡ None = get_or_past {X = Option SlotInfo} slots slot_count None (omega (arith, count)) in rw none refl
+state_past slots state table_length =
+    let no_entry : slot_at slots slot_count ≡ None = get_or_past {X = Option SlotInfo} slots slot_count None (omega (arith, table_length)) in
+    rw no_entry refl
 
--- a change of the context past the last slot has no effect
+-- a new context for the number after the last slot leaves the contexts unchanged
 pub context_past : (contexts : Contexts) (c : Option Context) → length contexts ≡ slot_count → with_context contexts slot_count c ≡ contexts
-context_past contexts c count = set_past {X = Option Context} contexts slot_count c (omega (arith, count))
+context_past contexts c contexts_length = set_past {X = Option Context} contexts slot_count c (omega (arith, contexts_length))
 
--- no slot has a number after the last
+-- a number that is not the number of a slot has no record
 pub none_past : (slots : Slots) (number : ℕ) → length slots ≡ slot_count → slot_numbered number ≡ None → slot_at slots number ≡ None
-none_past slots number count none = elim (cases_lt number slot_count) [
-  | inl inside ↦ let is = rw (lt-ltb number slot_count inside) at none in cc
-  | inr past ↦ get_or_past {X = Option SlotInfo} slots number None (omega (arith, count, past))
+none_past slots number table_length not_a_slot = elim (cases_lt number slot_count) [
+  | inl in_range ↦ let number_is = rw (lt-ltb number slot_count in_range) at not_a_slot in cc
+  | inr past_last ↦ get_or_past {X = Option SlotInfo} slots number None (omega (arith, table_length, past_last))
 ]
 
--- if neither of two tests holds, the first does not
-pub or-first : (a b : Bool) → (a || b) ≡ false → a ≡ false
-or-first true b neither = neither
-or-first false b neither = refl
-
--- if neither of two tests holds, the second does not
-pub or-second : (a b : Bool) → (a || b) ≡ false → b ≡ false
-or-second true b neither = cc
-or-second false b neither = neither
-
--- a test that holds of no element does not hold of the one at an index
+-- if a test holds for no entry of a list, then it fails for the entry at each index, and for None after the end of the list
 pub none_at : {A : Type 0} (p : Option A → Bool) (xs : List (Option A)) (k : ℕ) → p None ≡ false → list_any p xs ≡ false
     → p (slice_index_or xs k None) ≡ false
-none_at p [] k nothing none = nothing
-none_at p (x ∷ xs) zero nothing none = or-first (p x) (list_any p xs) none
-none_at p (x ∷ xs) (suc k) nothing none = none_at p xs k nothing (or-second (p x) (list_any p xs) none)
+none_at p [] k none_fails none_holds = none_fails
+none_at p (x ∷ xs) zero none_fails none_holds = (or_parts (p x) (list_any p xs) none_holds).0
+none_at p (x ∷ xs) (suc k) none_fails none_holds = none_at p xs k none_fails (or_parts (p x) (list_any p xs) none_holds).1
 
 -- ---- the checks of create
 
--- the new region meets neither region nor window of the slot, and the new window does not meet the region
+-- the new region meets neither the region nor the window of the slot, and the new window does not meet the region of the slot
 pub record AreApart (new : CreateArgs) (o : Option SlotInfo) : Type 0 where
   pub regions : meets new.region (region_of o) ≡ false
   pub window : meets new.region (window_of o) ≡ false
   pub own : meets new.window (region_of o) ≡ false
 
--- a create that does not collide with a slot is apart from it
+-- a create that does not collide with a slot is apart from the blocks of this slot
 pub apart_from : (new : CreateArgs) (o : Option SlotInfo) → collides new o ≡ false → AreApart new o
-apart_from new None none = record { regions = meets_nothing new.region; window = meets_nothing new.region; own = meets_nothing new.window }
-apart_from new (Some info) none =
-    let a = meets new.region info.region in
-    let b = meets new.region info.window in
-    let c = meets new.window info.region in
-    record { regions = or-first a (b || c) none; window = or-first b c (or-second a (b || c) none); own = or-second b c (or-second a (b || c) none) }
+apart_from new None no_collision = record { regions = meets_nothing new.region; window = meets_nothing new.region; own = meets_nothing new.window }
+apart_from new (Some info) no_collision =
+    let regions = or_parts (meets new.region info.region) _ no_collision in
+    let windows = or_parts (meets new.region info.window) (meets new.window info.region) regions.1 in
+    record { regions = regions.0; window = windows.0; own = windows.1 }
 
--- the new region and window meet neither the monitor's range, each other, nor any enclave's own memory
+-- the new region and window meet neither the monitor's range, each other, nor the region or window of a slot, except that windows may share bytes
 pub record IsFree (slots : Slots) (new : CreateArgs) : Type 0 where
   pub region : meets monitor_block new.region ≡ false
   pub window : meets monitor_block new.window ≡ false
   pub own : meets new.region new.window ≡ false
   pub others : (k : ℕ) → AreApart new (slot_at slots k)
 
--- a create that overlaps nothing is free of each overlap
+-- a create that overlaps no block meets no other block, as `IsFree` says
 pub free_from : (slots : Slots) (new : CreateArgs) → overlaps slots new ≡ false → IsFree slots new
 unfolding overlaps
-free_from slots new none =
-    let a = meets monitor_block new.region in
-    let b = meets monitor_block new.window in
-    let c = meets new.region new.window in
-    let d = list_any (collides new) slots in
-    let rest = or-second a (b || (c || d)) none in
-    let last = or-second b (c || d) rest in
+free_from slots new no_overlap =
+    let region = or_parts (meets monitor_block new.region) _ no_overlap in
+    let window = or_parts (meets monitor_block new.window) _ region.1 in
+    let own_blocks = or_parts (meets new.region new.window) (list_any (collides new) slots) window.1 in
     record {
-      region = or-first a (b || (c || d)) none;
-      window = or-first b (c || d) rest;
-      own = or-first c d last;
-      others = λ k. apart_from new (slot_at slots k) (none_at (collides new) slots k refl (or-second c d last));
+      region = region.0;
+      window = window.0;
+      own = own_blocks.0;
+      others = λ k. apart_from new (slot_at slots k) (none_at (collides new) slots k refl own_blocks.1);
     }

@@ -1,4 +1,4 @@
--- The shared state at reset satisfies the invariant: no enclave is live.
+-- The shared state at reset satisfies the invariant, because no enclave is live.
 use Rattle.std.proofs.Common.{◌≡◌, ℕ, get_or, replicate, true, false, List, length, Option, None, IfSome, refl, sym, ◌∙◌, ap, subst, inl, inr}
 use Rattle.std.specs.Prelude.{is_some}
 use Rattle.std.specs.List.{list_any}
@@ -7,15 +7,16 @@ use Rattle.std.proofs.lemmas.Bool.{cases_lt}
 use Rattle.rv_enclaves.specs.Contexts.{no_contexts}
 use Rattle.rv_enclaves.specs.SharedInvariant.{shared_at_start}
 use Rattle.rv_enclaves.specs.Table.{no_slots}
+use Rattle.rv_enclaves.specs.SlotNumbers.{slot_count}
 use Rattle.rv_enclaves.proofs.Prelude.{AreApart, Context, IsValidSlot, SharedInvariant, IsValid, SlotInfo, World, can_go_on, context_at, is_held, is_ram_size}
 use Rattle.rv_enclaves.proofs.Prelude.{is_running, is_world_of, meets, monitor_block, option_case, region, region_of, slot_at, window, window_of}
 use Rattle.rv_memory.proofs.BlockLaws.{meets_nothing}
 
--- a list of 13 times none has none everywhere
-nothing_at : {A : Type 0} (k : ℕ) → get_or {A = Option A} (replicate 13 None) k None ≡ None
-nothing_at {A} k = elim (cases_lt k 13) [
-  | inl inside ↦ get_or-replicate {A = Option A} 13 k None None inside
-  | inr past ↦ get_or_past {X = Option A} (replicate 13 None) k None past
+-- a list with None in every slot has None at each index
+nothing_at : {A : Type 0} (k : ℕ) → get_or {A = Option A} (replicate slot_count None) k None ≡ None
+nothing_at {A} k = elim (cases_lt k slot_count) [
+  | inl in_range ↦ get_or-replicate {A = Option A} slot_count k None None in_range
+  | inr past_last ↦ get_or_past {X = Option A} (replicate slot_count None) k None past_last
 ]
 
 -- no slot has an enclave at reset
@@ -34,29 +35,29 @@ no_region k = ap region_of (no_slot k)
 no_window : (k : ℕ) → window no_slots k ≡ window_of None
 no_window k = ap window_of (no_slot k)
 
--- the table without enclaves is valid, if the RAM has a permitted size
+-- the table at reset is valid, if the RAM has a permitted size
 pub no_slots_valid : (memory : List ℕ) → is_ram_size (length memory) ≡ true → IsValid memory no_slots
-no_slots_valid memory ram = record {
-  ram = ram;
+no_slots_valid memory ram_size_valid = record {
+  ram = ram_size_valid;
   count = refl;
   well_formed = λ k. let P : Option SlotInfo → Type 0 = λ o. IfSome o (IsValidSlot memory) in subst P (sym (no_slot k)) tt;
-  regions_apart = λ j k apart. ap (λ b. meets b (region no_slots k)) (no_region j);
+  regions_apart = λ j k distinct. ap (λ b. meets b (region no_slots k)) (no_region j);
   windows_apart = λ j k. ap (λ b. meets b (window no_slots k)) (no_region j);
   regions_free = λ k. ap (meets monitor_block) (no_region k) ∙ meets_nothing monitor_block;
   windows_free = λ k. ap (meets monitor_block) (no_window k) ∙ meets_nothing monitor_block;
 }
 
--- the shared state at reset has the invariant, if no world is an enclave
+-- the shared state at reset satisfies the invariant, if every hart runs the host
 pub start_sound : (memory : List ℕ) (ws : List World) → ((k : ℕ) → list_any (is_world_of k) ws ≡ false) → AreApart ws
     → is_ram_size (length memory) ≡ true
     → SharedInvariant (shared_at_start memory) ws
-start_sound memory ws none apart ram = record {
-  valid = no_slots_valid memory ram;
+start_sound memory ws none_runs worlds_apart ram_size_valid = record {
+  valid = no_slots_valid memory ram_size_valid;
   contexts = record {
     count = refl;
     kept = λ k. ap (λ (o : Option Context). is_some o) (no_context k) ∙ ap is_held (sym (no_slot k));
     held = λ k. let P : Option Context → Type 0 = λ o. IfSome o (λ c. can_go_on c ≡ true) in subst P (sym (no_context k)) tt;
   };
-  running = λ k. ap (λ o. option_case o false (λ (info : SlotInfo). is_running info.state)) (no_slot k) ∙ sym (none k);
-  apart = apart;
+  running = λ k. ap (λ o. option_case o false (λ (info : SlotInfo). is_running info.state)) (no_slot k) ∙ sym (none_runs k);
+  apart = worlds_apart;
 }

@@ -1,4 +1,4 @@
--- A table stays valid if one slot changes, or if memory keeps its size.
+-- A table stays valid if the record of one slot changes to a record that fits, or if the memory changes but keeps its size.
 use Rattle.std.proofs.Common.{◌≡◌, ◌≢◌, ℕ, ◌+◌, ◌<◌, false, List, Option, Some, None, IfSome, length, refl, sym, ap, ◌∙◌, subst, inl, inr, arith, length-set}
 use Rattle.std.specs.Prelude.{◌&&◌, nat_le, ◌==◌, ◌%◌, ◌||◌}
 use Rattle.std.proofs.lemmas.Bool.{cases_eq}
@@ -6,8 +6,9 @@ use Rattle.rv_enclaves.proofs.Prelude.{Block, EnclaveState, IsValidSlot, IsValid
 use Rattle.rv_enclaves.proofs.Prelude.{monitor_block, ram_base, region, region_of, slot_at, window, window_of, with_slot}
 use Rattle.rv_memory.proofs.BlockLaws.{meets_symmetric, meets_nothing, nothing_meets}
 use Rattle.rv_enclaves.proofs.Slots.{at_same, at_other}
+use Rattle.rv_enclaves.specs.SlotNumbers.{slot_count}
 
--- the conditions on a record for slot k
+-- a record fits into slot k if it is valid, and its region and window do not meet the blocks of other slots that they must not meet
 pub record Fits (memory : List ℕ) (slots : Slots) (k : ℕ) (o : Option SlotInfo) : Type 0 where
   pub well_formed : IfSome o (IsValidSlot memory)
   pub regions : (j : ℕ) → j ≢ k → meets (region_of o) (region slots j) ≡ false
@@ -17,96 +18,101 @@ pub record Fits (memory : List ℕ) (slots : Slots) (k : ℕ) (o : Option SlotIn
   pub region_free : meets monitor_block (region_of o) ≡ false
   pub window_free : meets monitor_block (window_of o) ≡ false
 
-module _ (memory : List ℕ) (slots : Slots) (k : ℕ) (o : Option SlotInfo) (valid : IsValid memory slots) (inside : k < 13)
+-- slot k of a valid table gets the record o, which fits
+module _ (memory : List ℕ) (slots : Slots) (k : ℕ) (o : Option SlotInfo) (table_valid : IsValid memory slots) (inside : k < slot_count)
     (fits : Fits memory slots k o) where
-  -- the table with the new record of slot k
+  -- the table after the change: slot k has the new record
   abbrev after : Slots
   after = with_slot slots k o
 
   -- slot k of the new table has the new record
-  here : slot_at after k ≡ o
-  here = at_same slots k o (omega (arith, valid.count))
+  slot_k_after : slot_at after k ≡ o
+  slot_k_after = at_same slots k o (omega (arith, table_valid.count))
 
-  -- another slot of the new table is unchanged
-  there : (j : ℕ) → j ≢ k → slot_at after j ≡ slot_at slots j
-  there j other = at_other slots k j o other
+  -- each other slot of the new table is unchanged
+  other_slot_after : (j : ℕ) → j ≢ k → slot_at after j ≡ slot_at slots j
+  other_slot_after j distinct = at_other slots k j o distinct
 
-  -- the region of slot k is that of the new record
+  -- the region of slot k of the new table is the region of the new record
   region_here : region after k ≡ region_of o
-  region_here = ap region_of here
+  region_here = ap region_of slot_k_after
 
-  -- the window of slot k is that of the new record
+  -- the window of slot k of the new table is the window of the new record
   window_here : window after k ≡ window_of o
-  window_here = ap window_of here
+  window_here = ap window_of slot_k_after
 
-  -- the region of another slot is unchanged
+  -- the region of each other slot is unchanged
   region_there : (j : ℕ) → j ≢ k → region after j ≡ region slots j
-  region_there j other = ap region_of (there j other)
+  region_there j distinct = ap region_of (other_slot_after j distinct)
 
-  -- the window of another slot is unchanged
+  -- the window of each other slot is unchanged
   window_there : (j : ℕ) → j ≢ k → window after j ≡ window slots j
-  window_there j other = ap window_of (there j other)
+  window_there j distinct = ap window_of (other_slot_after j distinct)
 
   -- each record of the new table is valid
   well_formed_after : (j : ℕ) → IfSome (slot_at after j) (IsValidSlot memory)
   well_formed_after j = elim (cases_eq j k) [
-    | inl at ↦ let P : Option SlotInfo → Type 0 = λ x. IfSome x (IsValidSlot memory) in rw at (subst P (sym here) fits.well_formed)
-    | inr other ↦ let P : Option SlotInfo → Type 0 = λ x. IfSome x (IsValidSlot memory) in subst P (sym (there j other)) (valid.well_formed j)
+    | inl equal ↦ let P : Option SlotInfo → Type 0 = λ x. IfSome x (IsValidSlot memory) in rw equal (subst P (sym slot_k_after) fits.well_formed)
+    | inr distinct ↦
+        let P : Option SlotInfo → Type 0 = λ x. IfSome x (IsValidSlot memory) in
+        subst P (sym (other_slot_after j distinct)) (table_valid.well_formed j)
   ]
 
-  -- the regions of the new table do not meet
+  -- no two regions of the new table meet
   regions_after : (i j : ℕ) → i ≢ j → meets (region after i) (region after j) ≡ false
-  regions_after i j apart = elim (cases_eq i k) [
-    | inl first ↦ elim (cases_eq j k) [
-      | inl second ↦ absurd (apart (first ∙ sym second))
-      | inr other ↦ rw first (ap (λ b. meets b (region after j)) region_here ∙ ap (meets (region_of o)) (region_there j other) ∙ fits.regions j other)
+  regions_after i j distinct = elim (cases_eq i k) [
+    | inl equal ↦ elim (cases_eq j k) [
+      | inl j_is_k ↦ absurd (distinct (equal ∙ sym j_is_k))
+      | inr distinct ↦
+          rw equal (ap (λ b. meets b (region after j)) region_here ∙ ap (meets (region_of o)) (region_there j distinct) ∙ fits.regions j distinct)
     ]
     | inr other ↦ elim (cases_eq j k) [
-      | inl second ↦
-          rw second
+      | inl equal ↦
+          rw equal
           (ap (λ b. meets b (region after k)) (region_there i other) ∙ ap (meets (region slots i)) region_here
           ∙ meets_symmetric (region slots i) (region_of o) ∙ fits.regions i other)
-      | inr both ↦ ap (λ b. meets b (region after j)) (region_there i other) ∙ ap (meets (region slots i)) (region_there j both)
-          ∙ valid.regions_apart i j apart
+      | inr j_is_not_k ↦ ap (λ b. meets b (region after j)) (region_there i other) ∙ ap (meets (region slots i)) (region_there j j_is_not_k)
+          ∙ table_valid.regions_apart i j distinct
     ]
   ]
 
   -- no region of the new table meets a window
   windows_after : (i j : ℕ) → meets (region after i) (window after j) ≡ false
   windows_after i j = elim (cases_eq i k) [
-    | inl first ↦ elim (cases_eq j k) [
-      | inl second ↦ rw (first, second) (ap (λ b. meets b (window after k)) region_here ∙ ap (meets (region_of o)) window_here ∙ fits.own)
-      | inr other ↦ rw first (ap (λ b. meets b (window after j)) region_here ∙ ap (meets (region_of o)) (window_there j other) ∙ fits.windows j other)
+    | inl equal ↦ elim (cases_eq j k) [
+      | inl j_is_k ↦ rw (equal, j_is_k) (ap (λ b. meets b (window after k)) region_here ∙ ap (meets (region_of o)) window_here ∙ fits.own)
+      | inr distinct ↦
+          rw equal (ap (λ b. meets b (window after j)) region_here ∙ ap (meets (region_of o)) (window_there j distinct) ∙ fits.windows j distinct)
     ]
     | inr other ↦ elim (cases_eq j k) [
-      | inl second ↦
-          rw second
+      | inl equal ↦
+          rw equal
           (ap (λ b. meets b (window after k)) (region_there i other) ∙ ap (meets (region slots i)) window_here
           ∙ meets_symmetric (region slots i) (window_of o) ∙ fits.window i other)
-      | inr both ↦ ap (λ b. meets b (window after j)) (region_there i other) ∙ ap (meets (region slots i)) (window_there j both)
-          ∙ valid.windows_apart i j
+      | inr distinct ↦ ap (λ b. meets b (window after j)) (region_there i other) ∙ ap (meets (region slots i)) (window_there j distinct)
+          ∙ table_valid.windows_apart i j
     ]
   ]
 
   -- no region of the new table meets the monitor's range
   free_after : (j : ℕ) → meets monitor_block (region after j) ≡ false
   free_after j = elim (cases_eq j k) [
-    | inl at ↦ rw at (ap (meets monitor_block) region_here ∙ fits.region_free)
-    | inr other ↦ ap (meets monitor_block) (region_there j other) ∙ valid.regions_free j
+    | inl equal ↦ rw equal (ap (meets monitor_block) region_here ∙ fits.region_free)
+    | inr distinct ↦ ap (meets monitor_block) (region_there j distinct) ∙ table_valid.regions_free j
   ]
 
   -- no window of the new table meets the monitor's range
   window_free_after : (j : ℕ) → meets monitor_block (window after j) ≡ false
   window_free_after j = elim (cases_eq j k) [
-    | inl at ↦ rw at (ap (meets monitor_block) window_here ∙ fits.window_free)
-    | inr other ↦ ap (meets monitor_block) (window_there j other) ∙ valid.windows_free j
+    | inl equal ↦ rw equal (ap (meets monitor_block) window_here ∙ fits.window_free)
+    | inr distinct ↦ ap (meets monitor_block) (window_there j distinct) ∙ table_valid.windows_free j
   ]
 
-  -- a table stays valid after a change of slot k to a record that is valid and apart from the others
+  -- a valid table stays valid if slot k gets a record that fits
   pub valid_with : IsValid memory (with_slot slots k o)
   valid_with = record {
-    ram = valid.ram;
-    count = length-set slots k o ∙ valid.count;
+    ram = table_valid.ram;
+    count = length-set slots k o ∙ table_valid.count;
     well_formed = well_formed_after;
     regions_apart = regions_after;
     windows_apart = windows_after;
@@ -114,69 +120,76 @@ module _ (memory : List ℕ) (slots : Slots) (k : ℕ) (o : Option SlotInfo) (va
     windows_free = window_free_after;
   }
 
--- a free slot satisfies them
+-- the absence of a record fits into each slot
 pub nothing_fits : (memory : List ℕ) (slots : Slots) (k : ℕ) → Fits memory slots k None
 nothing_fits memory slots k = record {
   well_formed = tt;
-  regions = λ j other. nothing_meets (region slots j);
-  windows = λ j other. nothing_meets (window slots j);
-  window = λ j other. nothing_meets (region slots j);
+  regions = λ j distinct. nothing_meets (region slots j);
+  windows = λ j distinct. nothing_meets (window slots j);
+  window = λ j distinct. nothing_meets (region slots j);
   own = refl;
   region_free = meets_nothing monitor_block;
   window_free = meets_nothing monitor_block;
 }
 
--- a live enclave satisfies them in its own slot, with any state
+-- the record of a live enclave fits into its own slot with any state
 pub own_fits : (memory : List ℕ) (slots : Slots) (k : ℕ) (info : SlotInfo) (state : EnclaveState) → IsValid memory slots → slot_at slots k ≡ Some info
     → Fits memory slots k (Some (record info { state = state }))
-own_fits memory slots k info state valid slot_is =
+own_fits memory slots k info state table_valid slot_is =
     let region_is : region slots k ≡ info.region = ap region_of slot_is in
     let window_is : window slots k ≡ info.window = ap window_of slot_is in
     let P : Option SlotInfo → Type 0 = λ x. IfSome x (IsValidSlot memory) in
-    let law = subst P slot_is (valid.well_formed k) in
+    let slot_valid = subst P slot_is (table_valid.well_formed k) in
     record {
-      well_formed = record { region = law.region; window = law.window; aligned = law.aligned; entry = law.entry; measured = law.measured };
-      regions = λ j other. ap (λ b. meets b (region slots j)) (sym region_is) ∙ valid.regions_apart k j (λ same. other (sym same));
-      windows = λ j other. ap (λ b. meets b (window slots j)) (sym region_is) ∙ valid.windows_apart k j;
+      well_formed = record {
+        region = slot_valid.region;
+        window = slot_valid.window;
+        aligned = slot_valid.aligned;
+        entry = slot_valid.entry;
+        measured = slot_valid.measured;
+      };
+      regions = λ j distinct. ap (λ b. meets b (region slots j)) (sym region_is) ∙ table_valid.regions_apart k j (λ same. distinct (sym same));
+      windows = λ j distinct. ap (λ b. meets b (window slots j)) (sym region_is) ∙ table_valid.windows_apart k j;
       window =
-          λ j other. ap (λ b. meets b (region slots j)) (sym window_is) ∙ meets_symmetric (window slots k) (region slots j) ∙ valid.windows_apart j k;
-      own = ap (λ b. meets b info.window) (sym region_is) ∙ ap (meets (region slots k)) (sym window_is) ∙ valid.windows_apart k k;
-      region_free = ap (meets monitor_block) (sym region_is) ∙ valid.regions_free k;
-      window_free = ap (meets monitor_block) (sym window_is) ∙ valid.windows_free k;
+          λ j other. ap (λ b. meets b (region slots j)) (sym window_is) ∙ meets_symmetric (window slots k) (region slots j)
+          ∙ table_valid.windows_apart j k;
+      own = ap (λ b. meets b info.window) (sym region_is) ∙ ap (meets (region slots k)) (sym window_is) ∙ table_valid.windows_apart k k;
+      region_free = ap (meets monitor_block) (sym region_is) ∙ table_valid.regions_free k;
+      window_free = ap (meets monitor_block) (sym window_is) ∙ table_valid.windows_free k;
     }
 
 -- ---- memory of the same size
 
--- whether a block is valid depends on the size of the memory only
+-- whether a block is valid depends on the memory only by the size of the memory
 pub well_formed_by_size : (m n : List ℕ) (b : Block) → length m ≡ length n → is_valid_block m b ≡ is_valid_block n b
 unfolding is_valid_block
 well_formed_by_size m n b same_length =
     ap (λ l. is_block_size b.size && (b.base % b.size == 0 && (nat_le ram_base b.base && nat_le (b.base + b.size) (ram_base + l)))) same_length
 
--- whether a window is valid depends on the size of the memory only
+-- whether a window is valid depends on the memory only by the size of the memory
 pub window_by_size : (m n : List ℕ) (b : Block) → length m ≡ length n → is_window m b ≡ is_window n b
 unfolding is_window
 window_by_size m n b same_length = ap (λ t. b.base == 0 && b.size == 0 || t) (well_formed_by_size m n b same_length)
 
--- whether a record is valid depends on the size of the memory only
+-- a valid record stays valid in a memory of the same size
 slot_by_size : (m n : List ℕ) (o : Option SlotInfo) → length m ≡ length n → IfSome o (IsValidSlot m) → IfSome o (IsValidSlot n)
-slot_by_size m n None same_length law = tt
-slot_by_size m n (Some info) same_length law = record {
-  region = sym (well_formed_by_size m n info.region same_length) ∙ law.region;
-  window = sym (window_by_size m n info.window same_length) ∙ law.window;
-  aligned = law.aligned;
-  entry = law.entry;
-  measured = law.measured;
+slot_by_size m n None same_length slot_valid = tt
+slot_by_size m n (Some info) same_length slot_valid = record {
+  region = sym (well_formed_by_size m n info.region same_length) ∙ slot_valid.region;
+  window = sym (window_by_size m n info.window same_length) ∙ slot_valid.window;
+  aligned = slot_valid.aligned;
+  entry = slot_valid.entry;
+  measured = slot_valid.measured;
 }
 
--- whether a table is valid depends on the size of the memory only
+-- a valid table stays valid with a memory of the same size
 pub valid_by_size : (m n : List ℕ) (slots : Slots) → length m ≡ length n → IsValid m slots → IsValid n slots
-valid_by_size m n slots same_length valid = record {
-  ram = sym (ap is_ram_size same_length) ∙ valid.ram;
-  count = valid.count;
-  well_formed = λ k. slot_by_size m n (slot_at slots k) same_length (valid.well_formed k);
-  regions_apart = valid.regions_apart;
-  windows_apart = valid.windows_apart;
-  regions_free = valid.regions_free;
-  windows_free = valid.windows_free;
+valid_by_size m n slots same_length table_valid = record {
+  ram = sym (ap is_ram_size same_length) ∙ table_valid.ram;
+  count = table_valid.count;
+  well_formed = λ k. slot_by_size m n (slot_at slots k) same_length (table_valid.well_formed k);
+  regions_apart = table_valid.regions_apart;
+  windows_apart = table_valid.windows_apart;
+  regions_free = table_valid.regions_free;
+  windows_free = table_valid.windows_free;
 }

@@ -43,7 +43,7 @@ call_numbered (Enclave k) a7 a6 =
 
 -- ---- the arguments
 
--- the region in a0 and a1, and the window in a2 and a3; a size of 0 means none
+-- the region that a0 and a1 name
 abbrev pub region_named : List ℕ → Block
 region_named regs = record { base = register regs 10; size = register regs 11 }
 
@@ -63,54 +63,55 @@ slot_named (Enclave k) regs = k
 
 -- ---- the conditions
 
--- a power of two from 4096 up, at a multiple of it, inside the memory, which begins at 80000000
+-- Whether a block may be a region. Its size is a power of two from 4096 on, and its base is a multiple of the size. The block is inside memory, which
+-- begins at 80000000.
 abbrev pub is_block_of : List ℕ → Block → Bool
 is_block_of memory block =
     list_any (λ k. block.size == 2 ^ k) (range_with_len 12 20) && (block.base % block.size == 0
     && (nat_le 0x80000000 block.base && nat_le (block.base + block.size) (0x80000000 + length memory)))
 
--- what the monitor keeps for itself
+-- the range of addresses that the monitor keeps for itself
 abbrev pub monitor_range : Block
 monitor_range = record { base = 0x80000000; size = 0x10000 }
 
--- a region and a window overlap an enclave in bytes that the two may not share
+-- whether a region and a window overlap an enclave in bytes that the two may not share
 abbrev pub overlap_enclave : Block → Block → Option SlotInfo → Bool
 overlap_enclave region window slot =
     option_case slot false (λ info. meets region info.region || (meets region info.window || meets window info.region))
 
--- the lowest slot of the 13 without a record
+-- the lowest slot of the 13 slots without a record, if there is one
 abbrev pub lowest_free : Slots → Option ℕ
 lowest_free slots = find (λ k. is_none (record_at slots k)) (range_with_len 0 13)
 
--- the states that run, resume and destroy accept
+-- whether an enclave is in the state in which run accepts it
 abbrev pub is_fresh : EnclaveState → Bool
 is_fresh Fresh = true
 is_fresh Running = false
 is_fresh Stopped = false
 is_fresh Exited = false
 
--- the state in which resume accepts an enclave
+-- whether an enclave is in the state in which resume accepts it
 abbrev pub is_stopped : EnclaveState → Bool
 is_stopped Fresh = false
 is_stopped Running = false
 is_stopped Stopped = true
 is_stopped Exited = false
 
--- the states in which destroy accepts an enclave
+-- whether an enclave is in a state in which destroy accepts it
 abbrev pub does_not_run : EnclaveState → Bool
 does_not_run Fresh = true
 does_not_run Running = false
 does_not_run Stopped = true
 does_not_run Exited = true
 
--- S may store a byte
+-- whether S-mode may store a byte
 abbrev pub is_storable : List ℕ → Entries → ℕ → Bool
 is_storable memory entries byte =
     nat_le 0x80000000 byte && nat_le (byte + 1) (0x80000000 + length memory) && permits (verdict entries S Write (bytes_from byte 1))
 
 -- ---- the statuses of each call: the first row whose condition holds decides
 
--- the refusals of create: region, window, overlap, entry, no slot
+-- the refusals of create with their statuses: region, window, overlap, entry, no slot
 unfoldable pub create_rows : Shared → List ℕ → List (Bool × ℕ)
 create_rows shared regs =
     let region = region_named regs in
@@ -118,7 +119,11 @@ create_rows shared regs =
     let entry = register regs 14 in
     (not (is_block_of shared.memory region), 0xFFFFFFFE)
     ∷ (not (register regs 13 == 0 || is_block_of shared.memory window), 0xFFFFFFFD)
-    ∷ (meets monitor_range region || (meets monitor_range window || (meets region window || list_any (overlap_enclave region window) shared.table)), 0xFFFFFFFC)
+    ∷ (
+      meets monitor_range region
+          || (meets monitor_range window || (meets region window || list_any (overlap_enclave region window) shared.table)),
+      0xFFFFFFFC,
+    )
     ∷ (not (entry % 4 == 0 && (nat_le region.base entry && nat_lt entry (region.base + region.size))), 0xFFFFFFFB)
     ∷ (is_none (lowest_free shared.table), 0xFFFFFFFA)
     ∷ []
@@ -147,7 +152,7 @@ call_rows world shared entries regs Measure = measure_rows shared entries (slot_
 call_rows world shared entries regs Stop = []
 call_rows world shared entries regs Exit = []
 
--- 0 if no row holds: the call succeeds
+-- the status of a table: the status of the first row whose condition holds, or 0 for success if no row holds
 abbrev pub first_status : List (Bool × ℕ) → ℕ
 first_status [] = 0
 first_status ((true, status) ∷ rows) = status
@@ -156,11 +161,13 @@ first_status ((false, status) ∷ rows) = first_status rows
 -- the status of any request
 unfoldable pub call_status : World → Shared → Entries → List ℕ → ℕ
 call_status world shared entries regs =
-    option_case (call_numbered world (register regs 17) (register regs 16)) 0xFFFFFFFF (λ call. first_status (call_rows world shared entries regs call))
+    option_case (call_numbered world (register regs 17) (register regs 16)) 0xFFFFFFFF
+    (λ call. first_status (call_rows world shared entries regs call))
 
 -- ---- the effects
 
--- a new enclave: Fresh, measured, in the lowest free slot; its first registers are those of its region and window, and it starts at its entry
+-- The shared state after a create: the new enclave is Fresh, measured and in the lowest free slot. Its first registers are those of its region and
+-- window, and it starts at its entry.
 unfoldable pub shared_with_new : Shared → List ℕ → Shared
 shared_with_new shared regs =
     let region = region_named regs in
@@ -172,19 +179,22 @@ shared_with_new shared regs =
         region = region;
         window = window;
         entry = entry;
-        measurement = sha256 ((bytes_of 4 region.base ++ bytes_of 4 region.size ++ bytes_of 4 window.base ++ bytes_of 4 window.size ++ bytes_of 4 entry)
+        measurement =
+            sha256 ((bytes_of 4 region.base ++ bytes_of 4 region.size ++ bytes_of 4 window.base ++ bytes_of 4 window.size ++ bytes_of 4 entry)
             ++ option_case (read shared.memory region.base region.size) [] (λ bytes. bytes));
         state = Fresh;
       }));
       contexts = slice_set shared.contexts k (Some (record {
-        regs = with_register (with_register (with_register (with_register (replicate 32 0) 10 region.base) 11 region.size) 12 window.base) 13 window.size;
+        regs =
+            with_register
+            (with_register (with_register (with_register (replicate 32 0) 10 region.base) 11 region.size) 12 window.base) 13 window.size;
         pc = entry;
         mode = S;
         supervisor = record { stvec = 0; sscratch = 0; sepc = 0; scause = 0; stval = 0; sie = false; spie = false; spp = false; mxr = false };
       }));
     }
 
--- the region of a destroyed enclave is zeroed, and its record and saved context are gone
+-- the shared state after a destroy: the region of the enclave is zeroed, and its record and saved context are gone
 unfoldable pub shared_without : Shared → ℕ → Shared
 shared_without shared k =
     let region = option_case (record_at shared.table k) (record { base = 0; size = 0 }) (λ info. info.region) in
@@ -194,7 +204,7 @@ shared_without shared k =
       contexts = slice_set shared.contexts k None;
     }
 
--- the 32 bytes of its measurement are stored
+-- the shared state after a measure: the 32 bytes of the measurement are stored
 unfoldable pub shared_with_measurement : Shared → ℕ → ℕ → Shared
 shared_with_measurement shared k address =
     let measurement = option_case (record_at shared.table k) [] (λ info. info.measurement) in
@@ -229,12 +239,12 @@ CallNumbersLaw = (shared : Shared) (entries : Entries) (regs : List ℕ) → Are
 
 -- ---- the calls that are accepted, without tests
 
--- a7 has the key, and a6 the number of the call
+-- the registers request the call with this number: a7 has the key, and a6 the number
 pub record Requests (number : ℕ) (regs : List ℕ) : Type 0 where
   pub a7 : register regs 17 ≡ 0x0A454E43
   pub a6 : register regs 16 ≡ number
 
--- the slot has an enclave in a state
+-- the slot has an enclave in this state
 pub record HasState (slots : Slots) (k : ℕ) (state : EnclaveState) : Type 0 where
   pub info : SlotInfo
   pub held : record_at slots k ≡ Some info
@@ -246,7 +256,7 @@ pub record IsAtRest (slots : Slots) (k : ℕ) : Type 0 where
   pub held : record_at slots k ≡ Some info
   pub not_running : info.state ≢ Running
 
--- a block that an enclave may have
+-- the properties of a block that may be a region
 pub record IsBlockOf (memory : List ℕ) (block : Block) : Type 0 where
   pub exponent : ℕ
   pub at_least : 12 ≤ exponent
@@ -256,7 +266,7 @@ pub record IsBlockOf (memory : List ℕ) (block : Block) : Type 0 where
   pub from : 0x80000000 ≤ block.base
   pub to : block.base + block.size ≤ 0x80000000 + length memory
 
--- the arguments in a0 to a4 are good, and this is the lowest free slot
+-- the arguments in a0 to a4 meet the conditions of create, and this is the lowest free slot
 pub record IsCreatable (shared : Shared) (regs : List ℕ) (slot : ℕ) : Type 0 where
   pub region : IsBlockOf shared.memory (region_named regs)
   pub window : (register regs 13 ≡ 0) ⊎ IsBlockOf shared.memory (window_named regs)
@@ -271,19 +281,19 @@ pub record IsCreatable (shared : Shared) (regs : List ℕ) (slot : ℕ) : Type 0
   pub free : record_at shared.table slot ≡ None
   pub lowest : (j : ℕ) → j < slot → is_some (record_at shared.table j) ≡ true
 
--- the enclave of the slot is live, the 32 bytes are in the memory, and S may store each of them
+-- the enclave of the slot is live, the 32 bytes are in the memory, and S-mode may store each of them
 pub record IsMeasurable (shared : Shared) (entries : Entries) (k address : ℕ) : Type 0 where
   pub live : is_some (record_at shared.table k) ≡ true
   pub from : 0x80000000 ≤ address
   pub to : address + 32 ≤ 0x80000000 + length shared.memory
   pub storable : (byte : ℕ) → address ≤ byte → byte < address + 32 → permits (verdict entries S Write (bytes_from byte 1)) ≡ true
 
--- the call that the registers request, without a refusal
+-- the registers request this call, and the monitor does not refuse it
 pub record IsAccepted (world : World) (shared : Shared) (entries : Entries) (regs : List ℕ) (call : Call) : Type 0 where
   pub requested : call_numbered world (register regs 17) (register regs 16) ≡ Some call
   pub status : call_status world shared entries regs ≡ 0
 
--- of a create, the slot is the lowest that is free
+-- Each call is accepted under its conditions in numbers. A create gets the lowest free slot.
 pub record AcceptsCalls (shared : Shared) (entries : Entries) (regs : List ℕ) : Type 0 where
   pub create : (slot : ℕ) → Requests 1 regs → IsCreatable shared regs slot
       → IsAccepted Host shared entries regs Create × (lowest_free shared.table ≡ Some slot)
@@ -295,6 +305,6 @@ pub record AcceptsCalls (shared : Shared) (entries : Entries) (regs : List ℕ) 
   pub stop : (k : ℕ) → Requests 6 regs → IsAccepted (Enclave k) shared entries regs Stop
   pub exit : (k : ℕ) → Requests 7 regs → IsAccepted (Enclave k) shared entries regs Exit
 
--- under its conditions, each call is accepted, for every state and all registers
+-- each call is accepted under its conditions in numbers, for every state and all registers
 abbrev pub AcceptsCallsLaw : Type 0
 AcceptsCallsLaw = (shared : Shared) (entries : Entries) (regs : List ℕ) → AcceptsCalls shared entries regs

@@ -31,7 +31,7 @@ call_number Exit = 7
 abbrev pub calls : List Call
 calls = Create ∷ Destroy ∷ Run ∷ Resume ∷ Measure ∷ Stop ∷ Exit ∷ []
 
--- whether a call belongs to a world
+-- whether a call is offered to a world
 abbrev pub is_offered : World → Call → Bool
 is_offered Host Stop = false
 is_offered Host Exit = false
@@ -46,11 +46,11 @@ unfoldable pub call_requested : World → ℕ → ℕ → Option Call
 call_requested world a7 a6 =
     if a7 == call_key then find (λ call. call_number call == a6 && is_offered world call) calls else None
 
--- the call that its registers request
+-- the call that the registers of a world request
 abbrev pub requested_call : World → List ℕ → Option Call
 requested_call world regs = call_requested world (register regs 17) (register regs 16)
 
--- the states that a call accepts; none accepts an enclave that runs
+-- Whether a call accepts an enclave in a state. No call accepts an enclave that runs.
 abbrev pub takes : Call → EnclaveState → Bool
 takes _ Running = false
 takes Destroy Fresh = true

@@ -33,7 +33,8 @@ with_return_values regs a0 a1 = with_register (with_register regs 10 a0) 11 a1
 -- the first entry: a0 to a3 have the base and size of the enclave's region and window
 unfoldable pub first_context : SlotInfo → Context
 first_context info = record {
-  regs = with_register (with_register (with_return_values (replicate 32 0) info.region.base info.region.size) 12 info.window.base) 13 info.window.size;
+  regs =
+      with_register (with_register (with_return_values (replicate 32 0) info.region.base info.region.size) 12 info.window.base) 13 info.window.size;
   pc = info.entry;
   mode = S;
   supervisor = no_supervisor;

@@ -28,33 +28,32 @@ create_args_of regs = record {
   entry = register regs 14;
 }
 
--- the new enclave would overlap a live one in bytes that the two may not share
+-- whether the new enclave would overlap a live one in bytes that the two may not share
 abbrev pub collides : CreateArgs → Option SlotInfo → Bool
 collides new None = false
 collides new (Some info) =
     meets new.region info.region || (meets new.region info.window || meets new.window info.region)
 
--- the region or the window meets the monitor's range, the other of the two, or a live enclave
+-- whether the new region or window meets the monitor's range, the other of the two, or a live enclave in bytes that may not be shared
 unfoldable pub overlaps : Slots → CreateArgs → Bool
 overlaps slots new =
     meets monitor_block new.region || (meets monitor_block new.window || (meets new.region new.window
     || list_any (collides new) slots))
 
--- the entry point is a multiple of 4 in the region
+-- whether the entry point is a multiple of 4 in the region
 unfoldable pub is_entry : CreateArgs → Bool
 is_entry new = new.entry % 4 == 0 && has new.region new.entry
 
--- the bytes of a block; [] if it is not inside memory, which BadRegion refuses
+-- the bytes of a block, or [] if the block is not inside memory, which the refusal BadRegion excludes
 abbrev pub bytes_of_block : List ℕ → Block → List ℕ
 bytes_of_block memory block = option_case (read memory block.base block.size) [] (λ bytes. bytes)
 
--- the bytes that are measured: base, size, window base, window size and entry point, four bytes each, the lowest first, and the region's
--- bytes
+-- the first part of the measured bytes: base, size, window base, window size and entry point, four bytes each, the lowest byte first
 abbrev pub heading : CreateArgs → List ℕ
 heading new =
     bytes_of 4 new.region.base ++ bytes_of 4 new.region.size ++ bytes_of 4 new.window.base ++ bytes_of 4 new.window.size ++ bytes_of 4 new.entry
 
--- the input of SHA-256: the five arguments, and the bytes of the region
+-- the measured bytes, which are the input of SHA-256: the five arguments, and the bytes of the region
 abbrev pub measured_bytes : List ℕ → CreateArgs → List ℕ
 measured_bytes memory new = heading new ++ bytes_of_block memory new.region
 
@@ -72,7 +71,7 @@ recorded memory new = record {
   state = Fresh;
 }
 
--- a slot with a record and its first context
+-- the shared state with a record and its first context in slot k
 abbrev pub with_enclave : Shared → ℕ → SlotInfo → Shared
 with_enclave shared k info = record shared {
   table = with_slot shared.table k (Some info);
@@ -89,7 +88,7 @@ create_refusals shared new =
     ∷ (is_none (free_slot shared.table), NoSlot)
     ∷ []
 
--- the lowest free slot; the number of slots if there is none, which NoSlot refuses
+-- the lowest free slot, or the number of slots if there is none, which the refusal NoSlot excludes
 abbrev pub new_slot : Slots → ℕ
 new_slot slots = option_case (free_slot slots) slot_count (λ k. k)
 

@@ -44,7 +44,8 @@ pub last_word_within : cfg_word (layout (with_slot no_slots 0 (Some example)) (E
 unfolding layout entry_at
 last_word_within = refl
 
--- its region is bytes 1 and 2 of a memory of four, and x1 to x31 of its saved context are `word`
+-- A shared state with an ended enclave in slot 3. Its region is bytes 1 and 2 of a memory of four bytes, and x1 to x31 of its saved context are
+-- `word`.
 abbrev ended : List ℕ → ℕ → Shared
 ended memory word = record {
   memory = memory;

@@ -23,34 +23,34 @@ unused = record { cfg = 0x00; addr = 0x00000000 }
 abbrev pub napot : ℕ → Block → Entry
 napot cfg block = record { cfg = cfg; addr = block.base / 4 + (block.size / 8 - 1) }
 
--- cfg bytes: NAPOT without permissions, with R and W, and with R, W and X
+-- the cfg byte of a NAPOT entry without permissions
 abbrev pub no_permission : ℕ
 no_permission = 0x18
 
--- NAPOT with R and W
+-- the cfg byte of a NAPOT entry with R and W
 abbrev pub read_write : ℕ
 read_write = 0x1B
 
--- NAPOT with R, W and X
+-- the cfg byte of a NAPOT entry with R, W and X
 abbrev pub all : ℕ
 all = 0x1F
 
--- the region of slot k is open while its enclave runs
+-- the PMP entry for the region of slot k, which grants every access while the enclave of slot k runs, and no access otherwise
 abbrev pub region_entry : World → ℕ → Option SlotInfo → Entry
 region_entry world k None = unused
 region_entry world k (Some info) = napot (if is_world_of k world then all else no_permission) info.region
 
--- the window of the enclave that runs
+-- the PMP entry for the window of a record
 abbrev pub window_entry_of : Option SlotInfo → Entry
 window_entry_of None = unused
 window_entry_of (Some info) = if info.window.size == 0 then unused else napot read_write info.window
 
--- entry 14: the window of the enclave that runs, and off for the host
+-- PMP entry 14, for the window of the enclave that runs. It is off for the host.
 abbrev pub window_entry : Slots → World → Entry
 window_entry slots Host = unused
 window_entry slots (Enclave k) = window_entry_of (slot_at slots k)
 
--- everything, while the host runs
+-- PMP entry 15, which grants every access while the host runs, and is off while an enclave runs
 abbrev pub host_entry : World → Entry
 host_entry Host = record { cfg = all; addr = 0xFFFFFFFF }
 host_entry (Enclave k) = unused
@@ -70,7 +70,7 @@ layout slots world = record {
   addrs = map (λ i. (entry_at slots world i).addr) (range_with_len 0 16);
 }
 
--- MTIE while an enclave runs
+-- the value of mie for a world: MTIE is set while an enclave runs
 abbrev pub mie_of : World → ℕ
 mie_of Host = 0x00000000
 mie_of (Enclave k) = 0x00000080

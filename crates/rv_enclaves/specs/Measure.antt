@@ -15,25 +15,25 @@ use Rattle.rv_enclaves.specs.declared.shared.Shared.{Shared}
 use Rattle.rv_enclaves.specs.declared.world.World.{World}
 use Rattle.rv_enclaves.specs.declared.world.World.TheVariants.{Host, Enclave}
 
--- the slot that is measured: the one that the host names, or the caller's own
+-- the slot that a measure is about: the slot that the host names, or the slot of the calling enclave
 abbrev pub measured_slot : World → ℕ → ℕ
 measured_slot Host named = named
 measured_slot (Enclave k) named = k
 
--- whether mode S may store one byte
+-- whether S-mode may store one byte
 abbrev pub may_store : List ℕ → Entries → ℕ → Bool
 may_store memory entries address =
     is_inside memory address 1 && permits (verdict entries S Write (bytes_from address 1))
 
--- each byte is checked separately, and all are checked before any is written
+-- Whether S-mode may store the 32 bytes of a measurement. Each byte is checked separately, and all bytes are checked before any byte is written.
 unfoldable pub may_store_all : List ℕ → Entries → ℕ → Bool
 may_store_all memory entries address = list_all (may_store memory entries) (range_with_len address 32)
 
--- the memory with the bytes at an address, if they are inside it
+-- the memory with the bytes at an address, or the same memory if they are not inside it
 abbrev pub with_bytes_at : List ℕ → ℕ → List ℕ → List ℕ
 with_bytes_at memory address bytes = option_case (write memory address bytes) memory (λ after. after)
 
--- the recorded measurement of the enclave of a slot; [] if none is live, which NoEnclave refuses
+-- the recorded measurement of the enclave of a slot, or [] if no enclave is live there, which the refusal NoEnclave excludes
 abbrev pub measurement_at : Slots → ℕ → List ℕ
 measurement_at slots k = option_case (slot_at slots k) [] (λ info. info.measurement)
 

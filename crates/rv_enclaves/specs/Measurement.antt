@@ -13,12 +13,12 @@ use Rattle.rv_enclaves.specs.declared.slot_info.SlotInfo.{SlotInfo}
 abbrev pub args_of : SlotInfo → CreateArgs
 args_of info = record { region = info.region; window = info.window; entry = info.entry }
 
--- the arguments are equal, and so are the bytes of the region
+-- the create arguments of two records are equal, and so are the bytes of their regions
 pub record SameMeasured (m n : List ℕ) (one other : SlotInfo) : Type 0 where
   pub args : args_of one ≡ args_of other
   pub bytes : EqualOutside (λ byte. not (has one.region byte)) m n
 
--- equal measured bytes of two valid enclaves have equal arguments and equal bytes of the region
+-- two valid enclaves with equal measured bytes have equal arguments and equal bytes of the region
 abbrev pub MeasurementLaw : Type 0
 MeasurementLaw =
     (m n : List ℕ) (one other : SlotInfo) → is_ram_size (length m) ≡ true → length m ≡ length n → IsValidSlot m one → IsValidSlot n other

@@ -14,11 +14,11 @@ first_refusal [] = None
 first_refusal ((true, refusal) ∷ rows) = Some refusal
 first_refusal ((false, refusal) ∷ rows) = first_refusal rows
 
--- the enclave of a slot is in a state that a call accepts
+-- whether the enclave of a slot is in a state that a call accepts
 abbrev pub has_state_for : Slots → Call → ℕ → Bool
 has_state_for slots call k = option_case (slot_at slots k) false (λ info. takes call info.state)
 
--- destroy, run and resume, for the enclave of slot k
+-- the refusals of destroy, run and resume for the enclave of slot k
 unfoldable pub state_refusals : Slots → Call → ℕ → List (Bool × Refusal)
 state_refusals slots call k =
     (not (is_live slots k), NoEnclave)

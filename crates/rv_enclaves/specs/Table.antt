@@ -78,7 +78,7 @@ abbrev pub with_state : Slots → ℕ → EnclaveState → Slots
 with_state slots k state =
     option_case (slot_at slots k) slots (λ info. with_slot slots k (Some (record info { state = state })))
 
--- the world: the host, or the enclave of slot k
+-- whether the world is the host
 abbrev pub is_host : World → Bool
 is_host Host = true
 is_host (Enclave k) = false

@@ -12,10 +12,11 @@ access_control_law state mode access address width kept below inside =
     (sym kept.hart.layout.entries)
     (reach_law state.shared.memory state.shared.table state.hart_state.world mode access address width kept.valid below inside)
 
--- a mode that is not M by the test is not M
+-- a mode that passes the test `is_machine` with false is not M
 pub below_M : (mode : Mode) → is_machine mode ≡ false → mode ≢ M
-below_M mode below same = let machine : is_machine mode ≡ true = rw same refl in let never : true ≡ false = sym machine ∙ below in cc
+below_M mode mode_below_m same =
+    let machine : is_machine mode ≡ true = rw same refl in let contradiction : true ≡ false = sym machine ∙ mode_below_m in cc
 
--- if MPRV is 0, the hart's own mode decides loads and stores
+-- if MPRV is 0, then loads and stores use the mode of the hart
 pub data_below : (state : HartView) → HartViewInvariant state → is_machine (data_mode state.hart_state.hart) ≡ false
-data_below state kept = let clear = kept.hart.layout.mprv in rw clear kept.hart.layout.mode
+data_below state view_invariant = let mprv_is_clear = view_invariant.hart.layout.mprv in rw mprv_is_clear view_invariant.hart.layout.mode

@@ -1,4 +1,5 @@
--- A set timer line makes an enclave exit.
+-- Availability: if the timer line of a hart is set, then the next step of an enclave on this hart exits to the host. The host can then destroy the
+-- enclave.
 use Rattle.std.proofs.Common.{◌≡◌, ℕ, true, length, Option, Some, None, refl, ◌∙◌, ap, arith}
 use Rattle.std.specs.Prelude.{is_some}
 use Rattle.rv_state.specs.declared.cause.Interrupt.TheVariants.{MachineTimer}
@@ -16,50 +17,53 @@ use Rattle.rv_monitor.proofs.InvariantLemmas.{hart_view_invariant}
 use Rattle.rv_monitor.proofs.Leaving.{leave_law, left_hart_state}
 use Rattle.rv_monitor.proofs.HartCases.{step_seen}
 use Rattle.rv_monitor.proofs.TrapSteps.{same_outcome}
+use Rattle.rv_enclaves.specs.SlotNumbers.{slot_count}
 
 -- ---- the timer interrupt
 
--- a step with a pending timer interrupt takes it
-taken : (state : Machine) → pending state.hart.csrs state.hart.mode ≡ Some MachineTimer → (step state).outcome.trap ≡ Some timer_trap
+-- if the timer interrupt is pending, then the next step takes this interrupt
+takes_timer : (state : Machine) → pending state.hart.csrs state.hart.mode ≡ Some MachineTimer → (step state).outcome.trap ≡ Some timer_trap
 unfolding step
-taken state pending_is = rw pending_is refl
+takes_timer state pending_is = rw pending_is refl
 
--- a world that is the host by the test is the host
+-- a world that passes the test `is_host` is the host
 pub host_is : (world : World) → is_host world ≡ true → world ≡ Host
 host_is Host host_runs = refl
 host_is (Enclave k) host_runs = cc
 
--- a destroy of a live enclave whose state is Stopped is not refused
-stopped_ends : (slots : Slots) (k : ℕ) (o : Option SlotInfo) → length slots ≡ 13 → slot_at slots k ≡ o → is_some o ≡ true
+-- the monitor does not refuse a destroy of a live enclave with the state Stopped
+stopped_ends : (slots : Slots) (k : ℕ) (o : Option SlotInfo) → length slots ≡ slot_count → slot_at slots k ≡ o → is_some o ≡ true
     → first_refusal (state_refusals (option_case o slots (λ info. with_slot slots k (Some (record info { state = Stopped })))) Destroy k) ≡ None
 unfolding state_refusals
-stopped_ends slots k None count slot_is live = cc
-stopped_ends slots k (Some info) count slot_is live =
-    let within = live_in_range slots k info count slot_is in
-    let there = at_same slots k (Some (record info { state = Stopped })) (omega (arith, count, within)) in
-    rw there refl
+stopped_ends slots k None table_length slot_is is_present = cc
+stopped_ends slots k (Some info) table_length slot_is is_present =
+    let slot_in_range = live_in_range slots k info table_length slot_is in
+    let at_k = at_same slots k (Some (record info { state = Stopped })) (omega (arith, table_length, slot_in_range)) in
+    rw at_k refl
 
--- proves that an enclave on a hart whose timer line is set exits by the timer interrupt
+-- proves that an enclave exits by the timer interrupt if the timer line of its hart is set
 pub timer_exits : (hart : ℕ) (machine : MonitoredMachine) → Invariant machine → TimerExits hart machine (step_of hart machine)
-timer_exits hart machine kept k host runs waiting up =
+timer_exits hart machine invariant k host runs host_is_saved timer_set =
     let in_range = runs_here k hart machine runs in
     let state = hart_view hart machine in
-    let own = hart_view_invariant hart machine kept in_range in
-    let enabled : state.hart_state.hart.csrs.mie ≡ 0x80 = own.hart.layout.mie ∙ ap mie_of runs in
-    let bare = taken (bare_machine state)
-    (waits state.hart_state.hart.csrs state.hart_state.hart.mode own.hart.layout.mode enabled ∙ ap timer_or_none up) in
+    let view_invariant = hart_view_invariant hart machine invariant in_range in
+    let enabled : state.hart_state.hart.csrs.mie ≡ 0x80 = view_invariant.hart.layout.mie ∙ ap mie_of runs in
+    let bare = takes_timer (bare_machine state)
+    (waits state.hart_state.hart.csrs state.hart_state.hart.mode view_invariant.hart.layout.mode enabled ∙ ap timer_or_none timer_set) in
     let trap_is : (step_of hart machine).outcome.step.trap ≡ Some timer_trap =
     ap (λ (after : HartViewStepped). after.outcome.step.trap) (step_seen hart machine in_range)
     ∙ ap (λ (o : StepOutcome). o.trap) (same_outcome state) ∙ bare in
-    let world = host_is _ ((exits_law hart machine kept k runs).exits timer_trap trap_is) in
-    let both = leave_law hart machine kept k host timer_trap runs waiting trap_is world in
+    let world = host_is _ ((exits_law hart machine invariant k runs).exits timer_trap trap_is) in
+    let both = leave_law hart machine invariant k host timer_trap runs host_is_saved trap_is world in
     let left = both.0 in
-    let live : is_live machine.shared.table k ≡ true = running_is_live k hart machine kept (ap (is_world_of k) runs ∙ eq-eqb k k refl) in
+    let live : is_live machine.shared.table k ≡ true = running_is_live k hart machine invariant (ap (is_world_of k) runs ∙ eq-eqb k k refl) in
     record {
       trapped = trap_is;
       left = (left, both.1);
-      result = ap (λ (m : MonitoredMachine). (hart_state_of hart m).hart.regs) left ∙ ap (λ (s : HartState). s.hart.regs) (left_hart_state hart machine k timer_trap host in_range);
+      result =
+          ap (λ (m : MonitoredMachine). (hart_state_of hart m).hart.regs) left
+          ∙ ap (λ (s : HartState). s.hart.regs) (left_hart_state hart machine k timer_trap host in_range);
       world = world;
       destroyable = ap (λ (m : MonitoredMachine). first_refusal (state_refusals m.shared.table Destroy k)) left
-          ∙ stopped_ends machine.shared.table k (slot_at machine.shared.table k) own.valid.count refl live;
+          ∙ stopped_ends machine.shared.table k (slot_at machine.shared.table k) view_invariant.valid.count refl live;
     }

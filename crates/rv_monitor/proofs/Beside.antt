@@ -1,58 +1,60 @@
--- An enclave that runs on a hart: it is live, and continues during a step of another hart.
-use Rattle.std.proofs.Common.{◌≡◌, ◌≢◌, ◌<◌, ℕ, Bool, true, false, Option, Some, None, refl, sym, ◌∙◌, ap, inl, inr}
-use Rattle.std.specs.Prelude.{◌||◌, is_some}
+-- An enclave that runs on some hart is live, has the state Running, and still runs on this hart after a step of another hart.
+use Rattle.std.proofs.Common.{◌≡◌, ◌≢◌, ◌<◌, ℕ, true, false, Option, Some, None, refl, sym, ◌∙◌, ap, inl, inr}
+use Rattle.std.specs.Prelude.{is_some}
 use Rattle.std.proofs.lemmas.List.Folds.{list_any_at}
 use Rattle.rv_monitor.specs.Prelude.{Host, HartState, is_live, is_running, is_world_of, option_case, slot_at}
 use Rattle.rv_monitor.proofs.Prelude.{Invariant, MonitoredMachine, SlotInfo, both_ways, cases_lt, count_of, list_any, runs_on, hart_state_of, reprogrammed}
 use Rattle.rv_monitor.proofs.Prelude.{step_of, worlds}
+use Rattle.rv_monitor.proofs.Booleans.{right_if_not_left}
 use Rattle.rv_monitor.proofs.Others.{any_prefix}
 use Rattle.rv_monitor.proofs.InvariantLemmas.{beside, has_world, world_at, worlds_are}
 use Rattle.rv_monitor.proofs.HartCases.{past_hart_state, step_programmed}
 
--- its hart is a hart of the machine
+-- a hart that runs an enclave is a hart of the machine
 pub runs_inside : (k j : ℕ) (machine : MonitoredMachine) → runs_on k j machine ≡ true → j < count_of machine
-runs_inside k j machine runs = elim (cases_lt j (count_of machine)) [
-  | inl inside ↦ inside
-  | inr past ↦
-      let never : false ≡ true = sym (ap (λ (s : HartState). is_world_of k s.world) (past_hart_state machine.hart_states j past)) ∙ runs in
+runs_inside k j machine runs_on_hart = elim (cases_lt j (count_of machine)) [
+  | inl in_range ↦ in_range
+  | inr past_last ↦
+      let contradiction : false ≡ true =
+      sym (ap (λ (s : HartState). is_world_of k s.world) (past_hart_state machine.hart_states j past_last)) ∙ runs_on_hart in
       cc
 ]
 
 -- an enclave that runs on some hart is among the worlds of the machine
 pub runs_among : (k j : ℕ) (machine : MonitoredMachine) → runs_on k j machine ≡ true → list_any (is_world_of k) (worlds machine) ≡ true
-runs_among k j machine runs =
-    let in_range = runs_inside k j machine runs in
-    list_any_at (is_world_of k) (worlds machine) j Host (has_world j machine in_range) (ap (is_world_of k) (world_at j machine in_range) ∙ runs)
+runs_among k j machine runs_on_hart =
+    let in_range = runs_inside k j machine runs_on_hart in
+    list_any_at (is_world_of k) (worlds machine) j Host (has_world j machine in_range)
+    (ap (is_world_of k) (world_at j machine in_range) ∙ runs_on_hart)
 
--- a slot whose state is Running is live
-pub live_by : (o : Option SlotInfo) → option_case o false (λ info. is_running info.state) ≡ true → is_some o ≡ true
-live_by None runs = runs
-live_by (Some info) runs = refl
+-- a slot whose record has the state Running is live
+pub live_if_running : (o : Option SlotInfo) → option_case o false (λ info. is_running info.state) ≡ true → is_some o ≡ true
+live_if_running None runs = runs
+live_if_running (Some info) runs = refl
 
 -- an enclave that runs on some hart is live
 pub running_is_live : (k j : ℕ) (machine : MonitoredMachine) → Invariant machine → runs_on k j machine ≡ true → is_live machine.shared.table k ≡ true
-running_is_live k j machine kept runs = live_by (slot_at machine.shared.table k) (kept.shared.running k ∙ runs_among k j machine runs)
+running_is_live k j machine invariant runs_on_hart =
+    live_if_running (slot_at machine.shared.table k) (invariant.shared.running k ∙ runs_among k j machine runs_on_hart)
 
 -- ---- the other harts
 
--- if an or holds and its first part does not, the second part does
-right_of : (a b : Bool) → a ≡ false → (a || b) ≡ true → b ≡ true
-right_of a b none is = rw none at is
-
--- it runs on one of the other harts, if it does not run on this one
-pub running_is_undisturbed : (k hart own : ℕ) (machine : MonitoredMachine) → hart < count_of machine → runs_on k own machine ≡ true
+-- an enclave that runs on some hart, and not on the hart that steps, is among the worlds of the other harts
+pub runs_beside : (k hart own : ℕ) (machine : MonitoredMachine) → hart < count_of machine → runs_on k own machine ≡ true
     → runs_on k hart machine ≡ false → list_any (is_world_of k) (beside hart machine) ≡ true
-running_is_undisturbed k hart own machine in_range runs not_running =
-    right_of (runs_on k hart machine) _ not_running
+runs_beside k hart own machine in_range runs_on_hart not_running =
+    right_if_not_left (runs_on k hart machine) _
     (sym (any_prefix (is_world_of k) (worlds machine) hart (hart_state_of hart machine).world (has_world hart machine in_range))
-    ∙ ap (list_any (is_world_of k)) (worlds_are hart machine in_range) ∙ runs_among k own machine runs)
+    ∙ ap (list_any (is_world_of k)) (worlds_are hart machine in_range) ∙ runs_among k own machine runs_on_hart)
+    not_running
 
--- an enclave that runs on hart j, and not on the hart that steps, runs on another hart
-pub not_same : (k hart j : ℕ) (machine : MonitoredMachine) → runs_on k hart machine ≡ false → runs_on k j machine ≡ true → j ≢ hart
-not_same k hart j machine not_running runs same = both_ways _ not_running (ap (λ (i : ℕ). runs_on k i machine) (sym same) ∙ runs)
+-- if an enclave runs on hart j and not on the hart that steps, then j is another hart
+pub is_other_hart : (k hart j : ℕ) (machine : MonitoredMachine) → runs_on k hart machine ≡ false → runs_on k j machine ≡ true → j ≢ hart
+is_other_hart k hart j machine not_running runs_on_hart same = both_ways _ not_running (ap (λ (i : ℕ). runs_on k i machine) (sym same) ∙ runs_on_hart)
 
--- a step of this hart leaves the other hart as it was, except for the PMP entries and mie
-pub hart_state_preserved : (k hart : ℕ) (machine : MonitoredMachine) → Invariant machine → runs_on k hart machine ≡ false → (j : ℕ) → runs_on k j machine ≡ true
+-- a step of a hart that does not run enclave k changes only the PMP entries and mie of a hart that runs enclave k
+pub hart_state_preserved : (k hart : ℕ) (machine : MonitoredMachine) → Invariant machine → runs_on k hart machine ≡ false → (j : ℕ)
+    → runs_on k j machine ≡ true
     → hart_state_of j (step_of hart machine).state ≡ reprogrammed (step_of hart machine).state.shared.table (hart_state_of j machine)
-hart_state_preserved k hart machine kept not_running j runs =
-    step_programmed hart j machine kept (not_same k hart j machine not_running runs) (runs_inside k j machine runs)
+hart_state_preserved k hart machine invariant not_running j runs_on_hart =
+    step_programmed hart j machine invariant (is_other_hart k hart j machine not_running runs_on_hart) (runs_inside k j machine runs_on_hart)

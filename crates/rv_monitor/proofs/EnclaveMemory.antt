@@ -1,13 +1,16 @@
--- A step of an enclave over two memories that have equal bytes in its region and its window, with equal tables.
+-- A step of an enclave over two shared states with equal tables, whose memories have equal bytes in the region and the window of the enclave, has the
+-- same result.
 use Rattle.std.proofs.Common.{◌≡◌, ℕ, Bool, true, false, List, length, Option, Some, None, refl, sym, ◌∙◌, ap, ap₂, subst, inl, inr, arith}
-use Rattle.std.proofs.lemmas.Bool.{eqb-true, or_cases, or_right}
+use Rattle.std.proofs.lemmas.Bool.{not_from_true, or_cases, or_left, or_right}
 use Rattle.std.specs.Prelude.{◌||◌, ◌⊎◌, not}
 use Rattle.std.specs.List.{list_all}
 use Rattle.rv_pmp.proofs.VerdictLemmas.{each_from_all}
 use Rattle.rv_memory.proofs.MemoryLaws.{length-write}
 use Rattle.rv_memory.specs.declared.block.Block.{Block}
 use Rattle.rv_enclaves.proofs.EqualMemory.{IsSeen}
+pub use Rattle.rv_enclaves.proofs.AccessLemmas.{world_is}
 use Rattle.rv_enclaves.specs.Table.{region_of, window, window_of}
+use Rattle.rv_enclaves.specs.SlotNumbers.{slot_count}
 use Rattle.rv_monitor.specs.Prelude.{Access, EqualOutside, Call, Cause, Create, Destroy, Enclave, EnclaveState, Fetch, Hart, Host, Mode, Outcome, Read}
 use Rattle.rv_monitor.specs.Prelude.{HartState, Shared, Slots, Span, StepOutcome, Stepped, Trap, World, Write, requested_call, bytes_from, bytes_in}
 use Rattle.rv_monitor.specs.Prelude.{context_at, has, is_accessible, is_host, is_machine, is_offered, is_world_of, measured}
@@ -23,188 +26,195 @@ use Rattle.rv_monitor.proofs.HandlerReads.{handler_reads_law}
 use Rattle.rv_monitor.proofs.AccessControlLemmas.{below_M, access_control_law}
 use Rattle.rv_monitor.proofs.HandlerCases.{asked-is, handler_cases, entered-by-host}
 
--- two shared states with the same table, the same context of slot k, and the same bytes in its region and its window
+-- two shared states have equal tables, equal contexts of slot k, and equal bytes in the region and window of slot k
 pub record SharedFor (k : ℕ) (one other : Shared) : Type 0 where
   pub table : one.table ≡ other.table
   pub memory : EqualOutside (is_beyond one.table k) one.memory other.memory
   pub context : context_at one.contexts k ≡ context_at other.contexts k
 
--- ---- what is accessible to it is in its region or its window
+-- ---- what is accessible to an enclave is in its region or its window
 
--- bytes that the enclave may access are all in its region, or all in its window
+-- bytes that are accessible to an enclave are all in its region, or all in its window
 own_reach : (memory : List ℕ) (t : Slots) (k : ℕ) (access : Access) (bytes : List ℕ) → is_accessible memory t (Enclave k) access bytes ≡ true
     → (list_all (has (region t k)) bytes ≡ true) ⊎ (list_all (has (window t k)) bytes ≡ true)
 unfolding is_accessible
-own_reach memory t k Fetch bytes reached = elim (or_cases _ _ reached) [ inl all ↦ inl all | inr none ↦ cc ]
+own_reach memory t k Fetch bytes reached = elim (or_cases _ _ reached) [ inl all_in_region ↦ inl all_in_region | inr contradiction ↦ cc ]
 own_reach memory t k Read bytes reached = elim (or_cases _ _ reached) [
-  | inl all ↦ inl all
-  | inr outer ↦ elim (or_cases _ _ outer) [ inl all ↦ inr all | inr none ↦ cc ]
+  | inl all_in_region ↦ inl all_in_region
+  | inr not_in_region ↦ elim (or_cases _ _ not_in_region) [ inl all_in_window ↦ inr all_in_window | inr contradiction ↦ cc ]
 ]
 own_reach memory t k Write bytes reached = elim (or_cases _ _ reached) [
-  | inl all ↦ inl all
-  | inr outer ↦ elim (or_cases _ _ outer) [ inl all ↦ inr all | inr none ↦ cc ]
+  | inl all_in_region ↦ inl all_in_region
+  | inr not_in_region ↦ elim (or_cases _ _ not_in_region) [ inl all_in_window ↦ inr all_in_window | inr contradiction ↦ cc ]
 ]
 
--- a byte of the region is not beyond the enclave's memory
-shown_first : (a b : Bool) → a ≡ true → not (a || b) ≡ false
-shown_first a b is = rw is refl
-
--- a byte of the window is not beyond the enclave's memory
-shown_second : (a b : Bool) → b ≡ true → not (a || b) ≡ false
-shown_second a b is = let e : (a || b) ≡ true = or_right a b is in rw e refl
-
--- bytes that the enclave may access are bytes of its region or window
+-- each byte that is accessible to an enclave is in its region or window
 pub own_seen : (memory : List ℕ) (t : Slots) (k : ℕ) (access : Access) (a n : ℕ) → is_accessible memory t (Enclave k) access (bytes_from a n) ≡ true
     → IsSeen (is_beyond t k) a n
-own_seen memory t k access a n reached b low high = elim (own_reach memory t k access (bytes_from a n) reached) [
-  | inl all ↦ shown_first (has (region t k) b) (has (window t k) b) (each_from_all (has (region t k)) a n all b low high)
-  | inr all ↦ shown_second (has (region t k) b) (has (window t k) b) (each_from_all (has (window t k)) a n all b low high)
+own_seen memory t k access a n is_accessible_to_k b low high = elim (own_reach memory t k access (bytes_from a n) is_accessible_to_k) [
+  | inl all_in_region ↦ not_from_true _ (or_left _ (has (window t k) b) (each_from_all (has (region t k)) a n all_in_region b low high))
+  | inr all_in_window ↦ not_from_true _ (or_right (has (region t k) b) _ (each_from_all (has (window t k)) a n all_in_window b low high))
 ]
 
 -- ---- the bare step
 
-module _ (k : ℕ) (state : HartView) (kept : HartViewInvariant state) (runs : state.hart_state.world ≡ Enclave k) where
-  -- a permitted access of the enclave is in its region or window
+-- the hart of the view runs enclave k
+module _ (k : ℕ) (state : HartView) (view_invariant : HartViewInvariant state) (runs_enclave : state.hart_state.world ≡ Enclave k) where
+  -- each byte of a permitted access of the enclave is in its region or window
   accesses_own : (mode : Mode) (access : Access) (span : Span) → is_machine mode ≡ false → MayTouch (bare_machine state) mode access (Some span)
       → IsSeen (is_beyond state.shared.table k) span.addr (bytes_in span.len)
-  accesses_own mode access span below may =
-      let reached = sym (access_control_law state mode access span.addr span.len kept (below_M mode below) may.0) ∙ may.1 in
+  accesses_own mode access span mode_below_m may_touch =
+      let reached =
+      sym (access_control_law state mode access span.addr span.len view_invariant (below_M mode mode_below_m) may_touch.0) ∙ may_touch.1 in
       own_seen state.shared.memory state.shared.table k access span.addr (bytes_in span.len)
-      (subst (λ (w : World). is_accessible state.shared.memory state.shared.table w access (bytes_from span.addr (bytes_in span.len)) ≡ true) runs reached)
+      (subst (λ (w : World). is_accessible state.shared.memory state.shared.table w access
+      (bytes_from span.addr (bytes_in span.len)) ≡ true) runs_enclave reached)
 
-  -- the bare step is the same over each memory with equal bytes in region and window
+  -- the bare step of the enclave has the same result over each memory with equal bytes in its region and window
   memory_step : (n : List ℕ) → EqualOutside (is_beyond state.shared.table k) state.shared.memory n
       → StepAlike (is_beyond state.shared.table k) (step (bare_machine state)) (step (record (bare_machine state) { memory = n }))
-  memory_step = bare_step_alike (is_beyond state.shared.table k) state kept accesses_own
+  memory_step = bare_step_alike (is_beyond state.shared.table k) state view_invariant accesses_own
 
 -- ---- the trap handler
 
--- a world that is an enclave is not the host, which proves any P
+-- a claim about a world that is both an enclave and the host holds, because there is no such world
 pub not_host : (P : Type 0) (k : ℕ) (world : World) → world ≡ Enclave k → world ≡ Host → P
-not_host P k world runs host = let never : Host ≡ Enclave k = sym host ∙ runs in cc
+not_host P k world runs host = let contradiction : Host ≡ Enclave k = sym host ∙ runs in cc
 
--- a requested call is offered to the world
+-- a requested call is offered to the world that requests it
 asked_offered : (cause : Cause) (hart_state : HartState) (b : Bool) (call : Call) → is_call cause ≡ b → requested_by cause hart_state ≡ Some call
     → is_offered hart_state.world call ≡ true
 asked_offered cause hart_state true call test_is requested =
-    let reads : requested_call hart_state.world hart_state.hart.regs ≡ Some call = rw test_is at requested in (asked-is hart_state.world hart_state.hart.regs call reads).1
-asked_offered cause hart_state false call test_is requested = let never : None ≡ Some call = rw test_is at requested in cc
+    let request_is : requested_call hart_state.world hart_state.hart.regs ≡ Some call = rw test_is at requested in
+    (asked-is hart_state.world hart_state.hart.regs call request_is).1
+asked_offered cause hart_state false call test_is requested = let contradiction : None ≡ Some call = rw test_is at requested in cc
 
--- no enclave is offered create
+-- create is offered to no enclave
 pub no_create : (P : Type 0) (k : ℕ) (world : World) → world ≡ Enclave k → is_offered world Create ≡ true → P
-no_create P k world runs offered = let never : false ≡ true = rw runs at offered in cc
+no_create P k world runs offered = let contradiction : false ≡ true = rw runs at offered in cc
 
--- no enclave is offered destroy
+-- destroy is offered to no enclave
 pub no_destroy : (P : Type 0) (k : ℕ) (world : World) → world ≡ Enclave k → is_offered world Destroy ≡ true → P
-no_destroy P k world runs offered = let never : false ≡ true = rw runs at offered in cc
+no_destroy P k world runs offered = let contradiction : false ≡ true = rw runs at offered in cc
 
--- no call of an enclave enters an enclave
-no_entering : (P : Type 0) (k : ℕ) (cause : Cause) (hart_state : HartState) (o : Option Call) → hart_state.world ≡ Enclave k → requested_by cause hart_state ≡ o
+-- no call that is offered to an enclave enters an enclave
+no_entering : (P : Type 0) (k : ℕ) (cause : Cause) (hart_state : HartState) (o : Option Call) → hart_state.world ≡ Enclave k
+    → requested_by cause hart_state ≡ o
     → is_entering o ≡ true → P
-no_entering P k cause hart_state None runs requested enters = cc
-no_entering P k cause hart_state (Some call) runs requested enters =
-    not_host P k hart_state.world runs
-    (entered-by-host hart_state.world call enters (asked_offered cause hart_state (is_call cause) call refl requested))
+no_entering P k cause hart_state None runs_enclave requested is_entry_call = cc
+no_entering P k cause hart_state (Some call) runs_enclave requested is_entry_call =
+    not_host P k hart_state.world runs_enclave
+    (entered-by-host hart_state.world call is_entry_call (asked_offered cause hart_state (is_call cause) call refl requested))
 
--- the region and the window of slot k are the same in both tables
+-- slot k has the same region and the same window in both tables
 pub record KeepsExtent (k : ℕ) (before after : Slots) : Type 0 where
   pub region : region after k ≡ region before k
   pub window : window after k ≡ window before k
 
--- a new state in the record of slot k leaves its region and window
-pub state_extent : (slots : Slots) (k : ℕ) (o : Option SlotInfo) (state : EnclaveState) → length slots ≡ 13 → slot_at slots k ≡ o
+-- a new state of slot k changes neither the region nor the window of slot k
+pub state_extent : (slots : Slots) (k : ℕ) (o : Option SlotInfo) (state : EnclaveState) → length slots ≡ slot_count → slot_at slots k ≡ o
     → KeepsExtent k slots (option_case o slots (λ info. with_slot slots k (Some (record info { state = state }))))
-state_extent slots k None state count slot_is = record { region = refl; window = refl }
-state_extent slots k (Some info) state count slot_is =
-    let within = live_in_range slots k info count slot_is in
-    let there = at_same slots k (Some (record info { state = state })) (omega (arith, count, within)) in
-    record { region = ap region_of there ∙ sym (ap region_of slot_is); window = ap window_of there ∙ sym (ap window_of slot_is) }
+state_extent slots k None state table_length slot_is = record { region = refl; window = refl }
+state_extent slots k (Some info) state table_length slot_is =
+    let slot_in_range = live_in_range slots k info table_length slot_is in
+    let at_k = at_same slots k (Some (record info { state = state })) (omega (arith, table_length, slot_in_range)) in
+    record { region = ap region_of at_k ∙ sym (ap region_of slot_is); window = ap window_of at_k ∙ sym (ap window_of slot_is) }
 
--- slot k after a new state in its record: the same record with that state
-pub state_slot : (slots : Slots) (k : ℕ) (o : Option SlotInfo) (state : EnclaveState) → length slots ≡ 13 → slot_at slots k ≡ o
+-- a new state of slot k changes only the state in the record of slot k
+pub state_slot : (slots : Slots) (k : ℕ) (o : Option SlotInfo) (state : EnclaveState) → length slots ≡ slot_count → slot_at slots k ≡ o
     → slot_at (option_case o slots (λ info. with_slot slots k (Some (record info { state = state })))) k
     ≡ option_case o None (λ info. Some (record info { state = state }))
-state_slot slots k None state count slot_is = slot_is
-state_slot slots k (Some info) state count slot_is =
-    let within = live_in_range slots k info count slot_is in at_same slots k (Some (record info { state = state })) (omega (arith, count, within))
+state_slot slots k None state table_length slot_is = slot_is
+state_slot slots k (Some info) state table_length slot_is =
+    let slot_in_range = live_in_range slots k info table_length slot_is in
+    at_same slots k (Some (record info { state = state })) (omega (arith, table_length, slot_in_range))
 
--- a write, whether it succeeds or not, keeps the size of the memory
+-- a write, successful or not, keeps the size of the memory
 pub put_size : (m : List ℕ) (address : ℕ) (bytes : List ℕ) (o : Option (List ℕ)) → write m address bytes ≡ o
     → length (option_case o m (λ after. after)) ≡ length m
 put_size m address bytes None written = refl
 put_size m address bytes (Some after) written = length-write m address bytes after written
 
-module _ (k : ℕ) (hart_state : HartState) (runs : hart_state.world ≡ Enclave k) (trap : Trap) where
-  module _ (shared : Shared) (count : length shared.table ≡ 13) where
-    -- the region, the window and the size of the memory are kept
+-- the hart runs enclave k, and its step has this trap
+module _ (k : ℕ) (hart_state : HartState) (runs_enclave : hart_state.world ≡ Enclave k) (trap : Trap) where
+  -- the shared state has a table with all slots
+  module _ (shared : Shared) (table_length : length shared.table ≡ slot_count) where
+    -- the trap handler keeps the region and the window of slot k, and the size of the memory
     abbrev Keeps : Handled → Type 0
     Keeps h = KeepsExtent k shared.table h.shared.table × (length h.shared.memory ≡ length shared.memory)
 
-    -- the trap handler of an enclave keeps its region and window, and the size of the memory
+    -- the trap handler on a hart that runs enclave k keeps the region and window of slot k, and the size of the memory
     pub handled_keeps : Keeps (handled hart_state shared trap)
     unfolding measured left
     handled_keeps = handler_cases hart_state trap shared Keeps (record {
       answers = λ status result. (record { region = refl; window = refl }, refl);
-      creates = λ reads may. no_create _ k hart_state.world runs (asked-is hart_state.world hart_state.hart.regs Create reads.asked).1;
-      destroys = λ reads taken. no_destroy _ k hart_state.world runs (asked-is hart_state.world hart_state.hart.regs Destroy reads.asked).1;
-      measures = λ reads may. (record { region = refl; window = refl }, put_size shared.memory _ _ (write shared.memory _ _) refl);
-      enters = λ call reads enters host taken. not_host _ k hart_state.world runs host;
+      creates =
+          λ requests no_refusal. no_create _ k hart_state.world runs_enclave (asked-is hart_state.world hart_state.hart.regs Create requests.asked).1;
+      destroys =
+          λ requests is_taken. no_destroy _ k hart_state.world runs_enclave (asked-is hart_state.world hart_state.hart.regs Destroy requests.asked).1;
+      measures = λ requests no_refusal. (record { region = refl; window = refl }, put_size shared.memory _ _ (write shared.memory _ _) refl);
+      enters = λ call requests is_entry_call from_host is_taken. not_host _ k hart_state.world runs_enclave from_host;
       leaves =
-          let own : running_slot hart_state.world ≡ k = rw runs refl in
-          rw own (state_extent shared.table k (slot_at shared.table k) (enclave_state_after trap.cause hart_state.hart.regs) count refl, refl);
+          let slot_is_k : running_slot hart_state.world ≡ k = rw runs_enclave refl in
+          rw slot_is_k
+          (state_extent shared.table k (slot_at shared.table k) (enclave_state_after trap.cause hart_state.hart.regs) table_length refl, refl);
       redirects = (record { region = refl; window = refl }, refl);
     })
 
-  -- the trap handler of an enclave reads the same in both shared states
+  -- the trap handler on a hart that runs enclave k reads the same from two shared states that are equal for k
   handled_asked : (one other : Shared) → length one.contexts ≡ length other.contexts → SharedFor k one other
       → SameRead hart_state trap.cause one other
-  handled_asked one other slots same = record {
-    table = same.table;
-    size = same.memory.size;
+  handled_asked one other slots same_for_k = record {
+    table = same_for_k.table;
+    size = same_for_k.memory.size;
     slots = slots;
-    measured = λ asked. no_create _ k hart_state.world runs (asked_offered trap.cause hart_state (is_call trap.cause) Create refl asked);
-    entered = λ enters. no_entering _ k trap.cause hart_state (requested_by trap.cause hart_state) runs refl enters;
+    measured = λ asked. no_create _ k hart_state.world runs_enclave (asked_offered trap.cause hart_state (is_call trap.cause) Create refl asked);
+    entered = λ enters. no_entering _ k trap.cause hart_state (requested_by trap.cause hart_state) runs_enclave refl enters;
   }
 
 -- ---- the step
 
--- two steps have equal outcomes and hart states, and leave shared states that are equal for enclave k
+-- two steps have equal outcomes and equal hart states, and leave shared states that are equal for enclave k
 pub record OwnAlike (k : ℕ) (one other : HartViewStepped) : Type 0 where
   pub outcome : one.outcome ≡ other.outcome
   pub hart_state : one.state.hart_state ≡ other.state.hart_state
   pub shared : SharedFor k one.state.shared other.state.shared
 
--- a byte in the region or the window before is there after, if both ranges are the same
+-- a byte within the region or window of slot k before is within them after, if slot k keeps its region and window
 pub beyond_again : (k : ℕ) (before after : Slots) (b : ℕ) → KeepsExtent k before after → is_beyond after k b ≡ false → is_beyond before k b ≡ false
-beyond_again k old new b keeps shown =
-    ap₂ (λ (r w : Block). not (has r b || has w b)) (sym keeps.region) (sym keeps.window) ∙ shown
+beyond_again k old new b keeps byte_within =
+    ap₂ (λ (r w : Block). not (has r b || has w b)) (sym keeps.region) (sym keeps.window) ∙ byte_within
 
--- the step with its trap, if any, is the same for both shared states
+-- the end of the step, with or without a trap, is the same for both shared states
 trapped_own : (k : ℕ) (outcome : StepOutcome) (o : Option Trap) (hart_state : HartState) (one other : Shared) → hart_state.world ≡ Enclave k
-    → length one.table ≡ 13 → length one.contexts ≡ length other.contexts → SharedFor k one other
+    → length one.table ≡ slot_count → length one.contexts ≡ length other.contexts → SharedFor k one other
     → OwnAlike k (option_case o (unhandled outcome hart_state one) (λ trap. returned outcome (handled hart_state one trap)))
     (option_case o (unhandled outcome hart_state other) (λ trap. returned outcome (handled hart_state other trap)))
-trapped_own k outcome None hart_state one other runs count slots same = record { outcome = refl; hart_state = refl; shared = same }
-trapped_own k outcome (Some trap) hart_state one other runs count slots same =
-    let work = handler_reads_law hart_state trap one other (handled_asked k hart_state runs trap one other slots same) in
-    let here = handled_keeps k hart_state runs trap one count in
-    let there = handled_keeps k hart_state runs trap other (ap (λ (t : Slots). length t) (sym same.table) ∙ count) in
-    let back : HartState → Next → HartState = λ hart_state next. record hart_state { hart = returned_to hart_state.hart next.pc next.mode } in
+trapped_own k outcome None hart_state one other runs_enclave count slots same_for_k = record {
+  outcome = refl;
+  hart_state = refl;
+  shared = same_for_k;
+}
+trapped_own k outcome (Some trap) hart_state one other runs_enclave count slots same_for_k =
+    let work = handler_reads_law hart_state trap one other (handled_asked k hart_state runs_enclave trap one other slots same_for_k) in
+    let keeps_one = handled_keeps k hart_state runs_enclave trap one count in
+    let keeps_other = handled_keeps k hart_state runs_enclave trap other (ap (λ (t : Slots). length t) (sym same_for_k.table) ∙ count) in
+    let returned_by : HartState → Next → HartState = λ hart_state next. record hart_state { hart = returned_to hart_state.hart next.pc next.mode } in
     let shows : Next → Outcome = λ next. record { step = outcome; entered = next.entered } in
     record {
       outcome = ap shows work.next;
-      hart_state = ap₂ back work.hart_state work.next;
+      hart_state = ap₂ returned_by work.hart_state work.next;
       shared = record {
         table = work.shared.table;
         memory = record {
-          size = here.1 ∙ same.memory.size ∙ sym there.1;
-          bytes = λ i shown. work.shared.bytes i (same.memory.bytes i (beyond_again k one.table _ _ here.0 shown));
+          size = keeps_one.1 ∙ same_for_k.memory.size ∙ sym keeps_other.1;
+          bytes = λ i not_hidden. work.shared.bytes i (same_for_k.memory.bytes i (beyond_again k one.table _ _ keeps_one.0 not_hidden));
         };
-        context = work.shared.contexts k same.context;
+        context = work.shared.contexts k same_for_k.context;
       };
     }
 
--- the view of a hart state and a shared state
+-- the view with this hart state and this shared state
 abbrev on : HartState → Shared → HartView
 on hart_state shared = record { hart_state = hart_state; shared = shared }
 
@@ -216,7 +226,7 @@ stepped hart_state shared = step (record { hart = hart_state.hart; memory = shar
 abbrev stored : HartState → Shared → Shared
 stored hart_state shared = record shared { memory = (stepped hart_state shared).state.memory }
 
--- the state after the bare step, with its outcome
+-- the view after the bare step, with the outcome of the bare step
 abbrev after_bare : StepOutcome → HartState → Shared → HartViewStepped
 after_bare outcome hart_state shared =
     option_case outcome.trap (unhandled outcome hart_state shared) (λ trap. returned outcome (handled hart_state shared trap))
@@ -226,24 +236,22 @@ pub step_own : (k : ℕ) (hart_state : HartState) (one other : Shared) → HartV
     → length one.contexts ≡ length other.contexts → SharedFor k one other
     → OwnAlike k (monitored_step (on hart_state one)) (monitored_step (on hart_state other))
 unfolding monitored_step
-step_own k hart_state one other kept runs slots same =
-    let a = stepped hart_state one in
-    let b = stepped hart_state other in
-    let alike = memory_step k (on hart_state one) kept runs other.memory same.memory in
-    let shared : SharedFor k (stored hart_state one) (stored hart_state other) = record { table = same.table; memory = alike.memory; context = same.context } in
-    let base = trapped_own k a.outcome a.outcome.trap (record hart_state { hart = a.state.hart }) (stored hart_state one) (stored hart_state other) runs
-    kept.valid.count slots shared in
+step_own k hart_state one other view_invariant_one runs_enclave slots same_for_k =
+    let bare_one = stepped hart_state one in
+    let bare_other = stepped hart_state other in
+    let alike = memory_step k (on hart_state one) view_invariant_one runs_enclave other.memory same_for_k.memory in
+    let shared : SharedFor k (stored hart_state one) (stored hart_state other) =
+    record { table = same_for_k.table; memory = alike.memory; context = same_for_k.context } in
+    let base =
+    trapped_own k bare_one.outcome bare_one.outcome.trap (record hart_state { hart = bare_one.state.hart }) (stored hart_state one)
+    (stored hart_state other) runs_enclave
+    view_invariant_one.valid.count slots shared in
     let P : Hart → StepOutcome → Type 0 = λ hart outcome. OwnAlike k
-    (after_bare a.outcome (record hart_state { hart = a.state.hart }) (stored hart_state one))
+    (after_bare bare_one.outcome (record hart_state { hart = bare_one.state.hart }) (stored hart_state one))
     (after_bare outcome (record hart_state { hart = hart }) (stored hart_state other)) in
-    subst (λ hart. P hart b.outcome) (sym alike.hart) (subst (λ outcome. P a.state.hart outcome) (sym alike.outcome) base)
+    subst (λ hart. P hart bare_other.outcome) (sym alike.hart) (subst (λ outcome. P bare_one.state.hart outcome) (sym alike.outcome) base)
 
--- a world that is enclave k by the test is enclave k
-pub world_is : (k : ℕ) (world : World) → is_world_of k world ≡ true → world ≡ Enclave k
-world_is k Host own = cc
-world_is k (Enclave j) own = ap Enclave (eqb-true j k own)
-
--- a world that is enclave k is not the host
+-- a world that passes the test `is_world_of k` is not the host
 pub not_host_by : (k : ℕ) (world : World) → is_world_of k world ≡ true → is_host world ≡ false
-not_host_by k Host world_is = cc
-not_host_by k (Enclave j) world_is = refl
+not_host_by k Host runs_enclave = cc
+not_host_by k (Enclave j) runs_enclave = refl

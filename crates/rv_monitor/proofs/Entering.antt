@@ -1,4 +1,5 @@
--- A step of the host continues with the host, or leaves the machine of a step that enters an enclave.
+-- A step of the host either continues with the host, or enters an enclave. If it enters an enclave, then the machine after the step is the machine
+-- that the definition `entered_by_call` gives.
 use Rattle.std.proofs.Common.{◌≡◌, ◌<◌, ℕ, ◌⊎◌, true, false, Option, Some, None, IfSome, refl, sym, ◌∙◌, ap, subst, inl, inr}
 use Rattle.std.specs.Prelude.{is_some, not, slice_set}
 use Rattle.std.proofs.Math.Bool.{or-false}
@@ -13,39 +14,40 @@ use Rattle.rv_monitor.proofs.Prelude.{monitored_step, returned, saved, hart_stat
 use Rattle.rv_monitor.proofs.InvariantLemmas.{hart_view_invariant}
 use Rattle.rv_monitor.proofs.HartCases.{is_trapping, outside, programmed_by, step_seen}
 use Rattle.rv_monitor.proofs.Switched.{aligned_again}
-use Rattle.rv_monitor.proofs.TrapSteps.{hart_state_after, step_cases, trapped_step}
+use Rattle.rv_monitor.proofs.TrapSteps.{hart_state_after, quiet_world, trapped_step}
 use Rattle.rv_monitor.proofs.HandlerCases.{handler_cases, entering}
 
-module _ (before : HartView) (k : ℕ) (context : Context) (runs : before.hart_state.world ≡ Host)
-    (kept : context_at before.shared.contexts k ≡ Some context) (trap : Trap) where
-  -- the hart state at the trap
+-- the host has a trap, and slot k has the saved context `context`
+module _ (before : HartView) (k : ℕ) (context : Context) (from_host : before.hart_state.world ≡ Host)
+    (has_context : context_at before.shared.contexts k ≡ Some context) (trap : Trap) where
+  -- the hart state at the trap, before the trap handler
   abbrev hart_state : HartState
   hart_state = hart_state_after before.hart_state trap
 
-  -- the result of an entry of slot k
+  -- the result of the trap handler for an entry of the slot in a0
   abbrev entering_now : Handled
   entering_now = entering hart_state before.shared
 
-  -- the host continues, or enters an enclave
-  abbrev Goes : Handled → Type 0
-  Goes h = (h.hart_state.world ≡ Host) ⊎ (h ≡ with_reprogrammed_hart entering_now)
+  -- the trap handler continues the host, or enters the slot in a0
+  abbrev HostOrEntry : Handled → Type 0
+  HostOrEntry h = (h.hart_state.world ≡ Host) ⊎ (h ≡ with_reprogrammed_hart entering_now)
 
-  -- each case of the trap handler is an entry of the slot in a0, or leaves the host running
-  work_goes : Goes (handled hart_state before.shared trap)
+  -- the trap handler continues the host, or enters the slot in a0
+  handled_host_or_entry : HostOrEntry (handled hart_state before.shared trap)
   unfolding left
-  work_goes = handler_cases hart_state trap before.shared Goes (record {
-    answers = λ status result. inl runs;
-    creates = λ reads may. inl runs;
-    destroys = λ reads taken. inl runs;
-    measures = λ reads may. inl runs;
-    enters = λ call reads enters entering taken. inr refl;
+  handled_host_or_entry = handler_cases hart_state trap before.shared HostOrEntry (record {
+    answers = λ status result. inl from_host;
+    creates = λ requests no_refusal. inl from_host;
+    destroys = λ requests is_taken. inl from_host;
+    measures = λ requests no_refusal. inl from_host;
+    enters = λ call requests is_entry_call from_host is_taken. inr refl;
     leaves = inl refl;
-    redirects = inl runs;
+    redirects = inl from_host;
   })
 
   -- ---- the step
 
-  -- the view after an entry
+  -- the view after an entry of slot k
   abbrev entered_state : HartView
   entered_state =
       let slots = slots_with_state before.shared.table k Running in
@@ -59,132 +61,142 @@ module _ (before : HartView) (k : ℕ) (context : Context) (runs : before.hart_s
         shared = record before.shared { table = slots; contexts = slice_set before.shared.contexts k None };
       }
 
-  -- the result is that of an entry of slot k
+  -- the view after the step is the view after an entry of slot k, and the step reports this entry
   abbrev Entered : HartViewStepped → Type 0
   Entered after = (after.state ≡ entered_state) × (after.outcome.entered ≡ Some k)
 
-  -- the return from an entry is the view after the entry
+  -- the return from an entry of slot k gives the view after the entry
   returned_entered : (outcome : StepOutcome) → HartViewInvariant before → can_go_on context ≡ true → a0 hart_state ≡ k
       → Entered (returned outcome (with_reprogrammed_hart entering_now))
   unfolding entered_slot
-  returned_entered outcome all held named =
-      let aligned = aligned_again context.mode context.pc held in
-      let mprv = all.hart.layout.mprv in
-      rw (named, kept, aligned, or-false (is_set before.hart_state.hart.csrs.mcountinhibit 0), mprv) (refl, refl)
+  returned_entered outcome view_invariant can_continue named =
+      let aligned = aligned_again context.mode context.pc can_continue in
+      let mprv = view_invariant.hart.layout.mprv in
+      rw (named, has_context, aligned, or-false (is_set before.hart_state.hart.csrs.mcountinhibit 0), mprv) (refl, refl)
 
-  -- an entry whose world is slot k is the entry of the slot in a0
-  names : (h : Handled) → h ≡ with_reprogrammed_hart entering_now → h.hart_state.world ≡ Enclave k → a0 hart_state ≡ k
+  -- if an entry leaves the hart in slot k, then a0 names slot k
+  a0_names_k : (h : Handled) → h ≡ with_reprogrammed_hart entering_now → h.hart_state.world ≡ Enclave k → a0 hart_state ≡ k
   unfolding entered_slot
-  names h same gone =
-      let worlds : Enclave (a0 hart_state) ≡ Enclave k = sym (ap (λ (x : Handled). x.hart_state.world) same) ∙ gone in
+  a0_names_k h same enclave_runs_after =
+      let worlds : Enclave (a0 hart_state) ≡ Enclave k = sym (ap (λ (x : Handled). x.hart_state.world) same) ∙ enclave_runs_after in
       let slots : a0 hart_state ≡ k = cc in
       slots
 
-  -- a result whose world is slot k is that of the entry
-  entered_or_not : (outcome : StepOutcome) (h : Handled) → HartViewInvariant before → can_go_on context ≡ true → Goes h → h.hart_state.world ≡ Enclave k
+  -- if the result of the trap handler is in slot k, then the return from it gives the view after the entry
+  entered_or_not : (outcome : StepOutcome) (h : Handled) → HartViewInvariant before → can_go_on context ≡ true → HostOrEntry h
+      → h.hart_state.world ≡ Enclave k
       → Entered (returned outcome h)
-  entered_or_not outcome h all held (inl stays) gone = let never : Host ≡ Enclave k = sym stays ∙ gone in cc
-  entered_or_not outcome h all held (inr same) gone =
-      subst (λ (x : Handled). Entered (returned outcome x)) (sym same) (returned_entered outcome all held (names h same gone))
+  entered_or_not outcome h view_invariant can_continue (inl host_stays) enclave_runs_after =
+      let contradiction : Host ≡ Enclave k = sym host_stays ∙ enclave_runs_after in cc
+  entered_or_not outcome h view_invariant can_continue (inr is_entry) enclave_runs_after =
+      subst (λ (x : Handled). Entered (returned outcome x)) (sym is_entry)
+      (returned_entered outcome view_invariant can_continue (a0_names_k h is_entry enclave_runs_after))
 
-  -- a step whose world is then slot k is the entry
-  entered_one : HartViewInvariant before → can_go_on context ≡ true → (monitored_step before).outcome.step.trap ≡ Some trap
+  -- a step with a trap after which the hart is in slot k is an entry of slot k
+  step_is_entry : HartViewInvariant before → can_go_on context ≡ true → (monitored_step before).outcome.step.trap ≡ Some trap
       → (monitored_step before).state.hart_state.world ≡ Enclave k → Entered (monitored_step before)
-  entered_one all held trapped gone =
+  step_is_entry view_invariant can_continue trapped enclave_runs_after =
       let step_is = trapped_step before trap trapped in
-      let there = subst (λ (after : HartViewStepped). after.state.hart_state.world ≡ Enclave k) step_is gone in
-      subst Entered (sym step_is) (entered_or_not (step (bare_machine before)).outcome _ all held work_goes there)
+      let handled_enclave = subst (λ (after : HartViewStepped). after.state.hart_state.world ≡ Enclave k) step_is enclave_runs_after in
+      subst Entered (sym step_is)
+      (entered_or_not (step (bare_machine before)).outcome _ view_invariant can_continue handled_host_or_entry handled_enclave)
 
 -- ---- an entry is a trap, and the slot had a saved context
 
--- a step without a trap keeps the world
-quiet_world : (state : HartView) → (monitored_step state).outcome.step.trap ≡ None → (monitored_step state).state.hart_state.world ≡ state.hart_state.world
-quiet_world state = step_cases state (λ after. after.outcome.step.trap ≡ None → after.state.hart_state.world ≡ state.hart_state.world) (λ none quiet. refl)
-    (λ trap traps quiet. let never : None ≡ Some trap = sym quiet ∙ traps in cc)
-
+-- The host has a trap. The saved contexts agree with the table.
 module _ (before : HartView) (saves : SavedContextsInvariant before.shared) (runs : before.hart_state.world ≡ Host) (trap : Trap) where
-  -- the slot that the result runs has a saved context before
+  -- each slot that runs after the trap handler had a saved context before it
   abbrev HadContext : Handled → Type 0
   HadContext h = (k : ℕ) → h.hart_state.world ≡ Enclave k → is_some (context_at before.shared.contexts k) ≡ true
 
-  -- the host is no enclave
+  -- the host is not an enclave, so nothing is to show for a result in which the host runs
   no_entry : (world : World) → world ≡ Host → (k : ℕ) → world ≡ Enclave k → is_some (context_at before.shared.contexts k) ≡ true
-  no_entry world host k gone = let never : Host ≡ Enclave k = sym host ∙ gone in cc
+  no_entry world from_host k enclave_runs_after = let contradiction : Host ≡ Enclave k = sym from_host ∙ enclave_runs_after in cc
 
-  -- a call that names slot j with an enclave that does not run has its saved context
+  -- a slot with an enclave in a state that the call accepts has a saved context
   named_had : (call : Call) (j : ℕ) → IsTaken before.shared.table call j → (k : ℕ) → Enclave j ≡ Enclave k
       → is_some (context_at before.shared.contexts k) ≡ true
-  named_had call j taken k gone =
+  named_had call j is_taken k same_enclave =
       let same : j ≡ k = cc in
       subst (λ (i : ℕ). is_some (context_at before.shared.contexts i) ≡ true) same
-      (saves.kept j ∙ ap is_held taken.is ∙ ap not (takes_rests call taken.info.state taken.taken))
+      (saves.kept j ∙ ap is_held is_taken.is ∙ ap not (takes_rests call is_taken.info.state is_taken.taken))
 
-  -- each case of the trap handler enters only a slot with a saved context
-  work_had : HadContext (handled (hart_state_after before.hart_state trap) before.shared trap)
+  -- the trap handler enters only a slot with a saved context
+  handled_had_context : HadContext (handled (hart_state_after before.hart_state trap) before.shared trap)
   unfolding left entered_slot
-  work_had = handler_cases (hart_state_after before.hart_state trap) trap before.shared HadContext (record {
+  handled_had_context = handler_cases (hart_state_after before.hart_state trap) trap before.shared HadContext (record {
     answers = λ status result. no_entry _ runs;
-    creates = λ reads may. no_entry _ runs;
-    destroys = λ reads taken. no_entry _ runs;
-    measures = λ reads may. no_entry _ runs;
-    enters = λ call reads enters entering taken. named_had call (a0 (hart_state_after before.hart_state trap)) taken;
+    creates = λ requests no_refusal. no_entry _ runs;
+    destroys = λ requests is_taken. no_entry _ runs;
+    measures = λ requests no_refusal. no_entry _ runs;
+    enters = λ call requests is_entry_call from_host is_taken. named_had call (a0 (hart_state_after before.hart_state trap)) is_taken;
     leaves = no_entry Host refl;
     redirects = no_entry _ runs;
   })
 
-  -- the slot that a step enters has a saved context before
+  -- the slot that a step enters had a saved context before the step
   had_context : (monitored_step before).outcome.step.trap ≡ Some trap → (k : ℕ) → (monitored_step before).state.hart_state.world ≡ Enclave k
       → is_some (context_at before.shared.contexts k) ≡ true
-  had_context trapped k gone = work_had k (subst (λ (after : HartViewStepped). after.state.hart_state.world ≡ Enclave k) (trapped_step before trap trapped) gone)
+  had_context trapped k enclave_runs_after =
+      handled_had_context k
+      (subst (λ (after : HartViewStepped). after.state.hart_state.world ≡ Enclave k) (trapped_step before trap trapped) enclave_runs_after)
 
 -- ---- the law
 
--- a step of the host that ends in slot k is the entry by a call
+-- a step of the host after which the hart is in slot k leaves the machine after an entry by a call
 enters_from : (hart : ℕ) (machine : MonitoredMachine) → Invariant machine → (k : ℕ) (context : Context) (trap : Trap)
     → (hart_state_of hart machine).world ≡ Host → context_at machine.shared.contexts k ≡ Some context
     → (step_of hart machine).outcome.step.trap ≡ Some trap → (hart_state_of hart (step_of hart machine).state).world ≡ Enclave k
     → ((step_of hart machine).state ≡ entered_by_call hart machine k trap context) × ((step_of hart machine).outcome.entered ≡ Some k)
-enters_from hart machine kept k context trap runs kept_one trapped gone =
+enters_from hart machine invariant k context trap from_host kept_one trapped enclave_runs_after =
     let trapping = is_trapping hart machine trap trapped in
-    let there = sym (ap (λ (after : HartViewStepped). after.state.hart_state.world) (step_seen hart machine trapping.has)) ∙ gone in
+    let view_ends_in_k =
+    sym (ap (λ (after : HartViewStepped). after.state.hart_state.world) (step_seen hart machine trapping.has)) ∙ enclave_runs_after in
     let P : Option Context → Type 0 = λ o. IfSome o (λ c. can_go_on c ≡ true) in
-    let held : can_go_on context ≡ true = subst P kept_one (kept.shared.contexts.held k) in
-    let one = entered_one (hart_view hart machine) k context runs kept_one trap (hart_view_invariant hart machine kept trapping.has) held trapping.trapped there in
-    (trapping.state ∙ ap (programmed_by hart machine) one.0, ap (λ (outcome : Outcome). outcome.entered) trapping.outcome ∙ one.1)
+    let can_continue : can_go_on context ≡ true = subst P kept_one (invariant.shared.contexts.held k) in
+    let view_enters =
+    step_is_entry (hart_view hart machine) k context from_host kept_one trap
+    (hart_view_invariant hart machine invariant trapping.has) can_continue trapping.trapped view_ends_in_k in
+    (trapping.state ∙ ap (programmed_by hart machine) view_enters.0, ap (λ (outcome : Outcome). outcome.entered) trapping.outcome ∙ view_enters.1)
 
-module _ (hart k : ℕ) (machine : MonitoredMachine) (kept : Invariant machine) (runs : (hart_state_of hart machine).world ≡ Host)
-    (gone : (hart_state_of hart (step_of hart machine).state).world ≡ Enclave k) where
-  -- the world after the step is slot k, as the hart sees it
-  seen_gone : hart < count_of machine → (monitored_step (hart_view hart machine)).state.hart_state.world ≡ Enclave k
-  seen_gone in_range = sym (ap (λ (after : HartViewStepped). after.state.hart_state.world) (step_seen hart machine in_range)) ∙ gone
+-- the hart runs the host before its step, and enclave k after it
+module _ (hart k : ℕ) (machine : MonitoredMachine) (invariant : Invariant machine) (from_host : (hart_state_of hart machine).world ≡ Host)
+    (enclave_runs_after : (hart_state_of hart (step_of hart machine).state).world ≡ Enclave k) where
+  -- the step of the hart's view ends in slot k
+  view_ends_in_k : hart < count_of machine → (monitored_step (hart_view hart machine)).state.hart_state.world ≡ Enclave k
+  view_ends_in_k in_range =
+      sym (ap (λ (after : HartViewStepped). after.state.hart_state.world) (step_seen hart machine in_range)) ∙ enclave_runs_after
 
-  -- without a trap the host would be the enclave
+  -- if a step without a trap ended in slot k, then the host would be an enclave
   never_quiet : (step_of hart machine).outcome.step.trap ≡ None → Host ≡ Enclave k
-  never_quiet none = elim (cases_lt hart (count_of machine)) [
-    | inr past ↦ sym (ap (λ (after : MonitoredStepped). (hart_state_of hart after.state).world) (outside hart machine past) ∙ runs) ∙ gone
-    | inl has ↦
-        let seen = step_seen hart machine has in
-        let quiet = sym (ap (λ (after : HartViewStepped). after.outcome.step.trap) seen) ∙ none in
-        sym runs ∙ sym (quiet_world (hart_view hart machine) quiet) ∙ seen_gone has
+  never_quiet no_trap = elim (cases_lt hart (count_of machine)) [
+    | inr past_last ↦
+        sym (ap (λ (after : MonitoredStepped). (hart_state_of hart after.state).world) (outside hart machine past_last) ∙ from_host)
+        ∙ enclave_runs_after
+    | inl in_range ↦
+        let view_step = step_seen hart machine in_range in
+        let quiet = sym (ap (λ (after : HartViewStepped). after.outcome.step.trap) view_step) ∙ no_trap in
+        sym from_host ∙ sym (quiet_world (hart_view hart machine) quiet) ∙ view_ends_in_k in_range
   ]
 
-  -- the step is the entry with the saved context of the slot
+  -- a step with a trap that ends in slot k enters slot k with the saved context of slot k
   entered_with : (trap : Trap) → (step_of hart machine).outcome.step.trap ≡ Some trap → (o : Option Context)
       → context_at machine.shared.contexts k ≡ o → HasEntered hart k machine (step_of hart machine)
-  entered_with trap trapped None none =
+  entered_with trap trapped None no_context =
       let trapping = is_trapping hart machine trap trapped in
-      let had = had_context (hart_view hart machine) kept.shared.contexts runs trap trapping.trapped k (seen_gone trapping.has) in
-      let never : false ≡ true = ap (λ (o : Option Context). is_some o) (sym none) ∙ had in
+      let had = had_context (hart_view hart machine) invariant.shared.contexts from_host trap trapping.trapped k (view_ends_in_k trapping.has) in
+      let contradiction : false ≡ true = ap (λ (o : Option Context). is_some o) (sym no_context) ∙ had in
       cc
-  entered_with trap is (Some context) held =
-      let entered_both = enters_from hart machine kept k context trap runs held is gone in
-      record { trap = trap; trapped = is; call = record { context = context; kept = held; state = entered_both.0; entered = entered_both.1 } }
+  entered_with trap is (Some context) has_context =
+      let entered_both = enters_from hart machine invariant k context trap from_host has_context is enclave_runs_after in
+      record { trap = trap; trapped = is; call = record { context = context; kept = has_context; state = entered_both.0; entered = entered_both.1 } }
 
-  -- the step trapped, and is the entry
+  -- a step that ends in slot k has a trap, and enters slot k with its saved context
   entered_by : (o : Option Trap) → (step_of hart machine).outcome.step.trap ≡ o → HasEntered hart k machine (step_of hart machine)
-  entered_by None none = let never = never_quiet none in cc
+  entered_by None no_trap = let contradiction = never_quiet no_trap in cc
   entered_by (Some trap) trapped = entered_with trap trapped (context_at machine.shared.contexts k) refl
 
--- proves that a hart which enters an enclave continues with exactly its saved context
+-- proves that a hart which enters an enclave continues with exactly the saved context of this enclave
 pub enter_law : (hart : ℕ) (machine : MonitoredMachine) → Invariant machine → EntersOnly hart machine (step_of hart machine)
-enter_law hart machine kept k runs gone = entered_by hart k machine kept runs gone (step_of hart machine).outcome.step.trap refl
+enter_law hart machine invariant k from_host enclave_runs_after =
+    entered_by hart k machine invariant from_host enclave_runs_after (step_of hart machine).outcome.step.trap refl

@@ -11,22 +11,23 @@ use Rattle.rv_monitor.proofs.Prelude.{Invariant, MonitoredMachine, MonitoredStep
 -- a free slot has no saved context
 free_has_none : (k : ℕ) (machine : MonitoredMachine) → Invariant machine → slot_at machine.shared.table k ≡ None
     → is_some (context_at machine.shared.contexts k) ≡ false
-free_has_none k machine kept free = kept.shared.contexts.kept k ∙ ap is_held free
+free_has_none k machine invariant slot_is_free = invariant.shared.contexts.kept k ∙ ap is_held slot_is_free
 
--- no step of the host obeys the law and enters a slot that was free before it
+-- no step of the host that obeys the law of the entry enters a slot that is free before the step
 pub never_enters_new : (hart k : ℕ) (before : MonitoredMachine) (after : MonitoredStepped) → Invariant before → EntersOnly hart before after
     → slot_at before.shared.table k ≡ None → (hart_state_of hart before).world ≡ Host → (hart_state_of hart after.state).world ≡ Enclave k → ⊥
-never_enters_new hart k before after kept law free host gone =
-    let entry = law k host gone in
-    let never : false ≡ true = sym (free_has_none k before kept free) ∙ ap (λ (o : Option Context). is_some o) entry.call.kept in
+never_enters_new hart k before after invariant_before enters_only slot_is_free from_host enclave_runs_after =
+    let entry = enters_only k from_host enclave_runs_after in
+    let contradiction : false ≡ true =
+    sym (free_has_none k before invariant_before slot_is_free) ∙ ap (λ (o : Option Context). is_some o) entry.call.kept in
     cc
 
--- no step obeys the law and leaves a new enclave Running
+-- no step that obeys the law of a new enclave leaves this enclave with the state Running
 pub never_runs_new : (k : ℕ) (info : SlotInfo) (before : MonitoredMachine) (after : MonitoredStepped) → KeepsAsCreated before after
     → slot_at before.shared.table k ≡ None → slot_at after.state.shared.table k ≡ Some info → info.state ≡ Running → ⊥
-never_runs_new k info before after law free slot_is runs =
-    let new = law.creates k (ap (λ (o : Option SlotInfo). is_some o) free) (ap (λ (o : Option SlotInfo). is_some o) slot_is) in
+never_runs_new k info before after as_created slot_is_free slot_is runs =
+    let new = as_created.creates k (ap (λ (o : Option SlotInfo). is_some o) slot_is_free) (ap (λ (o : Option SlotInfo). is_some o) slot_is) in
     let equal : Some new.info ≡ Some info = sym new.is ∙ slot_is in
     let same : new.info ≡ info = cc in
-    let never : Fresh ≡ Running = sym new.fresh ∙ ap (λ (i : SlotInfo). i.state) same ∙ runs in
+    let contradiction : Fresh ≡ Running = sym new.fresh ∙ ap (λ (i : SlotInfo). i.state) same ∙ runs in
     cc

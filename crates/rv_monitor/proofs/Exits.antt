@@ -1,6 +1,6 @@
--- An enclave exits only by stop or exit, or by the timer interrupt. Every other exception is redirected to its own mode S.
-use Rattle.std.proofs.Common.{◌≡◌, ◌<◌, ℕ, Bool, true, false, List, slice_set, Option, Some, None, refl, sym, ◌∙◌, ap, subst, arith}
-use Rattle.std.proofs.Math.Bool.{or-false}
+-- An enclave exits only by the calls stop and exit, or by the timer interrupt. Every other exception of the enclave is redirected to its own S-mode.
+use Rattle.std.proofs.Common.{◌≡◌, ◌<◌, ℕ, Bool, true, false, List, slice_set, Option, Some, None, refl, sym, ◌∙◌, ap, subst}
+use Rattle.std.proofs.Math.Bool.{and-false, and-true, or-false}
 use Rattle.std.specs.Prelude.{◌&&◌, if◌then◌else◌}
 use Rattle.rv_state.specs.declared.cause.Cause.TheVariants as causes
 use Rattle.rv_state.specs.Interrupts.{mip_word, pending}
@@ -11,7 +11,7 @@ use Rattle.rv_state.specs.declared.cause.Interrupt.TheVariants.{SupervisorTimer}
 use Rattle.rv_hart.proofs.Interrupted.{takes_pending}
 use Rattle.rv_monitor.specs.Exits.{ExitsOnRequest, is_exit_call, redirected_hart, redirected_machine, is_redirected, causes_exit, spp_of}
 use Rattle.rv_monitor.specs.Prelude.{Call, Cause, Create, Destroy, Enclave, EnvironmentCallFromS, Exception, Exit, Measure, Outcome, Refusal, Resume}
-use Rattle.rv_monitor.specs.Prelude.{Run, HartState, M, S, U, Shared, StepOutcome, Stop, Trap, World, aligned_to_4, requested_call, first_refusal, is_host, is_offered}
+use Rattle.rv_monitor.specs.Prelude.{Run, HartState, M, S, U, Shared, StepOutcome, Stop, Trap, World, requested_call, first_refusal, is_host, is_offered}
 use Rattle.rv_monitor.specs.Prelude.{NotSupported, is_machine, is_set, is_world_of, mie_of, option_case, step, CsrState, Mode}
 use Rattle.rv_monitor.proofs.Prelude.{HartViewInvariant, Invariant, MonitoredMachine, HartView, HartViewStepped, bare_machine, call_handled, call_refusals, called, count_of}
 use Rattle.rv_monitor.proofs.Prelude.{eq-eqb, redirected, with_redirected_trap, handled, handled_cause, left, monitored_step, performed, refused, returned, hart_view}
@@ -21,50 +21,55 @@ use Rattle.rv_monitor.proofs.Beside.{runs_inside}
 use Rattle.rv_monitor.proofs.InvariantLemmas.{hart_view_invariant}
 use Rattle.rv_monitor.proofs.PmpProgramming.{all_as_are}
 use Rattle.rv_monitor.proofs.HartCases.{is_trapping, programmed_by, step_seen}
-use Rattle.rv_monitor.proofs.TrapSteps.{step_cases, same_outcome, hart_state_after, trapped_step}
+use Rattle.rv_monitor.proofs.TrapSteps.{same_outcome, hart_state_after, quiet_world, trapped_step}
 use Rattle.rv_monitor.proofs.HandlerCases.{asked-is}
+use Rattle.rv_monitor.proofs.Alignment.{aligned_twice}
 
 -- ---- the world after the trap handler
 
-module _ (k : ℕ) (hart_state : HartState) (shared : Shared) (runs : hart_state.world ≡ Enclave k) where
-  -- a measure leaves the enclave running, refused or not
-  by_rows : (o : Option Refusal) (call : Call) → is_host (option_case o (performed hart_state shared Measure) (refused hart_state shared)).hart_state.world ≡ false
+-- the hart runs enclave k at the trap
+module _ (k : ℕ) (hart_state : HartState) (shared : Shared) (runs_enclave : hart_state.world ≡ Enclave k) where
+  -- an enclave still runs after a measure, refused or not
+  measure_stays : (o : Option Refusal) (call : Call)
+      → is_host (option_case o (performed hart_state shared Measure) (refused hart_state shared)).hart_state.world ≡ false
   unfolding performed
-  by_rows None call = ap is_host runs
-  by_rows (Some refusal) call = ap is_host runs
+  measure_stays None call = ap is_host runs_enclave
+  measure_stays (Some refusal) call = ap is_host runs_enclave
 
-  -- a call that the enclave is not offered is not the requested one
+  -- a claim about a call that is not offered to the enclave holds, because such a call is not requested
   not_offered : (P : Type 0) (call : Call) → is_offered (Enclave k) call ≡ false → is_offered hart_state.world call ≡ true → P
-  not_offered P call never offered =
-      let here : is_offered (Enclave k) call ≡ true = sym (ap (λ (w : World). is_offered w call) runs) ∙ offered in
-      let no : false ≡ true = sym never ∙ here in
+  not_offered P call not_offered_here offered =
+      let offered_here : is_offered (Enclave k) call ≡ true = sym (ap (λ (w : World). is_offered w call) runs_enclave) ∙ offered in
+      let contradiction : false ≡ true = sym not_offered_here ∙ offered_here in
       cc
 
-  -- a call leaves the host running if and only if it is stop or exit
-  by_call : (call : Call) → is_offered hart_state.world call ≡ true → is_host (called hart_state shared call).hart_state.world ≡ is_exit_call (Some call)
+  -- after a call that is offered to the enclave, the host runs if and only if the call is stop or exit
+  by_call : (call : Call) → is_offered hart_state.world call ≡ true
+      → is_host (called hart_state shared call).hart_state.world ≡ is_exit_call (Some call)
   unfolding called performed left
   by_call Stop offered = refl
   by_call Exit offered = refl
-  by_call Measure offered = by_rows (first_refusal (call_refusals hart_state shared Measure)) Measure
+  by_call Measure offered = measure_stays (first_refusal (call_refusals hart_state shared Measure)) Measure
   by_call Create offered = not_offered _ Create refl offered
   by_call Destroy offered = not_offered _ Destroy refl offered
   by_call Run offered = not_offered _ Run refl offered
   by_call Resume offered = not_offered _ Resume refl offered
 
-  -- the requested call leaves the host running if and only if it is stop or exit
+  -- after the requested call, if there is one, the host runs if and only if the call is stop or exit
   by_asked : (o : Option Call) → requested_call hart_state.world hart_state.hart.regs ≡ o
       → is_host (option_case o (refused hart_state shared NotSupported) (called hart_state shared)).hart_state.world ≡ is_exit_call o
-  by_asked None requested = ap is_host runs
+  by_asked None requested = ap is_host runs_enclave
   by_asked (Some call) requested = by_call call (asked-is hart_state.world hart_state.hart.regs call requested).1
 
-  -- an exception leaves the host running if and only if it is an ecall of stop or exit
+  -- after an exception, the host runs if and only if the exception is an ecall that requests stop or exit
   by_exception : (trap : Trap) (exception : Exception)
-      → is_host (handled_cause hart_state shared trap (causes.Exception exception)).hart_state.world ≡ causes_exit hart_state (causes.Exception exception)
+      → is_host (handled_cause hart_state shared trap (causes.Exception exception)).hart_state.world
+      ≡ causes_exit hart_state (causes.Exception exception)
   unfolding call_handled
   by_exception trap EnvironmentCallFromS = by_asked (requested_call hart_state.world hart_state.hart.regs) refl
-  by_exception trap _ = ap is_host runs
+  by_exception trap _ = ap is_host runs_enclave
 
-  -- a cause leaves the host running if and only if it causes an exit
+  -- after a trap, the host runs if and only if the cause is one that exits
   by_cause : (trap : Trap) (cause : Cause) → is_host (handled_cause hart_state shared trap cause).hart_state.world ≡ causes_exit hart_state cause
   unfolding timer_stopped left
   by_cause trap (causes.Interrupt interrupt) = refl
@@ -72,147 +77,140 @@ module _ (k : ℕ) (hart_state : HartState) (shared : Shared) (runs : hart_state
 
 -- ---- redirection
 
--- the trap handler redirects each exception that is not an ecall from S
-redirects_it : (hart_state : HartState) (shared : Shared) (trap : Trap) (cause : Cause) → is_redirected cause ≡ true
+-- the trap handler redirects each exception that is not an ecall from S. Each case holds by computation, or has a false premise
+cause_is_redirected : (hart_state : HartState) (shared : Shared) (trap : Trap) (cause : Cause) → is_redirected cause ≡ true
     → handled_cause hart_state shared trap cause ≡ redirected hart_state shared trap
-redirects_it hart_state shared trap (causes.Interrupt interrupt) redirected = cc
-redirects_it hart_state shared trap (causes.Exception EnvironmentCallFromS) redirected = cc
-redirects_it hart_state shared trap (causes.Exception _) redirected = refl
+cause_is_redirected hart_state shared trap (causes.Interrupt interrupt) is_redirection = cc
+cause_is_redirected hart_state shared trap (causes.Exception EnvironmentCallFromS) is_redirection = cc
+cause_is_redirected hart_state shared trap (causes.Exception _) is_redirection = refl
 
--- rounding down to a multiple of 4 twice is rounding once
-twice_aligned : (pc : ℕ) → aligned_to_4 (aligned_to_4 pc) ≡ aligned_to_4 pc
-twice_aligned pc = omega arith
-
--- SPP by the mode is the same in both definitions
+-- Both definitions of the bit SPP for a mode agree. Each case holds by computation.
 same_spp : (mode : Mode) → is_supervisor mode ≡ spp_of mode
 same_spp U = refl
 same_spp S = refl
 same_spp M = refl
 
-module _ (state : HartView) (kept : HartViewInvariant state) (trap : Trap) where
+-- a view with the invariant, and the trap of its step
+module _ (state : HartView) (view_invariant : HartViewInvariant state) (trap : Trap) where
   -- the view after a redirected trap
   abbrev redirected_view : HartView
   redirected_view = record state { hart_state = record state.hart_state { hart = redirected_hart state.hart_state.hart trap } }
 
-  -- the return from a redirection is this view
-  returned_redirected : (outcome : StepOutcome) → (returned outcome (with_reprogrammed_hart (redirected (hart_state_after state.hart_state trap) state.shared trap))).state ≡ redirected_view
+  -- the return from a redirection gives the view after a redirected trap
+  returned_redirected : (outcome : StepOutcome)
+      → (returned outcome (with_reprogrammed_hart (redirected (hart_state_after state.hart_state trap) state.shared trap))).state ≡ redirected_view
   unfolding with_redirected_trap
   returned_redirected outcome =
       let hart = state.hart_state.hart in
-      let mprv = kept.hart.layout.mprv in
-      let entries = kept.hart.layout.entries in
-      let mie = kept.hart.layout.mie in
-      rw (same_spp hart.mode, twice_aligned hart.csrs.stvec, or-false (is_set hart.csrs.mcountinhibit 0), mprv, ← entries, ← mie) refl
+      let mprv = view_invariant.hart.layout.mprv in
+      let entries = view_invariant.hart.layout.entries in
+      let mie = view_invariant.hart.layout.mie in
+      rw (same_spp hart.mode, aligned_twice hart.csrs.stvec, or-false (is_set hart.csrs.mcountinhibit 0), mprv, ← entries, ← mie) refl
 
-  -- the result is this view, with no slot entered
+  -- the view after the step is the view after a redirected trap, and the step enters no slot
   abbrev IsRedirectedTo : HartViewStepped → Type 0
   IsRedirectedTo after = (after.state ≡ redirected_view) × (after.outcome.entered ≡ None)
 
-  -- the return from the trap handler is that of a redirection
-  redirected_at : (outcome : StepOutcome) → is_redirected trap.cause ≡ true → IsRedirectedTo (returned outcome (handled (hart_state_after state.hart_state trap) state.shared trap))
+  -- the return from the trap handler after a redirected exception gives the view after a redirected trap
+  redirected_at : (outcome : StepOutcome) → is_redirected trap.cause ≡ true
+      → IsRedirectedTo (returned outcome (handled (hart_state_after state.hart_state trap) state.shared trap))
   unfolding handled
-  redirected_at outcome redirected =
-      let result = redirects_it (hart_state_after state.hart_state trap) state.shared trap trap.cause redirected in
+  redirected_at outcome is_redirection =
+      let result = cause_is_redirected (hart_state_after state.hart_state trap) state.shared trap trap.cause is_redirection in
       rw result (returned_redirected outcome, refl)
 
-  -- a step with a redirected trap leads to this view
-  redirected_one : (monitored_step state).outcome.step.trap ≡ Some trap → is_redirected trap.cause ≡ true → IsRedirectedTo (monitored_step state)
-  redirected_one trapped redirects = subst IsRedirectedTo (sym (trapped_step state trap trapped)) (redirected_at (step (bare_machine state)).outcome redirects)
+  -- a step with a redirected exception leads to the view after a redirected trap
+  step_is_redirected : (monitored_step state).outcome.step.trap ≡ Some trap → is_redirected trap.cause ≡ true → IsRedirectedTo (monitored_step state)
+  step_is_redirected trapped is_redirection =
+      subst IsRedirectedTo (sym (trapped_step state trap trapped)) (redirected_at (step (bare_machine state)).outcome is_redirection)
 
--- of the host and of an enclave
-pub redirects_step : (hart : ℕ) (machine : MonitoredMachine) → Invariant machine → (trap : Trap) → (step_of hart machine).outcome.step.trap ≡ Some trap
+-- a step of the host or of an enclave with a redirected exception leads to the machine after a redirected trap
+pub redirects_step : (hart : ℕ) (machine : MonitoredMachine) → Invariant machine → (trap : Trap)
+    → (step_of hart machine).outcome.step.trap ≡ Some trap
     → is_redirected trap.cause ≡ true
     → ((step_of hart machine).state ≡ redirected_machine hart machine trap) × ((step_of hart machine).outcome.entered ≡ None)
-redirects_step hart machine kept trap trapped redirects =
+redirects_step hart machine invariant trap trapped is_redirection =
     let trapping = is_trapping hart machine trap trapped in
     let state = hart_view hart machine in
-    let one = redirected_one state (hart_view_invariant hart machine kept trapping.has) trap trapping.trapped redirects in
+    let view_is = step_is_redirected state (hart_view_invariant hart machine invariant trapping.has) trap trapping.trapped is_redirection in
     let left : HartState = record state.hart_state { hart = redirected_hart state.hart_state.hart trap } in (
-      trapping.state ∙ ap (programmed_by hart machine) one.0
+      trapping.state ∙ ap (programmed_by hart machine) view_is.0
           ∙ ap (λ (hart_states : List HartState). let after : MonitoredMachine =
           record { hart_states = slice_set hart_states hart left; shared = machine.shared } in after)
-          (all_as_are machine.shared.table machine.hart_states kept.hart_states),
-      ap (λ (outcome : Outcome). outcome.entered) trapping.outcome ∙ one.1,
+          (all_as_are machine.shared.table machine.hart_states invariant.hart_states),
+      ap (λ (outcome : Outcome). outcome.entered) trapping.outcome ∙ view_is.1,
     )
 
-module _ (k : ℕ) (state : HartView) (runs : state.hart_state.world ≡ Enclave k) (trap : Trap) where
-  -- a trap exits if and only if its cause does
-  exits_one : (monitored_step state).outcome.step.trap ≡ Some trap → is_host (monitored_step state).state.hart_state.world ≡ causes_exit state.hart_state trap.cause
+-- the hart of the view runs enclave k, and its step has this trap
+module _ (k : ℕ) (state : HartView) (runs_enclave : state.hart_state.world ≡ Enclave k) (trap : Trap) where
+  -- after a step with a trap, the host runs if and only if the cause is one that exits
+  exits_by_cause : (monitored_step state).outcome.step.trap ≡ Some trap
+      → is_host (monitored_step state).state.hart_state.world ≡ causes_exit state.hart_state trap.cause
   unfolding handled
-  exits_one trapped = subst (λ (after : HartViewStepped). is_host after.state.hart_state.world ≡ causes_exit state.hart_state trap.cause)
-      (sym (trapped_step state trap trapped)) (by_cause k (hart_state_after state.hart_state trap) state.shared runs trap trap.cause)
-
--- a step without a trap keeps the world
-quiet_one : (state : HartView) → (monitored_step state).outcome.step.trap ≡ None → (monitored_step state).state.hart_state.world ≡ state.hart_state.world
-quiet_one state = step_cases state (λ after. after.outcome.step.trap ≡ None → after.state.hart_state.world ≡ state.hart_state.world) (λ none quiet. refl)
-    (λ trap traps quiet. let never : None ≡ Some trap = sym quiet ∙ traps in cc)
+  exits_by_cause trapped = subst (λ (after : HartViewStepped). is_host after.state.hart_state.world ≡ causes_exit state.hart_state trap.cause)
+      (sym (trapped_step state trap trapped)) (by_cause k (hart_state_after state.hart_state trap) state.shared runs_enclave trap trap.cause)
 
 -- ---- the interrupt that the hart of an enclave takes
 
--- an and with false is false
-and_false : (b : Bool) → (b && false) ≡ false
-and_false true = refl
-and_false false = refl
-
--- an and with true is the first part
-and_true : (b : Bool) → (b && true) ≡ b
-and_true true = refl
-and_true false = refl
-
--- the timer interrupt if its bit is set, else none
+-- the timer interrupt if the bit is set, or else no interrupt
 abbrev pub timer_or_none : Bool → Option Interrupt
-timer_or_none up = if up then Some MachineTimer else None
+timer_or_none timer_set = if timer_set then Some MachineTimer else None
 
--- with mie 0x80, the pending interrupt is the timer's, if its line is set
+-- if only the timer interrupt is enabled, then the highest pending interrupt is the timer interrupt if its bit t is set, or else there is none
 find_timer : (a b t x y z : Bool)
     → (if a && false then Some MachineExternal else (if b && false then Some MachineSoftware else (if t && true then Some MachineTimer
-    else (if x && false then Some SupervisorExternal else (if y && false then Some SupervisorSoftware else (if z && false then Some SupervisorTimer else None))))))
+    else
+    (if x && false then Some SupervisorExternal else
+    (if y && false then Some SupervisorSoftware else (if z && false then Some SupervisorTimer else None))))))
     ≡ timer_or_none t
-find_timer a b t x y z = rw (and_false a, and_false b, and_true t, and_false x, and_false y, and_false z) refl
+find_timer a b t x y z = rw (and-false a, and-false b, and-true t, and-false x, and-false y, and-false z) refl
 
--- if mie enables only the timer, a hart below M has a pending interrupt if and only if its timer line is set
+-- if mie enables only the timer interrupt, then a hart below M has a pending interrupt if and only if its timer line is set
 pub waits : (c : CsrState) (mode : Mode) → is_machine mode ≡ false → c.mie ≡ 0x80 → pending c mode ≡ timer_or_none c.timer
-waits c mode below enabled =
+waits c mode mode_below_m enabled =
     let mip = mip_word c in
     let bit : is_set mip 7 ≡ c.timer = timer_part c.software_pending c.timer in
-    rw (below, enabled) (find_timer (is_set mip 11) (is_set mip 3) (is_set mip 7) (is_set mip 9) (is_set mip 1) (is_set mip 5) ∙ ap timer_or_none bit)
+    rw (mode_below_m, enabled)
+    (find_timer (is_set mip 11) (is_set mip 3) (is_set mip 7) (is_set mip 9) (is_set mip 1) (is_set mip 5) ∙ ap timer_or_none bit)
 
--- a pending interrupt is the timer's, and the line is set
+-- if `timer_or_none` gives an interrupt, then this is the timer interrupt, and the timer line is set
 timer_only : (b : Bool) (interrupt : Interrupt) → timer_or_none b ≡ Some interrupt → (interrupt ≡ MachineTimer) × (b ≡ true)
-timer_only true interrupt timer_or_none_is = let e : MachineTimer ≡ interrupt = cc in (sym e, refl)
+timer_only true interrupt timer_or_none_is = let is_timer : MachineTimer ≡ interrupt = cc in (sym is_timer, refl)
 timer_only false interrupt timer_or_none_is = cc
 
 -- ---- the step
 
--- an enclave that is the world of a hart of the machine runs there by the test
+-- a hart that runs an enclave is a hart of the machine
 pub runs_here : (k hart : ℕ) (machine : MonitoredMachine) → (hart_state_of hart machine).world ≡ Enclave k → hart < count_of machine
 runs_here k hart machine runs = runs_inside k hart machine (ap (is_world_of k) runs ∙ eq-eqb k k refl)
 
--- the world of the hart after the step, as the hart sees it
+-- the world of the hart after the step is the world in the hart's view after its step
 seen_world : (hart : ℕ) (machine : MonitoredMachine) → hart < count_of machine
     → (hart_state_of hart (step_of hart machine).state).world ≡ (monitored_step (hart_view hart machine)).state.hart_state.world
 seen_world hart machine in_range = ap (λ (after : HartViewStepped). after.state.hart_state.world) (step_seen hart machine in_range)
 
--- proves that an enclave exits only by stop, by exit or by a timer interrupt
+-- proves that an enclave exits only by stop, by exit or by the timer interrupt
 pub exits_law : (hart : ℕ) (machine : MonitoredMachine) → Invariant machine → ExitsOnRequest hart machine (step_of hart machine)
-exits_law hart machine kept k runs = record {
-  quiet = λ none.
+exits_law hart machine invariant k runs = record {
+  quiet = λ no_trap.
       let in_range = runs_here k hart machine runs in
       seen_world hart machine in_range
-      ∙ quiet_one (hart_view hart machine) (sym (ap (λ (after : HartViewStepped). after.outcome.step.trap) (step_seen hart machine in_range)) ∙ none) ∙ runs;
-  exits = λ trap is.
-      let trapping = is_trapping hart machine trap is in
+      ∙ quiet_world (hart_view hart machine)
+      (sym (ap (λ (after : HartViewStepped). after.outcome.step.trap) (step_seen hart machine in_range)) ∙ no_trap) ∙ runs;
+  exits = λ trap trapped.
+      let trapping = is_trapping hart machine trap trapped in
       let state = hart_view hart machine in
       ap is_host (seen_world hart machine trapping.has)
-      ∙ exits_one k state runs trap trapping.trapped;
-  timer = λ trap interrupt is by.
-      let trapping = is_trapping hart machine trap is in
+      ∙ exits_by_cause k state runs trap trapping.trapped;
+  timer = λ trap interrupt trapped cause_is.
+      let trapping = is_trapping hart machine trap trapped in
       let state = hart_view hart machine in
-      let own = hart_view_invariant hart machine kept trapping.has in
+      let view_invariant = hart_view_invariant hart machine invariant trapping.has in
       let bare : (step (bare_machine state)).outcome.trap ≡ Some trap =
       sym (ap (λ (o : StepOutcome). o.trap) (same_outcome state)) ∙ trapping.trapped in
-      let waited = takes_pending (bare_machine state) trap interrupt bare by in
+      let pending_timer = takes_pending (bare_machine state) trap interrupt bare cause_is in
       timer_only state.hart_state.hart.csrs.timer interrupt
-      (sym (waits state.hart_state.hart.csrs state.hart_state.hart.mode own.hart.layout.mode (own.hart.layout.mie ∙ ap mie_of runs)) ∙ waited);
-  redirects = redirects_step hart machine kept;
+      (sym (waits state.hart_state.hart.csrs state.hart_state.hart.mode view_invariant.hart.layout.mode
+      (view_invariant.hart.layout.mie ∙ ap mie_of runs)) ∙ pending_timer);
+  redirects = redirects_step hart machine invariant;
 }

@@ -1,5 +1,5 @@
--- The trap handler on one hart, over two shared states that are equivalent except for an enclave. If it enters that enclave, the results are
--- still equivalent, except for the hart on which the enclave then runs.
+-- The trap handler of one hart, over two shared states that are equivalent except e, gives results that are equivalent except e. If the trap handler
+-- enters e, then the results are equivalent except for the hart that runs e.
 use Rattle.std.proofs.Common.{◌≡◌, ℕ, List, length, Some, None, refl, sym, ap, subst, inl, inr}
 use Rattle.rv_enclaves.specs.declared.slot_info.EnclaveState.TheVariants as states
 use Rattle.rv_enclaves.proofs.WorksAlike.{WorksAlike, works_alike}
@@ -11,82 +11,87 @@ use Rattle.rv_monitor.proofs.HandlerCases.{handler_cases_of_both, entering, save
 
 -- ---- the trap handler
 
-module _ (e : ℕ) (table : Slots) (m n : List ℕ) (cs ds : Contexts) (cases : WorksAlike e (over table m cs) (over table n ds))
+-- each effect of the trap handler leaves the two shared states equivalent except e
+module _ (e : ℕ) (table : Slots) (m n : List ℕ) (contexts_m contexts_n : Contexts)
+    (cases : WorksAlike e (over table m contexts_m) (over table n contexts_n))
     (hart_state : HartState) (trap : Trap) where
-  -- the first shared state
-  abbrev here : Shared
-  here = over table m cs
+  -- the shared state with the memory m and the saved contexts `contexts_m`
+  abbrev shared_m : Shared
+  shared_m = over table m contexts_m
 
-  -- the second shared state
-  abbrev there : Shared
-  there = over table n ds
+  -- the shared state with the memory n and the saved contexts `contexts_n`
+  abbrev shared_n : Shared
+  shared_n = over table n contexts_n
 
-  -- a return to the caller is alike, if the shared states after it are equivalent
+  -- a return to the caller gives equivalent results, if the shared states after the call are equivalent except e
   returned_alike : (one other : Shared) (status result : ℕ) → SharedEquivExcept e one other
       → HandledAlike e (with_reprogrammed_hart (returned_to_caller hart_state one status result))
       (with_reprogrammed_hart (returned_to_caller hart_state other status result))
-  returned_alike one other status result equiv = record {
+  returned_alike one other status result shared_equiv = record {
     entered = refl;
     hart_state = record {
       world = refl;
       same = λ not_running.
           ap (λ (slots : Slots). continuing_from
-          (with_reprogrammed_hart (returned_to_caller hart_state (over slots one.memory one.contexts) status result))) equiv.table;
+          (with_reprogrammed_hart (returned_to_caller hart_state (over slots one.memory one.contexts) status result))) shared_equiv.table;
     };
-    shared = equiv;
+    shared = shared_equiv;
   }
 
-  -- a slot other than e
+  -- an entry of a slot other than e gives equivalent results
   enters_other : (a0 hart_state ≡ e → ⊥)
-      → HandledAlike e (with_reprogrammed_hart (entering hart_state here)) (with_reprogrammed_hart (entering hart_state there))
+      → HandledAlike e (with_reprogrammed_hart (entering hart_state shared_m)) (with_reprogrammed_hart (entering hart_state shared_n))
   unfolding entered_slot
-  enters_other other =
-      let same = cases.contexts (a0 hart_state) other in
+  enters_other a0_is_not_e =
+      let same = cases.contexts (a0 hart_state) a0_is_not_e in
       rw (← same) (record {
         entered = refl;
         hart_state = record { world = refl; same = λ not_running. refl };
         shared = cases.switches (a0 hart_state) states.Running None;
       })
 
-  -- an entry or an exit of slot e is alike in both
-  enters_own : a0 hart_state ≡ e → HandledAlike e (with_reprogrammed_hart (entering hart_state here)) (with_reprogrammed_hart (entering hart_state there))
+  -- an entry of slot e gives equivalent results
+  enters_own : a0 hart_state ≡ e
+      → HandledAlike e (with_reprogrammed_hart (entering hart_state shared_m)) (with_reprogrammed_hart (entering hart_state shared_n))
   unfolding entered_slot
-  enters_own own = record {
+  enters_own a0_is_e = record {
     entered = refl;
-    hart_state = record { world = refl; same = λ not_running. absurd (both_ways _ not_running (eq-eqb (a0 hart_state) e own)) };
+    hart_state = record { world = refl; same = λ not_running. absurd (both_ways _ not_running (eq-eqb (a0 hart_state) e a0_is_e)) };
     shared = cases.switches (a0 hart_state) states.Running None;
   }
 
-  -- an entry is alike in both
-  enters_alike : HandledAlike e (with_reprogrammed_hart (entering hart_state here)) (with_reprogrammed_hart (entering hart_state there))
+  -- an entry of the slot in a0 gives equivalent results
+  enters_alike : HandledAlike e (with_reprogrammed_hart (entering hart_state shared_m)) (with_reprogrammed_hart (entering hart_state shared_n))
   enters_alike = elim (cases_eq (a0 hart_state) e) [ inl own ↦ enters_own own | inr other ↦ enters_other other ]
 
-  -- an exit is alike in both
-  leaves_alike : HandledAlike e (with_reprogrammed_hart (leaving trap.cause hart_state here)) (with_reprogrammed_hart (leaving trap.cause hart_state there))
+  -- an exit of the running enclave gives equivalent results
+  leaves_alike : HandledAlike e (with_reprogrammed_hart (leaving trap.cause hart_state shared_m))
+      (with_reprogrammed_hart (leaving trap.cause hart_state shared_n))
   unfolding left
   leaves_alike = record {
     entered = refl;
     hart_state = record { world = refl; same = λ not_running. refl };
-    shared = cases.switches (running_slot hart_state.world) (enclave_state_after trap.cause hart_state.hart.regs) (Some (saved_by trap.cause hart_state));
+    shared =
+        cases.switches (running_slot hart_state.world) (enclave_state_after trap.cause hart_state.hart.regs) (Some (saved_by trap.cause hart_state));
   }
 
-  -- the trap handler's results are alike in both
-  handled_alike : length m ≡ length n → HandledAlike e (handled hart_state here trap) (handled hart_state there trap)
-  handled_alike = handler_cases_of_both hart_state trap table m n cs ds (HandledAlike e) (record {
-    answers = λ status result. returned_alike here there status result cases.before;
-    creates = λ reads may. returned_alike _ _ 0 (new_slot table) (cases.creates (create_args_of hart_state.hart.regs) may);
-    destroys = λ reads taken. returned_alike _ _ 0 0 (cases.destroys (a0 hart_state) taken);
-    measures = λ reads may. returned_alike _ _ 0 0 (cases.measures (measured_slot hart_state.world (a0 hart_state)) (a1 hart_state));
-    enters = λ call reads enters host taken. enters_alike;
+  -- the trap handler gives equivalent results over both shared states
+  handled_alike : length m ≡ length n → HandledAlike e (handled hart_state shared_m trap) (handled hart_state shared_n trap)
+  handled_alike = handler_cases_of_both hart_state trap table m n contexts_m contexts_n (HandledAlike e) (record {
+    answers = λ status result. returned_alike shared_m shared_n status result cases.before;
+    creates = λ requests no_refusal. returned_alike _ _ 0 (new_slot table) (cases.creates (create_args_of hart_state.hart.regs) no_refusal);
+    destroys = λ requests is_taken. returned_alike _ _ 0 0 (cases.destroys (a0 hart_state) is_taken);
+    measures = λ requests no_refusal. returned_alike _ _ 0 0 (cases.measures (measured_slot hart_state.world (a0 hart_state)) (a1 hart_state));
+    enters = λ call requests is_entry_call from_host is_taken. enters_alike;
     leaves = leaves_alike;
     redirects = record { entered = refl; hart_state = record { world = refl; same = λ not_running. refl }; shared = cases.before };
   })
 
--- proves the noninterference of the trap handler, by its cases
+-- proves the noninterference of the trap handler, by case analysis
 pub handler_law : HandlerLaw
-handler_law e worlds hart_state one other trap here there not_running equiv =
+handler_law e worlds hart_state one other trap shared_invariant_one shared_invariant_other not_running equiv =
     let tables = equiv.table in
-    let cases = works_alike e one other worlds here there equiv in
-    let cases' = subst (λ (t : Slots). WorksAlike e one (over t other.memory other.contexts)) (sym tables) cases in
+    let cases = works_alike e one other worlds shared_invariant_one shared_invariant_other equiv in
+    let cases_over_table = subst (λ (t : Slots). WorksAlike e one (over t other.memory other.contexts)) (sym tables) cases in
     subst (λ (t : Slots). HandledAlike e (handled hart_state one trap) (handled hart_state (over t other.memory other.contexts) trap)) tables
-    (handled_alike e one.table one.memory other.memory one.contexts other.contexts cases' hart_state trap equiv.memory.size)
+    (handled_alike e one.table one.memory other.memory one.contexts other.contexts cases_over_table hart_state trap equiv.memory.size)

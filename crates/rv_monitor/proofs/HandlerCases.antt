@@ -1,5 +1,6 @@
--- Case analysis of the trap handler: a property that holds in each case holds of the handler. It is about one shared state, or about two side by
--- side with the same table and memory size. Two such states have the same call, the same refusals and the same slot.
+-- Case analysis of the trap handler: a claim that holds in each case holds for the trap handler. The claim is about one shared state, or about two
+-- shared states with the same table and memories of the same size. In two such states, a trap requests the same call, with the same refusals and the
+-- same slot.
 use Rattle.std.proofs.Common.{◌≡◌, ℕ, Bool, true, false, List, [], ◌∷◌, length, Option, Some, None, refl, sym, ◌∙◌, subst, inl, inr, arith}
 use Rattle.std.specs.Prelude.{◌&&◌, ◌==◌, if◌then◌else◌}
 use Rattle.rv_state.specs.declared.cause.Cause.TheVariants as causes
@@ -16,20 +17,20 @@ use Rattle.rv_monitor.proofs.Prelude.{enclave_state_after, stopped_context, time
 
 -- ---- the requested call
 
--- what a search finds passes the test
+-- the element that a search finds passes the test
 find-passes : {X : Type 0} (p : X → Bool) (xs : List X) (x : X) → find p xs ≡ Some x → p x ≡ true
 find-passes p [] x found = cc
 find-passes {X} p (y ∷ ys) x found = elim (cases_Bool (p y)) [
   | inl holds ↦
-      let e : Some y ≡ Some x = sym (cond-true (p y) _ _ holds) ∙ found in
+      let some_is : Some y ≡ Some x = sym (cond-true (p y) _ _ holds) ∙ found in
       let same : y ≡ x = cc in
       subst (λ (z : X). p z ≡ true) same holds
   | inr fails ↦
-      let e : find p ys ≡ Some x = sym (cond-false (p y) _ _ fails) ∙ found in
-      find-passes p ys x e
+      let some_is : find p ys ≡ Some x = sym (cond-false (p y) _ _ fails) ∙ found in
+      find-passes p ys x some_is
 ]
 
--- a call that is found has its number in a6, and is offered to the world
+-- a call that the search for the call number finds has this number, and is offered to the world
 found-call : (world : World) (a7 a6 : ℕ) (key : Bool) (call : Call)
     → (if key then find (λ c. call_number c == a6 && is_offered world c) calls else None) ≡ Some call
     → ((call_number call == a6) ≡ true) × (is_offered world call ≡ true)
@@ -37,49 +38,50 @@ found-call world a7 a6 true call test_is =
     and_parts (call_number call == a6) (is_offered world call) (find-passes (λ c. call_number c == a6 && is_offered world c) calls call test_is)
 found-call world a7 a6 false call test_is = cc
 
--- it has the number in a6, and is offered to the world
+-- a requested call has its number in a6, and is offered to the world
 pub asked-is : (world : World) (regs : List ℕ) (call : Call) → requested_call world regs ≡ Some call
     → ((call_number call == register regs 16) ≡ true) × (is_offered world call ≡ true)
 unfolding call_requested
 asked-is world regs call requested = found-call world (register regs 17) (register regs 16) (register regs 17 == call_key) call requested
 
--- a call that enters an enclave is offered to the host only
+-- A call that enters an enclave is offered only to the host. Each case holds by computation, or has a false premise.
 pub entered-by-host : (world : World) (call : Call) → is_entering (Some call) ≡ true → is_offered world call ≡ true → world ≡ Host
-entered-by-host Host call enters offered = refl
-entered-by-host (Enclave k) Run enters offered = cc
-entered-by-host (Enclave k) Resume enters offered = cc
-entered-by-host (Enclave k) _ enters offered = cc
+entered-by-host Host call is_entry_call offered = refl
+entered-by-host (Enclave k) Run is_entry_call offered = cc
+entered-by-host (Enclave k) Resume is_entry_call offered = cc
+entered-by-host (Enclave k) _ is_entry_call offered = cc
 
--- the number of stop is not that of exit
+-- if a6 has the number of stop, then a6 does not have the number of exit
 not_exit : (a6 : ℕ) → (call_number Stop == a6) ≡ true → (a6 == call_number Exit) ≡ false
-not_exit a6 test_is = grind (arith, nat_tests)
+not_exit a6 is_stop = grind (arith, nat_tests)
 
--- the number of exit is that of exit
-exit : (a6 : ℕ) → (call_number Exit == a6) ≡ true → (a6 == call_number Exit) ≡ true
-exit a6 test_is = grind (arith, nat_tests)
+-- if the number of exit is in a6, then a6 has the number of exit
+is_exit : (a6 : ℕ) → (call_number Exit == a6) ≡ true → (a6 == call_number Exit) ≡ true
+is_exit a6 number_is_exit = grind (arith, nat_tests)
 
 -- ---- the cases
 
--- the shared state made of a table, a memory and the saved contexts
+-- the shared state with this table, memory and saved contexts
 abbrev pub over : Slots → List ℕ → Contexts → Shared
 over table memory contexts = record { memory = memory; table = table; contexts = contexts }
 
--- the trap requests this call
+-- the trap is an ecall from S, and requests this call
 pub record Requests (hart_state : HartState) (cause : Cause) (call : Call) : Type 0 where
   pub is_call : cause ≡ causes.Exception EnvironmentCallFromS
   pub asked : requested_call hart_state.world hart_state.hart.regs ≡ Some call
 
--- the saved context of an enclave that exits by the trap, from the state of its hart
+-- the context that the monitor saves when an enclave exits by this cause, from the state of the hart at the trap
 abbrev pub saved_by : Cause → HartState → Context
 saved_by (causes.Interrupt interrupt) hart_state = saved hart_state.hart (trapped_pc hart_state) (trapped_mode hart_state)
-saved_by (causes.Exception exception) hart_state = if register hart_state.hart.regs 16 == call_number Exit then exited_context else stopped_context hart_state
+saved_by (causes.Exception exception) hart_state =
+    if register hart_state.hart.regs 16 == call_number Exit then exited_context else stopped_context hart_state
 
--- the state of its hart, with the line lowered if the timer stops it
+-- the hart state at the trap, with the timer line cleared if the cause is the timer interrupt
 abbrev pub lowered_by : Cause → HartState → HartState
 lowered_by cause hart_state =
     record hart_state { hart = record hart_state.hart { csrs = record hart_state.hart.csrs { timer = line_after cause hart_state.hart.csrs.timer } } }
 
--- an exit of the running enclave
+-- the exit of the running enclave by this cause
 abbrev pub enclave_exit_of : Cause → HartState → EnclaveExit
 enclave_exit_of cause hart_state = record {
   state = enclave_state_after cause hart_state.hart.regs;
@@ -88,37 +90,39 @@ enclave_exit_of cause hart_state = record {
   value = value cause hart_state.hart.regs;
 }
 
--- the trap handler's result if the enclave exits by this cause
+-- the result of the trap handler if the running enclave exits by this cause
 abbrev pub leaving : Cause → HartState → Shared → Handled
 leaving cause hart_state shared = left (lowered_by cause hart_state) shared (enclave_exit_of cause hart_state)
 
--- the trap handler's result if the host enters the enclave that a0 names
+-- the result of the trap handler if the host enters the enclave that a0 names
 abbrev pub entering : HartState → Shared → Handled
 entering hart_state shared = entered_slot hart_state shared (a0 hart_state) (saved_context shared.contexts (a0 hart_state)) (past_call hart_state)
 
-module _ (hart_state : HartState) (trap : Trap) (table : Slots) (m n : List ℕ) (cs ds : Contexts) (P : Handled → Handled → Type 0) where
-  -- the first shared state
-  abbrev here : Shared
-  here = over table m cs
+-- the claim P about the trap handler on two shared states with the same table
+module _ (hart_state : HartState) (trap : Trap) (table : Slots) (m n : List ℕ) (contexts_m contexts_n : Contexts)
+    (P : Handled → Handled → Type 0) where
+  -- the shared state with the memory m and the saved contexts `contexts_m`
+  abbrev shared_m : Shared
+  shared_m = over table m contexts_m
 
-  -- the second shared state
-  abbrev there : Shared
-  there = over table n ds
+  -- the shared state with the memory n and the saved contexts `contexts_n`
+  abbrev shared_n : Shared
+  shared_n = over table n contexts_n
 
-  -- one case, for both shared states
+  -- the claim P about one case, for both shared states
   abbrev Both : (Shared → Handled) → Type 0
-  Both work = P (work here) (work there)
+  Both work = P (work shared_m) (work shared_n)
 
-  -- what a proof by cases must show of the trap handler on two memories and contexts: one claim for each case
-  pub record Pieces : Type 0 where
+  -- the proof obligations of a proof by cases: the claim P for each case of the trap handler on both shared states
+  pub record CauseCases : Type 0 where
     -- a refusal, or a call that changes nothing in the shared state
     pub answers : (status result : ℕ) → Both (λ shared. returned_to_caller hart_state shared status result)
-    pub creates : Requests hart_state trap.cause Create → MayCreate here (create_args_of hart_state.hart.regs)
+    pub creates : Requests hart_state trap.cause Create → MayCreate shared_m (create_args_of hart_state.hart.regs)
         → Both (λ shared. returned_to_caller hart_state (created shared (create_args_of hart_state.hart.regs)) 0 (new_slot shared.table))
     pub destroys : Requests hart_state trap.cause Destroy → IsTaken table Destroy (a0 hart_state)
         → Both (λ shared. returned_to_caller hart_state (destroyed shared (a0 hart_state)) 0 0)
     pub measures : Requests hart_state trap.cause Measure
-        → MayMeasure here hart_state.hart.csrs.pmp (measured_slot hart_state.world (a0 hart_state)) (a1 hart_state)
+        → MayMeasure shared_m hart_state.hart.csrs.pmp (measured_slot hart_state.world (a0 hart_state)) (a1 hart_state)
         → Both (λ shared. returned_to_caller hart_state (measured shared (measured_slot hart_state.world (a0 hart_state)) (a1 hart_state)) 0 0)
     pub enters : (call : Call) → Requests hart_state trap.cause call → is_entering (Some call) ≡ true → hart_state.world ≡ Host
         → IsTaken table call (a0 hart_state)
@@ -126,95 +130,102 @@ module _ (hart_state : HartState) (trap : Trap) (table : Slots) (m n : List ℕ)
     pub leaves : Both (leaving trap.cause hart_state)
     pub redirects : Both (λ shared. redirected hart_state shared trap)
 
-  module _ (pieces : Pieces) (same_length : length m ≡ length n) where
-    -- the claim for an exit
+  -- the claim P holds in each case, and the memories have the same size
+  module _ (cases : CauseCases) (same_length : length m ≡ length n) where
+    -- the claim holds for an exit by each cause
     by-leaving : (cause : Cause) → trap.cause ≡ cause → Both (leaving cause hart_state)
-    by-leaving cause cause_is = subst (λ (c : Cause). Both (leaving c hart_state)) cause_is pieces.leaves
+    by-leaving cause cause_is = subst (λ (c : Cause). Both (leaving c hart_state)) cause_is cases.leaves
 
-    -- the claim for each call that is not refused
-    by-asked : (call : Call) → Requests hart_state trap.cause call → first_refusal (call_refusals hart_state here call) ≡ None
+    -- the claim holds for each requested call that is not refused
+    by-accepted : (call : Call) → Requests hart_state trap.cause call → first_refusal (call_refusals hart_state shared_m call) ≡ None
         → Both (λ shared. performed hart_state shared call)
     unfolding performed
-    by-asked Create reads none = pieces.creates reads (may_create here (create_args_of hart_state.hart.regs) none)
-    by-asked Destroy reads none = pieces.destroys reads (may_take table Destroy (a0 hart_state) none)
-    by-asked Run reads none =
-        let asked = asked-is hart_state.world hart_state.hart.regs Run reads.asked in
-        pieces.enters Run reads refl (entered-by-host hart_state.world Run refl asked.1) (may_take table Run (a0 hart_state) none)
-    by-asked Resume reads none =
-        let asked = asked-is hart_state.world hart_state.hart.regs Resume reads.asked in
-        pieces.enters Resume reads refl (entered-by-host hart_state.world Resume refl asked.1) (may_take table Resume (a0 hart_state) none)
-    by-asked Measure reads none =
-        pieces.measures reads (may_measure here hart_state.hart.csrs.pmp (measured_slot hart_state.world (a0 hart_state)) (a1 hart_state) none)
-    by-asked Stop reads none =
-        let test = not_exit (register hart_state.hart.regs 16) (asked-is hart_state.world hart_state.hart.regs Stop reads.asked).0 in
-        rw test at (by-leaving (causes.Exception EnvironmentCallFromS) reads.is_call)
-    by-asked Exit reads none =
-        let test = exit (register hart_state.hart.regs 16) (asked-is hart_state.world hart_state.hart.regs Exit reads.asked).0 in
-        rw test at (by-leaving (causes.Exception EnvironmentCallFromS) reads.is_call)
+    by-accepted Create requests no_refusal = cases.creates requests (may_create shared_m (create_args_of hart_state.hart.regs) no_refusal)
+    by-accepted Destroy requests no_refusal = cases.destroys requests (may_take table Destroy (a0 hart_state) no_refusal)
+    by-accepted Run requests no_refusal =
+        let asked = asked-is hart_state.world hart_state.hart.regs Run requests.asked in
+        cases.enters Run requests refl (entered-by-host hart_state.world Run refl asked.1) (may_take table Run (a0 hart_state) no_refusal)
+    by-accepted Resume requests no_refusal =
+        let asked = asked-is hart_state.world hart_state.hart.regs Resume requests.asked in
+        cases.enters Resume requests refl (entered-by-host hart_state.world Resume refl asked.1) (may_take table Resume (a0 hart_state) no_refusal)
+    by-accepted Measure requests no_refusal =
+        cases.measures requests
+        (may_measure shared_m hart_state.hart.csrs.pmp (measured_slot hart_state.world (a0 hart_state)) (a1 hart_state) no_refusal)
+    by-accepted Stop requests no_refusal =
+        let test = not_exit (register hart_state.hart.regs 16) (asked-is hart_state.world hart_state.hart.regs Stop requests.asked).0 in
+        rw test at (by-leaving (causes.Exception EnvironmentCallFromS) requests.is_call)
+    by-accepted Exit requests no_refusal =
+        let test = is_exit (register hart_state.hart.regs 16) (asked-is hart_state.world hart_state.hart.regs Exit requests.asked).0 in
+        rw test at (by-leaving (causes.Exception EnvironmentCallFromS) requests.is_call)
 
     -- a call has the same refusals in both shared states
-    same-rows : (call : Call) → call_refusals hart_state here call ≡ call_refusals hart_state there call
-    same-rows Create = same_create_refusals table m n cs ds (create_args_of hart_state.hart.regs) same_length
-    same-rows Measure = same_measure_refusals table m n cs ds hart_state.hart.csrs.pmp (measured_slot hart_state.world (a0 hart_state)) (a1 hart_state) same_length
-    same-rows _ = refl
+    same-refusals : (call : Call) → call_refusals hart_state shared_m call ≡ call_refusals hart_state shared_n call
+    same-refusals Create = same_create_refusals table m n contexts_m contexts_n (create_args_of hart_state.hart.regs) same_length
+    same-refusals Measure =
+        same_measure_refusals table m n contexts_m contexts_n hart_state.hart.csrs.pmp (measured_slot hart_state.world (a0 hart_state))
+        (a1 hart_state) same_length
+    same-refusals _ = refl
 
-    -- the claim for a call, refused or not
-    by-rows : (o : Option Refusal) (one other : Handled) → (o ≡ None → P one other)
-        → P (option_case o one (refused hart_state here)) (option_case o other (refused hart_state there))
-    by-rows None one other done = done refl
-    by-rows (Some refusal) one other done = pieces.answers (status_of refusal) 0
+    -- the claim holds for a call, refused or not
+    by-refusal : (o : Option Refusal) (one other : Handled) → (o ≡ None → P one other)
+        → P (option_case o one (refused hart_state shared_m)) (option_case o other (refused hart_state shared_n))
+    by-refusal None one other claim = claim refl
+    by-refusal (Some refusal) one other claim = cases.answers (status_of refusal) 0
 
-    -- the claim for a call with its refusals
+    -- the claim holds for a requested call with its refusals
     by-called : (call : Call) → Requests hart_state trap.cause call → Both (λ shared. called hart_state shared call)
     unfolding called
-    by-called call reads =
-        let rows = same-rows call in
-        rw (← rows) (by-rows (first_refusal (call_refusals hart_state here call)) _ _ (by-asked call reads))
+    by-called call requests =
+        let rows = same-refusals call in
+        rw (← rows) (by-refusal (first_refusal (call_refusals hart_state shared_m call)) _ _ (by-accepted call requests))
 
-    -- the claim for the requested call, if there is one
+    -- the claim holds for an ecall from S, whether it requests a call or not
     by-call : (o : Option Call) → requested_call hart_state.world hart_state.hart.regs ≡ o → trap.cause ≡ causes.Exception EnvironmentCallFromS
         → Both (λ shared. option_case o (refused hart_state shared NotSupported) (called hart_state shared))
-    by-call None requested by_ecall = pieces.answers (status_of NotSupported) 0
+    by-call None requested by_ecall = cases.answers (status_of NotSupported) 0
     by-call (Some call) requested by_ecall = by-called call (record { is_call = by_ecall; asked = requested })
 
-    -- the claim for an exception
-    by-exception : (exception : Exception) → trap.cause ≡ causes.Exception exception → Both (λ shared. handled_exception hart_state shared trap exception)
+    -- the claim holds for each exception
+    by-exception : (exception : Exception) → trap.cause ≡ causes.Exception exception
+        → Both (λ shared. handled_exception hart_state shared trap exception)
     unfolding call_handled
     by-exception EnvironmentCallFromS cause_is = by-call (requested_call hart_state.world hart_state.hart.regs) refl cause_is
-    by-exception _ cause_is = pieces.redirects
+    by-exception _ cause_is = cases.redirects
 
-    -- the claim for each cause
+    -- the claim holds for each cause
     by-cause : (cause : Cause) → trap.cause ≡ cause → Both (λ shared. handled_cause hart_state shared trap cause)
     unfolding timer_stopped
     by-cause (causes.Interrupt interrupt) cause_is = by-leaving (causes.Interrupt interrupt) cause_is
     by-cause (causes.Exception exception) cause_is = by-exception exception cause_is
 
-    -- a claim with a proof for each case holds of the trap handler before it reprograms the hart
-    pub by_pieces : P (handled_cause hart_state here trap trap.cause) (handled_cause hart_state there trap trap.cause)
-    by_pieces = by-cause trap.cause refl
+    -- the claim holds for the trap handler before it reprograms the PMP of the hart, if it holds in each case
+    pub by_cause_cases : P (handled_cause hart_state shared_m trap trap.cause) (handled_cause hart_state shared_n trap trap.cause)
+    by_cause_cases = by-cause trap.cause refl
 
--- ---- the case principles: the PMP entries and mie are programmed last
+-- ---- the case analysis principles. The trap handler reprograms the PMP entries and mie last
 
--- two shared states side by side
+-- the proof obligations for a claim about the trap handler on two shared states, with the PMP entries and mie reprogrammed at the end
 abbrev pub HandlerCasesOfBoth : HartState → Trap → Slots → List ℕ → List ℕ → Contexts → Contexts → (Handled → Handled → Type 0) → Type 0
-HandlerCasesOfBoth hart_state trap table m n cs ds P =
-    Pieces hart_state trap table m n cs ds (λ one other. P (with_reprogrammed_hart one) (with_reprogrammed_hart other))
+HandlerCasesOfBoth hart_state trap table m n contexts_m contexts_n P =
+    CauseCases hart_state trap table m n contexts_m contexts_n (λ one other. P (with_reprogrammed_hart one) (with_reprogrammed_hart other))
 
 -- a claim about the trap handler on two shared states with one table holds if it holds in each case
-pub handler_cases_of_both : (hart_state : HartState) (trap : Trap) (table : Slots) (m n : List ℕ) (cs ds : Contexts) (P : Handled → Handled → Type 0)
-    → HandlerCasesOfBoth hart_state trap table m n cs ds P → length m ≡ length n
-    → P (handled hart_state (over table m cs) trap) (handled hart_state (over table n ds) trap)
+pub handler_cases_of_both : (hart_state : HartState) (trap : Trap) (table : Slots) (m n : List ℕ) (contexts_m contexts_n : Contexts)
+    (P : Handled → Handled → Type 0)
+    → HandlerCasesOfBoth hart_state trap table m n contexts_m contexts_n P → length m ≡ length n
+    → P (handled hart_state (over table m contexts_m) trap) (handled hart_state (over table n contexts_n) trap)
 unfolding handled
-handler_cases_of_both hart_state trap table m n cs ds P pieces same_length =
-    by_pieces hart_state trap table m n cs ds (λ one other. P (with_reprogrammed_hart one) (with_reprogrammed_hart other)) pieces same_length
+handler_cases_of_both hart_state trap table m n contexts_m contexts_n P cases same_length =
+    by_cause_cases hart_state trap table m n contexts_m contexts_n
+    (λ one other. P (with_reprogrammed_hart one) (with_reprogrammed_hart other)) cases same_length
 
--- the cases of the trap handler on one shared state
+-- the proof obligations for a claim about the trap handler on one shared state
 abbrev pub OneHandlerCases : HartState → Trap → Shared → (Handled → Type 0) → Type 0
 OneHandlerCases hart_state trap shared P =
     HandlerCasesOfBoth hart_state trap shared.table shared.memory shared.memory shared.contexts shared.contexts (λ one _. P one)
 
--- a claim about the trap handler holds if it holds in each case
+-- a claim about the trap handler on one shared state holds if it holds in each case
 pub handler_cases : (hart_state : HartState) (trap : Trap) (shared : Shared) (P : Handled → Type 0) → OneHandlerCases hart_state trap shared P
     → P (handled hart_state shared trap)
-handler_cases hart_state trap shared P pieces =
-    handler_cases_of_both hart_state trap shared.table shared.memory shared.memory shared.contexts shared.contexts (λ one _. P one) pieces refl
+handler_cases hart_state trap shared P cases =
+    handler_cases_of_both hart_state trap shared.table shared.memory shared.memory shared.contexts shared.contexts (λ one _. P one) cases refl

@@ -1,11 +1,13 @@
--- A step preserves everything private to an enclave that is not the world of its hart, unless it enters or ends it.
+-- Integrity: a step preserves the private state of each live enclave that is not the running world, unless the step enters or destroys this enclave.
 use Rattle.std.proofs.Common.{◌≡◌, ◌≢◌, ◌<◌, ℕ, ◌==◌, true, false, Option, Some, None, refl, sym, ap, inl, inr, arith}
 use Rattle.std.specs.Prelude.{is_some}
 use Rattle.rv_memory.proofs.BlockLaws.{apart_at}
 use Rattle.rv_enclaves.specs.declared.create_args.CreateArgs.{CreateArgs}
-use Rattle.rv_monitor.specs.Prelude.{Context, Destroy, Enclave, EnclaveState, Host, IsValid, Running, HartState, Shared, Slots, Trap, Write, byte_at, bytes_in}
+use Rattle.rv_enclaves.specs.SlotNumbers.{slot_count}
+use Rattle.rv_enclaves.proofs.SharedInvariantLemmas.{live_slot_in_range}
+use Rattle.rv_monitor.specs.Prelude.{Context, Destroy, Enclave, EnclaveState, Host, IsValid, Running, HartState, Shared, Trap, Write, byte_at, bytes_in}
 use Rattle.rv_monitor.specs.Prelude.{context_at, created, destroyed, first_context, has, is_live, is_world_of, measured, new_slot}
-use Rattle.rv_monitor.specs.Prelude.{World, option_case, create_args_of, recorded, region, register, running_slot, slot_at, with_context, with_slot}
+use Rattle.rv_monitor.specs.Prelude.{World, create_args_of, recorded, region, register, running_slot, slot_at, with_context, with_slot}
 use Rattle.rv_monitor.specs.Prelude.{with_state}
 use Rattle.rv_monitor.specs.Integrity.{PreservesOthers}
 use Rattle.rv_monitor.proofs.Prelude.{Handled, HartViewInvariant, IsPreserved, IsTaken, MayCreate, HartView, SlotInfo, a0, at_other}
@@ -18,128 +20,130 @@ use Rattle.rv_monitor.proofs.InvariantLemmas.{hart_view_invariant}
 use Rattle.rv_monitor.proofs.HartCases.{by_hart}
 use Rattle.rv_monitor.proofs.TrapSteps.{step_cases, hart_state_after}
 use Rattle.rv_monitor.proofs.HandlerCases.{handler_cases, saved_by}
+use Rattle.rv_monitor.proofs.Records.{state_other}
 
--- ---- its record and its context
+-- ---- the record and the saved context of the enclave
 
 -- the record and the saved context of slot k are unchanged
 record KeepsSlot (k : ℕ) (before after : Shared) : Type 0 where
   pub slot : slot_at after.table k ≡ slot_at before.table k
   pub context : context_at after.contexts k ≡ context_at before.contexts k
 
--- a new state of slot j leaves the record of another slot
-state_by : (slots : Slots) (k j : ℕ) (o : Option SlotInfo) (state : EnclaveState) → k ≢ j
-    → slot_at (option_case o slots (λ info. with_slot slots j (Some (record info { state = state })))) k ≡ slot_at slots k
-state_by slots k j None state other = refl
-state_by slots k j (Some info) state other = at_other slots j k (Some (record info { state = state })) other
-
--- a new state and context of slot j keep every other slot
+-- a new state and a new saved context of slot j leave each other slot unchanged
 other_state : (k j : ℕ) (shared : Shared) (state : EnclaveState) (c : Option Context) → (j == k) ≡ false
     → KeepsSlot k shared (record shared { table = with_state shared.table j state; contexts = with_context shared.contexts j c })
-other_state k j shared state c apart =
-    let other : k ≢ j = λ same. both_ways _ apart (eq-eqb j k (sym same)) in
-    record { slot = state_by shared.table k j (slot_at shared.table j) state other; context = at_other shared.contexts j k c other }
+other_state k j shared state c distinct =
+    let other : k ≢ j = λ same. both_ways _ distinct (eq-eqb j k (sym same)) in
+    record { slot = state_other shared.table k j (slot_at shared.table j) state other; context = at_other shared.contexts j k c other }
 
--- the running slot is that of the world, so it is not slot k
-runs_other : (k : ℕ) (world : World) → k < 13 → is_world_of k world ≡ false → (running_slot world == k) ≡ false
-runs_other k Host inside not_running = ne_eqb 13 k (λ same. omega (arith, inside, same))
-runs_other k (Enclave j) inside not_running = not_running
+-- the slot of the running world is not slot k
+running_slot_is_other : (k : ℕ) (world : World) → k < slot_count → is_world_of k world ≡ false → (running_slot world == k) ≡ false
+running_slot_is_other k Host in_table not_running = ne_eqb slot_count k (λ same. omega (arith, in_table, same))
+running_slot_is_other k (Enclave j) in_table not_running = not_running
 
--- the slot is unchanged, if the trap handler does not enter it, and it is live afterwards
+-- if the trap handler does not enter slot k, and slot k is live after it, then slot k is unchanged
 abbrev Keeps : ℕ → Shared → Handled → Type 0
 Keeps k before h = enters k h.next.entered ≡ false → is_live h.shared.table k ≡ true → KeepsSlot k before h.shared
 
-module _ (k : ℕ) (hart_state : HartState) (shared : Shared) (valid : IsValid shared.memory shared.table) (not_running : is_world_of k hart_state.world ≡ false)
+-- enclave k is live before the trap handler of a hart that does not run k
+module _ (k : ℕ) (hart_state : HartState) (shared : Shared) (valid : IsValid shared.memory shared.table)
+    (not_running : is_world_of k hart_state.world ≡ false)
     (live : is_live shared.table k ≡ true) where
-  -- the slot of a live enclave is one of the 13
-  live_below : (o : Option SlotInfo) → slot_at shared.table k ≡ o → is_some o ≡ true → k < 13
-  live_below None slot_is lives = cc
-  live_below (Some info) slot_is lives = live_in_range shared.table k info valid.count slot_is
-
-  -- a create keeps the live slot k
+  -- a create leaves the live slot k unchanged
   created_keeps : (new : CreateArgs) → MayCreate shared new → KeepsSlot k shared (created shared new)
   unfolding created
-  created_keeps new may =
-      let free = (free_slot_from shared.table (new_slot shared.table) may.free).free in
-      let other : k ≢ new_slot shared.table = λ same. both_ways _ (ap (λ (o : Option SlotInfo). is_some o) free) (rw (← same) live) in
+  created_keeps new no_refusal =
+      let free = (free_slot_from shared.table (new_slot shared.table) no_refusal.free).free in
+      let distinct : k ≢ new_slot shared.table = λ same. both_ways _ (ap (λ (o : Option SlotInfo). is_some o) free) (rw (← same) live) in
       let info = recorded shared.memory new in
       record {
-        slot = at_other shared.table (new_slot shared.table) k (Some info) other;
-        context = at_other shared.contexts (new_slot shared.table) k (Some (first_context info)) other;
+        slot = at_other shared.table (new_slot shared.table) k (Some info) distinct;
+        context = at_other shared.contexts (new_slot shared.table) k (Some (first_context info)) distinct;
       }
 
-  -- a destroy keeps slot k, if it is live after it
+  -- a destroy after which slot k is live leaves slot k unchanged
   destroyed_keeps : (j : ℕ) → IsTaken shared.table Destroy j → is_live (destroyed shared j).table k ≡ true → KeepsSlot k shared (destroyed shared j)
   unfolding destroyed
-  destroyed_keeps j taken stays = elim (cases_eq k j) [
-    | inl same ↦
-        let inside = live_in_range shared.table j taken.info valid.count taken.is in
-        let gone : slot_at (with_slot shared.table j None) j ≡ None = at_same shared.table j None (omega (arith, valid.count)) in
-        absurd (both_ways _ (ap (λ (o : Option SlotInfo). is_some o) gone) (rw same at stays))
-    | inr other ↦ record { slot = at_other shared.table j k None other; context = at_other shared.contexts j k None other }
+  destroyed_keeps j is_taken live_after = elim (cases_eq k j) [
+    | inl equal ↦
+        let slot_in_range = live_in_range shared.table j is_taken.info valid.count is_taken.is in
+        let slot_is_free : slot_at (with_slot shared.table j None) j ≡ None = at_same shared.table j None (omega (arith, valid.count)) in
+        absurd (both_ways _ (ap (λ (o : Option SlotInfo). is_some o) slot_is_free) (rw equal at live_after))
+    | inr distinct ↦ record { slot = at_other shared.table j k None distinct; context = at_other shared.contexts j k None distinct }
   ]
 
-  -- each case of the trap handler keeps slot k, if it is live after it
+  -- the trap handler satisfies `Keeps` for slot k
   handled_keeps : (trap : Trap) → Keeps k shared (handled hart_state shared trap)
   unfolding measured entered_slot left
   handled_keeps trap = handler_cases hart_state trap shared (Keeps k shared) (record {
-    answers = λ status result passes stays. record { slot = refl; context = refl };
-    creates = λ reads may passes stays. created_keeps (create_args_of hart_state.hart.regs) may;
-    destroys = λ reads taken passes stays. destroyed_keeps (a0 hart_state) taken stays;
-    measures = λ reads may passes stays. record { slot = refl; context = refl };
-    enters = λ call reads enters host taken passes stays. other_state k (a0 hart_state) shared Running None passes;
-    leaves = λ passes stays.
-        other_state k (running_slot hart_state.world) shared (enclave_state_after trap.cause hart_state.hart.regs) (Some (saved_by trap.cause hart_state))
-        (runs_other k hart_state.world (live_below (slot_at shared.table k) refl live) not_running);
-    redirects = λ passes stays. record { slot = refl; context = refl };
+    answers = λ status result not_entered live_after. record { slot = refl; context = refl };
+    creates = λ requests no_refusal not_entered live_after. created_keeps (create_args_of hart_state.hart.regs) no_refusal;
+    destroys = λ requests is_taken not_entered live_after. destroyed_keeps (a0 hart_state) is_taken live_after;
+    measures = λ requests no_refusal not_entered live_after. record { slot = refl; context = refl };
+    enters = λ call requests is_entry_call from_host is_taken not_entered live_after. other_state k (a0 hart_state) shared Running None not_entered;
+    leaves = λ not_entered live_after.
+        other_state k (running_slot hart_state.world) shared (enclave_state_after trap.cause hart_state.hart.regs)
+        (Some (saved_by trap.cause hart_state))
+        (running_slot_is_other k hart_state.world (live_slot_in_range shared.table k (slot_at shared.table k) valid.count refl live) not_running);
+    redirects = λ not_entered live_after. record { slot = refl; context = refl };
   })
 
--- ---- the bytes of its region
+-- ---- the bytes in the region of the enclave
 
--- a byte that a step changes is accessible to the world that runs, or is in the region of an enclave that the step ends
+-- a step changes no byte in the region of an enclave that is not the running world and is live after the step
 not_changed : (state : HartView) (k byte : ℕ) → HartViewInvariant state → is_world_of k state.hart_state.world ≡ false
     → is_live (monitored_step state).state.shared.table k ≡ true
     → has (region state.shared.table k) byte ≡ true → byte_at (monitored_step state).state.shared.memory byte ≡ byte_at state.shared.memory byte
-not_changed state k byte kept not_running stays own =
+not_changed state k byte view_invariant not_running live_after in_region =
     let shared = state.shared in
-    let valid = kept.valid in
-    let apart = accessible_apart shared.memory shared.table state.hart_state.world Write in
-    elim (changes state kept byte) [
+    let valid = view_invariant.valid in
+    let outside_other_regions = accessible_apart shared.memory shared.table state.hart_state.world Write in
+    elim (changes state view_invariant byte) [
       | inl same ↦ same
       | inr changed ↦ elim changed [
         | inl stored ↦
-            absurd (both_ways _ (apart stored.span.addr (bytes_in stored.span.len) k valid not_running stored.accessible byte stored.low stored.high) own)
+            absurd
+            (both_ways _ (outside_other_regions stored.span.addr
+            (bytes_in stored.span.len) k valid not_running stored.accessible byte stored.low stored.high) in_region)
         | inr call ↦ elim call.change [
           | inl cleared ↦ elim (cases_eq k (register state.hart_state.hart.regs 10)) [
-            | inl same ↦ absurd (both_ways _ (rw (← same) at cleared.gone) stays)
-            | inr other ↦
+            | inl equal ↦ absurd (both_ways _ (rw (← equal) at cleared.gone) live_after)
+            | inr distinct ↦
                 absurd (both_ways _ (apart_at (region shared.table k) (region shared.table (register state.hart_state.hart.regs 10)) byte
-                (valid.regions_apart k (register state.hart_state.hart.regs 10) other) own) cleared.own)
+                (valid.regions_apart k (register state.hart_state.hart.regs 10) distinct) in_region) cleared.own)
           ]
-          | inr put ↦ absurd (both_ways _ (apart byte 1 k valid not_running put.accessible byte (omega arith) (omega arith)) own)
+          | inr put ↦
+              absurd (both_ways _ (outside_other_regions byte 1 k valid not_running put.accessible byte (omega arith) (omega arith)) in_region)
         ]
       ]
     ]
 
 -- ---- the step
 
--- a step of the view of a hart keeps each other live enclave
-pub integrity_in : (state : HartView) → HartViewInvariant state → (k : ℕ) → is_world_of k state.hart_state.world ≡ false → is_live state.shared.table k ≡ true
+-- a step of a view preserves each live enclave that is not the running world, unless the step enters or destroys this enclave
+pub integrity_in : (state : HartView) → HartViewInvariant state → (k : ℕ) → is_world_of k state.hart_state.world ≡ false
+    → is_live state.shared.table k ≡ true
     → enters k (monitored_step state).outcome.entered ≡ false → is_live (monitored_step state).state.shared.table k ≡ true
     → IsPreserved k state.shared (monitored_step state).state.shared
-integrity_in state kept k not_running live passes stays =
+integrity_in state view_invariant k not_running live not_entered live_after =
     let keeps = step_cases state
     (λ after. enters k after.outcome.entered ≡ false → is_live after.state.shared.table k ≡ true → KeepsSlot k state.shared after.state.shared)
-    (λ none passes stays. record { slot = refl; context = refl })
-    (λ trap trapped. handled_keeps k (hart_state_after state.hart_state trap) state.shared kept.valid not_running live trap) in
-    let kept_slot = keeps passes stays in
-    record { slot = kept_slot.slot; bytes = λ byte own. not_changed state k byte kept not_running stays own; context = kept_slot.context }
+    (λ no_trap not_entered live_after. record { slot = refl; context = refl })
+    (λ trap trapped. handled_keeps k (hart_state_after state.hart_state trap) state.shared view_invariant.valid not_running live trap) in
+    let kept_slot = keeps not_entered live_after in
+    record {
+      slot = kept_slot.slot;
+      bytes = λ byte in_its_region. not_changed state k byte view_invariant not_running live_after in_its_region;
+      context = kept_slot.context;
+    }
 
--- proves integrity: a step leaves every other live enclave untouched that it neither enters nor destroys
+-- proves integrity: a step leaves each other live enclave untouched that it neither enters nor destroys
 pub integrity : (hart : ℕ) (machine : MonitoredMachine) → Invariant machine → PreservesOthers hart machine (step_of hart machine)
-integrity hart machine kept k not_running live passes stays = record {
+integrity hart machine invariant k not_running live not_entered live_after = record {
   preserved = by_hart hart machine
       (λ after. enters k after.outcome.entered ≡ false → is_live after.state.shared.table k ≡ true → IsPreserved k machine.shared after.state.shared)
-      (λ passes stays. record { slot = refl; bytes = λ byte own. refl; context = refl })
-      (λ in_range. integrity_in (hart_view hart machine) (hart_view_invariant hart machine kept in_range) k not_running live) passes stays;
-  hart_state = hart_state_preserved k hart machine kept not_running;
+      (λ not_entered live_after. record { slot = refl; bytes = λ byte in_its_region. refl; context = refl })
+      (λ in_range. integrity_in (hart_view hart machine)
+      (hart_view_invariant hart machine invariant in_range) k not_running live) not_entered live_after;
+  hart_state = hart_state_preserved k hart machine invariant not_running;
 }

@@ -1,4 +1,4 @@
--- After a trap, an enclave either continues, or exits and leaves the specified state.
+-- After a trap of an enclave, either the enclave continues, or it exits and leaves the machine that the definition `left_machine` gives.
 use Rattle.std.proofs.Common.{◌≡◌, ℕ, ◌⊎◌, true, Option, Some, None, IfSome, refl, sym, ◌∙◌, ap, subst, inl, inr, ◌<◌, arith}
 use Rattle.std.proofs.Math.Bool.{or-false}
 use Rattle.rv_state.specs.declared.cause.Cause.TheVariants as causes
@@ -16,14 +16,15 @@ use Rattle.rv_monitor.proofs.Prelude.{get_or-set_at, hart_state_at_start, hart_s
 
 -- ---- the trap handler
 
--- after a trap of the enclave of slot k
-module _ (before : HartView) (k : ℕ) (host : Context) (runs : before.hart_state.world ≡ Enclave k) (kept : before.hart_state.host_context ≡ Some host)
+-- the trap of a hart that runs enclave k, with a saved context of the host
+module _ (before : HartView) (k : ℕ) (host : Context) (runs_enclave : before.hart_state.world ≡ Enclave k)
+    (host_is_saved : before.hart_state.host_context ≡ Some host)
     (trap : Trap) where
-  -- the hart state at the trap
+  -- the hart state at the trap, before the trap handler
   abbrev hart_state : HartState
   hart_state = hart_state_after before.hart_state trap
 
-  -- the result of an exit, if the host has this context
+  -- the result of an exit that saves the given context of the enclave
   abbrev leaving_with : Context → Handled
   leaving_with context = left (lowered_by trap.cause hart_state) before.shared (record (enclave_exit_of trap.cause hart_state) { kept = context })
 
@@ -31,29 +32,29 @@ module _ (before : HartView) (k : ℕ) (host : Context) (runs : before.hart_stat
   abbrev leaving_now : Handled
   leaving_now = leaving_with (saved_after trap.cause before.hart_state.hart)
 
-  -- the saved context of the enclave, from its hart before the trap
+  -- the context of the enclave that the exit saves, from the hart before the trap
   kept_is : (cause : Cause) → saved_by cause hart_state ≡ saved_after cause before.hart_state.hart
   kept_is (causes.Interrupt interrupt) = refl
   kept_is (causes.Exception exception) = refl
 
-  -- the enclave continues, or exits and leaves this state
-  abbrev Goes : Handled → Type 0
-  Goes h = (h.hart_state.world ≡ Enclave k) ⊎ (h ≡ with_reprogrammed_hart leaving_now)
+  -- the enclave continues, or exits
+  abbrev StaysOrExits : Handled → Type 0
+  StaysOrExits h = (h.hart_state.world ≡ Enclave k) ⊎ (h ≡ with_reprogrammed_hart leaving_now)
 
-  -- the enclave is not the host
+  -- a claim about a hart that runs both an enclave and the host holds, because there is no such hart
   enters_never : before.hart_state.world ≡ Host → (P : Type 0) → P
-  enters_never world_is P = let never : Host ≡ Enclave k = sym world_is ∙ runs in cc
+  enters_never from_host P = let contradiction : Host ≡ Enclave k = sym from_host ∙ runs_enclave in cc
 
-  -- each case of the trap handler is an exit, or leaves the enclave running
-  work_goes : Goes (handled hart_state before.shared trap)
-  work_goes = handler_cases hart_state trap before.shared Goes (record {
-    answers = λ status result. inl runs;
-    creates = λ reads may. inl runs;
-    destroys = λ reads taken. inl runs;
-    measures = λ reads may. inl runs;
-    enters = λ call reads enters entering taken. enters_never entering _;
-    leaves = inr (ap (λ (kept : Context). with_reprogrammed_hart (leaving_with kept)) (kept_is trap.cause));
-    redirects = inl runs;
+  -- the trap handler exits the enclave, or leaves the enclave running
+  handled_stays_or_exits : StaysOrExits (handled hart_state before.shared trap)
+  handled_stays_or_exits = handler_cases hart_state trap before.shared StaysOrExits (record {
+    answers = λ status result. inl runs_enclave;
+    creates = λ requests no_refusal. inl runs_enclave;
+    destroys = λ requests is_taken. inl runs_enclave;
+    measures = λ requests no_refusal. inl runs_enclave;
+    enters = λ call requests is_entry_call from_host is_taken. enters_never from_host _;
+    leaves = inr (ap (λ (host : Context). with_reprogrammed_hart (leaving_with host)) (kept_is trap.cause));
+    redirects = inl runs_enclave;
   })
 
   -- ---- the step
@@ -62,53 +63,62 @@ module _ (before : HartView) (k : ℕ) (host : Context) (runs : before.hart_stat
   abbrev left_state : HartView
   left_state =
       let shared = left_shared before.shared k trap.cause before.hart_state.hart in
-      record { hart_state = record { hart = left_hart before.hart_state.hart shared.table trap host; host_context = None; world = Host }; shared = shared }
+      record {
+        hart_state = record { hart = left_hart before.hart_state.hart shared.table trap host; host_context = None; world = Host };
+        shared = shared;
+      }
 
-  -- the result is that of an exit
+  -- the view after the step is the view after an exit, and the step enters no slot
   abbrev Left : HartViewStepped → Type 0
   Left after = (after.state ≡ left_state) × (after.outcome.entered ≡ None)
 
-  -- the return from an exit is the view after the exit
+  -- the return from an exit gives the view after an exit
   returned_left : (outcome : StepOutcome) → HartViewInvariant before → Left (returned outcome (with_reprogrammed_hart leaving_now))
   unfolding left
-  returned_left outcome all =
+  returned_left outcome view_invariant =
       let P : Option Context → Type 0 = λ o. IfSome o (λ c. can_go_on c ≡ true) in
-      let aligned = aligned_again host.mode host.pc (subst P kept all.hart.host.held) in
-      let mprv = all.hart.layout.mprv in
-      (rw (runs, kept, aligned, or-false (is_set before.hart_state.hart.csrs.mcountinhibit 0), mprv) refl, refl)
+      let aligned = aligned_again host.mode host.pc (subst P host_is_saved view_invariant.hart.host.held) in
+      let mprv = view_invariant.hart.layout.mprv in
+      (rw (runs_enclave, host_is_saved, aligned, or-false (is_set before.hart_state.hart.csrs.mcountinhibit 0), mprv) refl, refl)
 
-  -- a result whose world is the host is that of an exit
-  left_or_not : (outcome : StepOutcome) (h : Handled) → HartViewInvariant before → Goes h → h.hart_state.world ≡ Host → Left (returned outcome h)
-  left_or_not outcome h all (inl stays) gone = let never : Enclave k ≡ Host = sym stays ∙ gone in cc
-  left_or_not outcome h all (inr same) gone = subst (λ (x : Handled). Left (returned outcome x)) (sym same) (returned_left outcome all)
+  -- if the host runs after the trap handler, then the return from it gives the view after an exit
+  left_or_not : (outcome : StepOutcome) (h : Handled) → HartViewInvariant before → StaysOrExits h → h.hart_state.world ≡ Host
+      → Left (returned outcome h)
+  left_or_not outcome h view_invariant (inl stays) host_runs_after = let contradiction : Enclave k ≡ Host = sym stays ∙ host_runs_after in cc
+  left_or_not outcome h view_invariant (inr same) host_runs_after =
+      subst (λ (x : Handled). Left (returned outcome x)) (sym same) (returned_left outcome view_invariant)
 
-  -- a step whose world is then the host is an exit
-  left_one : HartViewInvariant before → (monitored_step before).outcome.step.trap ≡ Some trap → (monitored_step before).state.hart_state.world ≡ Host
+  -- a step with a trap after which the host runs is an exit
+  step_is_exit : HartViewInvariant before → (monitored_step before).outcome.step.trap ≡ Some trap
+      → (monitored_step before).state.hart_state.world ≡ Host
       → Left (monitored_step before)
-  left_one all trapped gone =
+  step_is_exit view_invariant trapped host_runs_after =
       let step_is = trapped_step before trap trapped in
-      let there = subst (λ (after : HartViewStepped). after.state.hart_state.world ≡ Host) step_is gone in
-      subst Left (sym step_is) (left_or_not (step (bare_machine before)).outcome _ all work_goes there)
+      let handled_host = subst (λ (after : HartViewStepped). after.state.hart_state.world ≡ Host) step_is host_runs_after in
+      subst Left (sym step_is) (left_or_not (step (bare_machine before)).outcome _ view_invariant handled_stays_or_exits handled_host)
 
--- if the host has a saved context, a trap after which it runs leaves this machine, and enters no slot
+-- a step of an enclave with a trap after which the host runs leaves the machine after an exit, and enters no slot
 pub leave_law : (hart : ℕ) (machine : MonitoredMachine) → Invariant machine → (k : ℕ) (host : Context) (trap : Trap)
     → (hart_state_of hart machine).world ≡ Enclave k → (hart_state_of hart machine).host_context ≡ Some host
     → (step_of hart machine).outcome.step.trap ≡ Some trap → (hart_state_of hart (step_of hart machine).state).world ≡ Host
     → ((step_of hart machine).state ≡ left_machine hart machine k trap host) × ((step_of hart machine).outcome.entered ≡ None)
-leave_law hart machine kept k host trap runs saved_host trapped gone =
+leave_law hart machine invariant k host trap runs saved_host trapped host_runs_after =
     let trapping = is_trapping hart machine trap trapped in
-    let there = sym (ap (λ (after : HartViewStepped). after.state.hart_state.world) (step_seen hart machine trapping.has)) ∙ gone in
-    let one = left_one (hart_view hart machine) k host runs saved_host trap (hart_view_invariant hart machine kept trapping.has) trapping.trapped there in
+    let view_host = sym (ap (λ (after : HartViewStepped). after.state.hart_state.world) (step_seen hart machine trapping.has)) ∙ host_runs_after in
+    let one =
+    step_is_exit (hart_view hart machine) k host runs saved_host trap
+    (hart_view_invariant hart machine invariant trapping.has) trapping.trapped view_host in
     (trapping.state ∙ ap (programmed_by hart machine) one.0, ap (λ (outcome : Outcome). outcome.entered) trapping.outcome ∙ one.1)
 
--- the hart after the exit
+-- the state of the hart after an exit is the state that `left_hart` gives
 pub left_hart_state : (hart : ℕ) (machine : MonitoredMachine) (k : ℕ) (trap : Trap) (host : Context) → hart < count_of machine
-    → (let h = (hart_state_of hart machine).hart in
-    let shared = left_shared machine.shared k trap.cause h in
-    let hart_state : HartState = record { hart = left_hart h shared.table trap host; host_context = None; world = Host } in
+    → (let hart_before = (hart_state_of hart machine).hart in
+    let shared = left_shared machine.shared k trap.cause hart_before in
+    let hart_state : HartState = record { hart = left_hart hart_before shared.table trap host; host_context = None; world = Host } in
     hart_state_of hart (left_machine hart machine k trap host) ≡ hart_state)
 left_hart_state hart machine k trap host in_range =
-    let h = (hart_state_of hart machine).hart in
-    let shared = left_shared machine.shared k trap.cause h in
+    let hart_before = (hart_state_of hart machine).hart in
+    let shared = left_shared machine.shared k trap.cause hart_before in
     let same_length = length-map machine.hart_states (reprogrammed shared.table) in
-    get_or-set_at (map (reprogrammed shared.table) machine.hart_states) hart hart _ (hart_state_at_start 0) refl (omega (arith, same_length, in_range))
+    get_or-set_at (map (reprogrammed shared.table) machine.hart_states) hart hart _ (hart_state_at_start 0) refl
+    (omega (arith, same_length, in_range))

@@ -1,4 +1,4 @@
--- The machine after an enclave exits, by exit, by stop or by the timer, as one function of the cause. The laws write out each of the three.
+-- The machine after an enclave exits, as one function of the cause. The laws write out each of the three causes: exit, stop and the timer interrupt.
 use Rattle.std.specs.Prelude.{ℕ, ◌==◌, Bool, false, List, map, slice_set, Some, None, if◌then◌else◌}
 use Rattle.rv_state.specs.declared.cause.Cause.TheVariants as causes
 use Rattle.rv_monitor.specs.Prelude.{Cause, Context, CsrState, EnclaveState, Exit, Exited, Hart, Host, S, Shared, Slots, Stopped}
@@ -11,21 +11,22 @@ use Rattle.rv_monitor.specs.SwitchLaws.{reason, value}
 
 -- ---- the saved context of the enclave
 
--- the state of the enclave after the exit; for a call, a6 has the number that decides it
+-- The state of the enclave after the exit. For a call, the number in a6 decides the state.
 abbrev pub enclave_state_after : Cause → List ℕ → EnclaveState
 enclave_state_after (causes.Interrupt interrupt) regs = Stopped
 enclave_state_after (causes.Exception exception) regs = if register regs 16 == call_number Exit then Exited else Stopped
 
--- after stop it continues after its ecall, with 0 in a0 and a1
+-- the saved context after a stop: the enclave will continue after its ecall, with 0 in a0 and a1
 abbrev pub stopped_at : Hart → Context
 stopped_at hart = record (saved hart (past_ecall hart) S) { regs = with_return_values hart.regs 0 0 }
 
--- after a timer interrupt it continues where it was interrupted; after exit the saved context is the empty one
+-- The saved context after an exit. After a timer interrupt, the enclave will continue at the interrupted instruction. After the call exit, the saved
+-- context is the empty context.
 abbrev pub saved_after : Cause → Hart → Context
 saved_after (causes.Interrupt interrupt) hart = saved hart (aligned_to_4 hart.pc) hart.mode
 saved_after (causes.Exception exception) hart = if register hart.regs 16 == call_number Exit then exited_context else stopped_at hart
 
--- the shared state after an exit of slot k: its new state, and its saved context
+-- the shared state after an exit of slot k, with its new state and its saved context
 abbrev pub left_shared : Shared → ℕ → Cause → Hart → Shared
 left_shared shared k cause hart = record shared {
   table = with_state shared.table k (enclave_state_after cause hart.regs);
@@ -34,12 +35,13 @@ left_shared shared k cause hart = record shared {
 
 -- ---- the host's hart
 
--- a stop by the timer lowers the line
+-- the timer line after an exit: the timer interrupt clears the line
 abbrev pub line_after : Cause → Bool → Bool
 line_after (causes.Interrupt interrupt) raised = false
 line_after (causes.Exception exception) raised = raised
 
--- the S-mode CSRs are the host's, the PMP entries and mie are those of the table and the host, and the rest is as after a trap and its return
+-- The CSRs after an exit. The S-mode CSRs are those of the host. The PMP entries and mie are those of the host for the new table. The other CSRs are
+-- as after a trap and its return.
 abbrev pub left_csrs : CsrState → Slots → Trap → Context → CsrState
 left_csrs csrs slots trap host = record (with_s_context (passed_csrs csrs trap host.pc) host.supervisor) {
   timer = line_after trap.cause csrs.timer;
@@ -47,7 +49,7 @@ left_csrs csrs slots trap host = record (with_s_context (passed_csrs csrs trap h
   mie = mie_of Host;
 }
 
--- the hart after an exit: the host's context with the reason and value, and the PMP entries of the host
+-- the hart after an exit: the context of the host with the reason and the value, and the PMP entries of the host
 abbrev pub left_hart : Hart → Slots → Trap → Context → Hart
 left_hart hart slots trap host = record {
   regs = with_return_values host.regs (reason trap.cause hart.regs) (value trap.cause hart.regs);
@@ -58,7 +60,7 @@ left_hart hart slots trap host = record {
 
 -- ---- the machine
 
--- no byte changes, and on every other hart only the PMP entries and mie change
+-- the machine after an exit: no byte changes, and on every other hart only the PMP entries and mie change
 abbrev pub left_machine : ℕ → MonitoredMachine → ℕ → Trap → Context → MonitoredMachine
 left_machine own before k trap host =
     let hart = (hart_state_of own before).hart in

@@ -1,14 +1,15 @@
--- Every event keeps pc and the registers of mode S as a hart stores them.
-use Rattle.std.proofs.Common.{◌≡◌, ℕ, ◌==◌, Bool, true, false, List, length, Option, Some, None, IfSome, refl, sym, ◌∙◌, ap, subst}
+-- Every event leaves a machine legal: pc, stvec and sepc of each hart and of each saved context have values that the hart can store.
+use Rattle.std.proofs.Common.{◌≡◌, ℕ, ◌==◌, Bool, true, false, List, length, Option, None, IfSome, refl, sym, ◌∙◌, ap, subst}
 use Rattle.std.proofs.Common.{inl, inr, arith}
 use Rattle.std.proofs.lemmas.List.{get_or_past, get_or-replicate}
-use Rattle.std.specs.Prelude.{IfNone, if◌then◌else◌}
+use Rattle.std.specs.Prelude.{if◌then◌else◌}
 use Rattle.rv_state.specs.CsrTable.{vector_of}
 use Rattle.rv_state.specs.declared.cause.Cause.TheVariants as causes
 use Rattle.rv_state.specs.declared.s_context.SContext.{SContext}
 use Rattle.rv_state.proofs.StoredLemmas.{with_s_context_stored}
 use Rattle.rv_hart.proofs.Stored.{keeps_stored}
 use Rattle.rv_enclaves.specs.Contexts.{no_contexts}
+use Rattle.rv_enclaves.specs.SlotNumbers.{slot_count}
 use Rattle.rv_monitor.specs.Events.{Event, LineOf, StepOf, event_of}
 use Rattle.rv_monitor.specs.MonitoredMachine.{timer_line_set}
 use Rattle.rv_monitor.specs.LegalMachine.{IsLegalHartState, IsLegalMachine, LegalLaw}
@@ -22,39 +23,35 @@ use Rattle.rv_monitor.proofs.HartCases.{outside, step_beside, step_seen}
 use Rattle.rv_monitor.proofs.InvariantLemmas.{changed_of, hart_view_invariant}
 use Rattle.rv_monitor.proofs.Start.{start_cases}
 use Rattle.rv_monitor.proofs.TrapSteps.{hart_state_after, step_cases}
-
--- rounding down to a multiple of 4 twice is rounding once
-aligned_twice : (address : ℕ) → aligned_to_4 (aligned_to_4 address) ≡ aligned_to_4 address
-aligned_twice address = omega arith
+use Rattle.rv_monitor.proofs.Alignment.{aligned_twice}
+use Rattle.rv_monitor.proofs.StepInvariant.{stays_if}
 
 -- the S-mode registers of the hart are legal in a context
 abbrev Legal : CsrState → Type 0
 Legal c = IsLegal (s_context c)
 
--- a claim for the case without a trap holds, if there is none
-if_none : (o : Option Trap) (P : Type 0) → o ≡ None → IfNone o P → P
-if_none None P no_trap holds = holds
-if_none (Some trap) P no_trap holds = cc
-
 -- ---- the trap handler
 
 -- every saved context is legal
 abbrev AllLegal : Contexts → Type 0
-AllLegal cs = (k : ℕ) → IfSome (context_at cs k) (λ context. IsLegal context.supervisor)
+AllLegal saved_contexts = (k : ℕ) → IfSome (context_at saved_contexts k) (λ context. IsLegal context.supervisor)
 
--- a change of one saved context to a legal one leaves all legal
-legal_set : (cs : Contexts) (j : ℕ) (o : Option Context) → AllLegal cs → IfSome o (λ context. IsLegal context.supervisor) → AllLegal (with_context cs j o)
-legal_set cs j o all legal k =
+-- every saved context stays legal after a write of a legal context to one slot
+legal_set : (saved_contexts : Contexts) (j : ℕ) (o : Option Context) → AllLegal saved_contexts → IfSome o (λ context. IsLegal context.supervisor)
+    → AllLegal (with_context saved_contexts j o)
+legal_set saved_contexts j o all_legal legal k =
     let P : Option Context → Type 0 = λ x. IfSome x (λ context. IsLegal context.supervisor) in
-    elim (cases_lt j (length cs)) [
-      | inr past ↦ subst (λ (x : Contexts). P (context_at x k)) (sym (set_past cs j o past)) (all k)
-      | inl inside ↦ elim (cases_eq k j) [
-        | inl same ↦ subst (λ (i : ℕ). P (context_at (with_context cs j o) i)) (sym same) (subst P (sym (at_same cs j o inside)) legal)
-        | inr other ↦ subst P (sym (at_other cs j k o other)) (all k)
+    elim (cases_lt j (length saved_contexts)) [
+      | inr past_last ↦ subst (λ (x : Contexts). P (context_at x k)) (sym (set_past saved_contexts j o past_last)) (all_legal k)
+      | inl in_range ↦ elim (cases_eq k j) [
+        | inl equal ↦
+            subst (λ (i : ℕ). P (context_at (with_context saved_contexts j o) i)) (sym equal)
+            (subst P (sym (at_same saved_contexts j o in_range)) legal)
+        | inr distinct ↦ subst P (sym (at_other saved_contexts j k o distinct)) (all_legal k)
       ]
     ]
 
--- a restored context has legal S-mode registers
+-- the S-mode registers are legal after the monitor restores a context
 restored_legal : (c : CsrState) (s : SContext) → Legal (with_s_context c s)
 restored_legal c s = let stored = with_s_context_stored c s in record { stvec = stored.stvec; sepc = stored.sepc }
 
@@ -69,68 +66,69 @@ nothing_legal c stvec sepc =
 saved_legal : (cause : Cause) (hart_state : HartState) → Legal hart_state.hart.csrs → IsLegal (saved_by cause hart_state).supervisor
 saved_legal (causes.Interrupt interrupt) hart_state legal = legal
 saved_legal (causes.Exception exception) hart_state legal =
-    either (register hart_state.hart.regs 16 == call_number Exit) where
-      -- the empty context and the one that stop saves are legal
-      either : (b : Bool) → IsLegal (if b then exited_context else stopped_context hart_state).supervisor
-      either true = nothing_legal exited_context refl refl
-      either false = legal
+    stopped_or_exited_legal (register hart_state.hart.regs 16 == call_number Exit) where
+      -- both the empty context and the context that stop saves are legal
+      stopped_or_exited_legal : (b : Bool) → IsLegal (if b then exited_context else stopped_context hart_state).supervisor
+      stopped_or_exited_legal true = nothing_legal exited_context refl refl
+      stopped_or_exited_legal false = legal
 
--- the trap handler leaves legal S-mode registers and legal saved contexts
+-- the S-mode registers and all saved contexts are legal after the trap handler
 record StoredAfter (h : Handled) : Type 0 where
   supervisor : Legal h.hart_state.hart.csrs
   contexts : AllLegal h.shared.contexts
 
+-- the S-mode registers, mepc and all saved contexts are legal at the trap
 module _ (hart_state : HartState) (shared : Shared) (trap : Trap) (legal : Legal hart_state.hart.csrs)
-    (mepc : aligned_to_4 hart_state.hart.csrs.mepc ≡ hart_state.hart.csrs.mepc) (all : AllLegal shared.contexts) where
-  -- each case of the trap handler leaves these legal
+    (mepc : aligned_to_4 hart_state.hart.csrs.mepc ≡ hart_state.hart.csrs.mepc) (all_legal : AllLegal shared.contexts) where
+  -- the trap handler leaves legal S-mode registers and legal saved contexts
   handled_stored : StoredAfter (handled hart_state shared trap)
   unfolding created destroyed measured entered_slot left with_redirected_trap first_context
   handled_stored =
       handler_cases hart_state trap shared StoredAfter (record {
-        answers = λ status result. record { supervisor = record { stvec = legal.stvec; sepc = legal.sepc }; contexts = all };
-        creates = λ reads may. record {
+        answers = λ status result. record { supervisor = record { stvec = legal.stvec; sepc = legal.sepc }; contexts = all_legal };
+        creates = λ requests no_refusal. record {
           supervisor = record { stvec = legal.stvec; sepc = legal.sepc };
-          contexts = legal_set shared.contexts _ _ all
+          contexts = legal_set shared.contexts _ _ all_legal
               (nothing_legal (first_context (recorded shared.memory (create_args_of hart_state.hart.regs))) refl refl);
         };
-        destroys = λ reads taken. record {
+        destroys = λ requests is_taken. record {
           supervisor = record { stvec = legal.stvec; sepc = legal.sepc };
-          contexts = legal_set shared.contexts _ None all tt;
+          contexts = legal_set shared.contexts _ None all_legal tt;
         };
-        measures = λ reads may. record { supervisor = record { stvec = legal.stvec; sepc = legal.sepc }; contexts = all };
-        enters = λ call reads enters host taken.
+        measures = λ requests no_refusal. record { supervisor = record { stvec = legal.stvec; sepc = legal.sepc }; contexts = all_legal };
+        enters = λ call requests is_entry_call from_host is_taken.
             let restored = restored_legal hart_state.hart.csrs (saved_context shared.contexts (a0 hart_state)).supervisor in
-            record { supervisor = record { stvec = restored.stvec; sepc = restored.sepc }; contexts = legal_set shared.contexts _ None all tt };
+            record { supervisor = record { stvec = restored.stvec; sepc = restored.sepc }; contexts = legal_set shared.contexts _ None all_legal tt };
         leaves =
             let restored = restored_legal hart_state.hart.csrs (saved_host hart_state).supervisor in
             record {
               supervisor = record { stvec = restored.stvec; sepc = restored.sepc };
-              contexts = legal_set shared.contexts _ _ all (saved_legal trap.cause hart_state legal);
+              contexts = legal_set shared.contexts _ _ all_legal (saved_legal trap.cause hart_state legal);
             };
-        redirects = record { supervisor = record { stvec = legal.stvec; sepc = mepc }; contexts = all };
+        redirects = record { supervisor = record { stvec = legal.stvec; sepc = mepc }; contexts = all_legal };
       })
 
 -- ---- the step of one hart
 
--- pc, S-mode registers and saved contexts of the view are legal
+-- pc, the S-mode registers and the saved contexts of the view are legal
 record ViewStored (state : HartView) : Type 0 where
   pc : aligned_to_4 state.hart_state.hart.pc ≡ state.hart_state.hart.pc
   supervisor : IsLegal (s_context state.hart_state.hart.csrs)
   contexts : AllLegal state.shared.contexts
 
--- a step of a view leaves it legal
+-- a step of a view leaves pc, the S-mode registers and the saved contexts legal
 view_stored : (state : HartView) → HartViewInvariant state → ViewStored state → ViewStored (monitored_step state).state
-view_stored state kept stored = step_cases state (λ after. ViewStored after.state)
-    (λ none.
-    let hart = if_none _ _ none (keeps_stored (bare_machine state) kept.hart.layout.mode (record {
-      pc = stored.pc;
-      csrs = record { stvec = stored.supervisor.stvec; sepc = stored.supervisor.sepc };
+view_stored state view_invariant legal = step_cases state (λ after. ViewStored after.state)
+    (λ no_trap.
+    let hart = stays_if _ _ no_trap (keeps_stored (bare_machine state) view_invariant.hart.layout.mode (record {
+      pc = legal.pc;
+      csrs = record { stvec = legal.supervisor.stvec; sepc = legal.supervisor.sepc };
     })) in
-    record { pc = hart.pc; supervisor = record { stvec = hart.csrs.stvec; sepc = hart.csrs.sepc }; contexts = stored.contexts })
-    (λ trap is.
+    record { pc = hart.pc; supervisor = record { stvec = hart.csrs.stvec; sepc = hart.csrs.sepc }; contexts = legal.contexts })
+    (λ trap trapped.
     let hart_state = hart_state_after state.hart_state trap in
     let work = handled_stored hart_state state.shared trap
-    (record { stvec = stored.supervisor.stvec; sepc = stored.supervisor.sepc }) (aligned_twice state.hart_state.hart.pc) stored.contexts in
+    (record { stvec = legal.supervisor.stvec; sepc = legal.supervisor.sepc }) (aligned_twice state.hart_state.hart.pc) legal.contexts in
     record {
       pc = aligned_twice (handled hart_state state.shared trap).next.pc;
       supervisor = record { stvec = work.supervisor.stvec; sepc = work.supervisor.sepc };
@@ -139,50 +137,51 @@ view_stored state kept stored = step_cases state (λ after. ViewStored after.sta
 
 -- ---- the machine
 
--- a step of the machine leaves it legal
+-- a step of a legal machine leaves a legal machine
 step_stored : (hart : ℕ) (machine : MonitoredMachine) → Invariant machine → IsLegalMachine machine → IsLegalMachine (step_of hart machine).state
-step_stored hart machine kept stored = elim (cases_lt hart (count_of machine)) [
-  | inr past ↦ subst (λ (after : MonitoredStepped). IsLegalMachine after.state) (sym (outside hart machine past)) stored
-  | inl has ↦
+step_stored hart machine invariant legal = elim (cases_lt hart (count_of machine)) [
+  | inr past_last ↦ subst (λ (after : MonitoredStepped). IsLegalMachine after.state) (sym (outside hart machine past_last)) legal
+  | inl in_range ↦
       let state = hart_view hart machine in
-      let own = stored.harts hart in
-      let after = view_stored state (hart_view_invariant hart machine kept has)
-      (record { pc = own.pc; supervisor = own.supervisor; contexts = stored.contexts }) in
-      let seen = subst (λ (a : HartViewStepped). ViewStored a.state) (sym (step_seen hart machine has)) after in
+      let legal_hart = legal.harts hart in
+      let after = view_stored state (hart_view_invariant hart machine invariant in_range)
+      (record { pc = legal_hart.pc; supervisor = legal_hart.supervisor; contexts = legal.contexts }) in
+      let view_legal = subst (λ (a : HartViewStepped). ViewStored a.state) (sym (step_seen hart machine in_range)) after in
       record {
         harts = λ j. elim (cases_eq j hart) [
-          | inl at ↦
-              subst (λ (i : ℕ). IsLegalHartState (hart_state_of i (step_of hart machine).state)) (sym at)
-              (record { pc = seen.pc; supervisor = seen.supervisor })
-          | inr apart ↦
-              let pc = step_beside (λ (s : HartState). s.hart.pc) (λ slots s. refl) hart j machine apart in
-              let supervisor = step_beside (λ (s : HartState). s_context s.hart.csrs) (λ slots s. refl) hart j machine apart in
+          | inl equal ↦
+              subst (λ (i : ℕ). IsLegalHartState (hart_state_of i (step_of hart machine).state)) (sym equal)
+              (record { pc = view_legal.pc; supervisor = view_legal.supervisor })
+          | inr distinct ↦
+              let pc = step_beside (λ (s : HartState). s.hart.pc) (λ slots s. refl) hart j machine distinct in
+              let supervisor = step_beside (λ (s : HartState). s_context s.hart.csrs) (λ slots s. refl) hart j machine distinct in
               record {
-                pc = ap aligned_to_4 pc ∙ (stored.harts j).pc ∙ sym pc;
-                supervisor = subst IsLegal (sym supervisor) (stored.harts j).supervisor;
+                pc = ap aligned_to_4 pc ∙ (legal.harts j).pc ∙ sym pc;
+                supervisor = subst IsLegal (sym supervisor) (legal.harts j).supervisor;
               }
         ];
-        contexts = seen.contexts;
+        contexts = view_legal.contexts;
       }
 ]
 
--- each event of a legal machine leaves it legal
-pub event_stored : (event : Event) (machine : MonitoredMachine) → Invariant machine → IsLegalMachine machine → IsLegalMachine (event_of event machine).state
-event_stored (StepOf hart) machine kept stored = step_stored hart machine kept stored
-event_stored (LineOf hart raised) machine kept stored = record {
+-- an event of a legal machine leaves a legal machine
+pub event_stored : (event : Event) (machine : MonitoredMachine) → Invariant machine → IsLegalMachine machine
+    → IsLegalMachine (event_of event machine).state
+event_stored (StepOf hart) machine invariant legal = step_stored hart machine invariant legal
+event_stored (LineOf hart raised) machine invariant legal = record {
   harts = λ j.
       let pc = changed_of (λ (s : HartState). s.hart.pc) (timer_line_set raised) (λ s. refl) hart j machine in
       let supervisor = changed_of (λ (s : HartState). s_context s.hart.csrs) (timer_line_set raised) (λ s. refl) hart j machine in
       record {
-        pc = ap aligned_to_4 pc ∙ (stored.harts j).pc ∙ sym pc;
-        supervisor = subst IsLegal (sym supervisor) (stored.harts j).supervisor;
+        pc = ap aligned_to_4 pc ∙ (legal.harts j).pc ∙ sym pc;
+        supervisor = subst IsLegal (sym supervisor) (legal.harts j).supervisor;
       };
-  contexts = stored.contexts;
+  contexts = legal.contexts;
 }
 
 -- ---- at reset
 
--- a hart at reset is legal, if the entry is aligned
+-- a hart at reset is legal, if its entry point is a multiple of 4
 reset_stored : (entry : ℕ) → aligned_to_4 entry ≡ entry → IsLegalHartState (hart_state_at_start entry)
 reset_stored entry aligned = record {
   pc = aligned;
@@ -191,26 +190,27 @@ reset_stored entry aligned = record {
 
 -- no slot has a saved context at reset
 no_context : (k : ℕ) → context_at no_contexts k ≡ None
-no_context k = elim (cases_lt k 13) [
-  | inl inside ↦ get_or-replicate {A = Option Context} 13 k None None inside
-  | inr past ↦ get_or_past {X = Option Context} no_contexts k None past
+no_context k = elim (cases_lt k slot_count) [
+  | inl in_range ↦ get_or-replicate {A = Option Context} slot_count k None None in_range
+  | inr past_last ↦ get_or_past {X = Option Context} no_contexts k None past_last
 ]
 
--- the saved contexts at reset are legal
+-- the saved contexts at reset are legal, because there are none
 none_legal : (k : ℕ) → IfSome (context_at no_contexts k) (λ context. IsLegal context.supervisor)
 none_legal k = subst (λ (o : Option Context). IfSome o (λ context. IsLegal context.supervisor)) (sym (no_context k)) tt
 
--- the machine at reset is legal, if the entry is aligned
+-- the machine at reset is legal, if the entry point is a multiple of 4
 starts_stored : (memory : List ℕ) (entry harts : ℕ) → aligned_to_4 entry ≡ entry → IsLegalMachine (at_start memory entry harts)
 unfolding at_start
 starts_stored memory entry harts aligned =
-    let own = reset_stored entry aligned in
+    let reset_state = reset_stored entry aligned in
     record {
       harts = λ hart.
-          start_cases harts entry hart IsLegalHartState (λ n. record { pc = own.pc; supervisor = own.supervisor }) (reset_stored 0 refl);
+          start_cases harts entry hart IsLegalHartState (λ n. record { pc = reset_state.pc; supervisor = reset_state.supervisor })
+          (reset_stored 0 refl);
       contexts = none_legal;
     }
 
--- proves that a machine is legal from reset on
+-- proves that the machine at reset is legal, and that each event leaves a machine legal
 pub legal_law : LegalLaw
 legal_law = record { start = starts_stored; keeps = event_stored }

@@ -1,110 +1,119 @@
 -- Names that the proofs use in addition to those of specs/Prelude, re-exported from one place
 pub mod Prelude
--- The return values of a call that switches no world
+-- Lemmas about Boolean tests that several proofs use and std does not have
+pub mod Booleans
+-- Lemmas about addresses that are multiples of 4, and about addresses that are rounded down to a multiple of 4
+pub mod Alignment
+-- The return values of a call that switches no world, as the code computes them
 pub mod Concluded
--- Case analysis of the trap handler
+-- Case analysis of the trap handler: a claim that holds in each case holds for the trap handler
 pub mod HandlerCases
--- The PMP entries and mie of a hart stay those of the table and its world across the trap handler
+-- The trap handler preserves the invariant of the hart and of the shared state
 pub mod Ready
--- A step of one hart preserves the invariant of its own state and of the shared state
+-- A step of one hart preserves the invariant of this hart and of the shared state
 pub mod StepInvariant
--- The world on one hart, and those on the others
+-- The world of one hart, and the worlds of the other harts
 pub mod Others
--- The last action after a trap, which programs the PMP entries and mie
+-- The trap handler reprograms the PMP entries and mie as its last action
 pub mod PmpProgramming
 -- The loop that programs the PMP entries and mie of the other harts
 pub mod Programmed
--- The machine at reset has the values that are written out, and satisfies the invariant
+-- The machine at reset has the values that the definition `machine_at_reset` writes out, and satisfies the invariant
 pub mod Start
--- The trap handler on one hart, over two shared states that are equivalent except for an enclave
+-- The trap handler of one hart, over two shared states that are equivalent except e, gives results that are equivalent except e
 pub mod HandledAlike
--- Two machines that are equivalent except for an enclave stay so if one part of each is changed
+-- Two machines that are equivalent except e stay equivalent except e if the same part of each is changed alike
 pub mod EquivLemmas
--- A step of the same hart of two monitored machines that are equivalent except for an enclave that is not its world
+-- Noninterference of one step: a low step of two machines that are equivalent except e has equal outcomes, and leaves machines that are equivalent
+-- except e
 pub mod MonitoredAlike
--- The state of each hart after a step
+-- The state of each hart after a step, as two cases: the hart that steps, and each other hart
 pub mod HartCases
 -- In every state that satisfies the invariant, the PMP entries permit S and U exactly the accessible bytes
 pub mod AccessControlLemmas
--- In a state that satisfies the invariant, a bare step neither depends on a region that is not the world's nor changes it
+-- A bare step neither reads nor writes the region of an enclave other than the running world, in a state that satisfies the invariant
 pub mod BareStepNoninterference
--- Every step of a hart preserves the invariant
+-- Every step of a hart, and every change by the debugger, preserves the invariant of the machine
 pub mod InvariantLemmas
--- An enclave that runs on a hart
+-- An enclave that runs on some hart is live, has the state Running, and still runs on this hart after a step of another hart
 pub mod Beside
--- Steps of the harts in any order, by the laws of one step
+-- Noninterference for steps of the harts in any order, by the laws of one step
 pub mod SchedNoninterference
--- Integrity for steps in any order: an enclave that they leave undisturbed
+-- Integrity for steps of the harts in any order: steps that leave an enclave undisturbed do not change its private state
 pub mod SchedIntegrity
--- The reads of the trap handler from memory and from the saved contexts
+-- The trap handler depends only on what it reads from memory and from the saved contexts
 pub mod HandlerReads
--- The effect of a step on the world and on the host's saved context
+-- The effect of a step on the world of the hart and on the saved context of the host
 pub mod Switched
--- The return to the host, from the step with which the host of a hart enters an enclave to the one with which the enclave exits
+-- The host gets its own context back when an enclave exits
 pub mod Returned
--- A step that traps
+-- A step of a view is the bare step of the hart, followed by the trap handler if the bare step traps
 pub mod TrapSteps
--- Steps of a hart that end in no trap are steps of the monitored machine
+-- Steps of a hart without a trap are steps of the monitored machine, because the trap handler does not run after such steps
 pub mod FastSteps
--- The machine after an enclave exits, by exit, by stop or by the timer, as one function of the cause
+-- The machine after an enclave exits, as one function of the cause
 pub mod LeftMachine
--- After a trap, an enclave either continues, or exits and leaves the specified state
+-- After a trap of an enclave, either the enclave continues, or it exits and leaves the machine that the definition `left_machine` gives
 pub mod Leaving
--- A step preserves everything private to an enclave that is not the world of its hart, unless it enters or ends it
+-- Integrity: a step preserves the private state of each live enclave that is not the running world, unless the step enters or destroys this
+-- enclave
 pub mod Integrity
--- A step changes only the bytes that its instruction stored
+-- A step changes only three kinds of bytes: the bytes that its instruction stores, the region that a destroy zeroes, and the bytes that a measure
+-- writes
 pub mod Changes
--- A scrambled state is equivalent to the one before except for its slot, and satisfies the invariant
+-- Scramble preserves the invariant of the machine, and changes only what is private to the scrambled enclave
 pub mod Scrambled
--- The bytes that a step's instruction accesses are accessible to the world that runs
+-- The bytes that the instruction of a step accesses are accessible to the running world
 pub mod Touched
--- Every step of a hart obeys the laws of a step
+-- Every step of a hart of a machine with the full invariant obeys all laws of a step
 pub mod StepLaws
--- The representation of the hart states in the code: the first ones of an array
+-- The array of hart states in the code represents the harts of a machine: the first `harts` elements of the array are the harts
 pub mod Held
--- A step of the host continues with the host, or leaves the machine of a step that enters an enclave
+-- A step of the host either continues with the host, or enters an enclave
 pub mod Entering
--- No step changes the record of a live enclave, except its state
+-- No step changes the identity of an enclave that stays live: the record of the enclave without its state
 pub mod Records
--- An enclave exits only by stop or exit, or by the timer interrupt
+-- An enclave exits only by the calls stop and exit, or by the timer interrupt
 pub mod Exits
--- A set timer line makes an enclave exit
+-- Availability: if the timer line of a hart is set, then the next step of an enclave on this hart exits to the host
 pub mod Availability
--- The monitor answers each call as its numbers say
+-- The monitor answers each call with the result, the status and the effect that the call's table in numbers gives (specs/NumberedCalls)
 pub mod NumberedCalls
--- A step without a trap is that of its hart alone, and the host takes no interrupt
+-- A step without a trap is the step of its hart alone, and the host takes no interrupt
 pub mod PlainSteps
--- The laws of a step determine it
+-- The laws of a step determine the step: two results of one step that both obey the laws are equal
 pub mod Determined
--- No world reads a counter, or a register that a trap to mode M writes
+-- No world reads a counter, or a register that a trap to M-mode writes
 pub mod GuestView
--- A step of an enclave over two memories that have equal bytes in its region and its window, with equal tables
+-- A step of an enclave over two shared states with equal tables, whose memories have equal bytes in the region and the window of the enclave, has
+-- the same result
 pub mod EnclaveMemory
--- A step of an enclave is the same in two machines in which the enclave has the same state
+-- A step of an enclave depends only on the state of the enclave
 pub mod EnclaveSteps
--- Two machines that are equivalent except for an enclave are so again after it exits from both
+-- Two machines that are equivalent except e stay equivalent except e after e exits from both, if e hands over the same in both
 pub mod Release
--- Low steps of two machines that are equivalent except for an enclave in the guest view
+-- Low steps of two machines whose guest views are equivalent except e have equal outcomes, and leave machines whose guest views are equivalent
+-- except e
 pub mod GuestEquiv
--- A step of an enclave that does not exit changes only its hart, its region and its window
+-- A step of an enclave that does not exit changes only the hart, the region and the window of the enclave
 pub mod EnclaveStays
--- A step over two memories that are equal where it reads
+-- A step depends on memory only by the bytes that it reads
 pub mod SteppedOver
--- Related machines, and machines that are equivalent except for an enclave in the guest view
+-- Two machines that are related are equivalent except e in the guest view, if the window of a running enclave has equal bytes in both
 pub mod RelatedEquiv
--- A low step of two related machines while the enclave runs on another hart
+-- A low step of two related machines while the enclave runs on another hart has equal outcomes, and leaves the machines related
 pub mod LowSteps
--- Two related machines stay related after a debugger's write to the same hart of both, or to memory
+-- Two related machines stay related after the debugger writes to the same hart of both, or to memory
 pub mod RelatedChanges
--- Lists of steps and of changes of timer lines, by the laws of one step
+-- Lists of events, by the laws of one step
 pub mod Events
--- Every move keeps two machines related, and every low step of both has equal outcomes
+-- Noninterference with declassification: each permitted move keeps two machines related, and each low step of both machines has equal outcomes
 pub mod Declassification
--- An enclave is as created until it is entered, and two enclaves with the same measured bytes start the same run
+-- Attestation: two enclaves with equal measured bytes take the same steps in their first run, under any hosts and in any slots
 pub mod Attestation
 -- No step that obeys the laws of the entry and of a new enclave is a create that enters the new enclave at once
 pub mod EntryRefusals
--- Every event keeps pc and the registers of mode S as a hart stores them
+-- Every event leaves a machine legal: pc, stvec and sepc of each hart and of each saved context have values that the hart can store
 pub mod LegalMachine
--- The whole life of an enclave
+-- The whole life of an enclave: two enclaves at one point of life take the same own steps
 pub mod Life

@@ -1,4 +1,5 @@
--- A step of the same hart of two monitored machines that are equivalent except for an enclave that is not its world.
+-- Noninterference of one step: a low step of two machines that are equivalent except e has equal outcomes, and leaves machines that are equivalent
+-- except e.
 use Rattle.std.proofs.Common.{◌≡◌, ◌<◌, ℕ, false, List, Option, Some, None, refl, sym, ◌∙◌, ap, ap₂, subst, inl, inr, arith}
 use Rattle.rv_monitor.specs.Prelude.{Hart, SharedInvariant, Outcome, HartState, Shared, SharedEquivExcept, Slots, Machine, StepOutcome, Stepped, Trap, World}
 use Rattle.rv_monitor.specs.Prelude.{is_live, is_world_of, option_case, step}
@@ -17,25 +18,25 @@ use Rattle.rv_monitor.proofs.StepInvariant.{step_size}
 
 -- ---- a step of one hart over equivalent shared states
 
--- the view of a hart state and a shared state
+-- the view with this hart state and this shared state
 abbrev on : HartState → Shared → HartView
 on hart_state shared = record { hart_state = hart_state; shared = shared }
 
--- two steps of a view have the same outcome, and are equivalent except for e
+-- two steps of a view have equal outcomes, and leave views that are equivalent except e
 record Agree (e : ℕ) (one other : HartViewStepped) : Type 0 where
   pub outcome : one.outcome ≡ other.outcome
   pub hart_state : HartStatesEquivExcept e one.state.hart_state other.state.hart_state
   pub shared : SharedEquivExcept e one.state.shared other.state.shared
 
--- the step with its trap, if any, is equivalent over both shared states
+-- the end of the step, with or without a trap, leaves views that are equivalent except e
 trapped_equiv : (e : ℕ) (outcome : StepOutcome) (o : Option Trap) (worlds : List World) (hart_state : HartState) (one other : Shared)
     → SharedInvariant one worlds → SharedInvariant other worlds → is_world_of e hart_state.world ≡ false → SharedEquivExcept e one other
     → Agree e (option_case o (unhandled outcome hart_state one) (λ trap. returned outcome (handled hart_state one trap)))
     (option_case o (unhandled outcome hart_state other) (λ trap. returned outcome (handled hart_state other trap)))
-trapped_equiv e outcome None worlds hart_state one other a b not_running equiv =
-    record { outcome = refl; hart_state = record { world = refl; same = λ not_running. refl }; shared = equiv }
-trapped_equiv e outcome (Some trap) worlds hart_state one other a b not_running equiv =
-    let work = handler_law e worlds hart_state one other trap a b not_running equiv in
+trapped_equiv e outcome None worlds hart_state one other shared_invariant_one shared_invariant_other not_running shared_equiv =
+    record { outcome = refl; hart_state = record { world = refl; same = λ not_running. refl }; shared = shared_equiv }
+trapped_equiv e outcome (Some trap) worlds hart_state one other shared_invariant_one shared_invariant_other not_running shared_equiv =
+    let work = handler_law e worlds hart_state one other trap shared_invariant_one shared_invariant_other not_running shared_equiv in
     record {
       outcome = ap (λ (entered : Option ℕ). let shown : Outcome = record { step = outcome; entered = entered } in shown) work.entered;
       hart_state = work.hart_state;
@@ -50,7 +51,7 @@ stepped hart_state shared = step (record { hart = hart_state.hart; memory = shar
 abbrev stored : HartState → Shared → Shared
 stored hart_state shared = record shared { memory = (stepped hart_state shared).state.memory }
 
--- the state after the bare step, with its outcome
+-- the result of the step from the outcome of the bare step: the trap handler follows if the bare step traps
 abbrev after_bare : StepOutcome → HartState → Shared → HartViewStepped
 after_bare outcome hart_state shared =
     option_case outcome.trap (unhandled outcome hart_state shared) (λ trap. returned outcome (handled hart_state shared trap))
@@ -58,56 +59,59 @@ after_bare outcome hart_state shared =
 -- the bare step preserves the shared invariant
 stored_sound : (worlds : List World) (hart_state : HartState) (shared : Shared) → SharedInvariant shared worlds
     → SharedInvariant (stored hart_state shared) worlds
-stored_sound worlds hart_state shared sound =
+stored_sound worlds hart_state shared shared_invariant =
     let before : Machine = record { hart = hart_state.hart; memory = shared.memory } in
-    sound_by_size shared worlds (stepped hart_state shared).state.memory sound (step_size before (step before) (confined before))
+    sound_by_size shared worlds (stepped hart_state shared).state.memory shared_invariant (step_size before (step before) (confined before))
 
--- a step of another world is equivalent over equivalent shared states
+-- a step of a world other than e over two equivalent shared states has equal outcomes, and leaves equivalent views
 step_equiv : (e : ℕ) (hart_state : HartState) (ws : List World) (one other : Shared) → HartViewInvariant (on hart_state one)
     → SharedInvariant one ws → SharedInvariant other ws → is_world_of e hart_state.world ≡ false → SharedEquivExcept e one other
     → Agree e (monitored_step (on hart_state one)) (monitored_step (on hart_state other))
 unfolding monitored_step
-step_equiv e hart_state ws one other kept sound_here sound_there not_running equiv =
-    let a = stepped hart_state one in
-    let b = stepped hart_state other in
-    let alike = bare_law e (on hart_state one) other.memory kept not_running equiv.memory in
+step_equiv e hart_state ws one other view_invariant_one shared_invariant_one shared_invariant_other not_running shared_equiv =
+    let bare_one = stepped hart_state one in
+    let bare_other = stepped hart_state other in
+    let bare_steps_alike = bare_law e (on hart_state one) other.memory view_invariant_one not_running shared_equiv.memory in
     let shared : SharedEquivExcept e (stored hart_state one) (stored hart_state other) = record {
-      table = equiv.table;
-      memory = alike.memory;
-      contexts = equiv.contexts;
-      gone = λ dead. ap (stored hart_state) (equiv.gone dead);
+      table = shared_equiv.table;
+      memory = bare_steps_alike.memory;
+      contexts = shared_equiv.contexts;
+      gone = λ dead. ap (stored hart_state) (shared_equiv.gone dead);
     } in
-    let base = trapped_equiv e a.outcome a.outcome.trap ws (record hart_state { hart = a.state.hart }) (stored hart_state one) (stored hart_state other)
-    (stored_sound ws hart_state one sound_here) (stored_sound ws hart_state other sound_there) not_running shared in
+    let base =
+    trapped_equiv e bare_one.outcome bare_one.outcome.trap ws (record hart_state { hart = bare_one.state.hart }) (stored hart_state one)
+    (stored hart_state other)
+    (stored_sound ws hart_state one shared_invariant_one) (stored_sound ws hart_state other shared_invariant_other) not_running shared in
     let P : Hart → StepOutcome → Type 0 = λ hart outcome. Agree e
-    (after_bare a.outcome (record hart_state { hart = a.state.hart }) (stored hart_state one))
+    (after_bare bare_one.outcome (record hart_state { hart = bare_one.state.hart }) (stored hart_state one))
     (after_bare outcome (record hart_state { hart = hart }) (stored hart_state other)) in
-    subst (λ hart. P hart b.outcome) (sym alike.hart) (subst (λ outcome. P a.state.hart outcome) (sym alike.outcome) base)
+    subst (λ hart. P hart bare_other.outcome) (sym bare_steps_alike.hart)
+    (subst (λ outcome. P bare_one.state.hart outcome) (sym bare_steps_alike.outcome) base)
 
 -- ---- a step of a hart of the machine
 
--- equivalent machines have the same worlds
+-- two machines that are equivalent except e have the same worlds
 same_worlds : (e : ℕ) (one other : MonitoredMachine) → EquivExcept e one other → worlds one ≡ worlds other
 same_worlds e one other equiv =
     let world : HartState → World = λ s. s.world in
     let same_harts = equiv.harts in
-    let here = length-map one.hart_states world in
-    let there = length-map other.hart_states world in
-    same_lists (worlds one) (worlds other) (here ∙ same_harts ∙ sym there) (λ k d inside.
-    let in_range : k < count_of one = omega (arith, here, inside) in
+    let length_one = length-map one.hart_states world in
+    let length_other = length-map other.hart_states world in
+    same_lists (worlds one) (worlds other) (length_one ∙ same_harts ∙ sym length_other) (λ k d inside.
+    let in_range : k < count_of one = omega (arith, length_one, inside) in
     get_or-map world one.hart_states k (hart_state_at_start 0) d in_range ∙ (equiv.hart_states k).world
     ∙ sym (get_or-map world other.hart_states k (hart_state_at_start 0) d (omega (arith, same_harts, in_range))))
 
--- the views after the steps of two equivalent machines are equivalent
-own_equiv : (e hart : ℕ) (one other : MonitoredMachine) → Invariant one → Invariant other → EquivExcept e one other → hart < count_of one
+-- the low steps of the views of one hart of two equivalent machines leave equivalent views
+views_equiv : (e hart : ℕ) (one other : MonitoredMachine) → Invariant one → Invariant other → EquivExcept e one other → hart < count_of one
     → runs_on e hart one ≡ false
     → Agree e (monitored_step (hart_view hart one)) (monitored_step (hart_view hart other))
-own_equiv e hart one other here there equiv in_range not_running =
+views_equiv e hart one other invariant_one invariant_other equiv in_range not_running =
     let hart_states = equiv.hart_states hart in
-    let sound = subst (SharedInvariant other.shared) (sym (same_worlds e one other equiv)) there.shared in
+    let shared_invariant_other = subst (SharedInvariant other.shared) (sym (same_worlds e one other equiv)) invariant_other.shared in
     subst (λ (s : HartState). Agree e (monitored_step (hart_view hart one)) (monitored_step (on s other.shared))) (hart_states.same not_running)
     (step_equiv e (hart_state_of hart one) (worlds one) one.shared other.shared
-    (hart_view_invariant hart one here in_range) here.shared sound not_running equiv.shared)
+    (hart_view_invariant hart one invariant_one in_range) invariant_one.shared shared_invariant_other not_running equiv.shared)
 
 -- reprogramming leaves equivalent hart states equivalent
 behind_equiv : (e : ℕ) (o : Option Trap) (slots : Slots) (a b : HartState) → HartStatesEquivExcept e a b
@@ -115,47 +119,49 @@ behind_equiv : (e : ℕ) (o : Option Trap) (slots : Slots) (a b : HartState) →
 behind_equiv e None slots a b equiv = equiv
 behind_equiv e (Some trap) slots a b equiv = record { world = equiv.world; same = λ not_running. ap (reprogrammed slots) (equiv.same not_running) }
 
--- all hart states after the steps of two equivalent machines are equivalent
+-- after low steps of two equivalent machines, the states of each hart are equivalent
 stepped_equiv : (e hart : ℕ) (one other : MonitoredMachine) (a b : HartViewStepped) → EquivExcept e one other → hart < count_of one → Agree e a b
     → (j : ℕ) → HartStatesEquivExcept e (hart_state_of j (stepped_by hart one a).state) (hart_state_of j (stepped_by hart other b).state)
 stepped_equiv e hart one other a b equiv in_range step j =
     let same_harts = equiv.harts in
     elim (cases_lt j (count_of one)) [
-      | inr past ↦
-          let here = count_behind hart one a in
-          let there = count_behind hart other b in
-          same_hart_states e _ _ (past_hart_state (stepped_by hart one a).state.hart_states j (omega (arith, here, past))
-          ∙ sym (past_hart_state (stepped_by hart other b).state.hart_states j (omega (arith, there, same_harts, past))))
+      | inr past_last ↦
+          let count_one = count_behind hart one a in
+          let count_other = count_behind hart other b in
+          same_hart_states e _ _ (past_hart_state (stepped_by hart one a).state.hart_states j (omega (arith, count_one, past_last))
+          ∙ sym (past_hart_state (stepped_by hart other b).state.hart_states j (omega (arith, count_other, same_harts, past_last))))
       | inl inside ↦ elim (cases_eq j hart) [
-        | inl same ↦ hart_states_equiv e _ _ _ _ (own_hart_state hart one a j same in_range)
-            (own_hart_state hart other b j same (omega (arith, same_harts, in_range))) step.hart_state
-        | inr apart ↦
+        | inl equal ↦ hart_states_equiv e _ _ _ _ (own_hart_state hart one a j equal in_range)
+            (own_hart_state hart other b j equal (omega (arith, same_harts, in_range))) step.hart_state
+        | inr distinct ↦
             let traps = ap (λ (outcome : Outcome). outcome.step.trap) step.outcome in
             let behind : Option Trap → Slots → Type 0 =
             λ o slots. HartStatesEquivExcept e (hart_state_reprogrammed a.outcome.step.trap a.state.shared.table (hart_state_of j one))
             (hart_state_reprogrammed o slots (hart_state_of j other)) in
-            hart_states_equiv e _ _ _ _ (other_hart_state hart one a j apart inside) (other_hart_state hart other b j apart (omega (arith, same_harts, inside)))
+            hart_states_equiv e _ _ _ _ (other_hart_state hart one a j distinct inside)
+            (other_hart_state hart other b j distinct (omega (arith, same_harts, inside)))
             (subst (λ (o : Option Trap). behind o b.state.shared.table) traps
             (subst (behind a.outcome.step.trap) step.shared.table
             (behind_equiv e a.outcome.step.trap a.state.shared.table (hart_state_of j one) (hart_state_of j other) (equiv.hart_states j))))
       ]
     ]
 
--- proves noninterference: a low step has the same outcome on every equivalent machine and leaves them equivalent
+-- proves noninterference: a low step has the same outcome on every equivalent machine, and leaves equivalent machines
 pub noninterference : (hart : ℕ) (machine : MonitoredMachine) → Invariant machine → StepNoninterference hart machine (step_of hart machine)
-noninterference hart one here e other there equiv not_running =
+noninterference hart one invariant e other invariant_other equiv not_running =
     let same_harts = equiv.harts in
     elim (cases_lt hart (count_of one)) [
-      | inr past ↦ rw (outside hart one past, outside hart other (omega (arith, same_harts, past))) (record { outcome = refl; state = equiv })
-      | inl has ↦
-          let a = monitored_step (hart_view hart one) in
-          let b = monitored_step (hart_view hart other) in
-          let step = own_equiv e hart one other here there equiv has not_running in
-          rw (inside hart one has, inside hart other (omega (arith, same_harts, has))) (record {
+      | inr past_last ↦
+          rw (outside hart one past_last, outside hart other (omega (arith, same_harts, past_last))) (record { outcome = refl; state = equiv })
+      | inl in_range ↦
+          let after_one = monitored_step (hart_view hart one) in
+          let after_other = monitored_step (hart_view hart other) in
+          let step = views_equiv e hart one other invariant invariant_other equiv in_range not_running in
+          rw (inside hart one in_range, inside hart other (omega (arith, same_harts, in_range))) (record {
             outcome = step.outcome;
             state = record {
-              harts = count_behind hart one a ∙ equiv.harts ∙ sym (count_behind hart other b);
-              hart_states = stepped_equiv e hart one other a b equiv has step;
+              harts = count_behind hart one after_one ∙ equiv.harts ∙ sym (count_behind hart other after_other);
+              hart_states = stepped_equiv e hart one other after_one after_other equiv in_range step;
               shared = step.shared;
             };
           })
@@ -163,16 +169,21 @@ noninterference hart one here e other there equiv not_running =
 
 -- ---- an enclave that has ended
 
--- the two machines are equal
+-- two machines that are equivalent except e are equal, if e is not live
 pub gone_equal : (e : ℕ) (one other : MonitoredMachine) → Invariant one → EquivExcept e one other → is_live one.shared.table e ≡ false → one ≡ other
-gone_equal e one other kept equiv dead =
+gone_equal e one other invariant_one equiv dead =
     let same_harts = equiv.harts in
     let machine : List HartState → Shared → MonitoredMachine = λ hart_states shared. record { hart_states = hart_states; shared = shared } in
     ap₂ machine (same_lists one.hart_states other.hart_states equiv.harts (λ j d inside.
     get_or_default one.hart_states j d (hart_state_at_start 0) inside
-    ∙ (equiv.hart_states j).same (not_running j) ∙ sym (get_or_default other.hart_states j d (hart_state_at_start 0) (omega (arith, same_harts, inside)))))
+    ∙ (equiv.hart_states j).same (not_running j)
+    ∙ sym (get_or_default other.hart_states j d (hart_state_at_start 0) (omega (arith, same_harts, inside)))))
     (equiv.shared.gone dead)
   where
-    -- an enclave that does not run runs on no hart
+    -- an enclave that is not live runs on no hart
     not_running : (j : ℕ) → runs_on e j one ≡ false
-    not_running j = elim (cases_Bool (runs_on e j one)) [ inl runs ↦ absurd (both_ways _ dead (running_is_live e j one kept runs)) | inr none ↦ none ]
+    not_running j =
+        elim (cases_Bool (runs_on e j one)) [
+          | inl runs ↦ absurd (both_ways _ dead (running_is_live e j one invariant_one runs))
+          | inr runs_other ↦ runs_other
+        ]

@@ -1,4 +1,4 @@
--- The monitor answers each call as its numbers say.
+-- The monitor answers each call with the result, the status and the effect that the call's table in numbers gives (specs/NumberedCalls).
 use Rattle.std.proofs.Common.{◌≡◌, ◌≢◌, ℕ, Bool, true, false, List, [], ◌∷◌, Option, Some, None, refl, sym, ◌∙◌, ap, subst, arith}
 use Rattle.std.proofs.Math.Bool.{or-false}
 use Rattle.std.proofs.lemmas.Bool.Decides.{nat_tests}
@@ -7,6 +7,7 @@ use Rattle.rv_state.specs.declared.cause.Cause.TheVariants as causes
 use Rattle.rv_enclaves.specs.CallNumbers.{AreCallNumbers, IsAccepted, call_numbered, call_rows, call_status, first_status, in_numbers, lowest_free}
 use Rattle.rv_enclaves.specs.CallNumbers.{shared_with_measurement, shared_with_new, shared_without, slot_named}
 use Rattle.rv_enclaves.specs.Table.{free_slot}
+use Rattle.rv_enclaves.specs.SlotNumbers.{slot_count}
 use Rattle.rv_enclaves.proofs.CallNumbers.{call_numbers, no_success}
 use Rattle.rv_enclaves.proofs.AcceptedCalls.{accepts_calls}
 use Rattle.rv_monitor.specs.NumberedCalls.{AnswersCalls, CallsSucceed, EntersByCall, InterruptsEnclave, Returns, answered_machine, by_exit_call, by_interrupt, by_stop_call}
@@ -15,9 +16,9 @@ use Rattle.rv_state.specs.declared.cause.Interrupt.{Interrupt}
 use Rattle.rv_monitor.specs.Exits.{causes_exit, is_exit_call}
 use Rattle.rv_monitor.proofs.LeftMachine.{left_machine}
 use Rattle.rv_monitor.specs.Prelude.{Call, Cause, Context, Create, Destroy, Enclave, EnvironmentCallFromS, Exit, Hart, Host, Measure, NotSupported, Outcome}
-use Rattle.rv_monitor.specs.Prelude.{Refusal, Resume, Run, HartState, Shared, StepOutcome, Stop, Trap, World, aligned_to_4}
+use Rattle.rv_monitor.specs.Prelude.{Refusal, Resume, Run, HartState, Shared, StepOutcome, Stop, Trap, World}
 use Rattle.rv_monitor.specs.Prelude.{first_refusal, is_set, measure_refusals, measured, option_case, register}
-use Rattle.rv_monitor.specs.Prelude.{call_number, requested_call, saved_context, step, sum_of}
+use Rattle.rv_monitor.specs.Prelude.{call_number, requested_call, saved_context, step}
 use Rattle.rv_monitor.proofs.Prelude.{Handled, HartViewInvariant, Invariant, MonitoredMachine, HartView, HartViewStepped, a0, a1, bare_machine}
 use Rattle.rv_monitor.proofs.Prelude.{call_handled, call_refusals, called, entered_slot, handled, handled_cause, hart_state_of, hart_view}
 use Rattle.rv_monitor.proofs.Prelude.{performed, refused, returned, returned_to_caller, step_of, with_reprogrammed_hart, past_call}
@@ -28,46 +29,48 @@ use Rattle.rv_monitor.proofs.InvariantLemmas.{hart_view_invariant}
 use Rattle.rv_monitor.proofs.Leaving.{leave_law}
 use Rattle.rv_monitor.proofs.HartCases.{IsTrapping, is_trapping, programmed_by, step_seen}
 use Rattle.rv_monitor.proofs.TrapSteps.{hart_state_after, trapped_step}
+use Rattle.rv_monitor.proofs.Alignment.{next_is_aligned}
 
--- ---- the rows
+-- ---- the tables of the refusals
 
--- if the status is 0, no row holds
+-- if the status of a table is 0, then no refusal of the table applies
 no_row_holds : (rows : List (Bool × Refusal)) → first_status (in_numbers rows) ≡ 0 → first_refusal rows ≡ None
-no_row_holds [] first_status_is = refl
-no_row_holds ((true, refusal) ∷ rows) first_status_is = absurd (no_success refusal first_status_is)
-no_row_holds ((false, refusal) ∷ rows) first_status_is = no_row_holds rows first_status_is
+no_row_holds [] status_is_0 = refl
+no_row_holds ((true, refusal) ∷ rows) status_is_0 = absurd (no_success refusal status_is_0)
+no_row_holds ((false, refusal) ∷ rows) status_is_0 = no_row_holds rows status_is_0
 
--- a status other than 0 is returned to the caller
-by_row : (hart_state : HartState) (shared : Shared) (done : Handled) (rows : List (Bool × Refusal)) → first_status (in_numbers rows) ≢ 0
-    → option_case (first_refusal rows) done (refused hart_state shared) ≡ returned_to_caller hart_state shared (first_status (in_numbers rows)) 0
-by_row hart_state shared done [] holds = absurd (holds refl)
-by_row hart_state shared done ((true, refusal) ∷ rows) holds = refl
-by_row hart_state shared done ((false, refusal) ∷ rows) holds = by_row hart_state shared done rows holds
+-- if the status of a table is not 0, then the monitor returns this status to the caller
+refused_by_status : (hart_state : HartState) (shared : Shared) (result : Handled) (rows : List (Bool × Refusal)) → first_status (in_numbers rows) ≢ 0
+    → option_case (first_refusal rows) result (refused hart_state shared) ≡ returned_to_caller hart_state shared (first_status (in_numbers rows)) 0
+refused_by_status hart_state shared result [] status_is_not_0 = absurd (status_is_not_0 refl)
+refused_by_status hart_state shared result ((true, refusal) ∷ rows) status_is_not_0 = refl
+refused_by_status hart_state shared result ((false, refusal) ∷ rows) status_is_not_0 = refused_by_status hart_state shared result rows status_is_not_0
 
 -- ---- the handler
 
+-- the hart state at an ecall, and the shared state
 module _ (hart_state : HartState) (shared : Shared) where
   -- the definitions of the calls agree with the tables in numbers
   numbers : AreCallNumbers shared hart_state.hart.csrs.pmp hart_state.hart.regs
   numbers = call_numbers shared hart_state.hart.csrs.pmp hart_state.hart.regs
 
-  -- the refusals of a call in numbers
+  -- the table of a call in numbers
   abbrev rows_of : Call → List (Bool × ℕ)
   rows_of call = call_rows hart_state.world shared hart_state.hart.csrs.pmp hart_state.hart.regs call
 
-  -- the refusals of a call are those of the table in numbers
-  rows_are : (call : Call) → in_numbers (call_refusals hart_state shared call) ≡ rows_of call
-  rows_are Create = numbers.create
-  rows_are Destroy = numbers.destroy (a0 hart_state)
-  rows_are Run = numbers.run (a0 hart_state)
-  rows_are Resume = numbers.resume (a0 hart_state)
-  rows_are Measure =
+  -- the refusals of a call agree with the table of the call in numbers
+  refusals_are_rows : (call : Call) → in_numbers (call_refusals hart_state shared call) ≡ rows_of call
+  refusals_are_rows Create = numbers.create
+  refusals_are_rows Destroy = numbers.destroy (a0 hart_state)
+  refusals_are_rows Run = numbers.run (a0 hart_state)
+  refusals_are_rows Resume = numbers.resume (a0 hart_state)
+  refusals_are_rows Measure =
       ap (λ (k : ℕ). in_numbers (measure_refusals shared hart_state.hart.csrs.pmp k (a1 hart_state))) (numbers.slot hart_state.world)
       ∙ numbers.measure (slot_named hart_state.world hart_state.hart.regs) (a1 hart_state)
-  rows_are Stop = refl
-  rows_are Exit = refl
+  refusals_are_rows Stop = refl
+  refusals_are_rows Exit = refl
 
-  -- the requested call by its number
+  -- the requested call, by the numbers in a7 and a6
   abbrev numbered : Option Call
   numbered = call_numbered hart_state.world (register hart_state.hart.regs 17) (register hart_state.hart.regs 16)
 
@@ -75,61 +78,67 @@ module _ (hart_state : HartState) (shared : Shared) where
   abbrev status : ℕ
   status = call_status hart_state.world shared hart_state.hart.csrs.pmp hart_state.hart.regs
 
-  -- a call with status 0 has no reason for a refusal
+  -- no refusal of a call applies, if the status of its table is 0
   not_refused : (call : Call) → first_status (rows_of call) ≡ 0 → first_refusal (call_refusals hart_state shared call) ≡ None
-  not_refused call first_status_is = no_row_holds (call_refusals hart_state shared call) (ap first_status (rows_are call) ∙ first_status_is)
+  not_refused call status_is_0 = no_row_holds (call_refusals hart_state shared call) (ap first_status (refusals_are_rows call) ∙ status_is_0)
 
-  -- a call with another status is refused with it
+  -- if the status of a call's table is not 0, then the call is refused with this status
   called_refused : (call : Call) → first_status (rows_of call) ≢ 0
       → called hart_state shared call ≡ returned_to_caller hart_state shared (first_status (rows_of call)) 0
   unfolding called
-  called_refused call holds =
-      subst (λ (rows : List (Bool × ℕ)). first_status rows ≢ 0 → option_case (first_refusal (call_refusals hart_state shared call)) (performed hart_state shared call)
-      (refused hart_state shared) ≡ returned_to_caller hart_state shared (first_status rows) 0) (rows_are call)
-      (by_row hart_state shared (performed hart_state shared call) (call_refusals hart_state shared call)) holds
+  called_refused call status_is_not_0 =
+      subst
+      (λ (rows : List (Bool × ℕ)). first_status rows ≢ 0 → option_case (first_refusal (call_refusals hart_state shared call))
+      (performed hart_state shared call)
+      (refused hart_state shared) ≡ returned_to_caller hart_state shared (first_status rows) 0) (refusals_are_rows call)
+      (refused_by_status hart_state shared (performed hart_state shared call) (call_refusals hart_state shared call)) status_is_not_0
 
-  -- the requested call is refused with its status, if there is one
+  -- if the status of an ecall is not 0, then the ecall is refused with this status, whether it requests a call or not
   by_call : (o : Option Call) → option_case o 0xFFFFFFFF (λ call. first_status (rows_of call)) ≢ 0
       → option_case o (refused hart_state shared NotSupported) (called hart_state shared)
       ≡ returned_to_caller hart_state shared (option_case o 0xFFFFFFFF (λ call. first_status (rows_of call))) 0
-  by_call None holds = refl
-  by_call (Some call) holds = called_refused call holds
+  by_call None status_is_not_0 = refl
+  by_call (Some call) status_is_not_0 = called_refused call status_is_not_0
 
-  -- a call whose status is not 0 returns that status and 0, with the shared state unchanged
+  -- an ecall whose status is not 0 returns this status and 0, and leaves the shared state unchanged
   pub handled_refused : (trap : Trap) (cause : Cause) → cause ≡ causes.Exception EnvironmentCallFromS → status ≢ 0
       → handled_cause hart_state shared trap cause ≡ returned_to_caller hart_state shared status 0
   unfolding call_handled call_status
-  handled_refused trap cause by_ecall holds = let asked = numbers.call hart_state.world in rw (by_ecall, asked) (by_call numbered holds)
+  handled_refused trap cause by_ecall status_is_not_0 =
+      let asked = numbers.call hart_state.world in rw (by_ecall, asked) (by_call numbered status_is_not_0)
 
-  -- the status of the requested call is that of its table
-  status_of_call : (call : Call) (o : Option Call) → o ≡ Some call → option_case o 0xFFFFFFFF (λ c. first_status (rows_of c)) ≡ 0 → first_status (rows_of call) ≡ 0
-  status_of_call call o call_is none = subst (λ (x : Option Call). option_case x 0xFFFFFFFF (λ c. first_status (rows_of c)) ≡ 0) call_is none
+  -- if the status of an ecall is 0, then so is the status of the table of the requested call
+  status_of_call : (call : Call) (o : Option Call) → o ≡ Some call → option_case o 0xFFFFFFFF (λ c. first_status (rows_of c)) ≡ 0
+      → first_status (rows_of call) ≡ 0
+  status_of_call call o call_is status_is_0 =
+      subst (λ (x : Option Call). option_case x 0xFFFFFFFF (λ c. first_status (rows_of c)) ≡ 0) call_is status_is_0
 
-  -- a call with status 0 has no reason for a refusal
+  -- no refusal of the requested call applies, if the status is 0
   pub none_refused : (call : Call) → numbered ≡ Some call → status ≡ 0 → first_refusal (call_refusals hart_state shared call) ≡ None
   unfolding call_status
-  none_refused call numbered_is none = not_refused call (status_of_call call numbered numbered_is none)
+  none_refused call numbered_is status_is_0 = not_refused call (status_of_call call numbered numbered_is status_is_0)
 
-  -- the call by its number is the requested call
+  -- the call with the numbers in a7 and a6 is the requested call
   pub asks : (call : Call) → numbered ≡ Some call → requested_call hart_state.world hart_state.hart.regs ≡ Some call
   asks call numbered_is = numbers.call hart_state.world ∙ numbered_is
 
-  -- the trap handler performs a call with status 0
+  -- the trap handler performs the requested call, if the status is 0
   pub handled_done : (trap : Trap) (cause : Cause) (call : Call) → cause ≡ causes.Exception EnvironmentCallFromS → numbered ≡ Some call → status ≡ 0
       → handled_cause hart_state shared trap cause ≡ performed hart_state shared call
   unfolding call_handled called
-  handled_done trap cause call by_ecall numbered_is none =
+  handled_done trap cause call by_ecall numbered_is status_is_0 =
       let asked = asks call numbered_is in
-      let passes = none_refused call numbered_is none in
-      rw (by_ecall, asked, passes) refl
+      let no_refusal = none_refused call numbered_is status_is_0 in
+      rw (by_ecall, asked, no_refusal) refl
 
-  -- the effect of each call, in numbers
+  -- create returns 0 and the lowest free slot, and puts the new enclave into the shared state
   pub performs_create : performed hart_state shared Create
-      ≡ returned_to_caller hart_state (shared_with_new shared hart_state.hart.regs) 0 (option_case (lowest_free shared.table) 13 (λ k. k))
+      ≡ returned_to_caller hart_state (shared_with_new shared hart_state.hart.regs) 0 (option_case (lowest_free shared.table) slot_count (λ k. k))
   unfolding performed free_slot
-  performs_create = ap (λ (s : Shared). returned_to_caller hart_state s 0 (option_case (lowest_free shared.table) 13 (λ k. k))) numbers.created
+  performs_create =
+      ap (λ (s : Shared). returned_to_caller hart_state s 0 (option_case (lowest_free shared.table) slot_count (λ k. k))) numbers.created
 
-  -- destroy returns 0 and 0, and removes the slot of a0 from the shared state
+  -- destroy returns 0 and 0, and removes the enclave in the slot of a0 from the shared state
   pub performs_destroy : performed hart_state shared Destroy ≡ returned_to_caller hart_state (shared_without shared (a0 hart_state)) 0 0
   unfolding performed
   performs_destroy = ap (λ (s : Shared). returned_to_caller hart_state s 0 0) (numbers.destroyed (a0 hart_state))
@@ -147,21 +156,17 @@ module _ (hart_state : HartState) (shared : Shared) where
   abbrev entry : Handled
   entry = entered_slot hart_state shared (a0 hart_state) (saved_context shared.contexts (a0 hart_state)) (past_call hart_state)
 
-  -- run enters the slot of a0
+  -- run enters the slot in a0
   pub performs_run : performed hart_state shared Run ≡ entry
   unfolding performed
   performs_run = refl
 
-  -- resume enters the slot of a0
+  -- resume enters the slot in a0
   pub performs_resume : performed hart_state shared Resume ≡ entry
   unfolding performed
   performs_resume = refl
 
 -- ---- the step of a call that enters or leaves no enclave
-
--- the pc after an ecall is aligned
-again_aligned : (pc : ℕ) → aligned_to_4 (sum_of (aligned_to_4 pc) 4) ≡ sum_of (aligned_to_4 pc) 4
-again_aligned pc = omega arith
 
 -- the view after a return to the caller
 abbrev answered_view : HartView → Trap → Shared → ℕ → ℕ → HartView
@@ -169,193 +174,220 @@ answered_view state trap shared v0 v1 =
     let machine : MonitoredMachine = record { hart_states = state.hart_state ∷ []; shared = state.shared } in
     record { hart_state = hart_state_of 0 (answered_machine 0 machine trap shared v0 v1); shared = shared }
 
-module _ (state : HartView) (kept : HartViewInvariant state) (trap : Trap) (shared : Shared) (v0 v1 : ℕ) where
-  -- the return to the caller is this view
+-- the trap handler returns to the caller with the values v0 and v1, and leaves this shared state
+module _ (state : HartView) (view_invariant : HartViewInvariant state) (trap : Trap) (shared : Shared) (v0 v1 : ℕ) where
+  -- the return to the caller gives the view after a return to the caller
   returned_answered : (outcome : StepOutcome)
       → (returned outcome (with_reprogrammed_hart (returned_to_caller (hart_state_after state.hart_state trap) shared v0 v1))).state
       ≡ answered_view state trap shared v0 v1
   returned_answered outcome =
       let hart = state.hart_state.hart in
-      let mprv = kept.hart.layout.mprv in
-      rw (again_aligned hart.pc, or-false (is_set hart.csrs.mcountinhibit 0), mprv) refl
+      let mprv = view_invariant.hart.layout.mprv in
+      rw (next_is_aligned hart.pc, or-false (is_set hart.csrs.mcountinhibit 0), mprv) refl
 
-  -- the result is this view, with no slot entered
+  -- the view after the step is the view after a return to the caller, and the step enters no slot
   abbrev Answered : HartViewStepped → Type 0
   Answered after = (after.state ≡ answered_view state trap shared v0 v1) × (after.outcome.entered ≡ None)
 
-  -- the return from the trap handler is that to the caller
+  -- if the trap handler returns to the caller, then the step satisfies `Answered`
   answered_at : (outcome : StepOutcome)
-      → handled_cause (hart_state_after state.hart_state trap) state.shared trap trap.cause ≡ returned_to_caller (hart_state_after state.hart_state trap) shared v0 v1
+      → handled_cause (hart_state_after state.hart_state trap) state.shared trap trap.cause
+      ≡ returned_to_caller (hart_state_after state.hart_state trap) shared v0 v1
       → Answered (returned outcome (handled (hart_state_after state.hart_state trap) state.shared trap))
   unfolding handled
   answered_at outcome handled_is = rw handled_is (returned_answered outcome, refl)
 
-module _ (hart : ℕ) (machine : MonitoredMachine) (kept : Invariant machine) (trap : Trap) (trapping : IsTrapping hart machine trap) where
-  -- the view of the hart
-  abbrev view : HartView
-  view = hart_view hart machine
+-- the step of a hart of the machine has this trap
+module _ (hart : ℕ) (machine : MonitoredMachine) (invariant : Invariant machine) (trap : Trap) (trapping : IsTrapping hart machine trap) where
+  -- the view of the hart before the step
+  abbrev view_before : HartView
+  view_before = hart_view hart machine
 
-  -- the hart state at the trap
+  -- the hart state at the trap, before the trap handler
   abbrev after_trap : HartState
-  after_trap = hart_state_after view.hart_state trap
+  after_trap = hart_state_after view_before.hart_state trap
 
-  -- a call that returns to its caller does so in the machine
-  returns : (shared : Shared) (v0 v1 : ℕ) → handled_cause after_trap machine.shared trap trap.cause ≡ returned_to_caller after_trap shared v0 v1
-      → Returns hart machine (step_of hart machine) trap shared v0 v1
-  returns shared v0 v1 handled_is =
-      let one = subst (Answered view (hart_view_invariant hart machine kept trapping.has) trap shared v0 v1) (sym (trapped_step view trap trapping.trapped))
-      (answered_at view (hart_view_invariant hart machine kept trapping.has) trap shared v0 v1 (step (bare_machine view)).outcome handled_is) in
-      (trapping.state ∙ ap (programmed_by hart machine) one.0, ap (λ (outcome : Outcome). outcome.entered) trapping.outcome ∙ one.1)
+  -- if the trap handler returns to the caller, then the step of the machine returns to the caller
+  returns : (shared : Shared) (a0_value a1_value : ℕ)
+      → handled_cause after_trap machine.shared trap trap.cause ≡ returned_to_caller after_trap shared a0_value a1_value
+      → Returns hart machine (step_of hart machine) trap shared a0_value a1_value
+  returns shared a0_value a1_value handled_is =
+      let view_answers =
+      subst (Answered view_before (hart_view_invariant hart machine invariant trapping.has) trap shared a0_value a1_value)
+      (sym (trapped_step view_before trap trapping.trapped))
+      (answered_at view_before (hart_view_invariant hart machine invariant trapping.has) trap shared a0_value a1_value
+      (step (bare_machine view_before)).outcome handled_is) in
+      (trapping.state ∙ ap (programmed_by hart machine) view_answers.0, ap (λ (outcome : Outcome). outcome.entered) trapping.outcome ∙ view_answers.1)
 
   -- ---- entry
 
-  -- a call that enters leaves the slot in a0 running
-  goes : handled_cause after_trap machine.shared trap trap.cause ≡ entry after_trap machine.shared
+  -- if the trap handler enters the slot in a0, then the enclave in this slot runs after the step
+  slot_runs_after_entry : handled_cause after_trap machine.shared trap trap.cause ≡ entry after_trap machine.shared
       → (hart_state_of hart (step_of hart machine).state).world ≡ Enclave (a0 after_trap)
   unfolding handled entered_slot
-  goes handled_is =
-      ap (λ (after : HartViewStepped). after.state.hart_state.world) (step_seen hart machine trapping.has ∙ trapped_step view trap trapping.trapped)
+  slot_runs_after_entry handled_is =
+      ap (λ (after : HartViewStepped). after.state.hart_state.world)
+      (step_seen hart machine trapping.has ∙ trapped_step view_before trap trapping.trapped)
       ∙ ap (λ (h : Handled). h.hart_state.world) handled_is
 
-  -- the host's step that ends in slot k is the entry by a call
-  enters_by : (k : ℕ) → view.hart_state.world ≡ Host → (step_of hart machine).outcome.step.trap ≡ Some trap
+  -- a step of the host after which enclave k runs is an entry of slot k by a call
+  enters_by : (k : ℕ) → view_before.hart_state.world ≡ Host → (step_of hart machine).outcome.step.trap ≡ Some trap
       → (hart_state_of hart (step_of hart machine).state).world ≡ Enclave k → EntersByCall hart machine (step_of hart machine) trap k
-  enters_by k host traps gone =
-      let law = enter_law hart machine kept k host gone in
-      let traps_alike : Some law.trap ≡ Some trap = sym law.trapped ∙ traps in
-      let same : law.trap ≡ trap = cc in
-      subst (λ (it : Trap). EntersByCall hart machine (step_of hart machine) it k) same law.call
+  enters_by k from_host traps enclave_runs_after =
+      let has_entered = enter_law hart machine invariant k from_host enclave_runs_after in
+      let traps_alike : Some has_entered.trap ≡ Some trap = sym has_entered.trapped ∙ traps in
+      let same : has_entered.trap ≡ trap = cc in
+      subst (λ (entry_trap : Trap). EntersByCall hart machine (step_of hart machine) entry_trap k) same has_entered.call
 
-  -- a call that enters slot a0 is an entry of it in the machine
+  -- a call that enters the slot in a0 makes the step of the machine an entry of this slot
   enters_with : (call : Call) → performed after_trap machine.shared call ≡ entry after_trap machine.shared
-      → handled_cause after_trap machine.shared trap trap.cause ≡ performed after_trap machine.shared call → view.hart_state.world ≡ Host
+      → handled_cause after_trap machine.shared trap trap.cause ≡ performed after_trap machine.shared call → view_before.hart_state.world ≡ Host
       → (step_of hart machine).outcome.step.trap ≡ Some trap → EntersByCall hart machine (step_of hart machine) trap (a0 after_trap)
-  enters_with call performs handled_is host trapped = enters_by (a0 after_trap) host trapped (goes (handled_is ∙ performs))
+  enters_with call performs_entry handled_is from_host trapped =
+      enters_by (a0 after_trap) from_host trapped (slot_runs_after_entry (handled_is ∙ performs_entry))
 
 -- ---- exit
 
--- a call that is exit has the number 7
-exit_numbered : (key b5 b6 b7 : Bool) → (if key then (if b5 then Some Measure else (if b6 then Some Stop else (if b7 then Some Exit else None))) else None) ≡ Some Exit
-    → b7 ≡ true
-exit_numbered true false false true numbered = refl
-exit_numbered true true b6 b7 numbered = cc
-exit_numbered true false true b7 numbered = cc
-exit_numbered true false false false numbered = cc
-exit_numbered false b5 b6 b7 numbered = cc
+-- If an enclave requests exit, then a6 has the number 7. The four tests say whether a7 has the key, and whether a6 has 5, 6 or 7.
+exit_numbered : (is_key is_5 is_6 is_7 : Bool)
+    → (if is_key then (if is_5 then Some Measure else (if is_6 then Some Stop else (if is_7 then Some Exit else None))) else None) ≡ Some Exit
+    → is_7 ≡ true
+exit_numbered true false false true is_exit = refl
+exit_numbered true true is_6 is_7 is_exit = cc
+exit_numbered true false true is_7 is_exit = cc
+exit_numbered true false false false is_exit = cc
+exit_numbered false is_5 is_6 is_7 is_exit = cc
 
--- a call that is stop has the number 6
-stop_numbered : (key b5 b6 b7 : Bool) → (if key then (if b5 then Some Measure else (if b6 then Some Stop else (if b7 then Some Exit else None))) else None) ≡ Some Stop
-    → b6 ≡ true
-stop_numbered true false true b7 numbered = refl
-stop_numbered true true b6 b7 numbered = cc
-stop_numbered true false false true numbered = cc
-stop_numbered true false false false numbered = cc
-stop_numbered false b5 b6 b7 numbered = cc
+-- If an enclave requests stop, then a6 has the number 6. The four tests say whether a7 has the key, and whether a6 has 5, 6 or 7.
+stop_numbered : (is_key is_5 is_6 is_7 : Bool)
+    → (if is_key then (if is_5 then Some Measure else (if is_6 then Some Stop else (if is_7 then Some Exit else None))) else None) ≡ Some Stop
+    → is_6 ≡ true
+stop_numbered true false true is_7 is_stop = refl
+stop_numbered true true is_6 is_7 is_stop = cc
+stop_numbered true false false true is_stop = cc
+stop_numbered true false false false is_stop = cc
+stop_numbered false is_5 is_6 is_7 is_stop = cc
 
--- the number of stop (6) is not that of exit (7)
+-- a register with the number of stop (6) does not have the number of exit (7)
 six_not_seven : (a6 : ℕ) → (a6 == 6) ≡ true → (a6 == 7) ≡ false
-six_not_seven a6 test_is = grind (arith, nat_tests)
+six_not_seven a6 is_six = grind (arith, nat_tests)
 
--- a stop of an enclave is not an exit by its number
+-- if an enclave requests stop, then a6 does not have the number of exit
 stop_test : (k a7 a6 : ℕ) → call_numbered (Enclave k) a7 a6 ≡ Some Stop → (a6 == call_number Exit) ≡ false
 unfolding call_numbered
 stop_test k a7 a6 call_numbered_is = six_not_seven a6 (stop_numbered (a7 == 0x0A454E43) (a6 == 5) (a6 == 6) (a6 == 7) call_numbered_is)
 
--- an exit of an enclave is one by its number
+-- if an enclave requests exit, then a6 has the number of exit
 exit_test : (k a7 a6 : ℕ) → call_numbered (Enclave k) a7 a6 ≡ Some Exit → (a6 == call_number Exit) ≡ true
 unfolding call_numbered
 exit_test k a7 a6 call_numbered_is = exit_numbered (a7 == 0x0A454E43) (a6 == 5) (a6 == 6) (a6 == 7) call_numbered_is
 
--- an ecall of stop or exit causes an exit
+-- an ecall that requests stop or exit is a cause that exits
 leaves_by : (hart_state : HartState) (cause : Cause) (call : Call) → cause ≡ causes.Exception EnvironmentCallFromS
     → requested_call hart_state.world hart_state.hart.regs ≡ Some call → is_exit_call (Some call) ≡ true → causes_exit hart_state cause ≡ true
-leaves_by hart_state cause call by_ecall requested exits = rw (by_ecall, requested) exits
+leaves_by hart_state cause call by_ecall requested is_exit = rw (by_ecall, requested) is_exit
 
+-- enclave k exits from a hart by this trap, to the host with this saved context
 module _ (hart : ℕ) (machine : MonitoredMachine) (k : ℕ) (trap : Trap) (host : Context) where
   -- the hart before the step
-  abbrev own : Hart
-  own = (hart_state_of hart machine).hart
+  abbrev hart_before : Hart
+  hart_before = (hart_state_of hart machine).hart
 
-  -- the machine after stop, in both definitions
-  stopped_is : trap.cause ≡ causes.Exception EnvironmentCallFromS → (register own.regs 16 == call_number Exit) ≡ false
-      → left_machine hart machine k trap host ≡ handed_over_machine hart machine k trap host (by_stop_call own)
-  stopped_is by_ecall test = rw (by_ecall, test) refl
+  -- both definitions of the machine after a stop agree
+  stopped_is : trap.cause ≡ causes.Exception EnvironmentCallFromS → (register hart_before.regs 16 == call_number Exit) ≡ false
+      → left_machine hart machine k trap host ≡ handed_over_machine hart machine k trap host (by_stop_call hart_before)
+  stopped_is by_ecall is_not_exit = rw (by_ecall, is_not_exit) refl
 
-  -- the machine after exit, in both definitions
-  exited_is : trap.cause ≡ causes.Exception EnvironmentCallFromS → (register own.regs 16 == call_number Exit) ≡ true
-      → left_machine hart machine k trap host ≡ handed_over_machine hart machine k trap host (by_exit_call own)
-  exited_is by_ecall test = rw (by_ecall, test) refl
+  -- both definitions of the machine after an exit agree
+  exited_is : trap.cause ≡ causes.Exception EnvironmentCallFromS → (register hart_before.regs 16 == call_number Exit) ≡ true
+      → left_machine hart machine k trap host ≡ handed_over_machine hart machine k trap host (by_exit_call hart_before)
+  exited_is by_ecall is_exit = rw (by_ecall, is_exit) refl
 
-  -- the machine after a timer interrupt, in both definitions
+  -- both definitions of the machine after a timer interrupt agree
   interrupted_is : (interrupt : Interrupt) → trap.cause ≡ causes.Interrupt interrupt
-      → left_machine hart machine k trap host ≡ handed_over_machine hart machine k trap host (by_interrupt own)
+      → left_machine hart machine k trap host ≡ handed_over_machine hart machine k trap host (by_interrupt hart_before)
   interrupted_is interrupt cause_is = rw cause_is refl
 
 -- ---- the law
 
 -- proves that an interrupt of an enclave hands its hart over to the host
 pub interrupts_enclave : (hart : ℕ) (machine : MonitoredMachine) → Invariant machine → InterruptsEnclave hart machine (step_of hart machine)
-interrupts_enclave hart machine kept k host trap interrupt runs waiting traps by =
-    let left = leave_law hart machine kept k host trap runs waiting traps
-    (host_is _ ((exits_law hart machine kept k runs).exits trap traps ∙ ap (causes_exit (hart_state_of hart machine)) by)) in
-    (left.0 ∙ interrupted_is hart machine k trap host interrupt by, left.1)
+interrupts_enclave hart machine invariant k host trap interrupt runs host_is_saved traps cause_is =
+    let exit_is = leave_law hart machine invariant k host trap runs host_is_saved traps
+    (host_is _ ((exits_law hart machine invariant k runs).exits trap traps ∙ ap (causes_exit (hart_state_of hart machine)) cause_is)) in
+    (exit_is.0 ∙ interrupted_is hart machine k trap host interrupt cause_is, exit_is.1)
 
 -- proves the result of each call by its number and its status
 pub answers_calls : (hart : ℕ) (machine : MonitoredMachine) → Invariant machine → AnswersCalls hart machine (step_of hart machine)
-answers_calls hart machine kept trap traps by_ecall =
+answers_calls hart machine invariant trap traps by_ecall =
     let trapping = is_trapping hart machine trap traps in
     let shared = machine.shared in
-    let here = hart_state_of hart machine in
-    let hart_state = hart_state_after here trap in
+    let before = hart_state_of hart machine in
+    let hart_state = hart_state_after before trap in
+    -- the trap handler performs a requested call with status 0
     let done : (call : Call) → call_at hart machine ≡ Some call → status_at hart machine ≡ 0
     → handled_cause hart_state shared trap trap.cause ≡ performed hart_state shared call =
-    λ call call_is none. handled_done hart_state shared trap trap.cause call by_ecall call_is none in
-    let leaves : (k : ℕ) (host : Context) (call : Call) → here.world ≡ Enclave k → here.host_context ≡ Some host → call_at hart machine ≡ Some call
+    λ call call_is status_is_0. handled_done hart_state shared trap trap.cause call by_ecall call_is status_is_0 in
+    -- a stop or an exit leaves the machine that `left_machine` gives, and enters no slot
+    let leaves : (k : ℕ) (host : Context) (call : Call)
+    → before.world ≡ Enclave k → before.host_context ≡ Some host → call_at hart machine ≡ Some call
     → is_exit_call (Some call) ≡ true
     → ((step_of hart machine).state ≡ left_machine hart machine k trap host) × ((step_of hart machine).outcome.entered ≡ None) =
-    λ k host call runs waiting call_is exits.
-    leave_law hart machine kept k host trap runs waiting traps
-    (host_is _ ((exits_law hart machine kept k runs).exits trap traps ∙ leaves_by here trap.cause call by_ecall (asks here shared call call_is) exits)) in
-    let asked : (k : ℕ) (call : Call) → here.world ≡ Enclave k → call_at hart machine ≡ Some call
-    → call_numbered (Enclave k) (register here.hart.regs 17) (register here.hart.regs 16) ≡ Some call =
-    λ k call runs call_is. subst (λ (world : World). call_numbered world (register here.hart.regs 17) (register here.hart.regs 16) ≡ Some call) runs call_is in
+    λ k host call runs host_is_saved call_is exits.
+    leave_law hart machine invariant k host trap runs host_is_saved traps
+    (host_is _ ((exits_law hart machine invariant k runs).exits trap traps
+    ∙ leaves_by before trap.cause call by_ecall (asks before shared call call_is) exits)) in
+    -- the numbers in a7 and a6 are those of the call
+    let asked : (k : ℕ) (call : Call) → before.world ≡ Enclave k → call_at hart machine ≡ Some call
+    → call_numbered (Enclave k) (register before.hart.regs 17) (register before.hart.regs 16) ≡ Some call =
+    λ k call runs call_is. subst
+    (λ (world : World). call_numbered world (register before.hart.regs 17) (register before.hart.regs 16) ≡ Some call) runs call_is in
     record {
       refuses = λ holds.
-          returns hart machine kept trap trapping shared (status_at hart machine) 0 (handled_refused hart_state shared trap trap.cause by_ecall holds);
-      creates = λ call_is none. returns hart machine kept trap trapping _ 0 _ (done Create call_is none ∙ performs_create hart_state shared);
-      destroys = λ call_is none. returns hart machine kept trap trapping _ 0 0 (done Destroy call_is none ∙ performs_destroy hart_state shared);
-      measures = λ call_is none. returns hart machine kept trap trapping _ 0 0 (done Measure call_is none ∙ performs_measure hart_state shared);
-      runs = λ host call_is none.
-          enters_with hart machine kept trap trapping Run (performs_run hart_state shared) (done Run call_is none) host traps;
-      resumes = λ host call_is none.
-          enters_with hart machine kept trap trapping Resume (performs_resume hart_state shared) (done Resume call_is none) host traps;
-      stops = λ k host runs waiting call_is.
-          let left = leaves k host Stop runs waiting call_is refl in
-          let test = stop_test k (register here.hart.regs 17) (register here.hart.regs 16) (asked k Stop runs call_is) in
+          returns hart machine invariant trap trapping shared (status_at hart machine) 0
+          (handled_refused hart_state shared trap trap.cause by_ecall holds);
+      creates =
+          λ call_is status_is_0. returns hart machine invariant trap trapping _ 0 _
+          (done Create call_is status_is_0 ∙ performs_create hart_state shared);
+      destroys =
+          λ call_is status_is_0. returns hart machine invariant trap trapping _ 0 0
+          (done Destroy call_is status_is_0 ∙ performs_destroy hart_state shared);
+      measures =
+          λ call_is status_is_0. returns hart machine invariant trap trapping _ 0 0
+          (done Measure call_is status_is_0 ∙ performs_measure hart_state shared);
+      runs = λ host call_is status_is_0.
+          enters_with hart machine invariant trap trapping Run (performs_run hart_state shared) (done Run call_is status_is_0) host traps;
+      resumes = λ host call_is status_is_0.
+          enters_with hart machine invariant trap trapping Resume (performs_resume hart_state shared) (done Resume call_is status_is_0) host traps;
+      stops = λ k host runs host_is_saved call_is.
+          let left = leaves k host Stop runs host_is_saved call_is refl in
+          let test = stop_test k (register before.hart.regs 17) (register before.hart.regs 16) (asked k Stop runs call_is) in
           (left.0 ∙ stopped_is hart machine k trap host by_ecall test, left.1);
-      exits = λ k host runs waiting call_is.
-          let left = leaves k host Exit runs waiting call_is refl in
-          let test = exit_test k (register here.hart.regs 17) (register here.hart.regs 16) (asked k Exit runs call_is) in
+      exits = λ k host runs host_is_saved call_is.
+          let left = leaves k host Exit runs host_is_saved call_is refl in
+          let test = exit_test k (register before.hart.regs 17) (register before.hart.regs 16) (asked k Exit runs call_is) in
           (left.0 ∙ exited_is hart machine k trap host by_ecall test, left.1);
     }
 
 -- proves that each call succeeds under its conditions in numbers
 pub calls_succeed : (hart : ℕ) (machine : MonitoredMachine) → Invariant machine → CallsSucceed hart machine (step_of hart machine)
-calls_succeed hart machine kept trap traps by_ecall =
-    let here = hart_state_of hart machine in
-    let regs = here.hart.regs in
-    let answers = answers_calls hart machine kept trap traps by_ecall in
-    let accepts = accepts_calls machine.shared here.hart.csrs.pmp regs in
-    -- an accepted call, of the world that runs
-    let At : World → Call → Type 0 = λ world call. IsAccepted world machine.shared here.hart.csrs.pmp regs call in
-    let of : (world : World) (call : Call) → here.world ≡ world → At world call → At here.world call =
+calls_succeed hart machine invariant trap traps by_ecall =
+    let before = hart_state_of hart machine in
+    let regs = before.hart.regs in
+    let answers = answers_calls hart machine invariant trap traps by_ecall in
+    let accepts = accepts_calls machine.shared before.hart.csrs.pmp regs in
+    -- `At world call`: the monitor accepts this call of this world
+    let At : World → Call → Type 0 = λ world call. IsAccepted world machine.shared before.hart.csrs.pmp regs call in
+    let of : (world : World) (call : Call) → before.world ≡ world → At world call → At before.world call =
     λ world call world_is. subst (λ (w : World). At w call) (sym world_is) in
     record {
       create = λ slot host asks conditions.
-          let made = accepts.create slot asks conditions in
-          let accepted = of Host Create host made.0 in
-          subst (λ (o : Option ℕ). Returns hart machine (step_of hart machine) trap (shared_with_new machine.shared regs) 0 (option_case o 13 (λ k. k)))
-          made.1 (answers.creates accepted.requested accepted.status);
+          let accepted_create = accepts.create slot asks conditions in
+          let accepted = of Host Create host accepted_create.0 in
+          subst
+          (λ (o : Option ℕ). Returns hart machine (step_of hart machine) trap (shared_with_new machine.shared regs) 0
+          (option_case o slot_count (λ k. k)))
+          accepted_create.1 (answers.creates accepted.requested accepted.status);
       destroy = λ host asks conditions.
           let accepted = of Host Destroy host (accepts.destroy asks conditions) in
           answers.destroys accepted.requested accepted.status;
@@ -366,12 +398,12 @@ calls_succeed hart machine kept trap traps by_ecall =
           let accepted = of Host Resume host (accepts.resume asks conditions) in
           answers.resumes host accepted.requested accepted.status;
       measure = λ asks conditions.
-          let accepted = accepts.measure here.world asks conditions in
+          let accepted = accepts.measure before.world asks conditions in
           answers.measures accepted.requested accepted.status;
-      stop = λ k host runs waiting asks.
+      stop = λ k host runs host_is_saved asks.
           let accepted = of (Enclave k) Stop runs (accepts.stop k asks) in
-          answers.stops k host runs waiting accepted.requested;
-      exit = λ k host runs waiting asks.
+          answers.stops k host runs host_is_saved accepted.requested;
+      exit = λ k host runs host_is_saved asks.
           let accepted = of (Enclave k) Exit runs (accepts.exit k asks) in
-          answers.exits k host runs waiting accepted.requested;
+          answers.exits k host runs host_is_saved accepted.requested;
     }

@@ -1,4 +1,4 @@
--- A step without a trap is that of its hart alone, and the host takes no interrupt.
+-- A step without a trap is the step of its hart alone, and the host takes no interrupt.
 use Rattle.std.proofs.Common.{◌≡◌, ℕ, Bool, false, slice_set, Option, Some, None, refl, sym, ◌∙◌, ap}
 use Rattle.std.proofs.Math.Bool.{and-false}
 use Rattle.std.specs.Prelude.{◌&&◌, if◌then◌else◌}
@@ -17,29 +17,31 @@ use Rattle.rv_monitor.proofs.TrapSteps.{same_outcome, step_cases, untrapped}
 
 -- ---- without a trap
 
--- a step without a trap is the bare step
+-- a step of a view without a trap is the bare step
 quiet_step : (state : HartView) → (monitored_step state).outcome.step.trap ≡ None → monitored_step state ≡ untrapped state
-quiet_step state = step_cases state (λ after. after.outcome.step.trap ≡ None → after ≡ untrapped state) (λ none quiet. refl)
-    (λ trap traps quiet. let never : None ≡ Some trap = sym quiet ∙ traps in cc)
+quiet_step state = step_cases state (λ after. after.outcome.step.trap ≡ None → after ≡ untrapped state) (λ no_trap quiet. refl)
+    (λ trap traps quiet. let contradiction : None ≡ Some trap = sym quiet ∙ traps in cc)
 
 -- ---- no interrupt
 
--- with mie 0, no interrupt is pending
+-- if no interrupt is enabled, then there is no highest pending interrupt
 find_none : (a b t x y z : Bool)
     → (if a && false then Some MachineExternal else (if b && false then Some MachineSoftware else (if t && false then Some MachineTimer
-    else (if x && false then Some SupervisorExternal else (if y && false then Some SupervisorSoftware else (if z && false then Some SupervisorTimer else None))))))
+    else
+    (if x && false then Some SupervisorExternal else
+    (if y && false then Some SupervisorSoftware else (if z && false then Some SupervisorTimer else None))))))
     ≡ None
 find_none a b t x y z = rw (and-false a, and-false b, and-false t, and-false x, and-false y, and-false z) refl
 
--- below mode M with mie 0, no interrupt is pending
+-- below mode M, no interrupt is pending if mie is 0
 nothing_waits : (c : CsrState) (mode : Mode) → is_machine mode ≡ false → c.mie ≡ 0 → pending c mode ≡ None
-nothing_waits c mode below disabled =
+nothing_waits c mode mode_below_m disabled =
     let mip = mip_word c in
-    rw (below, disabled) (find_none (is_set mip 11) (is_set mip 3) (is_set mip 7) (is_set mip 9) (is_set mip 1) (is_set mip 5))
+    rw (mode_below_m, disabled) (find_none (is_set mip 11) (is_set mip 3) (is_set mip 7) (is_set mip 9) (is_set mip 1) (is_set mip 5))
 
 -- ---- the laws
 
--- proves that a step is that of the hart without the monitor, up to the trap handler
+-- proves that a step of the machine is the step of the hart without the monitor, up to the trap handler
 pub steps_plainly : (hart : ℕ) (machine : MonitoredMachine) → StepsPlainly hart machine (step_of hart machine)
 steps_plainly hart machine in_range =
     let state = hart_view hart machine in
@@ -47,28 +49,31 @@ steps_plainly hart machine in_range =
     ap (λ (after : HartViewStepped). after.outcome.step) (step_seen hart machine in_range) ∙ same_outcome state in
     record {
       outcome = outcome;
-      quiet = λ none.
-          let bare : (step (bare_machine state)).outcome.trap ≡ None = sym (ap (λ (o : StepOutcome). o.trap) outcome) ∙ none in
+      quiet = λ no_trap.
+          let bare : (step (bare_machine state)).outcome.trap ≡ None = sym (ap (λ (o : StepOutcome). o.trap) outcome) ∙ no_trap in
           let one = quiet_step state (ap (λ (o : StepOutcome). o.trap) (same_outcome state) ∙ bare) in
-          let all : step_of hart machine ≡ stepped_by hart machine (untrapped state) = inside hart machine in_range ∙ ap (stepped_by hart machine) one in
+          let step_is : step_of hart machine ≡ stepped_by hart machine (untrapped state) =
+          inside hart machine in_range ∙ ap (stepped_by hart machine) one in
           let put : Option Trap → MonitoredMachine = λ o. record {
             hart_states = slice_set (hart_states_reprogrammed o machine.shared.table machine.hart_states) hart (untrapped state).state.hart_state;
             shared = (untrapped state).state.shared;
           } in
-          (ap (λ (after : MonitoredStepped). after.state) all ∙ ap put bare, ap (λ (after : MonitoredStepped). after.outcome.entered) all);
+          (ap (λ (after : MonitoredStepped). after.state) step_is ∙ ap put bare, ap (λ (after : MonitoredStepped). after.outcome.entered) step_is);
     }
 
--- proves that a step of the host takes no interrupt, and redirects exceptions other than calls
+-- proves that a step of the host takes no interrupt, and redirects each exception that is not a call
 pub host_continues : (hart : ℕ) (machine : MonitoredMachine) → Invariant machine → HostContinues hart machine (step_of hart machine)
-host_continues hart machine kept host = record {
-  uninterrupted = λ trap interrupt is by.
-      let trapping = is_trapping hart machine trap is in
+host_continues hart machine invariant host = record {
+  uninterrupted = λ trap interrupt trapped cause_is.
+      let trapping = is_trapping hart machine trap trapped in
       let state = hart_view hart machine in
-      let own = hart_view_invariant hart machine kept trapping.has in
-      let bare : (step (bare_machine state)).outcome.trap ≡ Some trap = sym (ap (λ (o : StepOutcome). o.trap) (same_outcome state)) ∙ trapping.trapped in
-      let disabled : state.hart_state.hart.csrs.mie ≡ 0 = own.hart.layout.mie ∙ ap mie_of host in
-      let never : None ≡ Some interrupt =
-      sym (nothing_waits state.hart_state.hart.csrs state.hart_state.hart.mode own.hart.layout.mode disabled) ∙ takes_pending (bare_machine state) trap interrupt bare by in
+      let view_invariant = hart_view_invariant hart machine invariant trapping.has in
+      let bare : (step (bare_machine state)).outcome.trap ≡ Some trap =
+      sym (ap (λ (o : StepOutcome). o.trap) (same_outcome state)) ∙ trapping.trapped in
+      let disabled : state.hart_state.hart.csrs.mie ≡ 0 = view_invariant.hart.layout.mie ∙ ap mie_of host in
+      let contradiction : None ≡ Some interrupt =
+      sym (nothing_waits state.hart_state.hart.csrs state.hart_state.hart.mode view_invariant.hart.layout.mode disabled)
+      ∙ takes_pending (bare_machine state) trap interrupt bare cause_is in
       cc;
-  redirects = redirects_step hart machine kept;
+  redirects = redirects_step hart machine invariant;
 }

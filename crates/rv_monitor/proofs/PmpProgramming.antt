@@ -1,22 +1,22 @@
--- The last action after a trap, which programs the PMP entries and mie. It changes nothing if they are already programmed, and nothing before it
--- writes an entry.
+-- The trap handler reprograms the PMP entries and mie as its last action. This action changes nothing if the PMP entries and mie are already those of
+-- the table and the world. No earlier action of the trap handler writes a PMP entry.
 use Rattle.std.proofs.Common.{◌≡◌, ◌<◌, ℕ, suc, List, [], ◌∷◌, length, refl, ◌∙◌, ap, arith, sym, subst}
 use Rattle.std.specs.Prelude.{map, slice_index_or}
 use Rattle.rv_monitor.specs.Prelude.{Cause, HartState, Shared, Slots, Trap}
 use Rattle.rv_monitor.proofs.Prelude.{Entries, Handled, IsUnlocked, HartInvariant, entered_slot, redirected, with_redirected_trap, handled_cause}
 use Rattle.rv_monitor.proofs.Prelude.{left, hart_state_at_start, reprogrammed, with_reprogrammed_hart}
-use Rattle.rv_monitor.proofs.HandlerCases.{by_pieces}
+use Rattle.rv_monitor.proofs.HandlerCases.{by_cause_cases}
 
--- ---- they are already programmed
+-- ---- a hart whose PMP entries and mie are already programmed
 
 -- reprogramming does not change a hart with the invariant
 pub as_is : (slots : Slots) (hart_state : HartState) → HartInvariant slots hart_state → reprogrammed slots hart_state ≡ hart_state
-as_is slots hart_state hart_kept =
-    let entries = hart_kept.layout.entries in
-    let mie = hart_kept.layout.mie in
+as_is slots hart_state hart_invariant =
+    let entries = hart_invariant.layout.entries in
+    let mie = hart_invariant.layout.mie in
     rw (← entries, ← mie) refl
 
--- reprogramming changes no hart, if each has the invariant
+-- reprogramming changes no hart, if each hart has the invariant
 pub all_as_are : (slots : Slots) (hart_states : List HartState)
     → ((j : ℕ) → j < length hart_states → HartInvariant slots (slice_index_or hart_states j (hart_state_at_start 0)))
     → map (reprogrammed slots) hart_states ≡ hart_states
@@ -26,40 +26,41 @@ all_as_are slots (hart_state ∷ hart_states) each =
     ap (λ (s : HartState). s ∷ map (reprogrammed slots) hart_states) (as_is slots hart_state (each 0 (omega arith))) ∙ ap
     (λ (ss : List HartState). hart_state ∷ ss) rest
 
--- a redirected trap leaves a hart programmed that was so
+-- after a redirected trap, reprogramming does not change a hart that was programmed before the trap
 pub redirected_is_programmed : (hart_state : HartState) (shared : Shared) (trap : Trap) → reprogrammed shared.table hart_state ≡ hart_state
     → with_reprogrammed_hart (redirected hart_state shared trap) ≡ redirected hart_state shared trap
 unfolding with_redirected_trap
-redirected_is_programmed hart_state shared trap laid =
-    let entries = ap (λ (s : HartState). s.hart.csrs.pmp) laid in
-    let mie = ap (λ (s : HartState). s.hart.csrs.mie) laid in
+redirected_is_programmed hart_state shared trap is_programmed =
+    let entries = ap (λ (s : HartState). s.hart.csrs.pmp) is_programmed in
+    let mie = ap (λ (s : HartState). s.hart.csrs.mie) is_programmed in
     rw (entries, mie) refl
 
--- ---- nothing before it writes an entry
+-- ---- no earlier action of the trap handler writes a PMP entry
 
 -- the PMP entries of the hart after the trap handler
 abbrev pub entries_of : Handled → Entries
 entries_of h = h.hart_state.hart.csrs.pmp
 
--- no part of the trap handler before the last one changes the PMP entries
+-- no action of the trap handler before the last one changes the PMP entries
 pub work_entries : (hart_state : HartState) (shared : Shared) (trap : Trap)
     → entries_of (handled_cause hart_state shared trap trap.cause) ≡ hart_state.hart.csrs.pmp
 unfolding entered_slot left with_redirected_trap
 work_entries hart_state shared trap =
-    by_pieces hart_state trap shared.table shared.memory shared.memory shared.contexts shared.contexts (λ h _. entries_of h ≡ hart_state.hart.csrs.pmp)
+    by_cause_cases hart_state trap shared.table shared.memory shared.memory shared.contexts shared.contexts
+    (λ h _. entries_of h ≡ hart_state.hart.csrs.pmp)
     (record {
       answers = λ status result. refl;
-      creates = λ reads may. refl;
-      destroys = λ reads taken. refl;
-      measures = λ reads may. refl;
-      enters = λ call reads enters host taken. refl;
+      creates = λ requests no_refusal. refl;
+      destroys = λ requests is_taken. refl;
+      measures = λ requests no_refusal. refl;
+      enters = λ call requests is_entry_call from_host is_taken. refl;
       leaves = refl;
       redirects = refl;
     }) refl
 
--- if no entry was locked before the trap handler, none is locked after it, whatever caused the trap
-pub work_unlocked : (hart_state : HartState) (shared : Shared) (cause : Cause) (left : Handled)
-    → (let trap : Trap = record { cause = cause; tval = 0 } in handled_cause hart_state shared trap cause ≡ left)
-    → IsUnlocked hart_state.hart.csrs.pmp → IsUnlocked left.hart_state.hart.csrs.pmp
-work_unlocked hart_state shared cause left Trap_is unlocked =
-    subst IsUnlocked (sym (work_entries hart_state shared (record { cause = cause; tval = 0 })) ∙ ap entries_of Trap_is) unlocked
+-- if no PMP entry is locked before the trap handler, then none is locked before its last action, whatever caused the trap
+pub work_unlocked : (hart_state : HartState) (shared : Shared) (cause : Cause) (result : Handled)
+    → (let trap : Trap = record { cause = cause; tval = 0 } in handled_cause hart_state shared trap cause ≡ result)
+    → IsUnlocked hart_state.hart.csrs.pmp → IsUnlocked result.hart_state.hart.csrs.pmp
+work_unlocked hart_state shared cause result handled_is unlocked =
+    subst IsUnlocked (sym (work_entries hart_state shared (record { cause = cause; tval = 0 })) ∙ ap entries_of handled_is) unlocked

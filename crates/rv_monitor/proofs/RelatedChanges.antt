@@ -1,4 +1,4 @@
--- Two related machines stay related after a debugger's write to the same hart of both, or to memory.
+-- Two related machines stay related after the debugger writes to the same hart of both, or to memory.
 use Rattle.std.proofs.Common.{◌≡◌, ℕ, ◌<◌, true, false, List, refl, sym, ◌∙◌, ap, ap₂, inl, inr, arith}
 use Rattle.rv_enclaves.specs.declared.shared.Shared.{Shared}
 use Rattle.rv_monitor.specs.Debugger.{changed, with_memory}
@@ -9,59 +9,60 @@ use Rattle.rv_monitor.proofs.Prelude.{HartStatesEquivExcept, MonitoredMachine, c
 use Rattle.rv_monitor.proofs.HartCases.{hart_cases_of_both}
 use Rattle.rv_monitor.proofs.InvariantLemmas.{past_as_is}
 
--- two changes of a hart keep its world, and keep what the two states have in common
+-- two changes of a hart keep its world, and keep related hart states related
 pub record ChangesAlike (e : ℕ) (one other : HartState) (change change_too : HartState → HartState) : Type 0 where
   pub world : (change one).world ≡ one.world
   pub state : HartStatesEquivExcept e (guest_state one) (guest_state other)
       → HartStatesEquivExcept e (guest_state (change one)) (guest_state (change_too other))
   pub host : SameHost (guest_state one) (guest_state other) → SameHost (guest_state (change one)) (guest_state (change_too other))
 
+-- the state of the same hart changes in two related machines by changes that are alike
 module _ (e hart : ℕ) (change change_too : HartState → HartState) (one other : MonitoredMachine) (related : AreRelated e one other)
     (alike : ChangesAlike e (hart_state_of hart one) (hart_state_of hart other) change change_too) where
-  -- changes of a hart of the machine leave related machines
+  -- two changes of a hart of the machines that are alike leave the machines related
   changed_in : hart < count_of one → AreRelated e (changed hart change one) (changed hart change_too other)
   changed_in in_range =
-      let a = change (hart_state_of hart one) in
-      let b = change_too (hart_state_of hart other) in
+      let changed_one = change (hart_state_of hart one) in
+      let changed_other = change_too (hart_state_of hart other) in
       let same_harts = related.harts in
       record {
-        harts = length-set one.hart_states hart a ∙ same_harts ∙ sym (length-set other.hart_states hart b);
-        hart_states = hart_cases_of_both one.hart_states other.hart_states hart a b
+        harts = length-set one.hart_states hart changed_one ∙ same_harts ∙ sym (length-set other.hart_states hart changed_other);
+        hart_states = hart_cases_of_both one.hart_states other.hart_states hart changed_one changed_other
             (λ j s t. HartStatesEquivExcept e (guest_state s) (guest_state t)) same_harts in_range (alike.state (related.hart_states hart))
-            (λ j apart. related.hart_states j);
-        hosts = hart_cases_of_both one.hart_states other.hart_states hart a b
+            (λ j distinct. related.hart_states j);
+        hosts = hart_cases_of_both one.hart_states other.hart_states hart changed_one changed_other
             (λ j s t. is_world_of e s.world ≡ true → SameHost (guest_state s) (guest_state t)) same_harts in_range
             (λ runs. alike.host (related.hosts hart (ap (is_world_of e) (sym alike.world) ∙ runs)))
-            (λ j apart. related.hosts j);
+            (λ j distinct. related.hosts j);
         table = related.table;
         memory = related.memory;
         contexts = related.contexts;
         gone = related.gone;
       }
 
-  -- changes of a hart that have the same effect on related hart states leave related machines
+  -- two changes at any hart number that are alike leave the machines related
   pub changed_related : AreRelated e (changed hart change one) (changed hart change_too other)
   changed_related = elim (cases_lt hart (count_of one)) [
-    | inl has ↦ changed_in has
-    | inr past ↦
+    | inl in_range ↦ changed_in in_range
+    | inr past_last ↦
         let same_harts = related.harts in
-        let here = past_as_is hart (change (hart_state_of hart one)) one past in
-        let there = past_as_is hart (change_too (hart_state_of hart other)) other (omega (arith, same_harts, past)) in
-        rw (here, there) related
+        let one_unchanged = past_as_is hart (change (hart_state_of hart one)) one past_last in
+        let other_unchanged = past_as_is hart (change_too (hart_state_of hart other)) other (omega (arith, same_harts, past_last)) in
+        rw (one_unchanged, other_unchanged) related
   ]
 
--- memories that are equal outside the same bytes, and equal once the enclave has ended
+-- two related machines stay related with two memories that are equal outside the bytes that may differ, and that are equal if the enclave is not live
 pub memory_related : (e : ℕ) (one other : MonitoredMachine) (m n : List ℕ) → AreRelated e one other
     → EqualOutside (may_differ one.shared.table e) m n → (is_live one.shared.table e ≡ false → m ≡ n)
     → AreRelated e (with_memory one m) (with_memory other n)
-memory_related e one other m n related equal same = record {
+memory_related e one other m n related equal same_once_dead = record {
   harts = related.harts;
   hart_states = related.hart_states;
   hosts = related.hosts;
   table = related.table;
   memory = equal;
   contexts = related.contexts;
-  gone = λ dead. ap₂ (λ (s : Shared) (x : List ℕ). record s { memory = x }) (related.gone dead) (same dead);
+  gone = λ dead. ap₂ (λ (s : Shared) (x : List ℕ). record s { memory = x }) (related.gone dead) (same_once_dead dead);
 }
 
 -- a machine is related to itself
@@ -72,6 +73,6 @@ related_itself e machine = record {
   hosts = λ hart runs. record { host = refl; rest = refl };
   table = refl;
   memory = record { size = refl; bytes = λ i shown. refl };
-  contexts = record { size = refl; others = λ k apart. refl };
+  contexts = record { size = refl; others = λ k distinct. refl };
   gone = λ dead. refl;
 }

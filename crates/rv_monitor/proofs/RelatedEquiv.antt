@@ -1,7 +1,8 @@
--- Related machines, and machines that are equivalent except for an enclave in the guest view.
-use Rattle.std.proofs.Common.{◌≡◌, ℕ, ◌+◌, Bool, true, false, refl, sym, ◌∙◌, ap, inl, inr}
-use Rattle.std.proofs.lemmas.Bool.{cases_Bool}
-use Rattle.std.specs.Prelude.{◌||◌, not, slice_index}
+-- Two machines that are related are equivalent except e in the guest view, if the window of a running enclave has equal bytes in both. Two machines
+-- that are equivalent except e in the guest view are related, if each hart that runs e has the same saved host in both.
+use Rattle.std.proofs.Common.{◌≡◌, ℕ, ◌+◌, true, false, refl, sym, ◌∙◌, ap, inl, inr}
+use Rattle.std.proofs.lemmas.Bool.{cases_Bool, or_parts}
+use Rattle.std.specs.Prelude.{not, slice_index}
 use Rattle.rv_enclaves.specs.Table.{runs, window}
 use Rattle.rv_monitor.specs.Declassification.{AreRelated, EquivToGuests, SameHostOn, SameWindow}
 use Rattle.rv_monitor.specs.GuestView.{guest_state, guest_view}
@@ -10,13 +11,9 @@ use Rattle.rv_monitor.proofs.Prelude.{MonitoredMachine, hart_state_of, length-ma
 use Rattle.rv_monitor.proofs.EquivLemmas.{hart_states_equiv}
 use Rattle.rv_monitor.proofs.GuestView.{guest_hart_state}
 
--- if an or fails, its first part does
-not_first : (a b : Bool) → (a || b) ≡ false → a ≡ false
-not_first true b is = cc
-not_first false b is = refl
-
+-- two machines, and the enclave e that may differ in them
 module _ (e : ℕ) (one other : MonitoredMachine) where
-  -- related machines are equivalent in the guest view, if a running enclave has the same window in both
+  -- two related machines are equivalent except e in the guest view, if the window of a running enclave has equal bytes in both
   pub related_equiv : AreRelated e one other → (runs one.shared.table e ≡ true → SameWindow e one other) → EquivToGuests e one other
   related_equiv related same = record {
     harts = length-map one.hart_states guest_state ∙ related.harts ∙ sym (length-map other.hart_states guest_state);
@@ -30,17 +27,17 @@ module _ (e : ℕ) (one other : MonitoredMachine) where
       gone = related.gone;
     };
   } where
-    -- bytes outside the region are equal
+    -- the memories of the two machines have equal bytes outside the region of e
     bytes : (i : ℕ) → has (region one.shared.table e) (ram_base + i) ≡ false → slice_index one.shared.memory i ≡ slice_index other.shared.memory i
     bytes i own = elim (cases_Bool (runs one.shared.table e)) [
       | inr idle ↦ related.memory.bytes i (rw (own, idle) refl)
       | inl running ↦ elim (cases_Bool (has (window one.shared.table e) (ram_base + i))) [
-        | inl within ↦ (same running).bytes i (ap not within)
-        | inr beyond ↦ related.memory.bytes i (rw (own, running, beyond) refl)
+        | inl in_window ↦ (same running).bytes i (ap not in_window)
+        | inr outside_window ↦ related.memory.bytes i (rw (own, running, outside_window) refl)
       ]
     ]
 
-  -- machines that are equivalent in the guest view are related, if the hosts beneath the enclave are the same
+  -- two machines that are equivalent except e in the guest view are related, if each hart that runs e has the same saved host in both
   pub equiv_related : EquivToGuests e one other → ((hart : ℕ) → runs_on e hart one ≡ true → SameHostOn hart one other) → AreRelated e one other
   equiv_related equiv hosts = record {
     harts = sym (length-map one.hart_states guest_state) ∙ equiv.harts ∙ length-map other.hart_states guest_state;
@@ -51,7 +48,7 @@ module _ (e : ℕ) (one other : MonitoredMachine) where
     table = equiv.shared.table;
     memory = record {
       size = equiv.shared.memory.size;
-      bytes = λ i shown. equiv.shared.memory.bytes i (not_first (has (region one.shared.table e) (ram_base + i)) _ shown);
+      bytes = λ i not_hidden. equiv.shared.memory.bytes i (or_parts (has (region one.shared.table e) (ram_base + i)) _ not_hidden).0;
     };
     contexts = equiv.shared.contexts;
     gone = equiv.shared.gone;

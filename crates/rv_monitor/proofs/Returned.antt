@@ -1,5 +1,5 @@
--- The return to the host, from the step with which the host of a hart enters an enclave to the one with which the enclave exits. Any steps of
--- the harts may lie in between.
+-- The host gets its own context back when an enclave exits. The step that enters the enclave saves the context of the host. No step changes this
+-- saved context while an enclave runs on the hart. The step with which the enclave exits restores it. The harts may take any steps in between.
 use Rattle.std.proofs.Common.{◌≡◌, ◌<◌, ℕ, true, false, List, [], ◌∷◌, Option, Some, None, refl, sym, ap, ◌∙◌, subst, inl, inr}
 use Rattle.std.specs.Prelude.{not, is_some}
 use Rattle.rv_monitor.specs.Prelude.{Context, S, HartState, is_host, with_return_values}
@@ -12,130 +12,143 @@ use Rattle.rv_monitor.proofs.InvariantLemmas.{invariant_law, sched_invariant}
 use Rattle.rv_monitor.proofs.HartCases.{past_hart_state, step_beside, step_count, step_seen}
 use Rattle.rv_monitor.proofs.Switched.{KeptStored, kept_between, switch_law}
 
--- while the host runs it has no saved context
+-- no saved context of the host is a legal saved context of the host
 nothing_kept : (o : Option Context) → is_some o ≡ false → KeptStored o
-nothing_kept None none = tt
-nothing_kept (Some context) none = cc
+nothing_kept None no_context = tt
+nothing_kept (Some context) no_context = cc
 
--- a hart that runs the host has no saved host context, so a legal one
+-- a hart that runs the host has no saved context of the host, so each saved context of the host is legal
 pub host_stored : (hart_state : HartState) → HostContextInvariant hart_state → is_host hart_state.world ≡ true → HostContextIsLegal hart_state
-host_stored hart_state keeps host = nothing_kept hart_state.host_context (keeps.kept ∙ ap not host)
+host_stored hart_state keeps host_runs = nothing_kept hart_state.host_context (keeps.kept ∙ ap not host_runs)
 
--- the step that enters an enclave saves the host as it was
+-- the step that enters an enclave saves the context of the host after its ecall
 pub entered_from : (state : HartView) (after : HartViewStepped) → StaysOrSwitches state after → is_host state.hart_state.world ≡ true
     → is_host after.state.hart_state.world ≡ false
     → after.state.hart_state.host_context ≡ Some (saved state.hart_state.hart (past_ecall state.hart_state.hart) S)
-entered_from state after (inl stays) host other = absurd (both_ways _ other (ap is_host stays.world ∙ host))
-entered_from state after (inr (inl enters)) host other = enters.host
-entered_from state after (inr (inr leaves)) host other = absurd (both_ways _ other (ap is_host leaves.world))
+entered_from state after (inl stays) host_runs enclave_runs_after = absurd (both_ways _ enclave_runs_after (ap is_host stays.world ∙ host_runs))
+entered_from state after (inr (inl enters)) host_runs enclave_runs_after = enters.host
+entered_from state after (inr (inr leaves)) host_runs enclave_runs_after = absurd (both_ways _ enclave_runs_after (ap is_host leaves.world))
 
--- the step with which the enclave exits restores it
+-- the step with which the enclave exits restores the saved context of the host
 pub back_from : (before state : HartView) (after : HartViewStepped) → StaysOrSwitches state after
     → state.hart_state.host_context ≡ Some (saved before.hart_state.hart (past_ecall before.hart_state.hart) S)
     → is_host state.hart_state.world ≡ false → is_host after.state.hart_state.world ≡ true → HostIsRestored before state after
-back_from before state after (inl stays) kept other host = absurd (both_ways _ other (sym (ap is_host stays.world) ∙ host))
-back_from before state after (inr (inl enters)) kept other host = absurd (both_ways _ other (ap is_host enters.from_host))
-back_from before state after (inr (inr leaves)) kept other host =
-    let equal = sym leaves.kept ∙ kept in
+back_from before state after (inl stays) host_is_saved enclave_runs host_runs_after =
+    absurd (both_ways _ enclave_runs (sym (ap is_host stays.world) ∙ host_runs_after))
+back_from before state after (inr (inl enters)) host_is_saved enclave_runs host_runs_after =
+    absurd (both_ways _ enclave_runs (ap is_host enters.from_host))
+back_from before state after (inr (inr leaves)) host_is_saved enclave_runs host_runs_after =
+    let equal = sym leaves.kept ∙ host_is_saved in
     let same : leaves.host ≡ saved before.hart_state.hart (past_ecall before.hart_state.hart) S = cc in
-    let x = reason leaves.trap.cause state.hart_state.hart.regs in
-    let y = value leaves.trap.cause state.hart_state.hart.regs in
+    let reason_value = reason leaves.trap.cause state.hart_state.hart.regs in
+    let exit_value = value leaves.trap.cause state.hart_state.hart.regs in
     record {
       trap = leaves.trap;
       trapped = leaves.trapped;
-      again = leaves.again ∙ ap (λ (host : Context). record host { regs = with_return_values host.regs x y }) same;
+      again =
+          leaves.again
+          ∙ ap (λ (host : Context). record host { regs = with_return_values host.regs reason_value exit_value }) same;
     }
 
--- the saved context of the host of a hart
+-- the saved context of the host on a hart
 abbrev pub host_on : ℕ → MonitoredMachine → Option Context
 host_on hart machine = (hart_state_of hart machine).host_context
 
--- a hart on which an enclave runs is a hart of the machine
+-- a hart that runs an enclave is a hart of the machine
 pub runs_there : (hart : ℕ) (machine : MonitoredMachine) → is_host (hart_state_of hart machine).world ≡ false → hart < count_of machine
-runs_there hart machine runs = elim (cases_lt hart (count_of machine)) [
-  | inl inside ↦ inside
-  | inr past ↦
-      let never : true ≡ false = sym (ap (λ (s : HartState). is_host s.world) (past_hart_state machine.hart_states hart past)) ∙ runs in
+runs_there hart machine enclave_runs = elim (cases_lt hart (count_of machine)) [
+  | inl in_range ↦ in_range
+  | inr past_last ↦
+      let contradiction : true ≡ false =
+      sym (ap (λ (s : HartState). is_host s.world) (past_hart_state machine.hart_states hart past_last)) ∙ enclave_runs in
       cc
 ]
 
 -- ---- a step of a hart
 
--- a step of the hart on which an enclave runs before and after keeps the host's context
+-- a step of a hart that runs an enclave before and after the step keeps the saved context of the host
 own_keeps : (hart : ℕ) (machine : MonitoredMachine) → is_host (hart_state_of hart machine).world ≡ false
     → is_host (hart_state_of hart (step_of hart machine).state).world ≡ false → host_on hart (step_of hart machine).state ≡ host_on hart machine
-own_keeps hart machine runs still =
-    let seen = step_seen hart machine (runs_there hart machine runs) in
-    ap (λ (after : HartViewStepped). after.state.hart_state.host_context) seen
-    ∙ kept_between (hart_view hart machine) runs (sym (ap (λ (after : HartViewStepped). is_host after.state.hart_state.world) seen) ∙ still)
+own_keeps hart machine enclave_runs enclave_runs_after =
+    let step_is = step_seen hart machine (runs_there hart machine enclave_runs) in
+    ap (λ (after : HartViewStepped). after.state.hart_state.host_context) step_is
+    ∙ kept_between (hart_view hart machine) enclave_runs
+    (sym (ap (λ (after : HartViewStepped). is_host after.state.hart_state.world) step_is) ∙ enclave_runs_after)
 
--- a step of any hart keeps the host's context on the hart
+-- a step of any hart keeps the saved context of the host on each hart that runs an enclave before and after the step
 step_keeps : (hart named : ℕ) (machine : MonitoredMachine) → is_host (hart_state_of hart machine).world ≡ false
     → is_host (hart_state_of hart (step_of named machine).state).world ≡ false → host_on hart (step_of named machine).state ≡ host_on hart machine
-step_keeps hart named machine runs still = elim (cases_eq hart named) [
-  | inl same ↦
-      subst (λ (h : ℕ). is_host (hart_state_of hart (step_of h machine).state).world ≡ false → host_on hart (step_of h machine).state ≡ host_on hart machine)
-      same (own_keeps hart machine runs) still
-  | inr other ↦ step_beside (λ (hart_state : HartState). hart_state.host_context) (λ slots hart_state. refl) named hart machine other
+step_keeps hart named machine enclave_runs enclave_runs_after = elim (cases_eq hart named) [
+  | inl equal ↦
+      subst
+      (λ (h : ℕ). is_host (hart_state_of hart (step_of h machine).state).world ≡ false → host_on hart
+      (step_of h machine).state ≡ host_on hart machine)
+      equal (own_keeps hart machine enclave_runs) enclave_runs_after
+  | inr distinct ↦ step_beside (λ (hart_state : HartState). hart_state.host_context) (λ slots hart_state. refl) named hart machine distinct
 ]
 
 -- ---- steps of the harts in order
 
--- the hart runs an enclave before the first of the steps
-pub first_runs : (hart : ℕ) (harts : List ℕ) (machine : MonitoredMachine) → RunsThrough hart harts machine → is_host (hart_state_of hart machine).world ≡ false
-first_runs hart [] machine runs = runs
-first_runs hart (named ∷ harts) machine runs = runs.0
+-- a hart that runs an enclave through a list of steps runs an enclave before the first step
+pub first_runs : (hart : ℕ) (harts : List ℕ) (machine : MonitoredMachine) → RunsThrough hart harts machine
+    → is_host (hart_state_of hart machine).world ≡ false
+first_runs hart [] machine runs_through = runs_through
+first_runs hart (named ∷ harts) machine runs_through = runs_through.0
 
--- the host's saved context on the hart does not change while an enclave runs there
+-- the saved context of the host on a hart does not change while the hart runs an enclave
 pub steps_keep : (hart : ℕ) (harts : List ℕ) (machine : MonitoredMachine) → RunsThrough hart harts machine
     → host_on hart (sched harts machine).state ≡ host_on hart machine
-steps_keep hart [] machine runs = refl
-steps_keep hart (named ∷ harts) machine runs =
+steps_keep hart [] machine runs_through = refl
+steps_keep hart (named ∷ harts) machine runs_through =
     let after = (step_of named machine).state in
-    steps_keep hart harts after runs.1 ∙ step_keeps hart named machine runs.0 (first_runs hart harts after runs.1)
+    steps_keep hart harts after runs_through.1 ∙ step_keeps hart named machine runs_through.0 (first_runs hart harts after runs_through.1)
 
--- the hart runs an enclave after the last of the steps
+-- a hart that runs an enclave through a list of steps runs an enclave after the last step
 pub last_runs : (hart : ℕ) (harts : List ℕ) (machine : MonitoredMachine) → RunsThrough hart harts machine
     → is_host (hart_state_of hart (sched harts machine).state).world ≡ false
-last_runs hart [] machine runs = runs
-last_runs hart (named ∷ harts) machine runs = last_runs hart harts (step_of named machine).state runs.1
+last_runs hart [] machine runs_through = runs_through
+last_runs hart (named ∷ harts) machine runs_through = last_runs hart harts (step_of named machine).state runs_through.1
 
 -- ---- from entry to exit
 
--- a hart that runs the host and then an enclave is a hart of the machine
-enters_there : (hart : ℕ) (machine : MonitoredMachine) → is_host (hart_state_of hart (step_of hart machine).state).world ≡ false → hart < count_of machine
-enters_there hart machine runs =
+-- a hart that runs an enclave after its step is a hart of the machine
+enters_there : (hart : ℕ) (machine : MonitoredMachine) → is_host (hart_state_of hart (step_of hart machine).state).world ≡ false
+    → hart < count_of machine
+enters_there hart machine enclave_runs_after =
     let after = (step_of hart machine).state in
-    let in_range = runs_there hart after runs in
+    let in_range = runs_there hart after enclave_runs_after in
     subst (λ (n : ℕ). hart < n) (step_count hart machine) in_range
 
--- the entry saves the host as it was
+-- the entry saves the context of the host after its ecall
 pub entered_is : (hart : ℕ) (machine : MonitoredMachine) → Invariant machine → is_host (hart_state_of hart machine).world ≡ true
     → is_host (hart_state_of hart (step_of hart machine).state).world ≡ false
     → host_on hart (step_of hart machine).state ≡ Some (saved (hart_state_of hart machine).hart (past_ecall (hart_state_of hart machine).hart) S)
-entered_is hart machine kept host other =
-    let in_range = enters_there hart machine other in
-    let seen = step_seen hart machine in_range in
-    let own = hart_view hart machine in
-    let keeps = (kept.hart_states hart in_range).host in
-    ap (λ (after : HartViewStepped). after.state.hart_state.host_context) seen
-    ∙ entered_from own (monitored_step own) (switch_law own keeps (host_stored own.hart_state keeps host)) host
-    (sym (ap (λ (after : HartViewStepped). is_host after.state.hart_state.world) seen) ∙ other)
+entered_is hart machine invariant host_runs enclave_runs_after =
+    let in_range = enters_there hart machine enclave_runs_after in
+    let step_is = step_seen hart machine in_range in
+    let view = hart_view hart machine in
+    let keeps = (invariant.hart_states hart in_range).host in
+    ap (λ (after : HartViewStepped). after.state.hart_state.host_context) step_is
+    ∙ entered_from view (monitored_step view) (switch_law view keeps (host_stored view.hart_state keeps host_runs)) host_runs
+    (sym (ap (λ (after : HartViewStepped). is_host after.state.hart_state.world) step_is) ∙ enclave_runs_after)
 
--- the exit restores the host's saved context
+-- the exit restores the saved context of the host
 pub comes_back : (hart : ℕ) (before : HartView) (machine : MonitoredMachine) → Invariant machine → HostContextIsLegal (hart_state_of hart machine)
-    → host_on hart machine ≡ Some (saved before.hart_state.hart (past_ecall before.hart_state.hart) S) → is_host (hart_state_of hart machine).world ≡ false
+    → host_on hart machine ≡ Some (saved before.hart_state.hart (past_ecall before.hart_state.hart) S)
+    → is_host (hart_state_of hart machine).world ≡ false
     → is_host (monitored_step (hart_view hart machine)).state.hart_state.world ≡ true
     → HostIsRestored before (hart_view hart machine) (monitored_step (hart_view hart machine))
-comes_back hart before machine kept stored host_on_is runs host =
-    let own = hart_view hart machine in
-    back_from before own (monitored_step own) (switch_law own (kept.hart_states hart (runs_there hart machine runs)).host stored) host_on_is runs host
+comes_back hart before machine invariant legal host_on_is runs host =
+    let view = hart_view hart machine in
+    back_from before view (monitored_step view)
+    (switch_law view (invariant.hart_states hart (runs_there hart machine runs)).host legal) host_on_is runs host
 
--- proves that the host, from its call to the exit of the enclave, gets its own context back
+-- proves that the host gets its own context back when the enclave exits
 pub return_law : ReturnLaw
-return_law hart harts machine kept stored host runs again =
+return_law hart harts machine invariant stored host runs again =
     let first = (step_of hart machine).state in
     let last = (sched harts first).state in
     let same = steps_keep hart harts first runs in
-    comes_back hart (hart_view hart machine) last (sched_invariant harts first (invariant_law hart machine kept)) (subst KeptStored (sym same) stored)
-    (same ∙ entered_is hart machine kept host (first_runs hart harts first runs)) (last_runs hart harts first runs) again
+    comes_back hart (hart_view hart machine) last (sched_invariant harts first (invariant_law hart machine invariant))
+    (subst KeptStored (sym same) stored)
+    (same ∙ entered_is hart machine invariant host (first_runs hart harts first runs)) (last_runs hart harts first runs) again

@@ -1,4 +1,4 @@
--- Integrity for steps in any order: an enclave that they leave undisturbed.
+-- Integrity for steps of the harts in any order: steps that leave an enclave undisturbed do not change its private state.
 use Rattle.std.proofs.Common.{◌≡◌, ◌⊎◌, ℕ, true, List, [], ◌∷◌, refl, sym, ◌∙◌, ap, subst, inl, inr}
 use Rattle.std.proofs.lemmas.Bool.{or_right}
 use Rattle.rv_monitor.specs.Prelude.{HartState, Shared, byte_at, has, is_live, is_world_of, region_of, slot_at}
@@ -6,7 +6,7 @@ use Rattle.rv_monitor.specs.Integrity.{KeepsOthersRunning}
 use Rattle.rv_monitor.proofs.Prelude.{KeepsRunning, IsChanged, Invariant, IsUndisturbed, IsPreserved, IsUntouched, MonitoredMachine, MonitoredStepped}
 use Rattle.rv_monitor.proofs.Prelude.{HartViewStepped, RunningLaw, SchedChangeLaw, SchedIntegrityLaw, both_ways, cases_lt, count_of}
 use Rattle.rv_monitor.proofs.Prelude.{monitored_step, runs_on, sched, hart_state_of, reprogrammed, hart_view_after, hart_view, step_of}
-use Rattle.rv_monitor.proofs.Beside.{live_by, running_is_undisturbed, runs_inside, running_is_live}
+use Rattle.rv_monitor.proofs.Beside.{live_if_running, runs_beside, runs_inside, running_is_live}
 use Rattle.rv_monitor.proofs.Changes.{changes}
 use Rattle.rv_monitor.proofs.SchedNoninterference.{entered_by, is_entered, none_again}
 use Rattle.rv_monitor.proofs.Integrity.{integrity}
@@ -14,13 +14,14 @@ use Rattle.rv_monitor.proofs.InvariantLemmas.{invariant_of_others, invariant_law
 use Rattle.rv_monitor.proofs.PmpProgramming.{as_is}
 use Rattle.rv_monitor.proofs.HartCases.{by_hart, outside, step_seen}
 
--- ---- a step preserves it
+-- ---- two changes in turn
 
--- an enclave that two steps in turn preserve is preserved by both together
-pub preserved_twice : (k : ℕ) (before between after : Shared) → IsPreserved k before between → IsPreserved k between after → IsPreserved k before after
+-- an enclave that two changes in turn preserve is preserved by both together
+pub preserved_twice : (k : ℕ) (before between after : Shared) → IsPreserved k before between → IsPreserved k between after
+    → IsPreserved k before after
 preserved_twice k before between after first last = record {
   slot = last.slot ∙ first.slot;
-  bytes = λ byte own. last.bytes byte (ap (λ slot. has (region_of slot) byte) first.slot ∙ own) ∙ first.bytes byte own;
+  bytes = λ byte in_region. last.bytes byte (ap (λ slot. has (region_of slot) byte) first.slot ∙ in_region) ∙ first.bytes byte in_region;
   context = last.context ∙ first.context;
 }
 
@@ -34,80 +35,82 @@ untouched_twice k before between after first last = record {
       last.hart_state hart (ap (λ (s : HartState). is_world_of k s.world) one ∙ runs) ∙ ap (reprogrammed after.shared.table) one;
 }
 
--- the empty list of steps changes nothing
+-- an enclave is untouched by an empty list of steps
 untouched_itself : (k : ℕ) (machine : MonitoredMachine) → Invariant machine → IsUntouched k machine machine
-untouched_itself k machine kept = record {
-  preserved = record { slot = refl; bytes = λ byte own. refl; context = refl };
-  hart_state = λ hart runs. sym (as_is machine.shared.table (hart_state_of hart machine) (kept.hart_states hart (runs_inside k hart machine runs)));
+untouched_itself k machine invariant = record {
+  preserved = record { slot = refl; bytes = λ byte in_region. refl; context = refl };
+  hart_state =
+      λ hart runs. sym (as_is machine.shared.table (hart_state_of hart machine) (invariant.hart_states hart (runs_inside k hart machine runs)));
 }
 
 -- ---- every order of steps
 
--- an enclave that is undisturbed by steps is live before them
+-- an enclave that a list of steps leaves undisturbed is live before these steps
 first_live : (k : ℕ) (harts : List ℕ) (machine : MonitoredMachine) → IsUndisturbed k harts machine → is_live machine.shared.table k ≡ true
-first_live k [] machine alone = alone
-first_live k (hart ∷ harts) machine alone = alone.0
+first_live k [] machine undisturbed = undisturbed
+first_live k (hart ∷ harts) machine undisturbed = undisturbed.0
 
 -- proves the integrity law for steps in any order, by induction on the list
 pub sched_integrity : SchedIntegrityLaw
-sched_integrity k [] machine kept alone = untouched_itself k machine kept
-sched_integrity k (hart ∷ harts) machine kept alone =
+sched_integrity k [] machine invariant undisturbed = untouched_itself k machine invariant
+sched_integrity k (hart ∷ harts) machine invariant undisturbed =
     let after = (step_of hart machine).state in
     untouched_twice k machine after (sched harts after).state
-    (integrity hart machine kept k alone.1 alone.0 alone.2 (first_live k harts after alone.3))
-    (sched_integrity k harts after (invariant_law hart machine kept) alone.3)
+    (integrity hart machine invariant k undisturbed.1 undisturbed.0 undisturbed.2 (first_live k harts after undisturbed.3))
+    (sched_integrity k harts after (invariant_law hart machine invariant) undisturbed.3)
 
 -- ---- a running enclave is neither entered nor ended by another hart
 
--- proves that a step neither enters nor ends an enclave that runs on another hart
+-- proves that a step neither enters nor destroys an enclave that runs on another hart
 pub go_on_law : (hart : ℕ) (machine : MonitoredMachine) → Invariant machine → KeepsOthersRunning hart machine (step_of hart machine)
-go_on_law hart machine kept k own runs not_running = by_hart hart machine (KeepsRunning k)
-    (record { passes = refl; live = running_is_live k own machine kept runs })
-    (λ here.
+go_on_law hart machine invariant k hart_of_k runs not_running = by_hart hart machine (KeepsRunning k)
+    (record { passes = refl; live = running_is_live k hart_of_k machine invariant runs })
+    (λ in_range.
     let after = monitored_step (hart_view hart machine) in
-    let sound = (invariant_of_others hart machine kept here).0 in
-    let others = running_is_undisturbed k hart own machine here runs not_running in
+    let sound = (invariant_of_others hart machine invariant in_range).0 in
+    let others = runs_beside k hart hart_of_k machine in_range runs not_running in
     record {
       passes = entered_by k after.outcome.entered
           (λ enters_slot. both_ways _ (sound.apart.0 k (is_entered k (hart_view hart machine) enters_slot)) others);
-      live = live_by (slot_at after.state.shared.table k) (sound.running k ∙ or_right (is_world_of k after.state.hart_state.world) _ others);
+      live = live_if_running (slot_at after.state.shared.table k) (sound.running k ∙ or_right (is_world_of k after.state.hart_state.world) _ others);
     })
 
 -- proves that steps of other harts leave a running enclave undisturbed
 pub running_law : RunningLaw
-running_law k own [] machine kept runs none = running_is_live k own machine kept runs
-running_law k own (hart ∷ harts) machine kept runs none =
+running_law k own_hart [] machine invariant runs runs_on_none = running_is_live k own_hart machine invariant runs
+running_law k own_hart (hart ∷ harts) machine invariant runs runs_on_none =
     let after = (step_of hart machine).state in
-    let live = running_is_live k own machine kept runs in
-    let goes = go_on_law hart machine kept k own runs none.0 in
-    let preserved = integrity hart machine kept k none.0 live goes.passes goes.live in
-    let still : runs_on k own after ≡ true = ap (λ (s : HartState). is_world_of k s.world) (preserved.hart_state own runs) ∙ runs in (
+    let live = running_is_live k own_hart machine invariant runs in
+    let continues = go_on_law hart machine invariant k own_hart runs runs_on_none.0 in
+    let preserved = integrity hart machine invariant k runs_on_none.0 live continues.passes continues.live in
+    let runs_after : runs_on k own_hart after ≡ true = ap (λ (s : HartState). is_world_of k s.world) (preserved.hart_state own_hart runs) ∙ runs in (
       live,
-      none.0,
-      goes.passes,
-      running_law k own harts after (invariant_law hart machine kept) still (none_again k hart harts machine none.1 goes.passes),
+      runs_on_none.0,
+      continues.passes,
+      running_law k own_hart harts after (invariant_law hart machine invariant) runs_after
+          (none_again k hart harts machine runs_on_none.1 continues.passes),
     )
 
 -- ---- which bytes the steps change
 
--- a step changes only bytes that it may change
+-- a step of any hart number changes only bytes that the step may change
 step_changes : (hart : ℕ) (machine : MonitoredMachine) (byte : ℕ) → Invariant machine
     → byte_at (step_of hart machine).state.shared.memory byte ≡ byte_at machine.shared.memory byte
     ⊎ IsChanged (hart_view hart machine) (hart_view_after hart (step_of hart machine)) byte
-step_changes hart machine byte kept = elim (cases_lt hart (count_of machine)) [
-  | inr past ↦ inl (ap (λ (after : MonitoredStepped). byte_at after.state.shared.memory byte) (outside hart machine past))
-  | inl here ↦
+step_changes hart machine byte invariant = elim (cases_lt hart (count_of machine)) [
+  | inr past_last ↦ inl (ap (λ (after : MonitoredStepped). byte_at after.state.shared.memory byte) (outside hart machine past_last))
+  | inl in_range ↦
       subst (λ (after : HartViewStepped). byte_at after.state.shared.memory byte ≡ byte_at machine.shared.memory byte
-      ⊎ IsChanged (hart_view hart machine) after byte) (sym (step_seen hart machine here))
-      (changes (hart_view hart machine) (hart_view_invariant hart machine kept here) byte)
+      ⊎ IsChanged (hart_view hart machine) after byte) (sym (step_seen hart machine in_range))
+      (changes (hart_view hart machine) (hart_view_invariant hart machine invariant in_range) byte)
 ]
 
 -- proves that steps in any order change only bytes that one of them may change
 pub sched_changes : SchedChangeLaw
-sched_changes [] machine byte kept = inl refl
-sched_changes (hart ∷ harts) machine byte kept = elim (step_changes hart machine byte kept) [
-  | inl same ↦ elim (sched_changes harts (step_of hart machine).state byte (invariant_law hart machine kept)) [
-    | inl again ↦ inl (again ∙ same)
+sched_changes [] machine byte invariant = inl refl
+sched_changes (hart ∷ harts) machine byte invariant = elim (step_changes hart machine byte invariant) [
+  | inl same ↦ elim (sched_changes harts (step_of hart machine).state byte (invariant_law hart machine invariant)) [
+    | inl unchanged_later ↦ inl (unchanged_later ∙ same)
     | inr changed ↦ inr (inr changed)
   ]
   | inr changed ↦ inr (inl changed)

@@ -1,4 +1,4 @@
--- Steps of the harts in any order, by the laws of one step.
+-- Noninterference for steps of the harts in any order, by the laws of one step.
 use Rattle.std.proofs.Common.{◌≡◌, ℕ, ◌==◌, true, false, List, [], ◌∷◌, Option, Some, None, refl, sym, ◌∙◌, ap, ap₂, subst, inl, inr}
 use Rattle.rv_monitor.specs.Prelude.{Outcome, HartState, Trap, is_world_of}
 use Rattle.rv_monitor.proofs.Prelude.{EntryLaw, Handled, MonitoredMachine, MonitoredStepped, HartView, HartViewStepped, LowStepsLaw, RunsOnNone}
@@ -14,10 +14,12 @@ use Rattle.rv_monitor.proofs.TrapSteps.{step_cases, hart_state_after}
 
 -- proves the noninterference law for steps in any order, by induction on the list
 pub sched_law : SchedLaw
-sched_law e [] one other here there equiv low_steps = record { outcomes = refl; state = equiv; low_steps = tt }
-sched_law e (hart ∷ harts) one other here there equiv low_steps =
-    let first = noninterference hart one here e other there equiv low_steps.0 in
-    let rest = sched_law e harts (step_of hart one).state (step_of hart other).state (invariant_law hart one here) (invariant_law hart other there)
+sched_law e [] one other invariant_one invariant_other equiv low_steps = record { outcomes = refl; state = equiv; low_steps = tt }
+sched_law e (hart ∷ harts) one other invariant_one invariant_other equiv low_steps =
+    let first = noninterference hart one invariant_one e other invariant_other equiv low_steps.0 in
+    let rest =
+    sched_law e harts (step_of hart one).state (step_of hart other).state (invariant_law hart one invariant_one)
+    (invariant_law hart other invariant_other)
     first.state low_steps.1 in
     let add : Outcome → List Outcome → List Outcome = λ x xs. x ∷ xs in
     let hart_states = equiv.hart_states hart in
@@ -29,83 +31,91 @@ sched_law e (hart ∷ harts) one other here there equiv low_steps =
 
 -- ---- the hart on which the enclave runs after a step
 
--- the world after an entry of e is e
+-- if the trap handler reports an entry of slot e, then the hart runs enclave e after it
 entered_world : (e : ℕ) (hart_state : HartState) (trap : Trap) (h : Handled) → Turns hart_state trap h
     → h.next.entered ≡ Some e → is_world_of e h.hart_state.world ≡ true
-entered_world e hart_state trap h (inl stays) enters_slot = let none : None ≡ Some e = sym stays.entered ∙ enters_slot in cc
+entered_world e hart_state trap h (inl stays) enters_slot = let contradiction : None ≡ Some e = sym stays.entered ∙ enters_slot in cc
 entered_world e hart_state trap h (inr (inl enter)) enters_slot =
     let same : Some enter.slot ≡ Some e = sym enter.entered ∙ enters_slot in
     let slot : enter.slot ≡ e = cc in
     ap (is_world_of e) enter.world ∙ eq-eqb enter.slot e slot
-entered_world e hart_state trap h (inr (inr leaves)) enters_slot = let none : None ≡ Some e = sym leaves.entered ∙ enters_slot in cc
+entered_world e hart_state trap h (inr (inr leaves)) enters_slot = let contradiction : None ≡ Some e = sym leaves.entered ∙ enters_slot in cc
 
--- after a step that enters e, the world of the hart is e
+-- if a step reports an entry of slot e, then the hart runs enclave e after the step
 pub is_entered : (e : ℕ) (state : HartView) → (monitored_step state).outcome.entered ≡ Some e
     → is_world_of e (monitored_step state).state.hart_state.world ≡ true
 is_entered e state = step_cases state (λ after. after.outcome.entered ≡ Some e → is_world_of e after.state.hart_state.world ≡ true)
-    (λ none enters_slot. cc)
+    (λ no_trap enters_slot. cc)
     (λ trap traps enters_slot.
     let hart_state = hart_state_after state.hart_state trap in
     entered_world e hart_state trap (handled hart_state state.shared trap) (handled_turns hart_state state.shared trap) enters_slot)
 
--- an outcome that is not an entry of slot k is none by the test
+-- an outcome that names no entry of slot k passes the test `enters k` with false
 pub entered_by : (k : ℕ) (o : Option ℕ) → (o ≡ Some k → ⊥) → enters k o ≡ false
-entered_by k None never = refl
-entered_by k (Some j) never = elim (cases_Bool (j == k)) [
-  | inl same ↦ absurd (never (ap Some (eqb-true j k same)))
-  | inr other ↦ other
+entered_by k None not_entry = refl
+entered_by k (Some j) not_entry = elim (cases_Bool (j == k)) [
+  | inl equal ↦ absurd (not_entry (ap Some (eqb-true j k equal)))
+  | inr distinct ↦ distinct
 ]
 
--- an outcome that enters k by the test names slot k
+-- an outcome that passes the test `enters k` names an entry of slot k
 pub entered_some : (k : ℕ) (o : Option ℕ) → enters k o ≡ true → o ≡ Some k
 entered_some k None entered = cc
 entered_some k (Some j) entered = ap Some (eqb-true j k entered)
 
--- a hart on which it did not run, and whose step did not enter it
+-- a hart that does not run e before the trap handler, which does not enter e, does not run e after it
 other_world : (e : ℕ) (hart_state : HartState) (trap : Trap) (h : Handled) → Turns hart_state trap h
     → is_world_of e hart_state.world ≡ false → enters e h.next.entered ≡ false → is_world_of e h.hart_state.world ≡ false
-other_world e hart_state trap h (inl stays) not_running none = ap (is_world_of e) stays.world ∙ not_running
-other_world e hart_state trap h (inr (inl enter)) not_running none = ap (is_world_of e) enter.world ∙ sym (ap (enters e) enter.entered) ∙ none
-other_world e hart_state trap h (inr (inr leaves)) not_running none = ap (is_world_of e) leaves.world
+other_world e hart_state trap h (inl stays) not_running not_entered = ap (is_world_of e) stays.world ∙ not_running
+other_world e hart_state trap h (inr (inl enter)) not_running not_entered =
+    ap (is_world_of e) enter.world ∙ sym (ap (enters e) enter.entered) ∙ not_entered
+other_world e hart_state trap h (inr (inr leaves)) not_running not_entered = ap (is_world_of e) leaves.world
 
--- the world of the hart is not e after a step that does not enter e, if it was not before
+-- the view of a hart that does not run e before a step that does not enter e does not run e after the step
 pub own_apart : (e : ℕ) (state : HartView) → is_world_of e state.hart_state.world ≡ false → enters e (monitored_step state).outcome.entered ≡ false
     → is_world_of e (monitored_step state).state.hart_state.world ≡ false
-own_apart e state not_running = step_cases state (λ after. enters e after.outcome.entered ≡ false → is_world_of e after.state.hart_state.world ≡ false)
-    (λ none passes. not_running)
-    (λ trap traps passes.
+own_apart e state not_running =
+    step_cases state (λ after. enters e after.outcome.entered ≡ false → is_world_of e after.state.hart_state.world ≡ false)
+    (λ no_trap not_entered. not_running)
+    (λ trap traps not_entered.
     let hart_state = hart_state_after state.hart_state trap in
-    other_world e hart_state trap (handled hart_state state.shared trap) (handled_turns hart_state state.shared trap) not_running passes)
+    other_world e hart_state trap (handled hart_state state.shared trap) (handled_turns hart_state state.shared trap) not_running not_entered)
 
--- the hart that steps, and each of the others
+-- the hart that steps does not run e after the step, if it did not run e before and the step does not enter e
 own_still : (e hart : ℕ) (machine : MonitoredMachine) → runs_on e hart machine ≡ false → enters e (step_of hart machine).outcome.entered ≡ false
     → runs_on e hart (step_of hart machine).state ≡ false
-own_still e hart machine not_running passes = elim (cases_lt hart (count_of machine)) [
-  | inr past ↦ ap (λ (after : MonitoredStepped). runs_on e hart after.state) (outside hart machine past) ∙ not_running
-  | inl has ↦
-      let seen = step_seen hart machine has in
-      ap (λ (after : HartViewStepped). is_world_of e after.state.hart_state.world) seen
-      ∙ own_apart e (hart_view hart machine) not_running (sym (ap (λ (after : HartViewStepped). enters e after.outcome.entered) seen) ∙ passes)
+own_still e hart machine not_running not_entered = elim (cases_lt hart (count_of machine)) [
+  | inr past_last ↦ ap (λ (after : MonitoredStepped). runs_on e hart after.state) (outside hart machine past_last) ∙ not_running
+  | inl in_range ↦
+      let step_is = step_seen hart machine in_range in
+      ap (λ (after : HartViewStepped). is_world_of e after.state.hart_state.world) step_is
+      ∙ own_apart e (hart_view hart machine) not_running
+      (sym (ap (λ (after : HartViewStepped). enters e after.outcome.entered) step_is) ∙ not_entered)
 ]
 
--- proves that a hart runs the enclave after a step only if it did before, or the step entered it
+-- proves that a hart runs the enclave after a step only if it did before, or the step entered the enclave
 pub entry_law : EntryLaw
-entry_law e hart own machine not_running passes = elim (cases_eq own hart) [
-  | inl same ↦
-      subst (λ (h : ℕ). enters e (step_of h machine).outcome.entered ≡ false → runs_on e own (step_of h machine).state ≡ false) same
-      (own_still e own machine not_running) passes
-  | inr other ↦ step_beside (λ (hart_state : HartState). is_world_of e hart_state.world) (λ slots hart_state. refl) hart own machine other ∙ not_running
+entry_law e hart own machine not_running not_entered = elim (cases_eq own hart) [
+  | inl equal ↦
+      subst (λ (h : ℕ). enters e (step_of h machine).outcome.entered ≡ false → runs_on e own (step_of h machine).state ≡ false) equal
+      (own_still e own machine not_running) not_entered
+  | inr distinct ↦
+      step_beside (λ (hart_state : HartState). is_world_of e hart_state.world) (λ slots hart_state. refl) hart own machine distinct ∙ not_running
 ]
 
--- after a step that does not enter e, the enclave still runs on none of these harts
+-- if none of the harts in a list runs e, then this also holds after a step that does not enter e
 pub none_again : (e hart : ℕ) (harts : List ℕ) (machine : MonitoredMachine) → RunsOnNone e harts machine
     → enters e (step_of hart machine).outcome.entered ≡ false → RunsOnNone e harts (step_of hart machine).state
-none_again e hart [] machine none passes = tt
-none_again e hart (own ∷ harts) machine none passes = (entry_law e hart own machine none.0 passes, none_again e hart harts machine none.1 passes)
+none_again e hart [] machine runs_on_none not_entered = tt
+none_again e hart (own ∷ harts) machine runs_on_none not_entered =
+    (entry_law e hart own machine runs_on_none.0 not_entered, none_again e hart harts machine runs_on_none.1 not_entered)
 
--- proves that steps of harts without the enclave are low steps up to the one that enters it
+-- proves that steps of harts that do not run e are low steps, up to and including the first that enters e
 pub low_steps : LowStepsLaw
-low_steps e [] machine none passes = tt
-low_steps e (hart ∷ []) machine none passes = (none.0, tt)
-low_steps e (hart ∷ next ∷ harts) machine none passes =
-    (none.0, low_steps e (next ∷ harts) (step_of hart machine).state (none_again e hart (next ∷ harts) machine none.1 passes.0) passes.1)
+low_steps e [] machine runs_on_none not_entered_before = tt
+low_steps e (hart ∷ []) machine runs_on_none not_entered_before = (runs_on_none.0, tt)
+low_steps e (hart ∷ next ∷ harts) machine runs_on_none not_entered_before = (
+  runs_on_none.0,
+  low_steps e (next ∷ harts) (step_of hart machine).state
+      (none_again e hart (next ∷ harts) machine runs_on_none.1 not_entered_before.0) not_entered_before.1,
+)

@@ -1,4 +1,4 @@
--- A scrambled state is equivalent to the one before except for its slot, and satisfies the invariant.
+-- Scramble preserves the invariant of the machine, and changes only what is private to the scrambled enclave.
 use Rattle.std.proofs.Common.{◌≡◌, ℕ, Bool, true, false, sym, ap}
 use Rattle.std.specs.Prelude.{if◌then◌else◌}
 use Rattle.rv_enclaves.specs.Scramble.{can_scramble, scrambled_shared}
@@ -12,43 +12,44 @@ use Rattle.rv_monitor.proofs.EquivLemmas.{equiv_itself, shared_equiv}
 
 -- ---- the machine
 
--- scrambling slot k preserves the invariant
-pub scramble_invariant : (machine : MonitoredMachine) (k : ℕ) → Invariant machine → can_scramble machine.shared.table k ≡ true → Invariant (scrambled machine k)
+-- a scramble of slot k preserves the invariant
+pub scramble_invariant : (machine : MonitoredMachine) (k : ℕ) → Invariant machine → can_scramble machine.shared.table k ≡ true
+    → Invariant (scrambled machine k)
 unfolding scrambled_shared
-scramble_invariant machine k kept may = record {
-  shared = scrambled_sound machine.shared (worlds machine) k kept.shared may;
-  hart_states = kept.hart_states;
+scramble_invariant machine k invariant may_scramble = record {
+  shared = scrambled_sound machine.shared (worlds machine) k invariant.shared may_scramble;
+  hart_states = invariant.hart_states;
 }
 
--- the scrambled machine is equivalent to the machine except for k
+-- the scrambled machine is equivalent except k to the machine before the scramble
 pub scramble_equiv : (machine : MonitoredMachine) (k : ℕ) → Invariant machine → can_scramble machine.shared.table k ≡ true
     → EquivExcept k machine (scrambled machine k)
-scramble_equiv machine k kept may =
+scramble_equiv machine k invariant may_scramble =
     shared_equiv k machine machine machine.shared (scrambled_shared machine.shared k) (equiv_itself k machine (itself k machine.shared))
-    (scrambled_agrees machine.shared (worlds machine) k kept.shared may)
+    (scrambled_agrees machine.shared (worlds machine) k invariant.shared may_scramble)
 
--- ---- the call: it scrambles if it can, and otherwise changes nothing
+-- ---- the function `scramble`, which changes nothing if the slot may not be scrambled
 
 -- the machine with another shared state
 abbrev seated_with : MonitoredMachine → Shared → MonitoredMachine
 seated_with machine shared = record machine { shared = shared }
 
--- the shared state, scrambled if this is done
+-- the shared state, scrambled if `done` holds
 abbrev pub perhaps : Bool → MonitoredMachine → ℕ → Shared
 perhaps done machine k = if done then scrambled_shared machine.shared k else machine.shared
 
--- a machine that is scrambled if it can be keeps the invariant
+-- a machine keeps the invariant if slot k is scrambled in the case that it may be scrambled
 pub perhaps_kept : (done : Bool) (machine : MonitoredMachine) (k : ℕ) → done ≡ can_scramble machine.shared.table k → Invariant machine
     → Invariant (seated_with machine (perhaps done machine k))
-perhaps_kept true machine k done_is kept = scramble_invariant machine k kept (sym done_is)
-perhaps_kept false machine k done_is kept = kept
+perhaps_kept true machine k done_is invariant = scramble_invariant machine k invariant (sym done_is)
+perhaps_kept false machine k done_is invariant = invariant
 
--- a machine that is scrambled if it can be is equivalent to the machine before
+-- a machine in which slot k is scrambled, if it may be, is equivalent except k to the machine before
 pub perhaps_equiv : (done : Bool) (machine : MonitoredMachine) (k : ℕ) → done ≡ can_scramble machine.shared.table k → Invariant machine
     → EquivExcept k machine (seated_with machine (perhaps done machine k))
-perhaps_equiv true machine k done_is kept = scramble_equiv machine k kept (sym done_is)
-perhaps_equiv false machine k done_is kept = equiv_itself k machine (itself k machine.shared)
+perhaps_equiv true machine k done_is invariant = scramble_equiv machine k invariant (sym done_is)
+perhaps_equiv false machine k done_is invariant = equiv_itself k machine (itself k machine.shared)
 
--- proves that scrambling twice restores the machine
+-- proves that two scrambles restore the machine
 pub scramble_law : ScrambleLaw
 scramble_law machine k bytes words = ap (λ (shared : Shared). record machine { shared = shared }) (shared_twice machine.shared k bytes words)

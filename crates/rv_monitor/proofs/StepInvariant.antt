@@ -1,6 +1,6 @@
--- A step of one hart preserves the invariant of its own state and of the shared state.
+-- A step of one hart preserves the invariant of this hart and of the shared state.
 use Rattle.std.proofs.Common.{◌≡◌, ℕ, false, List, ◌∷◌, Option, Some, None, IfSome, length, refl, sym, ap, ◌∙◌, subst, inl, inr, arith}
-use Rattle.std.specs.Prelude.{◌%◌, IfNone}
+use Rattle.std.specs.Prelude.{IfNone}
 use Rattle.std.proofs.lemmas.List.FromFn.{get_or-map-range_with_len}
 use Rattle.rv_state.specs.MachineParts.{machine_parts}
 use Rattle.rv_hart.specs.StepLaws.{TrapKeeps, StaysBelow}
@@ -9,7 +9,7 @@ use Rattle.rv_memory.proofs.MemoryLaws.{length-write}
 use Rattle.rv_memory.specs.declared.touched.Touched.{Touched}
 use Rattle.rv_state.specs.declared.mstatus.Mstatus.{Mstatus}
 use Rattle.rv_monitor.specs.Prelude.{CsrState, Hart, SharedInvariant, HartState, Shared, Slots, Span, Machine, StepOutcome, Stepped, Trap, World}
-use Rattle.rv_monitor.specs.Prelude.{aligned_to_4, entry_at, is_machine, layout, mie_of, step}
+use Rattle.rv_monitor.specs.Prelude.{entry_at, is_machine, layout, mie_of, step}
 use Rattle.rv_monitor.specs.MonitoredMachine.{pmp_programmed}
 use Rattle.rv_monitor.proofs.Prelude.{EqualOn, Handled, HasPmpLayout, IsUnlocked, IsConfined, HartViewInvariant, HartInvariant, HostContextInvariant, HartView}
 use Rattle.rv_monitor.proofs.Prelude.{HartViewStepped, SameIn, Stores, bare_machine, cases_lt, cfg_of, confined, get_or_past, handled}
@@ -17,6 +17,7 @@ use Rattle.rv_monitor.proofs.Prelude.{keeps_machine_parts, keeps_mprv_clear, mon
 use Rattle.rv_monitor.proofs.Prelude.{unhandled}
 use Rattle.rv_monitor.proofs.Ready.{IsTrapped, IsDone, IsLaidOut, handled_done, handled_laid_out}
 use Rattle.rv_monitor.proofs.TrapSteps.{step_cases, hart_after, hart_state_after}
+use Rattle.rv_monitor.proofs.Alignment.{aligned_is_multiple}
 
 -- ---- no entry of a layout is locked
 
@@ -24,33 +25,34 @@ use Rattle.rv_monitor.proofs.TrapSteps.{step_cases, hart_after, hart_state_after
 pub layout_unlocked : (slots : Slots) (world : World) → IsUnlocked (layout slots world)
 unfolding layout
 layout_unlocked slots world i = elim (cases_lt i 16) [
-  | inl inside ↦
+  | inl in_range ↦
       let cfg_is : cfg_of (layout slots world) i ≡ (entry_at slots world i).cfg =
-      get_or-map-range_with_len (λ j. (entry_at slots world j).cfg) 0 16 i i 0 inside (omega arith) in
+      get_or-map-range_with_len (λ j. (entry_at slots world j).cfg) 0 16 i i 0 in_range (omega arith) in
       rw cfg_is (entry_is_plain slots world i).unlocked
-  | inr past ↦
-      let is : cfg_of (layout slots world) i ≡ 0 = get_or_past {X = ℕ} (layout slots world).cfgs i 0 past in
-      rw is refl
+  | inr past_last ↦
+      let cfg_is_0 : cfg_of (layout slots world) i ≡ 0 = get_or_past {X = ℕ} (layout slots world).cfgs i 0 past_last in
+      rw cfg_is_0 refl
 ]
 
 -- no PMP entry of a hart with the invariant is locked
 pub hart_state_unlocked : (slots : Slots) (hart_state : HartState) → HartInvariant slots hart_state → IsUnlocked hart_state.hart.csrs.pmp
-hart_state_unlocked slots hart_state hart_kept = let layout = hart_kept.layout in subst IsUnlocked (sym layout.entries) (layout_unlocked slots hart_state.world)
+hart_state_unlocked slots hart_state hart_invariant =
+    let layout = hart_invariant.layout in subst IsUnlocked (sym layout.entries) (layout_unlocked slots hart_state.world)
 
--- no entry of a programmed hart is locked, before or after a trap
+-- no PMP entry of a hart is locked at a trap, if the hart has the invariant before the step
 unlocked_if : (slots : Slots) (hart_state : HartState) (o : Option Trap) (hart : Hart) (memory left : List ℕ) (trap : Trap) → o ≡ Some trap
     → HartInvariant slots hart_state
     → IfSome o (λ t. (hart ≡ hart_after hart_state.hart t) × (left ≡ memory)) → IsUnlocked hart.csrs.pmp
-unlocked_if slots hart_state None hart memory left trap trapped reprogrammed keeps = cc
-unlocked_if slots hart_state (Some t) hart memory left trap trapped reprogrammed keeps =
-    subst (λ (h : Hart). IsUnlocked h.csrs.pmp) (sym keeps.0) (hart_state_unlocked slots hart_state reprogrammed)
+unlocked_if slots hart_state None hart memory left trap trapped hart_invariant keeps = cc
+unlocked_if slots hart_state (Some t) hart memory left trap trapped hart_invariant keeps =
+    subst (λ (h : Hart). IsUnlocked h.csrs.pmp) (sym keeps.0) (hart_state_unlocked slots hart_state hart_invariant)
 
--- no PMP entry is locked after a step that traps
+-- no PMP entry is locked after a bare step that traps
 pub unlocked_after : (hart_state : HartState) (shared : Shared) (after : Stepped) (trap : Trap) → after.outcome.trap ≡ Some trap
     → HartInvariant shared.table hart_state
     → TrapKeeps (record { hart = hart_state.hart; memory = shared.memory }) after → IsUnlocked after.state.hart.csrs.pmp
-unlocked_after hart_state shared after trap trapped reprogrammed keeps =
-    unlocked_if shared.table hart_state after.outcome.trap after.state.hart shared.memory after.state.memory trap trapped reprogrammed keeps
+unlocked_after hart_state shared after trap trapped hart_invariant keeps =
+    unlocked_if shared.table hart_state after.outcome.trap after.state.hart shared.memory after.state.memory trap trapped hart_invariant keeps
 
 -- ---- the bare step
 
@@ -59,12 +61,12 @@ stored_size : (bytes old new : List ℕ) (span : Option Span) → Stores bytes o
 stored_size bytes old new None stores = sym (ap length stores)
 stored_size bytes old new (Some span) stores = sym (length-write old span.addr bytes new stores.1)
 
--- a memory has the same bytes as itself
+-- a memory has the same bytes as itself in each span
 same_in : (m : List ℕ) (span : Option Span) → SameIn m m span
 same_in m None = tt
 same_in m (Some span) = refl
 
--- a memory is equal to itself on every accessed byte
+-- a memory is equal to itself on all accessed bytes
 pub equiv_itself : (m : List ℕ) (touched : Touched) → EqualOn m m touched
 equiv_itself m touched = record { size = refl; fetched = same_in m touched.fetched; loaded = same_in m touched.loaded }
 
@@ -74,11 +76,7 @@ step_size before after confined =
     let equiv = equiv_itself before.memory after.outcome.touched in
     stored_size confined.bytes before.memory after.state.memory after.outcome.touched.stored (confined.alike before.memory equiv).here
 
--- an address rounded down to a multiple of 4 is one
-multiple : (n : ℕ) → aligned_to_4 n % 4 ≡ 0
-multiple n = omega arith
-
--- equal machine's parts have equal PMP entries, mie and bits of mstatus
+-- CSRs with equal machine's parts have equal PMP entries, mie and bits of mstatus
 same_parts : (a b : CsrState) → machine_parts a ≡ machine_parts b
     → (a.pmp ≡ b.pmp) × (a.mie ≡ b.mie) × (a.mstatus.mie ≡ b.mstatus.mie) × (a.mstatus.tvm ≡ b.mstatus.tvm) × (a.mstatus.tw ≡ b.mstatus.tw)
     × (a.mstatus.tsr ≡ b.mstatus.tsr)
@@ -92,87 +90,93 @@ same_parts a b machine_parts_is = (
   ap (λ (c : CsrState). c.mstatus.tsr) machine_parts_is,
 )
 
--- a claim for the case without a trap holds, if there is none
+-- a claim that holds if there is no trap holds for a step without a trap
 pub stays_if : (o : Option Trap) (P : Type 0) → o ≡ None → IfNone o P → P
 stays_if None P no_trap p = p
 stays_if (Some t) P no_trap p = cc
 
 -- ---- the state of a hart
 
--- with another hart whose PMP entries, mie, mode and mstatus satisfy the invariant
-hart_seated : (slots : Slots) (hart_state : HartState) (hart : Hart) → HostContextInvariant hart_state → HasPmpLayout slots (record hart_state { hart = hart })
+-- the hart state has the invariant with another hart whose PMP entries, mie, mode and mstatus satisfy the invariant
+hart_seated : (slots : Slots) (hart_state : HartState) (hart : Hart) → HostContextInvariant hart_state
+    → HasPmpLayout slots (record hart_state { hart = hart })
     → HartInvariant slots (record hart_state { hart = hart })
 hart_seated slots hart_state hart host layout = record { host = record { kept = host.kept; held = host.held }; layout = layout }
 
--- with a hart that keeps the mode and mstatus, and has the PMP entries and mie of a table, possibly another one
+-- the hart state has the invariant for a new table with another hart that keeps the mode and mstatus, and has the PMP entries and mie of the new
+-- table
 pub reprogrammed_by : (before after : Slots) (hart_state : HartState) (hart : Hart) → HartInvariant before hart_state
     → hart.csrs.pmp ≡ layout after hart_state.world
     → hart.csrs.mie ≡ mie_of hart_state.world → hart.mode ≡ hart_state.hart.mode → hart.csrs.mstatus ≡ hart_state.hart.csrs.mstatus
     → HartInvariant after (record hart_state { hart = hart })
-reprogrammed_by before after hart_state hart hart_kept entries mie mode status =
-    let own = hart_kept.layout in
-    hart_seated after hart_state hart hart_kept.host (record {
+reprogrammed_by before after hart_state hart hart_invariant entries mie mode status =
+    let own_layout = hart_invariant.layout in
+    hart_seated after hart_state hart hart_invariant.host (record {
       entries = entries;
       mie = mie;
-      mode = ap is_machine mode ∙ own.mode;
-      mstatus_mie = ap (λ (s : Mstatus). s.mie) status ∙ own.mstatus_mie;
-      mprv = ap (λ (s : Mstatus). s.mprv) status ∙ own.mprv;
-      tvm = ap (λ (s : Mstatus). s.tvm) status ∙ own.tvm;
-      tw = ap (λ (s : Mstatus). s.tw) status ∙ own.tw;
-      tsr = ap (λ (s : Mstatus). s.tsr) status ∙ own.tsr;
+      mode = ap is_machine mode ∙ own_layout.mode;
+      mstatus_mie = ap (λ (s : Mstatus). s.mie) status ∙ own_layout.mstatus_mie;
+      mprv = ap (λ (s : Mstatus). s.mprv) status ∙ own_layout.mprv;
+      tvm = ap (λ (s : Mstatus). s.tvm) status ∙ own_layout.tvm;
+      tw = ap (λ (s : Mstatus). s.tw) status ∙ own_layout.tw;
+      tsr = ap (λ (s : Mstatus). s.tsr) status ∙ own_layout.tsr;
     })
 
--- with the PMP entries and mie of another table
-pub laid_seated : (before after : Slots) (hart_state : HartState) → HartInvariant before hart_state → HartInvariant after (reprogrammed after hart_state)
-laid_seated before after hart_state hart_kept = reprogrammed_by before after hart_state (pmp_programmed after hart_state.world hart_state.hart) hart_kept refl refl refl refl
+-- a hart has the invariant for a new table after it is reprogrammed for this table
+pub laid_seated : (before after : Slots) (hart_state : HartState) → HartInvariant before hart_state
+    → HartInvariant after (reprogrammed after hart_state)
+laid_seated before after hart_state hart_invariant =
+    reprogrammed_by before after hart_state (pmp_programmed after hart_state.world hart_state.hart) hart_invariant refl refl refl refl
 
--- ---- a step of one hart, given the worlds on the others
+-- ---- a step of one hart, for given worlds of the other harts
 
--- the invariants of the shared state and of the hart give that of its view
-pub hart_view_of : (hart_state : HartState) (shared : Shared) (worlds : List World) → SharedInvariant shared worlds → HartInvariant shared.table hart_state
+-- the view of a hart has the invariant, if the shared state and the hart have their invariants
+pub hart_view_of : (hart_state : HartState) (shared : Shared) (worlds : List World) → SharedInvariant shared worlds
+    → HartInvariant shared.table hart_state
     → HartViewInvariant (record { hart_state = hart_state; shared = shared })
-hart_view_of hart_state shared worlds sound hart_kept = record { valid = sound.valid; hart = hart_kept }
+hart_view_of hart_state shared worlds shared_invariant hart_invariant = record { valid = shared_invariant.valid; hart = hart_invariant }
 
--- after a step, the shared invariant holds with the hart's new world and the worlds of the other harts
+-- the shared invariant holds after the step with the new world of the hart and the worlds of the other harts, and the hart has the invariant
 abbrev pub KeptBeside : List World → HartViewStepped → Type 0
 KeptBeside beside after =
     SharedInvariant after.state.shared (after.state.hart_state.world ∷ beside) × HartInvariant after.state.shared.table after.state.hart_state
 
-module _ (beside : List World) (hart_state : HartState) (shared : Shared) (sound : SharedInvariant shared (hart_state.world ∷ beside))
-    (hart_kept : HartInvariant shared.table hart_state) where
-  -- the view of the hart
+-- the hart and the shared state have their invariants, with the worlds of the other harts
+module _ (beside : List World) (hart_state : HartState) (shared : Shared) (shared_invariant : SharedInvariant shared (hart_state.world ∷ beside))
+    (hart_invariant : HartInvariant shared.table hart_state) where
+  -- the view of the hart before the step
   abbrev state : HartView
   state = record { hart_state = hart_state; shared = shared }
 
-  -- the hart state at a trap has the invariant
+  -- the hart state at a trap satisfies `IsTrapped`
   trapped_hart_state : (trap : Trap) → IsTrapped beside (hart_state_after hart_state trap) shared
   trapped_hart_state trap =
-      let host = hart_kept.host in
-      let layout = hart_kept.layout in
+      let host = hart_invariant.host in
+      let layout = hart_invariant.layout in
       record {
         ready = record {
-          sound = sound;
+          sound = shared_invariant;
           host = record { kept = host.kept; held = host.held };
           quiet = record { mpie = layout.mstatus_mie; mprv = layout.mprv; tvm = layout.tvm; tw = layout.tw; tsr = layout.tsr };
         };
         layout = record { entries = layout.entries; mie = layout.mie };
         mode = layout.mode;
-        pc = multiple hart_state.hart.pc;
+        pc = aligned_is_multiple hart_state.hart.pc;
       }
 
-  -- a step without a trap preserves the shared invariant
+  -- a step without a trap satisfies `KeptBeside`
   quiet_kept : (after : Stepped) → IsConfined (bare_machine state) after → StaysBelow hart_state.hart after.state.hart
       → after.state.hart.csrs.mstatus.mprv ≡ false
       → KeptBeside beside (unhandled after.outcome (record hart_state { hart = after.state.hart }) (record shared { memory = after.state.memory }))
-  quiet_kept after confined below mprv =
+  quiet_kept after confined stays_below mprv =
       let hart = after.state.hart in
-      let parts = same_parts hart.csrs hart_state.hart.csrs below.0 in
-      let layout = hart_kept.layout in (
-        sound_by_size shared (hart_state.world ∷ beside) after.state.memory sound (step_size (bare_machine state) after confined),
-        hart_seated shared.table hart_state hart hart_kept.host (record {
+      let parts = same_parts hart.csrs hart_state.hart.csrs stays_below.0 in
+      let layout = hart_invariant.layout in (
+        sound_by_size shared (hart_state.world ∷ beside) after.state.memory shared_invariant (step_size (bare_machine state) after confined),
+        hart_seated shared.table hart_state hart hart_invariant.host (record {
           entries = parts.0 ∙ layout.entries;
           mie = parts.1 ∙ layout.mie;
-          mode = below.1;
+          mode = stays_below.1;
           mstatus_mie = parts.2 ∙ layout.mstatus_mie;
           mprv = mprv;
           tvm = parts.3 ∙ layout.tvm;
@@ -181,15 +185,16 @@ module _ (beside : List World) (hart_state : HartState) (shared : Shared) (sound
         }),
       )
 
-  -- with a trap, followed by the trap handler
-  worked_kept : (outcome : StepOutcome) (h : Handled) → IsDone beside h → IsLaidOut h.shared.table h.hart_state → KeptBeside beside (returned outcome h)
-  worked_kept outcome h done laid =
-      let ready = done.ready in (
+  -- the return from a result of the trap handler that satisfies `IsDone` satisfies `KeptBeside`
+  worked_kept : (outcome : StepOutcome) (h : Handled) → IsDone beside h → IsLaidOut h.shared.table h.hart_state
+      → KeptBeside beside (returned outcome h)
+  worked_kept outcome h is_done is_laid_out =
+      let ready = is_done.ready in (
         ready.sound,
         hart_seated h.shared.table h.hart_state (returned_to h.hart_state.hart h.next.pc h.next.mode) ready.host (record {
-          entries = laid.entries;
-          mie = laid.mie;
-          mode = done.mode;
+          entries = is_laid_out.entries;
+          mie = is_laid_out.mie;
+          mode = is_done.mode;
           mstatus_mie = ready.quiet.mpie;
           mprv = rw ready.quiet.mprv refl;
           tvm = ready.quiet.tvm;
@@ -198,16 +203,18 @@ module _ (beside : List World) (hart_state : HartState) (shared : Shared) (sound
         }),
       )
 
-  -- a step of a view preserves the shared invariant, with the worlds of the other harts
+  -- a step of a view satisfies `KeptBeside`
   pub step_invariant : KeptBeside beside (monitored_step state)
   step_invariant =
       let after = step (bare_machine state) in
-      let layout = hart_kept.layout in
+      let layout = hart_invariant.layout in
       step_cases state (KeptBeside beside)
-      (λ none.
+      (λ no_trap.
       let below =
-      stays_if after.outcome.trap (StaysBelow hart_state.hart after.state.hart) none (keeps_machine_parts (bare_machine state) layout.mode layout.mprv) in
+      stays_if after.outcome.trap (StaysBelow hart_state.hart after.state.hart) no_trap
+      (keeps_machine_parts (bare_machine state) layout.mode layout.mprv) in
       quiet_kept after (confined (bare_machine state)) below (keeps_mprv_clear (bare_machine state) (λ b. layout.mprv) below.1))
       (λ trap traps.
       let last = hart_state_after hart_state trap in
-      worked_kept after.outcome (handled last shared trap) (handled_done beside last shared trap (trapped_hart_state trap)) (handled_laid_out last shared trap))
+      worked_kept after.outcome (handled last shared trap) (handled_done beside last shared trap (trapped_hart_state trap))
+      (handled_laid_out last shared trap))

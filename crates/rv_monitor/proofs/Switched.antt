@@ -1,4 +1,5 @@
--- The effect of a step on the world and on the host's saved context.
+-- The effect of a step on the world of the hart and on the saved context of the host. The step continues the world, enters an enclave, or exits to
+-- the host.
 use Rattle.std.proofs.Common.{◌≡◌, ℕ, ◌==◌, ◌⊎◌, true, false, List, Option, Some, None, IfSome, refl, sym, ap, ◌∙◌, subst, inl, inr, arith}
 use Rattle.std.specs.Prelude.{◌%◌, ◌&&◌, is_some, not}
 use Rattle.rv_state.specs.declared.s_context.SContext.{SContext}
@@ -12,13 +13,13 @@ use Rattle.rv_monitor.proofs.HandlerCases.{handler_cases}
 
 -- ---- the effect of the trap handler on the state of a hart
 
--- the trap handler continues the world: same world, same saved host context, and no enclave entered
+-- the trap handler continues the world: it keeps the world and the saved context of the host, and enters no enclave
 pub record StaysIn (hart_state : HartState) (h : Handled) : Type 0 where
   pub world : h.hart_state.world ≡ hart_state.world
   pub host : h.hart_state.host_context ≡ hart_state.host_context
   pub entered : h.next.entered ≡ None
 
--- the trap handler enters an enclave from the host, whose registers it saves
+-- the trap handler enters an enclave from the host, and saves the context of the host
 pub record EntersFrom (hart_state : HartState) (h : Handled) : Type 0 where
   pub slot : ℕ
   pub from_host : hart_state.world ≡ Host
@@ -26,7 +27,7 @@ pub record EntersFrom (hart_state : HartState) (h : Handled) : Type 0 where
   pub host : h.hart_state.host_context ≡ Some (saved hart_state.hart (past_call hart_state) S)
   pub entered : h.next.entered ≡ Some slot
 
--- the host receives two return values
+-- the trap handler exits to the host: it restores the saved context of the host, with a reason in a0 and a value in a1
 pub record LeavesFor (hart_state : HartState) (trap : Trap) (h : Handled) : Type 0 where
   pub world : h.hart_state.world ≡ Host
   pub regs : h.hart_state.hart.regs
@@ -37,99 +38,105 @@ pub record LeavesFor (hart_state : HartState) (trap : Trap) (h : Handled) : Type
   pub forgotten : h.hart_state.host_context ≡ None
   pub entered : h.next.entered ≡ None
 
--- the trap handler continues the world, enters an enclave or exits one
+-- the trap handler continues the world, enters an enclave, or exits to the host
 abbrev pub Turns : HartState → Trap → Handled → Type 0
 Turns hart_state trap h = StaysIn hart_state h ⊎ (EntersFrom hart_state h ⊎ LeavesFor hart_state trap h)
 
--- each trap continues the world, enters an enclave or exits one
+-- each trap continues the world, enters an enclave, or exits to the host
 pub handled_turns : (hart_state : HartState) (shared : Shared) (trap : Trap) → Turns hart_state trap (handled hart_state shared trap)
 unfolding entered_slot left
 handled_turns hart_state shared trap = handler_cases hart_state trap shared (Turns hart_state trap) (record {
   answers = λ status result. inl (record { world = refl; host = refl; entered = refl });
-  creates = λ reads may. inl (record { world = refl; host = refl; entered = refl });
-  destroys = λ reads taken. inl (record { world = refl; host = refl; entered = refl });
-  measures = λ reads may. inl (record { world = refl; host = refl; entered = refl });
-  enters = λ call reads enters host taken. inr (inl (record { slot = a0 hart_state; from_host = host; world = refl; host = refl; entered = refl }));
+  creates = λ requests no_refusal. inl (record { world = refl; host = refl; entered = refl });
+  destroys = λ requests is_taken. inl (record { world = refl; host = refl; entered = refl });
+  measures = λ requests no_refusal. inl (record { world = refl; host = refl; entered = refl });
+  enters =
+      λ call requests is_entry_call from_host is_taken. inr
+      (inl (record { slot = a0 hart_state; from_host = from_host; world = refl; host = refl; entered = refl }));
   leaves = inr (inr (record { world = refl; regs = refl; pc = refl; mode = refl; supervisor = refl; forgotten = refl; entered = refl }));
   redirects = inl (record { world = refl; host = refl; entered = refl });
 })
 
 -- ---- the S-mode registers of the host's saved context are as a hart stores them
 
--- the S-mode registers of a hart are legal in a saved context, if each holds a value that it can store
+-- the S-mode registers of a hart are legal in a saved context, if each holds a value that the hart can store
 pub own_stored : (c : CsrState) → KeepsOwn c → IsLegal (s_context c)
-own_stored c own = record { stvec = ap (λ (x : CsrState). x.stvec) own; sepc = ap (λ (x : CsrState). x.sepc) own }
+own_stored c keeps_own = record { stvec = ap (λ (x : CsrState). x.stvec) keeps_own; sepc = ap (λ (x : CsrState). x.sepc) keeps_own }
 
--- a saved context of the host, if there is one, is legal
+-- the saved context of the host, if there is one, is legal
 abbrev pub KeptStored : Option Context → Type 0
 KeptStored o = IfSome o (λ context. IsLegal context.supervisor)
 
 -- each kind of result leaves a legal saved context of the host
-stored_by : (hart_state : HartState) (trap : Trap) (h : Handled) → Turns hart_state trap h → HostContextIsLegal hart_state → KeepsOwn hart_state.hart.csrs
+stored_by : (hart_state : HartState) (trap : Trap) (h : Handled) → Turns hart_state trap h → HostContextIsLegal hart_state
+    → KeepsOwn hart_state.hart.csrs
     → HostContextIsLegal h.hart_state
-stored_by hart_state trap h (inl stays) stored own = subst KeptStored (sym stays.host) stored
-stored_by hart_state trap h (inr (inl enters)) stored own = subst KeptStored (sym enters.host) (own_stored hart_state.hart.csrs own)
-stored_by hart_state trap h (inr (inr leaves)) stored own = subst KeptStored (sym leaves.forgotten) tt
+stored_by hart_state trap h (inl stays) legal keeps_own = subst KeptStored (sym stays.host) legal
+stored_by hart_state trap h (inr (inl enters)) legal keeps_own = subst KeptStored (sym enters.host) (own_stored hart_state.hart.csrs keeps_own)
+stored_by hart_state trap h (inr (inr leaves)) legal keeps_own = subst KeptStored (sym leaves.forgotten) tt
 
--- the trap handler leaves the saved context of the host legal
+-- the trap handler leaves a legal saved context of the host
 pub handled_stored : (hart_state : HartState) (shared : Shared) (trap : Trap) → HostContextIsLegal hart_state → KeepsOwn hart_state.hart.csrs
     → HostContextIsLegal (handled hart_state shared trap).hart_state
-handled_stored hart_state shared trap stored own =
-    stored_by hart_state trap (handled hart_state shared trap) (handled_turns hart_state shared trap) stored own
+handled_stored hart_state shared trap legal keeps_own =
+    stored_by hart_state trap (handled hart_state shared trap) (handled_turns hart_state shared trap) legal keeps_own
 
 -- ---- if an enclave runs before and after, the host's saved context is unchanged
 
--- a result that leaves an enclave running keeps the saved context of the host
-runs_on : (hart_state : HartState) (trap : Trap) (h : Handled) → Turns hart_state trap h → is_host hart_state.world ≡ false → is_host h.hart_state.world ≡ false
+-- a result after which an enclave runs keeps the saved context of the host, if an enclave ran before
+runs_on : (hart_state : HartState) (trap : Trap) (h : Handled) → Turns hart_state trap h → is_host hart_state.world ≡ false
+    → is_host h.hart_state.world ≡ false
     → h.hart_state.host_context ≡ hart_state.host_context
-runs_on hart_state trap h (inl stays) before after = stays.host
-runs_on hart_state trap h (inr (inl enters)) before after = absurd (both_ways _ before (ap is_host enters.from_host))
-runs_on hart_state trap h (inr (inr leaves)) before after = absurd (both_ways _ after (ap is_host leaves.world))
+runs_on hart_state trap h (inl stays) enclave_runs enclave_runs_after = stays.host
+runs_on hart_state trap h (inr (inl enters)) enclave_runs enclave_runs_after = absurd (both_ways _ enclave_runs (ap is_host enters.from_host))
+runs_on hart_state trap h (inr (inr leaves)) enclave_runs enclave_runs_after = absurd (both_ways _ enclave_runs_after (ap is_host leaves.world))
 
--- a step from an enclave to an enclave keeps the saved context of the host
+-- a step before and after which an enclave runs keeps the saved context of the host
 pub kept_between : (state : HartView) → is_host state.hart_state.world ≡ false → is_host (monitored_step state).state.hart_state.world ≡ false
     → (monitored_step state).state.hart_state.host_context ≡ state.hart_state.host_context
-kept_between state before =
-    step_cases state (λ after. is_host after.state.hart_state.world ≡ false → after.state.hart_state.host_context ≡ state.hart_state.host_context)
-    (λ none after. refl)
-    (λ trap is after.
+kept_between state enclave_runs =
+    step_cases state
+    (λ after. is_host after.state.hart_state.world ≡ false → after.state.hart_state.host_context ≡ state.hart_state.host_context)
+    (λ no_trap enclave_runs_after. refl)
+    (λ trap trapped enclave_runs_after.
     let hart_state = hart_state_after state.hart_state trap in
-    runs_on hart_state trap (handled hart_state state.shared trap) (handled_turns hart_state state.shared trap) before after)
+    runs_on hart_state trap (handled hart_state state.shared trap) (handled_turns hart_state state.shared trap) enclave_runs enclave_runs_after)
 
 -- ---- the step
 
--- a legal context is restored as it is
-stored_again : (c : CsrState) (s : SContext) → IsLegal s → s_context (with_s_context c s) ≡ s
-stored_again c s stored = let stvec = stored.stvec in let sepc = stored.sepc in rw (stvec, sepc) refl
+-- a legal context has the same S-mode registers after the monitor restores and saves it
+pub legal_again : (c : CsrState) (s : SContext) → IsLegal s → s_context (with_s_context c s) ≡ s
+legal_again c s legal = let stvec = legal.stvec in let sepc = legal.sepc in rw (stvec, sepc) refl
 
--- a pc that passes the test of a context to continue with is a multiple of 4
+-- the pc of a context with which a hart can continue is unchanged if it is rounded down to a multiple of 4
 pub aligned_again : (mode : Mode) (pc : ℕ) → (not (is_machine mode) && pc % 4 == 0) ≡ true → aligned_to_4 pc ≡ pc
-aligned_again mode pc held =
-    let test : (pc % 4 == 0) ≡ true = (and_parts (not (is_machine mode)) (pc % 4 == 0) held).1 in
+aligned_again mode pc can_continue =
+    let test : (pc % 4 == 0) ≡ true = (and_parts (not (is_machine mode)) (pc % 4 == 0) can_continue).1 in
     let multiple : pc % 4 ≡ 0 = grind (arith, nat_tests) in
     omega arith
 
--- a context with the parts of the host's is the host's, except for the registers
-same_context : (host : Context) (regs : List ℕ) (pc : ℕ) (mode : Mode) (supervisor : SContext) (told_regs : List ℕ) → regs ≡ told_regs
+-- a context with the pc, the mode and the S-mode registers of the host's context is this context with other registers
+same_context : (host : Context) (regs : List ℕ) (pc : ℕ) (mode : Mode) (supervisor : SContext) (new_regs : List ℕ) → regs ≡ new_regs
     → pc ≡ host.pc → mode ≡ host.mode
     → supervisor ≡ host.supervisor
-    → (let made : Context = record { regs = regs; pc = pc; mode = mode; supervisor = supervisor } in made) ≡ record host { regs = told_regs }
-same_context host regs pc mode supervisor told_regs regs_is pc_is mode_is supervisor_is = rw (regs_is, pc_is, mode_is, supervisor_is) refl
+    → (let made : Context = record { regs = regs; pc = pc; mode = mode; supervisor = supervisor } in made) ≡ record host { regs = new_regs }
+same_context host regs pc mode supervisor new_regs regs_is pc_is mode_is supervisor_is = rw (regs_is, pc_is, mode_is, supervisor_is) refl
 
-module _ (state : HartView) (kept : HostContextInvariant state.hart_state) (stored : HostContextIsLegal state.hart_state) (trap : Trap) where
-  -- an enclave runs, so the host has a saved context
+-- the saved context of the host is legal and agrees with the world, and the step has this trap
+module _ (state : HartView) (host_invariant : HostContextInvariant state.hart_state) (legal : HostContextIsLegal state.hart_state) (trap : Trap) where
+  -- the return from an exit to the host satisfies `StaysOrSwitches`
   returned_leaves : (outcome : StepOutcome) (h : Handled) → outcome.trap ≡ Some trap → LeavesFor (hart_state_after state.hart_state trap) trap h
       → (world : World) (o : Option Context) → state.hart_state.world ≡ world → state.hart_state.host_context ≡ o → is_some o ≡ not (is_host world)
       → StaysOrSwitches state (returned outcome h)
-  returned_leaves outcome h trapped_is leaves Host None runs kept_is same =
+  returned_leaves outcome h trapped_is leaves Host None runs kept_is saved_if_enclave =
       inl (record { world = leaves.world ∙ sym runs; host = leaves.forgotten ∙ sym kept_is; entered = leaves.entered })
-  returned_leaves outcome h trapped_is leaves Host (Some host) runs kept_is same = cc
-  returned_leaves outcome h trapped_is leaves (Enclave k) None runs kept_is same = cc
-  returned_leaves outcome h trapped_is leaves (Enclave k) (Some host) runs kept_is same =
+  returned_leaves outcome h trapped_is leaves Host (Some host) runs kept_is saved_if_enclave = cc
+  returned_leaves outcome h trapped_is leaves (Enclave k) None runs kept_is saved_if_enclave = cc
+  returned_leaves outcome h trapped_is leaves (Enclave k) (Some host) runs kept_is saved_if_enclave =
       let P : Option Context → Type 0 = λ o. IfSome o (λ c. can_go_on c ≡ true) in
-      let held : can_go_on host ≡ true = subst P kept_is kept.held in
-      let host_stored : IsLegal host.supervisor = subst KeptStored kept_is stored in
-      let told = rw kept_is at leaves in
+      let can_continue : can_go_on host ≡ true = subst P kept_is host_invariant.held in
+      let host_stored : IsLegal host.supervisor = subst KeptStored kept_is legal in
+      let host_leaves = rw kept_is at leaves in
       inr (inr (record {
         slot = k;
         host = host;
@@ -137,26 +144,27 @@ module _ (state : HartView) (kept : HostContextInvariant state.hart_state) (stor
         from_enclave = runs;
         kept = kept_is;
         trapped = trapped_is;
-        world = told.world;
-        again = same_context host h.hart_state.hart.regs (aligned_to_4 h.next.pc) h.next.mode (s_context h.hart_state.hart.csrs) _ told.regs
-            (ap aligned_to_4 told.pc ∙ aligned_again host.mode host.pc held) told.mode
-            (told.supervisor ∙ stored_again state.hart_state.hart.csrs host.supervisor host_stored);
-        forgotten = told.forgotten;
-        entered = told.entered;
+        world = host_leaves.world;
+        again = same_context host h.hart_state.hart.regs (aligned_to_4 h.next.pc) h.next.mode (s_context h.hart_state.hart.csrs) _ host_leaves.regs
+            (ap aligned_to_4 host_leaves.pc ∙ aligned_again host.mode host.pc can_continue) host_leaves.mode
+            (host_leaves.supervisor ∙ legal_again state.hart_state.hart.csrs host.supervisor host_stored);
+        forgotten = host_leaves.forgotten;
+        entered = host_leaves.entered;
       }))
 
-  -- the return from each kind of result continues, enters or exits
+  -- the return from each kind of result satisfies `StaysOrSwitches`
   returned_turns : (outcome : StepOutcome) (h : Handled) → outcome.trap ≡ Some trap
       → Turns (hart_state_after state.hart_state trap) trap h → StaysOrSwitches state (returned outcome h)
   returned_turns outcome h trapped_is (inl stays) = inl (record { world = stays.world; host = stays.host; entered = stays.entered })
   returned_turns outcome h trapped_is (inr (inl enters)) =
       inr (inl (record { slot = enters.slot; from_host = enters.from_host; world = enters.world; host = enters.host; entered = enters.entered }))
   returned_turns outcome h trapped_is (inr (inr leaves)) =
-      returned_leaves outcome h trapped_is leaves state.hart_state.world state.hart_state.host_context refl refl kept.kept
+      returned_leaves outcome h trapped_is leaves state.hart_state.world state.hart_state.host_context refl refl host_invariant.kept
 
 -- proves that each step continues its world, enters an enclave, or exits to the host
-pub switch_law : (state : HartView) → HostContextInvariant state.hart_state → HostContextIsLegal state.hart_state → StaysOrSwitches state (monitored_step state)
-switch_law state kept stored = step_cases state (StaysOrSwitches state)
-    (λ none. inl (record { world = refl; host = refl; entered = refl }))
-    (λ trap trapped. returned_turns state kept stored trap (step (bare_machine state)).outcome _ trapped
+pub switch_law : (state : HartView) → HostContextInvariant state.hart_state → HostContextIsLegal state.hart_state
+    → StaysOrSwitches state (monitored_step state)
+switch_law state host_invariant legal = step_cases state (StaysOrSwitches state)
+    (λ no_trap. inl (record { world = refl; host = refl; entered = refl }))
+    (λ trap trapped. returned_turns state host_invariant legal trap (step (bare_machine state)).outcome _ trapped
     (handled_turns (hart_state_after state.hart_state trap) state.shared trap))

@@ -1,4 +1,4 @@
--- The bytes that a step's instruction accesses are accessible to the world that runs.
+-- The bytes that the instruction of a step accesses are accessible to the running world.
 use Rattle.std.proofs.Common.{◌≡◌, ◌⊎◌, ℕ, false, Option, Some, None, Result, Ok, Err, refl, sym, ◌∙◌, subst, inl, inr}
 use Rattle.rv_hart.proofs.StepCases.{step_ways}
 use Rattle.rv_memory.specs.declared.touched.Touched.{Touched}
@@ -11,7 +11,7 @@ use Rattle.rv_monitor.proofs.TrapSteps.{same_outcome}
 
 -- ---- the fetch
 
--- an instruction that retires, or ends in its exception, was fetched
+-- the end of an instruction, with or without an exception, keeps the fetched bytes
 fetched_still : (hart : Hart) (touched : Touched) (written : Option ℕ) (o : Option Span) (finish : Result Hart Trap) → touched.fetched ≡ o
     → (retired_or_trapped hart touched written finish).outcome.touched.fetched ≡ o
 unfolding retired_or_trapped
@@ -27,37 +27,39 @@ FetchesAtPc pc after =
 fetches_at_pc : (state : Machine) → FetchesAtPc state.hart.pc (step state)
 fetches_at_pc state = step_ways state (FetchesAtPc state.hart.pc) (record {
   interrupt = λ interrupt pending_is. inr (refl, refl);
-  fetch_refused = λ fault here. inr (refl, refl);
-  illegal = λ word here. inl refl;
-  no_access = λ word instr here. inl (fetched_still state.hart _ _ _ _ refl);
-  load = λ word instr address width number here done. inl (fetched_still state.hart _ _ _ _ refl);
-  load_refused = λ word instr address width fault here not_loaded. inl refl;
-  store = λ word instr address width value memory here done. inl (fetched_still state.hart _ _ _ _ refl);
-  store_refused = λ word instr address width value fault here not_stored. inl refl;
+  fetch_refused = λ fault fetched_word. inr (refl, refl);
+  illegal = λ word fetched_word. inl refl;
+  no_access = λ word instr fetched_word. inl (fetched_still state.hart _ _ _ _ refl);
+  load = λ word instr address width number fetched_word done. inl (fetched_still state.hart _ _ _ _ refl);
+  load_refused = λ word instr address width fault fetched_word not_loaded. inl refl;
+  store = λ word instr address width value memory fetched_word done. inl (fetched_still state.hart _ _ _ _ refl);
+  store_refused = λ word instr address width value fault fetched_word not_stored. inl refl;
 })
 
 -- ---- the accesses
 
-module _ (state : HartView) (kept : HartViewInvariant state) where
-  -- a permitted access below M is accessible to the world
+-- a view with the invariant
+module _ (state : HartView) (view_invariant : HartViewInvariant state) where
+  -- a permitted access below M is accessible to the running world
   accessible : (mode : Mode) (access : Access) (o : Option Span) → is_machine mode ≡ false → MayTouch (bare_machine state) mode access o
       → SpanIsAccessible state access o
-  accessible mode access None below may = tt
-  accessible mode access (Some span) below may = sym (access_control_law state mode access span.addr span.len kept (below_M mode below) may.0) ∙ may.1
+  accessible mode access None mode_below_m may_touch = tt
+  accessible mode access (Some span) mode_below_m may_touch =
+      sym (access_control_law state mode access span.addr span.len view_invariant (below_M mode mode_below_m) may_touch.0) ∙ may_touch.1
 
-  -- each access of the bare step is accessible to the world
+  -- each access of the bare step is accessible to the running world
   touched_in_reach : IsTouchedAccessible state (step (bare_machine state)).outcome
   touched_in_reach =
-      let may = touches_permitted (bare_machine state) in
-      let below = data_below state kept in
+      let touches_permitted_bytes = touches_permitted (bare_machine state) in
+      let mode_below_m = data_below state view_invariant in
       let touched = (step (bare_machine state)).outcome.touched in
       record {
         at_pc = fetches_at_pc (bare_machine state);
-        fetched = accessible state.hart_state.hart.mode Fetch touched.fetched kept.hart.layout.mode may.fetched;
-        loaded = accessible (data_mode state.hart_state.hart) Read touched.loaded below may.loaded;
-        stored = accessible (data_mode state.hart_state.hart) Write touched.stored below may.stored;
+        fetched = accessible state.hart_state.hart.mode Fetch touched.fetched view_invariant.hart.layout.mode touches_permitted_bytes.fetched;
+        loaded = accessible (data_mode state.hart_state.hart) Read touched.loaded mode_below_m touches_permitted_bytes.loaded;
+        stored = accessible (data_mode state.hart_state.hart) Write touched.stored mode_below_m touches_permitted_bytes.stored;
       }
 
 -- proves that a step accesses only bytes that its world may access
 pub touch_law : (state : HartView) → HartViewInvariant state → TouchesAccessible state (monitored_step state)
-touch_law state kept = subst (IsTouchedAccessible state) (sym (same_outcome state)) (touched_in_reach state kept)
+touch_law state view_invariant = subst (IsTouchedAccessible state) (sym (same_outcome state)) (touched_in_reach state view_invariant)

@@ -1,31 +1,31 @@
--- A step that traps: the hart's own step is only the trap, and the trap handler follows it.
+-- A step of a view is the bare step of the hart, followed by the trap handler if the bare step traps.
 use Rattle.std.proofs.Common.{◌≡◌, ℕ, false, List, Option, Some, None, IfSome, refl, sym, ap, ◌∙◌}
 use Rattle.rv_hart.specs.Hart.{step_counted}
 use Rattle.rv_hart.specs.Hart.{trapped}
 use Rattle.rv_monitor.specs.Prelude.{Hart, HartState, StepOutcome, Trap, option_case, step}
 use Rattle.rv_monitor.proofs.Prelude.{HartView, HartViewStepped, bare_machine, handled, monitored_step, returned, trap_keeps, unhandled}
 
--- a hart after a trap that was counted
+-- the hart after a trap
 abbrev pub hart_after : Hart → Trap → Hart
 hart_after hart trap = step_counted (trapped hart trap) false hart.csrs.mcountinhibit None
 
--- the hart state after the bare step's trap, before the trap handler
+-- the hart state at the trap, before the trap handler
 abbrev pub hart_state_after : HartState → Trap → HartState
 hart_state_after hart_state trap = record hart_state { hart = hart_after hart_state.hart trap }
 
 -- ---- the two cases of a step
 
--- a step without a trap: the state after the bare step
+-- the view after a step without a trap
 abbrev pub untrapped : HartView → HartViewStepped
 untrapped state =
     let after = step (bare_machine state) in
     unhandled after.outcome (record state.hart_state { hart = after.state.hart }) (record state.shared { memory = after.state.memory })
 
--- with a trap, which the monitor handles
+-- the view after a step with a trap, which the trap handler handles
 abbrev pub trapped_to : HartView → Trap → HartViewStepped
 trapped_to state trap = returned (step (bare_machine state)).outcome (handled (hart_state_after state.hart_state trap) state.shared trap)
 
--- the claim for a step, with a trap or without
+-- the claim holds for the end of a step, with a trap or without
 by-end : (state : HartView) (P : HartViewStepped → Type 0) (o : Option Trap) (outcome : StepOutcome) (hart : Hart) (memory : List ℕ)
     → IfSome o (λ t. (hart ≡ hart_after state.hart_state.hart t) × (memory ≡ state.shared.memory))
     → (let hart_state = record state.hart_state { hart = hart } in
@@ -39,7 +39,7 @@ by-end state P (Some trap) outcome hart memory keeps quiet traps =
     let memory_is = keeps.1 in
     rw (hart_is, memory_is) (traps trap refl)
 
--- a property that holds in each case holds of the step
+-- Case analysis of a step of a view. A claim holds for the step if it holds for a step without a trap, and for a step with each trap.
 pub step_cases : (state : HartView) (P : HartViewStepped → Type 0) → ((step (bare_machine state)).outcome.trap ≡ None → P (untrapped state))
     → ((trap : Trap) → (step (bare_machine state)).outcome.trap ≡ Some trap → P (trapped_to state trap)) → P (monitored_step state)
 unfolding monitored_step
@@ -47,18 +47,25 @@ step_cases state P quiet traps =
     let after = step (bare_machine state) in
     by-end state P after.outcome.trap after.outcome after.state.hart after.state.memory (trap_keeps (bare_machine state)) quiet traps
 
--- the outcome of the step contains that of the hart's own step
+-- the outcome of the step of a view contains the outcome of the bare step
 pub same_outcome : (state : HartView) → (monitored_step state).outcome.step ≡ (step (bare_machine state)).outcome
 same_outcome state =
-    step_cases state (λ after. after.outcome.step ≡ (step (bare_machine state)).outcome) (λ none. refl) (λ trap trapped. refl)
+    step_cases state (λ after. after.outcome.step ≡ (step (bare_machine state)).outcome) (λ no_trap. refl) (λ trap trapped. refl)
 
--- a step that traps is the trap handler on the state at the trap, and its return
+-- a step with a trap is the trap handler on the hart state at the trap, followed by the return
 pub trapped_step : (state : HartView) (trap : Trap) → (monitored_step state).outcome.step.trap ≡ Some trap
     → monitored_step state ≡ trapped_to state trap
 trapped_step state trap =
     step_cases state (λ after. after.outcome.step.trap ≡ Some trap → after ≡ trapped_to state trap)
-    (λ none trapped. let never : None ≡ Some trap = sym none ∙ trapped in cc)
-    (λ other there trapped.
-    let traps : Some other ≡ Some trap = sym there ∙ trapped in
+    (λ no_trap trapped. let contradiction : None ≡ Some trap = sym no_trap ∙ trapped in cc)
+    (λ other trapped_other trapped.
+    let traps : Some other ≡ Some trap = sym trapped_other ∙ trapped in
     let same : other ≡ trap = cc in
     ap (trapped_to state) same)
+
+-- a step without a trap keeps the world
+pub quiet_world : (state : HartView) → (monitored_step state).outcome.step.trap ≡ None
+    → (monitored_step state).state.hart_state.world ≡ state.hart_state.world
+quiet_world state =
+    step_cases state (λ after. after.outcome.step.trap ≡ None → after.state.hart_state.world ≡ state.hart_state.world) (λ no_trap quiet. refl)
+    (λ trap traps quiet. let contradiction : None ≡ Some trap = sym quiet ∙ traps in cc)

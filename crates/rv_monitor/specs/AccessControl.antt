@@ -5,7 +5,7 @@ use Rattle.rv_word.specs.declared.width.Width.{Width}
 use Rattle.rv_monitor.specs.Prelude.{Access, M, Mode, bytes_from, bytes_in, is_accessible, is_inside, permits, verdict}
 use Rattle.rv_monitor.specs.MonitoredMachine.{HartView, HartViewInvariant}
 
--- in every such state the entries permit S and U exactly the accessible bytes in RAM
+-- in every state that satisfies the invariant, the PMP entries of a hart permit S and U exactly the accesses to accessible bytes in RAM
 abbrev pub AccessControlLaw : Type 0
 AccessControlLaw =
     (state : HartView) (mode : Mode) (access : Access) (address : ℕ) (width : Width)

@@ -14,7 +14,8 @@ use Rattle.rv_monitor.specs.Step.{MonitoredStepped}
 
 -- ---- an enclave between create and its first entry
 
--- it is Fresh, its saved context is the first one, and its measurement is that of its record and of the bytes of its region
+-- The enclave in slot k is as create made it. It is Fresh, and its saved context is the first one. Its measurement is that of its record and of the
+-- bytes in its region.
 pub record IsAsCreated (k : ℕ) (shared : Shared) : Type 0 where
   pub info : SlotInfo
   pub is : slot_at shared.table k ≡ Some info
@@ -22,11 +23,11 @@ pub record IsAsCreated (k : ℕ) (shared : Shared) : Type 0 where
   pub context : context_at shared.contexts k ≡ Some (first_context info)
   pub measurement : info.measurement ≡ measurement_of shared.memory (args_of info)
 
--- after a step, each enclave that it creates is as created, and each other that was so still is, unless it was entered or destroyed
+-- each enclave that the step creates is as create made it, and each enclave that is as create made it stays so, unless the step enters or destroys it
 pub record KeepsAsCreated (before : MonitoredMachine) (after : MonitoredStepped) : Type 0 where
-  -- an enclave that the step creates is as created after it
+  -- an enclave that the step creates is as create made it
   pub creates : (k : ℕ) → is_live before.shared.table k ≡ false → is_live after.state.shared.table k ≡ true → IsAsCreated k after.state.shared
-  -- one that was as created stays so, unless the step enters or ends it
+  -- an enclave that is as create made it stays so, unless the step enters or destroys it
   pub keeps : (k : ℕ) → IsAsCreated k before.shared → enters k after.outcome.entered ≡ false → is_live after.state.shared.table k ≡ true
       → IsAsCreated k after.state.shared
 
@@ -43,23 +44,23 @@ pub record BothEnter (p q : Place) (one other : MonitoredMachine) : Type 0 where
   pub second : IsEntry q other
   pub timer : (hart_state_of p.hart one).hart.csrs.timer ≡ (hart_state_of q.hart other).hart.csrs.timer
 
--- two enclaves that are saved alike take the same steps from their entry on, as long as they run
+-- two enclaves with equal saved states take the same steps from their entry on, as long as they run
 abbrev pub ReentryLaw : Type 0
 ReentryLaw =
     (p q : Place) (count : ℕ) (one other : MonitoredMachine) → Invariant one → Invariant other → SameSaved p.slot q.slot one.shared other.shared
     → BothEnter p q one other → AreHighSteps p count (step_at p one).state
     → SameEnclaveRun p q count (step_at p one).state (step_at q other).state
 
--- ---- its first run
+-- ---- the first run of the enclave
 
--- both enclaves are as created, from the same input of the measurement
+-- both enclaves are as create made them, from equal measured bytes
 pub record SameIdentity (i j : ℕ) (one other : Shared) : Type 0 where
   pub first : IsAsCreated i one
   pub second : IsAsCreated j other
   pub input : measured_bytes one.memory (args_of first.info) ≡ measured_bytes other.memory (args_of second.info)
 
 -- Let two machines have an enclave of the same identity, with equal bytes in its window and the same timer line, and let both enter it. The slots
--- and the harts may differ. It then takes the same steps in both, as long as it runs.
+-- and the harts may differ. The enclave then takes the same steps in both machines, as long as the enclave runs.
 abbrev pub AttestationLaw : Type 0
 AttestationLaw =
     (p q : Place) (count : ℕ) (one other : MonitoredMachine) → Invariant one → Invariant other → SameIdentity p.slot q.slot one.shared other.shared

@@ -17,6 +17,7 @@ call_refusals hart_state shared Create = create_refusals shared (create_args_of 
 call_refusals hart_state shared Destroy = state_refusals shared.table Destroy (a0 hart_state)
 call_refusals hart_state shared Run = state_refusals shared.table Run (a0 hart_state)
 call_refusals hart_state shared Resume = state_refusals shared.table Resume (a0 hart_state)
-call_refusals hart_state shared Measure = measure_refusals shared hart_state.hart.csrs.pmp (measured_slot hart_state.world (a0 hart_state)) (a1 hart_state)
+call_refusals hart_state shared Measure = measure_refusals shared hart_state.hart.csrs.pmp
+    (measured_slot hart_state.world (a0 hart_state)) (a1 hart_state)
 call_refusals hart_state shared Stop = []
 call_refusals hart_state shared Exit = []

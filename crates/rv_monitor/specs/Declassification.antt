@@ -17,28 +17,29 @@ use Rattle.rv_monitor.specs.Step.{step_of}
 
 -- ---- two machines that are equivalent except for an enclave
 
--- equivalent except for slot e in the guest view
+-- two machines are equivalent except e in the guest view
 abbrev pub EquivToGuests : ℕ → MonitoredMachine → MonitoredMachine → Type 0
 EquivToGuests e one other = EquivExcept e (guest_view one) (guest_view other)
 
--- the CSRs that a switch of worlds does not change: those of mode M and the counters
+-- the CSRs that no context switch replaces: those of M-mode and the counters
 abbrev pub unswitched : CsrState → CsrState
 unswitched c = record (with_s_context c no_supervisor) { pmp = record { cfgs = []; addrs = [] }; mie = 0 }
 
--- the same host is saved, and the CSRs that are not switched are equal
+-- two hart states have the same saved context of the host, and equal CSRs that no context switch replaces
 pub record SameHost (one other : HartState) : Type 0 where
   pub host : one.host_context ≡ other.host_context
   pub rest : unswitched one.hart.csrs ≡ unswitched other.hart.csrs
 
--- the same host is saved on a hart of both machines, in the guest view
+-- a hart has the same saved context of the host in both machines, in the guest view
 abbrev pub SameHostOn : ℕ → MonitoredMachine → MonitoredMachine → Type 0
 SameHostOn hart one other = SameHost (guest_state (hart_state_of hart one)) (guest_state (hart_state_of hart other))
 
--- the bytes that may differ: those of the region of slot e, and those of its window while it runs
+-- the bytes that may differ: those in the region of slot e, and those in its window while the enclave runs
 abbrev pub may_differ : Slots → ℕ → ℕ → Bool
 may_differ slots e byte = has (region slots e) byte || (runs slots e && has (window slots e) byte)
 
--- equivalent except for slot e in the guest view, and except for its window while it runs; the host whose context is saved is the same
+-- Two machines are equivalent except e in the guest view, and except for the window of e while e runs. The saved contexts of the host on the hart of
+-- e are equal.
 pub record AreRelated (e : ℕ) (one other : MonitoredMachine) : Type 0 where
   pub harts : count_of one ≡ count_of other
   pub hart_states : (hart : ℕ) → HartStatesEquivExcept e (guest_state (hart_state_of hart one)) (guest_state (hart_state_of hart other))
@@ -50,21 +51,21 @@ pub record AreRelated (e : ℕ) (one other : MonitoredMachine) : Type 0 where
 
 -- ---- what the enclave hands over
 
--- the bytes of its window are equal
+-- the bytes in the window of e are equal in both machines
 abbrev pub SameWindow : ℕ → MonitoredMachine → MonitoredMachine → Type 0
 SameWindow e one other = EqualOutside (λ byte. not (has (window one.shared.table e) byte)) one.shared.memory other.shared.memory
 
--- a0 is equal, and a6, which says how it exits
+-- two harts have equal a0, and equal a6, which says how the enclave exits
 pub record SameHandover (one other : Hart) : Type 0 where
   pub a0 : register one.regs 10 ≡ register other.regs 10
   pub a6 : register one.regs 16 ≡ register other.regs 16
 
--- an interrupt hands over neither
+-- Two harts hand over the same by this cause. An interrupt hands over no register.
 abbrev pub SameHandoverBy : Cause → Hart → Hart → Type 0
 SameHandoverBy (causes.Interrupt interrupt) one other = Unit {0}
 SameHandoverBy (causes.Exception exception) one other = SameHandover one other
 
--- it exits from both machines by the same trap, and hands over the same
+-- enclave e exits from both machines by the same trap, and hands over the same
 pub record ExitsAlike (e hart : ℕ) (one other : MonitoredMachine) : Type 0 where
   pub runs : runs_on e hart one ≡ true
   pub window : SameWindow e one other
@@ -83,12 +84,12 @@ pub data Move : Type 0 where
   Second : ℕ → Move
   Both : Event → Move
 
--- a step of the enclave that does not exit
+-- the step is a step of the enclave that does not exit
 pub record IsInside (e hart : ℕ) (machine : MonitoredMachine) : Type 0 where
   pub before : runs_on e hart machine ≡ true
   pub after : runs_on e hart (step_of hart machine).state ≡ true
 
--- a low step; while the enclave runs on another hart, the bytes of its window that the step reads are equal
+-- The step is a low step. If the enclave runs on another hart, then the bytes of its window that the step reads are equal in both machines.
 pub record IsLowStep (e hart : ℕ) (one other : MonitoredMachine) : Type 0 where
   pub low : runs_on e hart one ≡ false
   pub window : runs one.shared.table e ≡ true → SameWindowRead e hart one other
@@ -129,7 +130,7 @@ LowOutcomesEqual e (Both (StepOf hart) ∷ moves) one other =
 LowOutcomesEqual e (Both (LineOf hart raised) ∷ moves) one other =
     LowOutcomesEqual e moves (with_timer hart one raised) (with_timer hart other raised)
 
--- the machines after all moves
+-- the first machine after all moves
 abbrev pub first_end : List Move → MonitoredMachine → MonitoredMachine
 first_end [] machine = machine
 first_end (move ∷ moves) machine = first_end moves (first_after move machine)

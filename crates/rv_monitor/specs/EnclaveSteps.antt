@@ -52,7 +52,7 @@ pub record HasReturned (reason value hart : ℕ) (machine : MonitoredMachine) : 
   pub host : List ℕ
   pub regs : (hart_state_of hart machine).hart.regs ≡ with_return_values host reason value
 
--- both enclaves exited; the hosts received equal values, and the enclaves are saved alike
+-- both enclaves exited: the hosts received equal values, and the saved states of the enclaves are equal
 pub record SameExit (p q : Place) (one other : MonitoredMachine) : Type 0 where
   pub reason : ℕ
   pub value : ℕ
@@ -80,17 +80,17 @@ DependsOnEnclave hart before after =
 
 -- ---- many steps of the enclave in a row
 
--- before each of so many steps of the hart the enclave runs there
+-- the enclave runs on its hart before each of `count` steps of this hart
 abbrev pub AreHighSteps : Place → ℕ → MonitoredMachine → Type 0
 AreHighSteps place zero machine = Unit {0}
 AreHighSteps place (suc count) machine = (runs_at place machine ≡ true) × AreHighSteps place count (step_at place machine).state
 
--- so many steps of each hart have equal outcomes, and leave the enclaves in the same state or both exited
+-- `count` steps of each hart have equal outcomes, and leave the enclaves in the same state or both exited
 pub record SameEnclaveRun (p q : Place) (count : ℕ) (one other : MonitoredMachine) : Type 0 where
   pub outcomes : (sched (replicate count p.hart) one).outcomes ≡ (sched (replicate count q.hart) other).outcomes
   pub state : SameAfter p q (sched (replicate count p.hart) one).state (sched (replicate count q.hart) other).state
 
--- if two enclaves have the same state, each run of steps of the one is the same as that of the other
+-- if two enclaves have the same state, then many steps of one enclave are the same as many steps of the other
 abbrev pub EnclaveRunLaw : Type 0
 EnclaveRunLaw =
     (p q : Place) (count : ℕ) (one other : MonitoredMachine) → Invariant one → Invariant other → SameEnclave p q one other

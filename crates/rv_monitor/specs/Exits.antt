@@ -28,7 +28,7 @@ causes_exit hart_state (causes.Exception exception) = false
 
 -- ---- redirection to mode S
 
--- an exception that is not an ecall from S
+-- whether the cause of a trap is an exception other than an ecall from S
 abbrev pub is_redirected : Cause → Bool
 is_redirected (causes.Exception EnvironmentCallFromS) = false
 is_redirected (causes.Exception exception) = true
@@ -40,7 +40,7 @@ spp_of U = false
 spp_of S = true
 spp_of M = false
 
--- as after a trap to mode S: pc, cause and value of the exception, and the mode in which it occurred
+-- the CSRs after a trap to S-mode, with the pc, the cause and the value of the exception, and the mode in which the exception occurred
 abbrev pub redirected_csrs : Hart → Trap → CsrState
 redirected_csrs hart trap =
     let passed = passed_csrs hart.csrs trap (aligned_to_4 hart.csrs.stvec) in
@@ -51,7 +51,7 @@ redirected_csrs hart trap =
       stval = trap.tval;
     }
 
--- it continues in S at the base of stvec, with its registers
+-- the hart after a redirected trap: it continues in S at the base of stvec, with its registers
 abbrev pub redirected_hart : Hart → Trap → Hart
 redirected_hart hart trap = record { regs = hart.regs; csrs = redirected_csrs hart trap; pc = aligned_to_4 hart.csrs.stvec; mode = S }
 
@@ -63,14 +63,14 @@ redirected_machine own before trap =
 
 -- ---- the law
 
--- the world of a hart that runs an enclave after a step: the enclave, or the host after stop, exit or a timer interrupt
+-- after a step of a hart that runs an enclave, the hart runs this enclave, or the host after stop, exit or a timer interrupt
 pub record ExitsOnlyBy (hart k : ℕ) (before : MonitoredMachine) (after : MonitoredStepped) : Type 0 where
-  -- without a trap it continues
+  -- without a trap, the enclave continues
   pub quiet : after.outcome.step.trap ≡ None → (hart_state_of hart after.state).world ≡ Enclave k
-  -- with a trap it exits if and only if the trap is one of these
+  -- with a trap, the enclave exits if and only if the cause is one that exits
   pub exits : (trap : Trap) → after.outcome.step.trap ≡ Some trap
       → is_host (hart_state_of hart after.state).world ≡ causes_exit (hart_state_of hart before) trap.cause
-  -- an interrupt is that of the timer, whose line is set
+  -- each interrupt is the timer interrupt, and the timer line is set
   pub timer : (trap : Trap) (interrupt : Interrupt) → after.outcome.step.trap ≡ Some trap → trap.cause ≡ causes.Interrupt interrupt
       → (interrupt ≡ MachineTimer) × ((hart_state_of hart before).hart.csrs.timer ≡ true)
   -- every other exception is redirected

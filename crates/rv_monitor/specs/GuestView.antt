@@ -6,7 +6,7 @@ use Rattle.rv_monitor.specs.Prelude.{HartState}
 use Rattle.rv_monitor.specs.MonitoredMachine.{MonitoredMachine, Invariant}
 use Rattle.rv_monitor.specs.Step.{MonitoredStepped, step_of}
 
--- a hart with these registers set to 0
+-- a hart state with the registers that no world reads set to 0
 abbrev pub guest_state : HartState → HartState
 guest_state hart_state = record hart_state { hart = guest_hart hart_state.hart }
 

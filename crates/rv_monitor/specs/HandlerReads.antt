@@ -9,45 +9,47 @@ use Rattle.rv_monitor.specs.MonitoredMachine.{MonitoredMachine, hart_state_of}
 use Rattle.rv_monitor.specs.Step.{MonitoredStepped, handled, step_of}
 use Rattle.rv_monitor.specs.Switches.{Handled}
 
--- the call that a trap requests, if it is an ecall from S
+-- whether the cause of a trap is an ecall from S
 abbrev pub is_call : Cause → Bool
 is_call (causes.Exception EnvironmentCallFromS) = true
 is_call _ = false
 
--- the call that a trap requests: that of the registers after an ecall, else none
+-- the call that a trap requests: the call of the registers after an ecall from S, and none after another trap
 abbrev pub requested_by : Cause → HartState → Option Call
 requested_by cause hart_state =
     if is_call cause then requested_call hart_state.world hart_state.hart.regs else None
 
--- a call that enters an enclave
+-- whether a call enters an enclave
 abbrev pub is_entering : Option Call → Bool
 is_entering (Some Run) = true
 is_entering (Some Resume) = true
 is_entering _ = false
 
--- two shared states with the same table and memory size, and the same in everything else that the trap handler reads
+-- two shared states have the same table and memories of the same size, and are equal in everything else that the trap handler reads
 pub record SameRead (hart_state : HartState) (cause : Cause) (one other : Shared) : Type 0 where
   pub table : one.table ≡ other.table
   pub size : length one.memory ≡ length other.memory
   pub slots : length one.contexts ≡ length other.contexts
   pub measured : requested_by cause hart_state ≡ Some Create
-      → bytes_of_block one.memory (create_args_of hart_state.hart.regs).region ≡ bytes_of_block other.memory (create_args_of hart_state.hart.regs).region
-  pub entered : is_entering (requested_by cause hart_state) ≡ true → context_at one.contexts (a0 hart_state) ≡ context_at other.contexts (a0 hart_state)
+      → bytes_of_block one.memory (create_args_of hart_state.hart.regs).region
+      ≡ bytes_of_block other.memory (create_args_of hart_state.hart.regs).region
+  pub entered : is_entering (requested_by cause hart_state) ≡ true
+      → context_at one.contexts (a0 hart_state) ≡ context_at other.contexts (a0 hart_state)
 
--- the tables are equal after the trap, and each byte and each context that was equal before is equal after
+-- the tables are equal after the trap, and each byte and each context that is equal before is equal after
 pub record SameWhereSame (one other one_after other_after : Shared) : Type 0 where
   pub table : one_after.table ≡ other_after.table
   pub bytes : (i : ℕ) → slice_index one.memory i ≡ slice_index other.memory i → slice_index one_after.memory i ≡ slice_index other_after.memory i
   pub contexts : (k : ℕ) → context_at one.contexts k ≡ context_at other.contexts k
       → context_at one_after.contexts k ≡ context_at other_after.contexts k
 
--- two runs of the trap handler leave the same hart, and equal shared state wherever it was equal before
+-- two results of the trap handler have equal harts, and each byte and each context that is equal before is equal after
 pub record SameHandling (one other : Shared) (one_left other_left : Handled) : Type 0 where
   pub hart_state : one_left.hart_state ≡ other_left.hart_state
   pub next : one_left.next ≡ other_left.next
   pub shared : SameWhereSame one other one_left.shared other_left.shared
 
--- the trap handler has the same result on two shared states that are the same in all that it reads
+-- the trap handler has the same result on two shared states that are equal in everything that it reads
 abbrev pub HandlerReadsLaw : Type 0
 HandlerReadsLaw =
     (hart_state : HartState) (trap : Trap) (one other : Shared) → SameRead hart_state trap.cause one other
@@ -55,7 +57,7 @@ HandlerReadsLaw =
 
 -- ---- the step
 
--- two steps leave the same hart states, enter the same slot, and leave equal shared state wherever it was equal before
+-- two steps leave the same hart states and enter the same slot, and each byte and each context that is equal before is equal after
 pub record SameStep (one other : MonitoredMachine) (one_after other_after : MonitoredStepped) : Type 0 where
   pub hart_states : one_after.state.hart_states ≡ other_after.state.hart_states
   pub entered : one_after.outcome.entered ≡ other_after.outcome.entered

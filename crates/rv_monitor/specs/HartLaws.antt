@@ -27,7 +27,7 @@ SchedInvariantLaw = (harts : List ℕ) (machine : MonitoredMachine) → Invarian
 
 -- ---- low steps
 
--- all steps are low steps of e: before each, the enclave does not run on the hart that steps
+-- all steps are low steps of e: the enclave does not run on the hart that steps
 abbrev pub AreLowSteps : ℕ → List ℕ → MonitoredMachine → Type 0
 AreLowSteps e [] machine = Unit {0}
 AreLowSteps e (hart ∷ harts) machine = (runs_on e hart machine ≡ false) × AreLowSteps e harts (step_of hart machine).state
@@ -37,7 +37,7 @@ abbrev pub RunsOnNone : ℕ → List ℕ → MonitoredMachine → Type 0
 RunsOnNone e [] machine = Unit {0}
 RunsOnNone e (hart ∷ harts) machine = (runs_on e hart machine ≡ false) × RunsOnNone e harts machine
 
--- no step except the last enters the enclave
+-- no step except the last one enters the enclave
 abbrev pub IsNotEnteredBefore : ℕ → List ℕ → MonitoredMachine → Type 0
 IsNotEnteredBefore e [] machine = Unit {0}
 IsNotEnteredBefore e (hart ∷ []) machine = Unit {0}
@@ -50,14 +50,15 @@ EntryLaw =
     (e hart own : ℕ) (machine : MonitoredMachine) → runs_on e own machine ≡ false → enters e (step_of hart machine).outcome.entered ≡ false
     → runs_on e own (step_of hart machine).state ≡ false
 
--- steps of harts on which the enclave did not run at first are low steps, up to and including the one that enters it
+-- steps of harts that did not run the enclave at first are low steps, up to and including the step that enters the enclave
 abbrev pub LowStepsLaw : Type 0
 LowStepsLaw =
-    (e : ℕ) (harts : List ℕ) (machine : MonitoredMachine) → RunsOnNone e harts machine → IsNotEnteredBefore e harts machine → AreLowSteps e harts machine
+    (e : ℕ) (harts : List ℕ) (machine : MonitoredMachine) → RunsOnNone e harts machine → IsNotEnteredBefore e harts machine
+    → AreLowSteps e harts machine
 
 -- ---- noninterference
 
--- the outcomes are the same, and the final states are equivalent except for e; the steps are low steps in the other machine too
+-- The outcomes are the same, and the final machines are equivalent except e. The steps are low steps in the other machine too.
 pub record SchedAlike (e : ℕ) (harts : List ℕ) (one other : MonitoredMachine) : Type 0 where
   pub outcomes : (sched harts one).outcomes ≡ (sched harts other).outcomes
   pub state : EquivExcept e (sched harts one).state (sched harts other).state
@@ -71,7 +72,8 @@ SchedLaw =
 
 -- ---- integrity
 
--- an enclave is undisturbed by an order of steps: it is live before, between and after them, and each is a low step that does not enter it
+-- A list of steps leaves an enclave undisturbed. The enclave is live before, between and after the steps, and each step is a low step that does not
+-- enter the enclave.
 abbrev pub IsUndisturbed : ℕ → List ℕ → MonitoredMachine → Type 0
 IsUndisturbed k [] machine = is_live machine.shared.table k ≡ true
 IsUndisturbed k (hart ∷ harts) machine =
@@ -98,7 +100,7 @@ IsChangedInOrder [] machine byte = ⊥
 IsChangedInOrder (hart ∷ harts) machine byte =
     IsChanged (hart_view hart machine) (hart_view_after hart (step_of hart machine)) byte ⊎ IsChangedInOrder harts (step_of hart machine).state byte
 
--- every order of steps changes no other byte
+-- steps in any order change only bytes that one of the steps may change
 abbrev pub SchedChangeLaw : Type 0
 SchedChangeLaw =
     (harts : List ℕ) (machine : MonitoredMachine) (byte : ℕ) → Invariant machine

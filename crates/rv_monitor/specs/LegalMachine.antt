@@ -5,7 +5,7 @@ use Rattle.rv_monitor.specs.Prelude.{HartState, IsLegal, aligned_to_4, context_a
 use Rattle.rv_monitor.specs.Events.{Event, event_of}
 use Rattle.rv_monitor.specs.MonitoredMachine.{MonitoredMachine, Invariant, at_start, hart_state_of}
 
--- the pc is a multiple of 4, and each register of mode S has a value that it can store
+-- the pc is a multiple of 4, and each register of S-mode has a value that it can store
 pub record IsLegalHartState (hart_state : HartState) : Type 0 where
   pub pc : aligned_to_4 hart_state.hart.pc ≡ hart_state.hart.pc
   pub supervisor : IsLegal (s_context hart_state.hart.csrs)
@@ -18,4 +18,5 @@ pub record IsLegalMachine (machine : MonitoredMachine) : Type 0 where
 -- the machine at reset is legal, and every event of a legal machine leaves it legal
 pub record LegalLaw : Type 0 where
   pub start : (memory : List ℕ) (entry harts : ℕ) → aligned_to_4 entry ≡ entry → IsLegalMachine (at_start memory entry harts)
-  pub keeps : (event : Event) (machine : MonitoredMachine) → Invariant machine → IsLegalMachine machine → IsLegalMachine (event_of event machine).state
+  pub keeps : (event : Event) (machine : MonitoredMachine) → Invariant machine → IsLegalMachine machine
+      → IsLegalMachine (event_of event machine).state

@@ -32,7 +32,7 @@ pub mod Debugger
 pub mod EquivExcept
 -- The reads of the trap handler from memory and from the saved contexts
 pub mod HandlerReads
--- Noninterference of a step
+-- Noninterference: a step depends on nothing that is private to an enclave that is not the world of its hart, wherever that enclave runs
 pub mod Noninterference
 -- Access control
 pub mod AccessControl
@@ -44,7 +44,7 @@ pub mod Changes
 pub mod Touches
 -- The machine with every byte and register that is private to an enclave complemented
 pub mod Scrambled
--- A step that enters an enclave, by run or resume, gives the hart exactly its saved context
+-- A step that enters an enclave, by run or resume, gives the hart exactly the saved context of the enclave
 pub mod Entering
 -- The record of a live enclave keeps its region, window, entry and measurement
 pub mod Records
@@ -56,7 +56,7 @@ pub mod Availability
 pub mod NumberedCalls
 -- Steps that are no call of the monitor
 pub mod PlainSteps
--- The laws of a step determine it: whatever obeys these five is the step
+-- Five laws determine each step: a result that obeys the five laws is the result of the step
 pub mod Determined
 -- The guest view: what the worlds can read of a machine
 pub mod GuestView

@@ -16,9 +16,9 @@ use Rattle.rv_monitor.specs.Step.{step_of}
 use Rattle.rv_monitor.specs.LegalMachine.{IsLegalMachine}
 use Rattle.rv_monitor.specs.SwitchLaws.{continuation}
 
--- ---- a point of its life
+-- ---- a point in the life of an enclave
 
--- the context with which an enclave continues: that of its hart while it runs, or else its saved context
+-- enclave k continues with this context: it is the context of the hart while the enclave runs, and the saved context otherwise
 pub record ContinuesWith (k : ℕ) (context : Context) (machine : MonitoredMachine) : Type 0 where
   pub running : (hart : ℕ) → runs_on k hart machine ≡ true → continuation (hart_state_of hart machine).hart ≡ context
   pub resting : runs machine.shared.table k ≡ false → context_at machine.shared.contexts k ≡ Some context
@@ -33,19 +33,20 @@ pub record AreAtOnePoint (i j : ℕ) (one other : MonitoredMachine) : Type 0 whe
   pub identity : identity_at one.shared.table i ≡ identity_at other.shared.table j
   pub memory : EqualOutside (λ byte. not (has (region one.shared.table i) byte)) one.shared.memory other.shared.memory
 
--- ---- what the others do
+-- ---- events that are foreign to the enclave
 
--- A step of another world, which may enter the enclave but not end it. Or the timer interrupt, which takes the enclave off its hart. Or a change of
--- any timer line.
+-- The event is foreign to enclave k. It is a step of another world, which may enter the enclave but not destroy it. Or it is the timer interrupt,
+-- which takes the enclave off its hart, or a change of any timer line.
 abbrev pub IsForeign : ℕ → Event → MonitoredMachine → Type 0
 IsForeign k (StepOf hart) machine =
     ((runs_on k hart machine ≡ false) ⊎ ((hart_state_of hart machine).hart.csrs.timer ≡ true))
     × (is_live (step_of hart machine).state.shared.table k ≡ true)
 IsForeign k (LineOf hart raised) machine = Unit {0}
 
--- ---- its own steps
+-- ---- own steps of the enclave
 
--- it runs in both, no timer line is set on its harts, and the bytes of its window that the step reads are equal
+-- The step is an own step of the enclave. The enclave runs in both machines, and no timer line is set on its harts. The bytes of its window that the
+-- step reads are equal.
 pub record IsOwnStep (p q : Place) (one other : MonitoredMachine) : Type 0 where
   pub first : runs_at p one ≡ true
   pub second : runs_at q other ≡ true
@@ -60,7 +61,8 @@ pub record BothReturned (p q : Place) (one other : MonitoredMachine) : Type 0 wh
   pub first : HasReturned reason value p.hart one
   pub second : HasReturned reason value q.hart other
 
--- The outcomes are equal, and every byte that changes in one is equal in both after the step. If the enclave exits, both hosts receive the same.
+-- The own step is the same in both machines: the outcomes are equal, and every byte that changes in one machine is equal in both after the step. If
+-- the enclave exits, then both hosts receive the same.
 pub record SameOwnStep (p q : Place) (one other : MonitoredMachine) : Type 0 where
   pub outcome : (step_at p one).outcome ≡ (step_at q other).outcome
   pub changes : ChangeAlike one.shared.memory other.shared.memory (step_at p one).state.shared.memory (step_at q other).state.shared.memory
@@ -101,7 +103,7 @@ abbrev pub AreLifeMoves : ℕ → ℕ → List LifeMove → MonitoredMachine →
 AreLifeMoves i j [] one other = Unit {0}
 AreLifeMoves i j (move ∷ moves) one other = IsLifeMove i j move one other × AreLifeMoves i j moves (one_after move one) (other_after move other)
 
--- every own step is the same in both
+-- every own step in the list of moves is the same in both machines
 abbrev pub OwnStepsAreSame : ℕ → ℕ → List LifeMove → MonitoredMachine → MonitoredMachine → Type 0
 OwnStepsAreSame i j [] one other = Unit {0}
 OwnStepsAreSame i j (InFirst event ∷ moves) one other = OwnStepsAreSame i j moves (event_of event one).state other
@@ -132,7 +134,7 @@ LifeLaw =
     (i j : ℕ) (moves : List LifeMove) (one other : MonitoredMachine) → Invariant one → Invariant other → IsLegalMachine one → IsLegalMachine other
     → AreAtOnePoint i j one other → AreLifeMoves i j moves one other → LiveAlike i j moves one other
 
--- two enclaves of the same identity begin at the same point: the measurement identifies what an enclave does in its whole life
+-- two enclaves with equal measured bytes begin at the same point: the measurement identifies what an enclave does in its whole life
 abbrev pub LifeBeginsLaw : Type 0
 LifeBeginsLaw =
     (i j : ℕ) (one other : MonitoredMachine) → Invariant one → Invariant other → SameIdentity i j one.shared other.shared

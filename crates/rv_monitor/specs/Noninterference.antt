@@ -1,4 +1,4 @@
--- Noninterference of a step: it depends on nothing that is private to an enclave that is not the world of its hart, wherever that enclave runs.
+-- Noninterference: a step depends on nothing that is private to an enclave that is not the world of its hart, wherever that enclave runs.
 -- (A law about the monitor's definitions, not a rule of a standard.)
 use Rattle.std.specs.Prelude.{◌≡◌, ℕ, Bool, false, List}
 use Rattle.rv_monitor.specs.Prelude.{EqualOutside, SharedInvariant, HartState, Shared, SharedEquivExcept, Machine, Stepped, Trap, World, is_private}
@@ -14,22 +14,23 @@ use Rattle.rv_monitor.specs.Switches.{Handled}
 abbrev pub continuing_from : Handled → HartState
 continuing_from h = record h.hart_state { hart = returned_to h.hart_state.hart h.next.pc h.next.mode }
 
--- both enter the same slot, and the results are equivalent; if that slot is e, the hart states need not be equal
+-- Two results of the trap handler enter the same slot and are equivalent except e. If this slot is e, then the hart states need not be equal.
 pub record HandledAlike (e : ℕ) (one other : Handled) : Type 0 where
   pub entered : one.next.entered ≡ other.next.entered
   pub hart_state : HartStatesEquivExcept e (continuing_from one) (continuing_from other)
   pub shared : SharedEquivExcept e one.shared other.shared
 
--- on two shared states that are equivalent except for e, the trap handler of another world has equivalent results
+-- the trap handler of a world other than e has equivalent results on two shared states that are equivalent except e
 abbrev pub HandlerLaw : Type 0
 HandlerLaw =
-    (e : ℕ) (worlds : List World) (hart_state : HartState) (one other : Shared) (trap : Trap) → SharedInvariant one worlds → SharedInvariant other worlds
+    (e : ℕ) (worlds : List World) (hart_state : HartState) (one other : Shared) (trap : Trap) → SharedInvariant one worlds
+    → SharedInvariant other worlds
     → is_world_of e hart_state.world ≡ false → SharedEquivExcept e one other
     → HandledAlike e (handled hart_state one trap) (handled hart_state other trap)
 
 -- ---- the bare step
 
--- the hart and the memory alone, as a machine without the monitor
+-- the hart and the memory of a view, as a machine without the monitor
 abbrev pub bare_machine : HartView → Machine
 bare_machine state = record { hart = state.hart_state.hart; memory = state.shared.memory }
 
@@ -39,7 +40,7 @@ pub record StepAlike (hidden : ℕ → Bool) (one other : Stepped) : Type 0 wher
   pub outcome : other.outcome ≡ one.outcome
   pub memory : EqualOutside hidden one.state.memory other.state.memory
 
--- a bare step depends on no byte of a region that is not the world's
+-- a bare step depends on no byte in the region of an enclave other than the running world
 abbrev pub BareLaw : Type 0
 BareLaw =
     (e : ℕ) (state : HartView) (memory : List ℕ) → HartViewInvariant state → is_world_of e state.hart_state.world ≡ false
@@ -48,7 +49,7 @@ BareLaw =
 
 -- ---- the monitored step
 
--- both have the same outcome, and end in states that are equivalent except for e
+-- two steps have equal outcomes, and end in machines that are equivalent except e
 pub record SteppedAlike (e : ℕ) (one other : MonitoredStepped) : Type 0 where
   pub outcome : one.outcome ≡ other.outcome
   pub state : EquivExcept e one.state other.state

@@ -27,7 +27,7 @@ abbrev pub call_at : ℕ → MonitoredMachine → Option Call
 call_at hart machine =
     let regs = regs_at hart machine in call_numbered (hart_state_of hart machine).world (register regs 17) (register regs 16)
 
--- 0 if the call succeeds
+-- the status of the request of the hart: 0 if the call succeeds
 abbrev pub status_at : ℕ → MonitoredMachine → ℕ
 status_at hart machine =
     let hart_state = hart_state_of hart machine in
@@ -35,8 +35,8 @@ status_at hart machine =
 
 -- ---- a call that enters or leaves no enclave
 
--- The caller continues in S after its ecall, with two values in a0 and a1. Its other registers, its S-mode CSRs and its world are as they were.
--- On every other hart only the PMP entries and mie change.
+-- The machine after a return to the caller. The caller continues in S after its ecall, with two values in a0 and a1. Its other registers, its S-mode
+-- CSRs and its world are unchanged. On every other hart only the PMP entries and mie change.
 abbrev pub answered_machine : ℕ → MonitoredMachine → Trap → Shared → ℕ → ℕ → MonitoredMachine
 answered_machine own before trap shared a0 a1 =
     let hart_state = hart_state_of own before in
@@ -77,7 +77,8 @@ supervisor_at csrs = record {
   mxr = csrs.mstatus.mxr;
 }
 
--- the hart continues with a saved context: each S-mode CSR is as a write would store it, and the PMP entries and mie are those of the world
+-- The hart after a context switch to a saved context. Each S-mode CSR has the value that a write would store, and the PMP entries and mie are those
+-- of the new world.
 abbrev pub switched_hart : Hart → Trap → Context → Slots → World → Hart
 switched_hart hart trap context slots world =
     let passed = passed_csrs hart.csrs trap context.pc in
@@ -109,7 +110,8 @@ slots_with_state slots k state =
 
 -- ---- a call that enters an enclave
 
--- The enclave is Running and continues with its saved context. The host is saved with its own registers, to continue in S after its ecall.
+-- The machine after a call enters an enclave. The enclave is Running and continues with its saved context. The host is saved with its own registers,
+-- to continue in S after its ecall.
 abbrev pub entered_by_call : ℕ → MonitoredMachine → ℕ → Trap → Context → MonitoredMachine
 entered_by_call own before k trap context =
     let hart = (hart_state_of own before).hart in
@@ -132,16 +134,17 @@ pub record EntersByCall (hart : ℕ) (before : MonitoredMachine) (after : Monito
 
 -- ---- a step that leaves an enclave
 
--- the state in which it leaves, its saved context, and what the host receives in a0 and a1
+-- what an exit hands over: the new state of the enclave, its saved context, and the values that the host receives in a0 and a1
 pub record Handover : Type 0 where
   pub state : EnclaveState
   pub kept : Context
   pub reason : ℕ
   pub value : ℕ
-  -- the timer line of the hart after it
+  -- the timer line of the hart after the exit
   pub line : Bool
 
--- The host continues with its saved context, except for a0 and a1. On every other hart only the PMP entries and mie change.
+-- The machine after an enclave exits. The host continues with its saved context, except for a0 and a1. On every other hart only the PMP entries and
+-- mie change.
 abbrev pub handed_over_machine : ℕ → MonitoredMachine → ℕ → Trap → Context → Handover → MonitoredMachine
 handed_over_machine own before k trap host over =
     let slots = slots_with_state before.shared.table k over.state in
@@ -158,7 +161,7 @@ handed_over_machine own before k trap host over =
       shared = record before.shared { table = slots; contexts = slice_set before.shared.contexts k (Some over.kept) };
     }
 
--- stop: the enclave continues after its ecall, with 0 in a0 and a1; the host receives 1 and the enclave's a0
+-- the exit by stop: the enclave will continue after its ecall, with 0 in a0 and a1; the host receives 1 and the enclave's a0
 abbrev pub by_stop_call : Hart → Handover
 by_stop_call hart = record {
   state = Stopped;
@@ -173,7 +176,7 @@ by_stop_call hart = record {
   line = hart.csrs.timer;
 }
 
--- exit: the saved context of the enclave is zeroed; the host receives 0 and the enclave's a0
+-- the exit by the call exit: the saved context of the enclave is zeroed; the host receives 0 and the enclave's a0
 abbrev pub by_exit_call : Hart → Handover
 by_exit_call hart = record {
   state = Exited;
@@ -188,7 +191,7 @@ by_exit_call hart = record {
   line = hart.csrs.timer;
 }
 
--- the timer interrupt: the enclave continues where it was; the host receives 2 and 0, and the line is cleared
+-- the exit by the timer interrupt: the enclave will continue at the interrupted instruction; the host receives 2 and 0, and the timer line is cleared
 abbrev pub by_interrupt : Hart → Handover
 by_interrupt hart = record {
   state = Stopped;
@@ -198,7 +201,7 @@ by_interrupt hart = record {
   line = false;
 }
 
--- the step ends the run of slot k: the enclave is saved, and the hart continues with the context of the host
+-- the step ends the run of slot k: the monitor saves the enclave, and the hart continues with the context of the host
 abbrev pub HandsOver : ℕ → MonitoredMachine → MonitoredStepped → ℕ → Trap → Context → Handover → Type 0
 HandsOver hart before after k trap host over =
     (after.state ≡ handed_over_machine hart before k trap host over) × (after.outcome.entered ≡ None)
@@ -210,12 +213,14 @@ pub record AnswersInNumbers (hart : ℕ) (before : MonitoredMachine) (after : Mo
   -- any other status than 0 refuses: nothing that the harts share changes
   pub refuses : status_at hart before ≢ 0 → Returns hart before after trap before.shared (status_at hart before) 0
   pub creates : call_at hart before ≡ Some Create → status_at hart before ≡ 0
-      → Returns hart before after trap (shared_with_new before.shared (regs_at hart before)) 0 (option_case (lowest_free before.shared.table) 13 (λ k. k))
+      → Returns hart before after trap (shared_with_new before.shared (regs_at hart before)) 0
+      (option_case (lowest_free before.shared.table) 13 (λ k. k))
   pub destroys : call_at hart before ≡ Some Destroy → status_at hart before ≡ 0
       → Returns hart before after trap (shared_without before.shared (register (regs_at hart before) 10)) 0 0
   pub measures : call_at hart before ≡ Some Measure → status_at hart before ≡ 0
       → (let regs = regs_at hart before in
-      Returns hart before after trap (shared_with_measurement before.shared (slot_named (hart_state_of hart before).world regs) (register regs 11)) 0 0)
+      Returns hart before after trap
+      (shared_with_measurement before.shared (slot_named (hart_state_of hart before).world regs) (register regs 11)) 0 0)
   pub runs : (hart_state_of hart before).world ≡ Host → call_at hart before ≡ Some Run → status_at hart before ≡ 0
       → EntersByCall hart before after trap (register (regs_at hart before) 10)
   pub resumes : (hart_state_of hart before).world ≡ Host → call_at hart before ≡ Some Resume → status_at hart before ≡ 0
@@ -225,13 +230,13 @@ pub record AnswersInNumbers (hart : ℕ) (before : MonitoredMachine) (after : Mo
   pub exits : (k : ℕ) (host : Context) → (hart_state_of hart before).world ≡ Enclave k → (hart_state_of hart before).host_context ≡ Some host
       → call_at hart before ≡ Some Exit → HandsOver hart before after k trap host (by_exit_call (hart_state_of hart before).hart)
 
--- of every ecall from S
+-- each ecall from S has the result of its number and its status
 abbrev pub AnswersCalls : ℕ → MonitoredMachine → MonitoredStepped → Type 0
 AnswersCalls hart before after =
     (trap : Trap) → after.outcome.step.trap ≡ Some trap → trap.cause ≡ causes.Exception EnvironmentCallFromS
     → AnswersInNumbers hart before after trap
 
--- every interrupt while an enclave runs ends its run: the enclave is saved, and the host continues
+-- every interrupt while an enclave runs ends its run: the monitor saves the enclave, and the host continues
 abbrev pub InterruptsEnclave : ℕ → MonitoredMachine → MonitoredStepped → Type 0
 InterruptsEnclave hart before after =
     (k : ℕ) (host : Context) (trap : Trap) (interrupt : Interrupt) → (hart_state_of hart before).world ≡ Enclave k
@@ -240,9 +245,9 @@ InterruptsEnclave hart before after =
 
 -- ---- the calls that succeed
 
--- the result of each call, under the conditions of its success in terms of numbers and the table
+-- the result of each call, under the conditions in numbers under which the call succeeds
 pub record SucceedsInNumbers (hart : ℕ) (before : MonitoredMachine) (after : MonitoredStepped) (trap : Trap) : Type 0 where
-  -- of the host; this is the lowest free slot
+  -- a create by the host, which gets the lowest free slot
   pub create : (slot : ℕ) → (hart_state_of hart before).world ≡ Host → Requests 1 (regs_at hart before)
       → IsCreatable before.shared (regs_at hart before) slot
       → Returns hart before after trap (shared_with_new before.shared (regs_at hart before)) 0 slot
@@ -255,19 +260,19 @@ pub record SucceedsInNumbers (hart : ℕ) (before : MonitoredMachine) (after : M
   pub resume : (hart_state_of hart before).world ≡ Host → Requests 4 (regs_at hart before)
       → HasState before.shared.table (register (regs_at hart before) 10) Stopped
       → EntersByCall hart before after trap (register (regs_at hart before) 10)
-  -- of the host, or of an enclave about itself
+  -- a measure by the host, or by an enclave about itself
   pub measure : Requests 5 (regs_at hart before)
       → (let hart_state = hart_state_of hart before in
       let regs = regs_at hart before in
       IsMeasurable before.shared hart_state.hart.csrs.pmp (slot_named hart_state.world regs) (register regs 11)
       → Returns hart before after trap (shared_with_measurement before.shared (slot_named hart_state.world regs) (register regs 11)) 0 0)
-  -- of an enclave, whose host has a saved context
+  -- a stop by an enclave whose host has a saved context
   pub stop : (k : ℕ) (host : Context) → (hart_state_of hart before).world ≡ Enclave k → (hart_state_of hart before).host_context ≡ Some host
       → Requests 6 (regs_at hart before) → HandsOver hart before after k trap host (by_stop_call (hart_state_of hart before).hart)
   pub exit : (k : ℕ) (host : Context) → (hart_state_of hart before).world ≡ Enclave k → (hart_state_of hart before).host_context ≡ Some host
       → Requests 7 (regs_at hart before) → HandsOver hart before after k trap host (by_exit_call (hart_state_of hart before).hart)
 
--- of every ecall from S
+-- each ecall from S whose numbers meet the conditions of a call has the result of this call
 abbrev pub CallsSucceed : ℕ → MonitoredMachine → MonitoredStepped → Type 0
 CallsSucceed hart before after =
     (trap : Trap) → after.outcome.step.trap ≡ Some trap → trap.cause ≡ causes.Exception EnvironmentCallFromS

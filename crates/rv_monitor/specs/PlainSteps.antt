@@ -11,11 +11,11 @@ use Rattle.rv_monitor.specs.Step.{MonitoredStepped}
 
 -- ---- any world
 
--- the step of the hart without a monitor
+-- the step of the hart without the monitor
 abbrev pub plain_step : ℕ → MonitoredMachine → Stepped
 plain_step hart machine = step (record { hart = (hart_state_of hart machine).hart; memory = machine.shared.memory })
 
--- only the hart and the memory are those after it
+-- the machine after a step without a trap: only the hart and the memory change, as in the plain step
 abbrev pub plainly_stepped : ℕ → MonitoredMachine → MonitoredMachine
 plainly_stepped own before =
     let after = plain_step own before in
@@ -24,7 +24,7 @@ plainly_stepped own before =
       shared = record before.shared { memory = after.state.memory };
     }
 
--- the trap and the accesses are those of the plain step; without a trap, so is the rest
+-- The trap and the accesses of the step are those of the plain step. Without a trap, so is the rest of the result.
 pub record IsPlain (hart : ℕ) (before : MonitoredMachine) (after : MonitoredStepped) : Type 0 where
   pub outcome : after.outcome.step ≡ (plain_step hart before).outcome
   pub quiet : after.outcome.step.trap ≡ None → (after.state ≡ plainly_stepped hart before) × (after.outcome.entered ≡ None)

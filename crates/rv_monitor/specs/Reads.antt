@@ -30,4 +30,5 @@ SameWindowRead e hart one other =
 -- two memories m and n, and the same later: each byte is unchanged in both, or equal afterwards
 abbrev pub ChangeAlike : List ℕ → List ℕ → List ℕ → List ℕ → Type 0
 ChangeAlike m n m_after n_after =
-    (i : ℕ) → ((slice_index m_after i ≡ slice_index m i) × (slice_index n_after i ≡ slice_index n i)) ⊎ (slice_index m_after i ≡ slice_index n_after i)
+    (i : ℕ) → ((slice_index m_after i ≡ slice_index m i) × (slice_index n_after i ≡ slice_index n i)) ⊎
+    (slice_index m_after i ≡ slice_index n_after i)

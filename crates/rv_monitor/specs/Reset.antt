@@ -5,8 +5,8 @@ use Rattle.std.specs.List.{range_with_len}
 use Rattle.rv_monitor.specs.Prelude.{HartState, Host, S, U}
 use Rattle.rv_monitor.specs.MonitoredMachine.{MonitoredMachine}
 
--- The host is in S at the entry address, and every register but a0 is 0. Entry 0 of the PMP denies the monitor's range, 80000000 to 8000FFFF, and
--- entry 15 grants the rest. No interrupt is enabled.
+-- The hart at reset runs the host in S at the entry address, and every register but a0 is 0. Entry 0 of the PMP denies the monitor's range, 80000000
+-- to 8000FFFF, and entry 15 grants the rest. No interrupt is enabled.
 abbrev pub hart_at_reset : ℕ → ℕ → HartState
 hart_at_reset entry a0 = record {
   hart = record {
@@ -54,7 +54,7 @@ hart_at_reset entry a0 = record {
 abbrev pub harts_at_reset : ℕ → ℕ → List HartState
 harts_at_reset harts entry = map (hart_at_reset entry) (range_with_len 0 harts)
 
--- there is no enclave, in none of the thirteen slots
+-- the machine at reset has no enclave in any of its slots
 abbrev pub machine_at_reset : List ℕ → ℕ → ℕ → MonitoredMachine
 machine_at_reset memory entry harts = record {
   hart_states = harts_at_reset harts entry;

@@ -27,7 +27,8 @@ pub record HostIsRestored (before last : HartView) (after : HartViewStepped) : T
 -- the hart the host runs. The S-mode registers of the context that the first step saved are as a hart stores them.
 abbrev pub ReturnLaw : Type 0
 ReturnLaw =
-    (hart : ℕ) (harts : List ℕ) (machine : MonitoredMachine) → Invariant machine → HostContextIsLegal (hart_state_of hart (step_of hart machine).state)
+    (hart : ℕ) (harts : List ℕ) (machine : MonitoredMachine) → Invariant machine → HostContextIsLegal
+    (hart_state_of hart (step_of hart machine).state)
     → is_host (hart_state_of hart machine).world ≡ true → RunsThrough hart harts (step_of hart machine).state
     → (let last = hart_view hart (sched harts (step_of hart machine).state).state in
     is_host (monitored_step last).state.hart_state.world ≡ true → HostIsRestored (hart_view hart machine) last (monitored_step last))

@@ -9,7 +9,7 @@ use Rattle.rv_monitor.specs.MonitoredMachine.{MonitoredMachine}
 abbrev pub scrambled : MonitoredMachine → ℕ → MonitoredMachine
 scrambled machine k = record machine { shared = scrambled_shared machine.shared k }
 
--- scrambling twice restores the state, if memory holds bytes and the context's registers hold 32-bit words
+-- two scrambles restore the machine, if memory holds bytes and the registers of the saved context hold 32-bit words
 abbrev pub ScrambleLaw : Type 0
 ScrambleLaw =
     (machine : MonitoredMachine) (k : ℕ) → ((i : ℕ) → slice_index machine.shared.memory i < 2 ^ 8)

@@ -8,13 +8,13 @@ use Rattle.rv_monitor.specs.TrapReturns.{past_ecall}
 use Rattle.rv_monitor.specs.MonitoredMachine.{HartView}
 use Rattle.rv_monitor.specs.Step.{HartViewStepped}
 
--- the world continues: it is the same, and the host's saved context is unchanged
+-- the world continues: the hart has the same world and the same saved context of the host
 pub record Stays (before : HartView) (after : HartViewStepped) : Type 0 where
   pub world : after.state.hart_state.world ≡ before.hart_state.world
   pub host : after.state.hart_state.host_context ≡ before.hart_state.host_context
   pub entered : after.outcome.entered ≡ None
 
--- the host enters an enclave: its saved context has its registers as they were, mode S, and the address after its ecall
+-- the host enters an enclave: the saved context of the host has the registers of the hart, mode S, and the address after the ecall
 pub record Enters (before : HartView) (after : HartViewStepped) : Type 0 where
   pub slot : ℕ
   pub from_host : before.hart_state.world ≡ Host
@@ -22,21 +22,21 @@ pub record Enters (before : HartView) (after : HartViewStepped) : Type 0 where
   pub host : after.state.hart_state.host_context ≡ Some (saved before.hart_state.hart (past_ecall before.hart_state.hart) S)
   pub entered : after.outcome.entered ≡ Some slot
 
--- the values that the host receives in a0 and a1: 0 after exit and 1 after stop, with the a0 of the enclave; 2 and 0 after a timer interrupt
+-- the value that the host receives in a0 when an enclave exits: 0 after the call exit, 1 after stop, and 2 after a timer interrupt
 abbrev pub reason : Cause → List ℕ → ℕ
 reason (causes.Interrupt interrupt) regs = 2
 reason (causes.Exception exception) regs = if register regs 16 == call_number Exit then 0 else 1
 
--- the value that the host receives in a1 when the enclave exits
+-- the value that the host receives in a1 when an enclave exits: the a0 of the enclave after stop and exit, and 0 after a timer interrupt
 abbrev pub value : Cause → List ℕ → ℕ
 value (causes.Interrupt interrupt) regs = 0
 value (causes.Exception exception) regs = register regs 10
 
--- the context that would be saved of a hart as it continues
+-- the context with which the hart would continue, if the monitor saved it now
 abbrev pub continuation : Hart → Context
 continuation hart = saved hart hart.pc hart.mode
 
--- an enclave exits: the host is restored, except for a0 and a1
+-- an enclave exits: the monitor restores the host, except for a0 and a1
 pub record Leaves (before : HartView) (after : HartViewStepped) : Type 0 where
   pub slot : ℕ
   pub host : Context
@@ -46,7 +46,9 @@ pub record Leaves (before : HartView) (after : HartViewStepped) : Type 0 where
   pub trapped : after.outcome.step.trap ≡ Some trap
   pub world : after.state.hart_state.world ≡ Host
   pub again : continuation after.state.hart_state.hart
-      ≡ record host { regs = with_return_values host.regs (reason trap.cause before.hart_state.hart.regs) (value trap.cause before.hart_state.hart.regs) }
+      ≡ record host {
+        regs = with_return_values host.regs (reason trap.cause before.hart_state.hart.regs) (value trap.cause before.hart_state.hart.regs);
+      }
   pub forgotten : after.state.hart_state.host_context ≡ None
   pub entered : after.outcome.entered ≡ None
 

@@ -1,8 +1,10 @@
+-- The proof obligations of `measurement` (src/create.rt).
 use Rattle.std.proofs.Common.{◌≡◌, ℕ, List, ◌++◌, [], ◌∙◌, ap, append_assoc}
 use Rattle.sha2.specs.Sha256.{sha256}
 use Rattle.rv_enclaves.proofs.Prelude.{measurement_of}
 use Rattle.rv_enclaves.proofs.create.measurement.Goals as goal
 
+-- equal parts of the measured bytes, joined in order, give equal lists, whichever parts are joined first
 joined : {a b c d e r a' b' c' d' e' r' : List ℕ} → a ≡ a' → b ≡ b' → c ≡ c' → d ≡ d' → e ≡ e' → r ≡ r'
     → ((((a ++ b) ++ c) ++ d) ++ e) ++ r ≡ (a' ++ (b' ++ (c' ++ (d' ++ e')))) ++ r'
 joined ha hb hc hd he hr = rw (ha, hb, hc, hd, he, hr) (simp append_assoc)

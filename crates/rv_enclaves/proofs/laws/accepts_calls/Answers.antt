@@ -1,3 +1,4 @@
+-- The proof obligation of the law `accepts_calls` (src/laws.rt).
 use Rattle.rv_enclaves.proofs.AcceptedCalls.{accepts_calls}
 use Rattle.rv_enclaves.proofs.laws.accepts_calls.Goals as goal
 

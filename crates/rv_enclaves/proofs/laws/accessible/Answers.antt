@@ -1,3 +1,4 @@
+-- The proof obligation of the law `accessible` (src/laws.rt).
 use Rattle.rv_enclaves.proofs.AccessLemmas.{reach_law}
 use Rattle.rv_enclaves.proofs.laws.accessible.Goals as goal
 

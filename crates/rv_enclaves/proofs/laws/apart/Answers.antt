@@ -1,3 +1,4 @@
+-- The proof obligation of the law `apart` (src/laws.rt).
 use Rattle.rv_enclaves.proofs.AccessLemmas.{apart_law}
 use Rattle.rv_enclaves.proofs.laws.apart.Goals as goal
 

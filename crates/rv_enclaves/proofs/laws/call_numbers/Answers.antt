@@ -1,3 +1,4 @@
+-- The proof obligation of the law `call_numbers` (src/laws.rt).
 use Rattle.rv_enclaves.proofs.CallNumbers.{call_numbers}
 use Rattle.rv_enclaves.proofs.laws.call_numbers.Goals as goal
 

@@ -1,3 +1,4 @@
+-- The proof obligation of the law `calls_keep` (src/laws.rt).
 use Rattle.rv_enclaves.proofs.SharedInvariantLemmas.{calls_keep}
 use Rattle.rv_enclaves.proofs.laws.calls_keep.Goals as goal
 

@@ -1,3 +1,4 @@
+-- The proof obligation of the law `calls_noninterference` (src/laws.rt).
 use Rattle.rv_enclaves.proofs.WorksAlike.{calls_alike}
 use Rattle.rv_enclaves.proofs.laws.calls_noninterference.Goals as goal
 

@@ -1,3 +1,4 @@
+-- The proof obligation of the law `measurement_covers` (src/laws.rt).
 use Rattle.rv_enclaves.proofs.Measurement.{measurement_law}
 use Rattle.rv_enclaves.proofs.laws.measurement_covers.Goals as goal
 

@@ -1,3 +1,4 @@
+-- The proof obligation of the law `scrambled` (src/laws.rt).
 use Rattle.rv_enclaves.proofs.Scrambled.{scrambled_law}
 use Rattle.rv_enclaves.proofs.laws.scrambled.Goals as goal
 

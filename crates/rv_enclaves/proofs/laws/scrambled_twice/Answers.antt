@@ -1,3 +1,4 @@
+-- The proof obligation of the law `scrambled_twice` (src/laws.rt).
 use Rattle.rv_enclaves.proofs.ScrambledTwice.{shared_twice}
 use Rattle.rv_enclaves.proofs.laws.scrambled_twice.Goals as goal
 

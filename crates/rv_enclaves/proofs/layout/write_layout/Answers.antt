@@ -1,8 +1,9 @@
+-- The proof obligations of `write_layout` (src/layout.rt).
 use Rattle.std.proofs.Common.{arith}
 use Rattle.rv_enclaves.proofs.InvariantLemmas.{layout_from_each}
 use Rattle.rv_enclaves.proofs.layout.write_layout.Goals as goal
 
--- all sixteen entries are those of the layout
+-- `write_layout` meets its contract: after the loop, all sixteen entries are those of the layout
 pub returns : goal.returns
 returns c =
     let kept = c.loop-i.invariant in

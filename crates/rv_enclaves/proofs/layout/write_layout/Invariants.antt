@@ -1,8 +1,9 @@
+-- The loop invariants of `write_layout` (src/layout.rt).
 use Rattle.std.proofs.Common.{◌≡◌, ℕ, ◌<◌, ◌≤◌, length, slice_index}
 use Rattle.rv_enclaves.proofs.Prelude.{entry_at}
 use Rattle.rv_enclaves.proofs.layout.write_layout.Given as goal
 
--- the entries so far are those of the layout, and the others are unused
+-- the entries below the loop variable are those of the layout, and the others are unused
 abbrev pub invariant-loop-i : goal.invariant-loop-i
 invariant-loop-i l = record {
   cfgs_long : length l.cfgs ≡ 16;

@@ -1,8 +1,9 @@
+-- The loop invariants of `complement_registers` (src/scramble.rt).
 use Rattle.std.proofs.Common.{◌≡◌, ℕ, ◌<◌, ◌≤◌, length, get_or}
 use Rattle.rv_enclaves.specs.Scramble.{complemented_registers}
 use Rattle.rv_enclaves.proofs.scramble.complement_registers.Given as goal
 
--- the registers before this one are complemented, and the others unchanged
+-- the registers below the loop variable are complemented, and the others are unchanged
 abbrev pub invariant-loop-number : goal.invariant-loop-number
 invariant-loop-number l = record {
   size : length l.regs ≡ length l.fn.regs;

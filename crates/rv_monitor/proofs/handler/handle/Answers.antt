@@ -1,3 +1,4 @@
+-- The proof obligations of `handle` (src/handler.rt).
 use Rattle.std.proofs.Common.{sym, subst}
 use Rattle.rv_state.specs.declared.cause.Cause.TheVariants as causes
 use Rattle.rv_state.specs.declared.cause.Interrupt.TheVariants.{MachineTimer}
@@ -7,7 +8,7 @@ use Rattle.rv_monitor.proofs.PmpProgramming.{work_unlocked}
 use Rattle.rv_monitor.proofs.handler.handle.Goals as goal
 use Rattle.rv_monitor.proofs.handler.handle.Goals.{in-Interrupt, in-Exception-EnvironmentCallFromS}
 
--- neither a stop by the timer nor a call writes an entry
+-- the call of `program_pmp` meets its `requires`: neither a stop by the timer nor a call writes a PMP entry
 pub program_pmp-requires : goal.program_pmp-requires
 program_pmp-requires c =
     let P : HartState → Type 0 = λ hart_state. IsUnlocked hart_state.hart.csrs.pmp in

@@ -1,3 +1,4 @@
+-- The proof obligation of the law `any_events` (src/laws.rt).
 use Rattle.rv_monitor.proofs.Events.{event_integrity, event_law, events_invariant, running_events}
 use Rattle.rv_monitor.proofs.laws.any_events.Goals as goal
 

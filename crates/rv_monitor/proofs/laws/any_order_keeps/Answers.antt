@@ -1,3 +1,4 @@
+-- The proof obligation of the law `any_order_keeps` (src/laws.rt).
 use Rattle.rv_monitor.proofs.InvariantLemmas.{sched_invariant}
 use Rattle.rv_monitor.proofs.laws.any_order_keeps.Goals as goal
 

@@ -1,3 +1,4 @@
+-- The proof obligation of the law `any_order_noninterference` (src/laws.rt).
 use Rattle.rv_monitor.proofs.SchedNoninterference.{sched_law}
 use Rattle.rv_monitor.proofs.laws.any_order_noninterference.Goals as goal
 

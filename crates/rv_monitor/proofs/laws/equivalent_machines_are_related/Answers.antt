@@ -1,3 +1,4 @@
+-- The proof obligation of the law `equivalent_machines_are_related` (src/laws.rt).
 use Rattle.rv_monitor.proofs.Declassification.{relation_law}
 use Rattle.rv_monitor.proofs.laws.equivalent_machines_are_related.Goals as goal
 

@@ -1,3 +1,4 @@
+-- The proof obligation of the law `handler_noninterference` (src/laws.rt).
 use Rattle.rv_monitor.proofs.HandledAlike.{handler_law}
 use Rattle.rv_monitor.proofs.laws.handler_noninterference.Goals as goal
 

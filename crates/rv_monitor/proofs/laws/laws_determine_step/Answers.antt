@@ -1,3 +1,4 @@
+-- The proof obligation of the law `laws_determine_step` (src/laws.rt).
 use Rattle.rv_monitor.proofs.Determined.{determined_law}
 use Rattle.rv_monitor.proofs.laws.laws_determine_step.Goals as goal
 

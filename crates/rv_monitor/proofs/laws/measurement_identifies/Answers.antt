@@ -1,3 +1,4 @@
+-- The proof obligation of the law `measurement_identifies` (src/laws.rt).
 use Rattle.rv_monitor.proofs.Attestation.{attestation_law, reentry_law}
 use Rattle.rv_monitor.proofs.laws.measurement_identifies.Goals as goal
 

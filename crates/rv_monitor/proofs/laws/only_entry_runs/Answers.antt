@@ -1,3 +1,4 @@
+-- The proof obligation of the law `only_entry_runs` (src/laws.rt).
 use Rattle.rv_monitor.proofs.SchedNoninterference.{entry_law}
 use Rattle.rv_monitor.proofs.laws.only_entry_runs.Goals as goal
 

@@ -1,3 +1,4 @@
+-- The proof obligation of the law `running_is_undisturbed` (src/laws.rt).
 use Rattle.rv_monitor.proofs.SchedIntegrity.{running_law}
 use Rattle.rv_monitor.proofs.laws.running_is_undisturbed.Goals as goal
 

@@ -1,3 +1,4 @@
+-- The proof obligation of the law `whole_life_depends_on_enclave` (src/laws.rt).
 use Rattle.rv_monitor.proofs.Life.{life_begins, life_law}
 use Rattle.rv_monitor.proofs.LegalMachine.{legal_law}
 use Rattle.rv_monitor.proofs.laws.whole_life_depends_on_enclave.Goals as goal

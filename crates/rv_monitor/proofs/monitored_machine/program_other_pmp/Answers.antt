@@ -1,12 +1,13 @@
+-- The proof obligations of `program_other_pmp` (src/monitored_machine.rt).
 use Rattle.std.proofs.Common.{◌≡◌, length, rules, arith}
 use Rattle.rv_monitor.specs.declared.hart_state.TheConstants.{HARTS}
 use Rattle.rv_monitor.proofs.Programmed.{single_as_is}
 use Rattle.rv_monitor.proofs.monitored_machine.program_other_pmp.Goals as goal
 
--- `program_other_pmp` meets its contract where the test `harts > 1` fails
+-- `program_other_pmp` meets its contract if the test `harts > 1` fails
 pub returns-else-harts-gt1 : goal.returns-else-harts-gt1
 returns-else-harts-gt1 c =
     let by_hart = c.args.by_hart.now in
-    let all : length by_hart ≡ HARTS = search rules in
+    let array_length : length by_hart ≡ HARTS = search rules in
     single_as_is c.args.table.now by_hart c.args.harts c.args.hart c.requires.has (omega (arith, c.if-harts-gt1.false))
-    (omega (arith, all, c.requires.few)) c.requires.own
+    (omega (arith, array_length, c.requires.few)) c.requires.own

@@ -1,3 +1,4 @@
+-- The proof obligations of `step_hart` (src/monitored_machine.rt).
 use Rattle.std.proofs.Common.{subst}
 use Rattle.rv_monitor.specs.Prelude.{KeepsOwn, HartState, Stepped}
 use Rattle.rv_monitor.proofs.Prelude.{Handled, HostContextIsLegal}
@@ -8,8 +9,10 @@ use Rattle.rv_monitor.proofs.monitored_machine.step_hart.Goals as goal
 -- the call of `handle` meets clause `unlocked` of its `requires`
 pub handle-next-requires-clause-unlocked : goal.handle-next-requires-clause-unlocked
 handle-next-requires-clause-unlocked g c =
-    let after : Stepped = record { state = record { hart = c.step_at-step.new.self; memory = c.step_at-step.new.ram }; outcome = c.step_at-step.result } in
-    unlocked_after c.args.hart_state.now c.args.shared.now after c.in-Some.trap c.in-Some.is c.requires.reprogrammed c.step_at-step.ensures.laws.trap_keeps
+    let after : Stepped =
+    record { state = record { hart = c.step_at-step.new.self; memory = c.step_at-step.new.ram }; outcome = c.step_at-step.result } in
+    unlocked_after c.args.hart_state.now c.args.shared.now after c.in-Some.trap c.in-Some.is c.requires.reprogrammed
+    c.step_at-step.ensures.laws.trap_keeps
 
 -- `step_hart` meets clause `legal` of its contract (`HostContextIsLegal`) in the arm `Some`
 pub returns-in-Some-clause-legal : goal.returns-in-Some-clause-legal

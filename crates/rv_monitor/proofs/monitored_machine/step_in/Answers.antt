@@ -1,3 +1,4 @@
+-- The proof obligations of `step_in` (src/monitored_machine.rt).
 use Rattle.std.proofs.Common.{sym, ◌∙◌, rules}
 use Rattle.rv_monitor.proofs.Held.{stepping}
 use Rattle.rv_monitor.proofs.monitored_machine.step_in.Goals as goal
@@ -16,7 +17,7 @@ returns-in-None g c =
     c.requires.has c.requires.few c.requires.kept c.step_hart-outcome.ensures.meaning in
     let meaning = step_is.quiet c.in-None.is in record { meaning = meaning; kept = step_is.kept _ c.step_hart-outcome.ensures.legal meaning }
 
--- `step_in` meets its contract where the test `is_redirected` holds
+-- `step_in` meets its contract if the test `is_redirected` holds
 pub returns-then-is_redirected : goal.returns-then-is_redirected
 returns-then-is_redirected g c =
     let step_is = stepping c.args.by_hart.now c.args.harts c.args.hart c.args.shared.now _ c.index-by_hart-hart.result _ _ (search rules)
@@ -24,7 +25,7 @@ returns-then-is_redirected g c =
     let meaning = step_is.redirects _ c.in-Some.is (sym c.is_redirected.ensures ∙ c.if-is_redirected.true) in
     record { meaning = meaning; kept = step_is.kept _ c.step_hart-outcome.ensures.legal meaning }
 
--- `step_in` meets its contract where the test `is_redirected` fails
+-- `step_in` meets its contract if the test `is_redirected` fails
 pub returns-else-is_redirected : goal.returns-else-is_redirected
 returns-else-is_redirected g c =
     let step_is = stepping c.args.by_hart.now c.args.harts c.args.hart c.args.shared.now _ c.index-by_hart-hart.result _ _ (search rules)

@@ -1,3 +1,4 @@
+-- The proof obligations of `MonitoredMachine::invariant` (src/monitored_machine.rt).
 use Rattle.std.proofs.Common.{◌<◌, ℕ, sym, subst}
 use Rattle.rv_monitor.proofs.Prelude.{MonitoredMachine, count_of}
 use Rattle.rv_monitor.proofs.monitored_machine.MonitoredMachine.invariant.Goals as goal

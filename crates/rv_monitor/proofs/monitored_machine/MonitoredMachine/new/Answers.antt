@@ -1,3 +1,4 @@
+-- The proof obligations of `MonitoredMachine::new` (src/monitored_machine.rt).
 use Rattle.std.proofs.Common.{refl, ◌∙◌}
 use Rattle.rv_memory.specs.Harts.{number_of_harts}
 use Rattle.rv_monitor.proofs.Start.{parts_are, start_full, start_is_reset}

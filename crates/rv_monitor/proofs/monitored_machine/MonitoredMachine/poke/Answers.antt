@@ -1,3 +1,4 @@
+-- The proof obligations of `MonitoredMachine::poke` (src/monitored_machine.rt).
 use Rattle.std.proofs.Common.{sym}
 use Rattle.rv_monitor.proofs.Prelude.{machine_of_parts}
 use Rattle.rv_monitor.proofs.InvariantLemmas.{invariant_by_size}

@@ -1,3 +1,4 @@
+-- The proof obligations of `MonitoredMachine::run_fast` (src/monitored_machine.rt).
 use Rattle.std.proofs.Common.{◌≡◌, subst}
 use Rattle.rv_monitor.proofs.Prelude.{MonitoredMachine, count_of, machine_of_parts}
 use Rattle.rv_monitor.proofs.FastSteps.{steps_count}

@@ -1,3 +1,4 @@
+-- The proof obligations of `MonitoredMachine::scramble` (src/monitored_machine.rt).
 use Rattle.std.proofs.Common.{sym, subst}
 use Rattle.rv_monitor.specs.Prelude.{Shared}
 use Rattle.rv_monitor.proofs.Prelude.{EquivExcept, Invariant, MonitoredMachine, machine_of_parts}

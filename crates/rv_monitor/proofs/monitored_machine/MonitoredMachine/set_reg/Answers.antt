@@ -1,3 +1,4 @@
+-- The proof obligations of `MonitoredMachine::set_reg` (src/monitored_machine.rt).
 use Rattle.rv_monitor.specs.Prelude.{with_register}
 use Rattle.rv_monitor.proofs.Prelude.{reg_set, hart_state_of}
 use Rattle.rv_monitor.proofs.Held.{put_at, written_holds}

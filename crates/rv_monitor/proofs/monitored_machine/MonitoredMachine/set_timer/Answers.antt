@@ -1,3 +1,4 @@
+-- The proof obligations of `MonitoredMachine::set_timer` (src/monitored_machine.rt).
 use Rattle.rv_monitor.proofs.Prelude.{hart_state_of, timer_line_set}
 use Rattle.rv_monitor.proofs.Held.{put_at, written_holds}
 use Rattle.rv_monitor.proofs.monitored_machine.MonitoredMachine.set_timer.Goals as goal

@@ -1,3 +1,4 @@
+-- The proof obligations of `MonitoredMachine::step_at` (src/monitored_machine.rt).
 use Rattle.std.proofs.Common.{◌≡◌, ◌<◌, sym, subst}
 use Rattle.rv_monitor.specs.StepLaws.{ObeysStepLaws}
 use Rattle.rv_monitor.proofs.Prelude.{MonitoredMachine, MonitoredStepped, count_of, machine_of_parts}
@@ -19,7 +20,8 @@ pub returns-clause-laws : goal.returns-clause-laws
 returns-clause-laws g c =
     let inside = c.self.inside in
     let before : MonitoredMachine = machine_of_parts inside.by_hart inside.harts inside.shared in
-    let after : MonitoredStepped = record { state = machine_of_parts c.step_in.new.by_hart inside.harts c.step_in.new.shared; outcome = c.step_in.result } in
+    let after : MonitoredStepped =
+    record { state = machine_of_parts c.step_in.new.by_hart inside.harts c.step_in.new.shared; outcome = c.step_in.result } in
     let in_range = subst (λ (machine : MonitoredMachine). c.args.hart < count_of machine) (sym c.self.view_is) c.requires in
     subst (λ (machine : MonitoredMachine). ObeysStepLaws c.args.hart machine after) c.self.view_is
     (subst (ObeysStepLaws c.args.hart before) c.step_in.ensures.meaning
