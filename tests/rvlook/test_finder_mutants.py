@@ -35,7 +35,7 @@ MUTANTS = (
     Mutant("a limit of steps ends a loop at the state that represents it", "finders/races/search.py", "if length and machine.limit:", "if False:",
            "test_races_endless.py::test_limit_of_steps_ends_an_endless_loop_where_the_limit_is"),
     Mutant("a part of a search has the first round of a loop alone", "finders/races/search.py",
-           "            low += -((high - self.bounds.first) // length) * length\n            is_late = True\n", "",
+           "            low += rounds * length\n            is_late = True\n", "",
            "test_races_endless.py::test_part_after_the_first_round_of_an_endless_loop_has_its_final_states"),
     Mutant("races_forgets_the_stores_of_another_process", "finders/races/parallel.py", "                touches.written[touched.agent] |= touched.written\n", "",
            "test_races_jobs.py::test_move_of_another_process_is_recorded_as_a_move_of_this_one"),

@@ -113,13 +113,14 @@ const SLOT: OptionRow<'_> = OptionRow {
 /// The value of `--harts`. The default is that of `Setup::default`.
 const HARTS: Option<(&str, ValueParser<'_>)> = Some(("HARTS", ValueParser::Signed(1, 2)));
 
-/// `--harts` of `run` and of `twin`.
+/// `--harts` of `run`.
 const HARTS_OF_RUN: OptionRow<'_> = OptionRow {
     name: "harts",
     help: "The number of harts, 1 or 2; 2 harts need --monitor [default: 1]",
     value: HARTS,
 };
 
+/// `--harts` of `twin`.
 const HARTS_OF_TWIN: OptionRow<'_> = OptionRow {
     name: "harts",
     help: "The number of harts of each bench, 1 or 2 [default: 1]",

@@ -213,7 +213,7 @@ find-none : (p : ℕ → Bool) (xs : List ℕ) → ((k : ℕ) → k < length xs 
 find-none p [] none = refl
 find-none p (x ∷ xs) none = rw (none 0 (omega arith)) (find-none p xs (λ k inside. none (suc k) (omega arith)))
 
--- what is found in a sorted list above low is above low
+-- if all elements of a sorted list are above low, then the first that passes the test is above low
 find-above : (p : ℕ → Bool) (low : ℕ) (xs : List ℕ) (a : ℕ) → IsSortedAbove low xs → find p xs ≡ Some a → low < a
 find-above p low [] a all found = cc
 find-above p low (x ∷ xs) a all found = go (p x) found (find-above p x xs a all.1) where

@@ -1,5 +1,5 @@
--- Noninterference of a command: if two benches are equivalent except for an enclave and do not enter it, they reply the same and stay
--- equivalent.
+-- Noninterference of a command. Two benches that are equivalent except for an enclave have equal replies to a command that shows no private byte
+-- of the enclave and avoids its hart. If the command does not enter the enclave, they stay equivalent.
 use Rattle.std.proofs.Common.{◌≡◌, ℕ, zero, suc, ◌==◌, ◌+◌, ◌-◌, ◌<◌, ◌≤◌, Bool, true, false, List, [], ◌∷◌, Option, refl, sym, ◌∙◌, ap}
 use Rattle.std.proofs.Common.{ap₂, subst, inl, inr, arith}
 use Rattle.std.specs.Prelude.{nat_lt, ◌++◌, if◌then◌else◌}

@@ -1,4 +1,4 @@
--- The bytes that S may store in numbers, by the records of the enclaves. A measure succeeds only if S may store each of the 32 bytes. (A law about
+-- The bytes to which S may store, computed in numbers from the records of the enclaves. A measure succeeds only if S may store each of the 32 bytes. (A law about
 -- this project's own monitor; physical memory protection: RISC-V Privileged Architecture 20211203, section 3.7.1.)
 use Rattle.std.specs.List.{list_any, range_with_len}
 use Rattle.std.specs.Prelude.{ℕ, ◌≡◌, ◌<◌, ◌≤◌, ◌+◌, Bool, false, not, ◌&&◌, ◌||◌, nat_le, nat_lt, length}
@@ -26,7 +26,7 @@ enclave_stores slots k byte = option_case (record_at slots k) false (λ info. is
 abbrev pub permits_store : ℕ → MonitoredMachine → ℕ → Bool
 permits_store hart machine byte = permits (verdict (hart_state_of hart machine).hart.csrs.pmp S Write (bytes_from byte 1))
 
--- in every reachable state, for each byte of the memory
+-- In every reachable state, the PMP of a hart permits S to store exactly the bytes of the memory that `host_stores` or `enclave_stores` give.
 pub record StorePermissionLaw : Type 0 where
   pub host : (hart byte : ℕ) (machine : MonitoredMachine) → Invariant machine → hart < count_of machine → 0x80000000 ≤ byte
       → byte + 1 ≤ 0x80000000 + length machine.shared.memory → (hart_state_of hart machine).world ≡ Host

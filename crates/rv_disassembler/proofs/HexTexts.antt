@@ -1,4 +1,4 @@
--- The hexadecimal digits of a number without leading zeros are as many of its last digits as it has.
+-- The hexadecimal text of a number without leading zeros is the text of its last k digits, if the number has k digits.
 use Rattle.std.proofs.Common.{◌≡◌, ℕ, zero, suc, ◌/◌, ◌%◌, ◌^◌, ◌<◌, ◌≤◌, false, List, [], ◌∷◌, ◌++◌, sym, ◌∙◌, arith, append_assoc, append-nil}
 use Rattle.std.specs.Char.{digit_char}
 use Rattle.std.specs.Fmt.{digits, digits_onto}
@@ -27,7 +27,7 @@ pow-pos : (k : ℕ) → 1 ≤ 16 ^ k
 pow-pos zero = omega arith
 pow-pos (suc k) = omega (arith, pow-suc 16 k, pow-pos k)
 
--- the digits of a number below 16 are its hexadecimal text
+-- the text of a number below 16 is its one hexadecimal digit
 last : (k n : ℕ) (after : List ℕ) → n < 16 → digits_onto (suc k) 16 false n after ≡ hex_digits 1 n ++ after
 unfolding hex_digits
 last k n after small = onto_last k n after small

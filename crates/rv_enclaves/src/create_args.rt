@@ -13,11 +13,11 @@ use rv_word::Reg;
 /// The arguments of the call `create`.
 #[derive(Clone, Copy)]
 pub struct CreateArgs {
-    /// The region, by a0 and a1.
+    /// The region: its base a0, and its size a1 in bytes.
     pub region: Block,
-    /// The window, by a2 and a3. It is the empty block if a3 is 0.
+    /// The window: its base a2, and its size a3 in bytes. It is the empty block if a3 is 0.
     pub window: Block,
-    /// The entry point, by a4.
+    /// The entry point: a4.
     pub entry: u32,
 }
 

@@ -3,7 +3,7 @@
 use Rattle.std.specs.Prelude.{ℕ, ◌+◌, Bool, ◌&&◌, nat_le, nat_lt}
 use Rattle.rv_memory.specs.declared.block.Block.{Block}
 
--- `no_block` is the block without bytes
+-- `no_block` is the empty block at address 0
 abbrev pub no_block : Block
 no_block = record { base = 0; size = 0 }
 

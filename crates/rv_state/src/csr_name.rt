@@ -10,7 +10,7 @@ use rv_pmp::{PmpIndex, PmpRegister};
 pub(crate) enum CsrName {
     /// A view of mstatus.
     Sstatus,
-    /// The address of traps to mode S. It is stored without effect, since no trap goes there.
+    /// The address of traps to mode S. A hart itself takes no trap to mode S. The monitor redirects exceptions to this address.
     Stvec,
     Sscratch,
     /// The address at which sret continues.

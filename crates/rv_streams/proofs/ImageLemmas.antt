@@ -156,7 +156,7 @@ EncodesImage-faulty unread left rest ends image shown so_far takes few other non
 -- ---- the effect of one more line
 
 module _ {unread left rest : List ℕ} {ends : Bool} {image shown : List ℕ} where
-  -- a line that is no separator and gives bytes appends them
+  -- a line that is no separator and encodes bytes appends these bytes to the image
   pub EncodesImage-more : {word new : List ℕ} → TakesInImage unread left rest ends image shown
       → Some word ≡ line_word shown → IsSomeAnd (bytes_of_digits word) (λ bytes. new ≡ image ++ bytes) → EncodesImage unread rest ends new
   EncodesImage-more {word = word} {new = new} at word_is gives =

@@ -254,11 +254,12 @@ def guard(image: PathLike, ranges: PathLike, *, host: Optional[PathLike] = None,
 
 
 def timer(program: Program, *, slot: int = 0, every: int = 1, jobs: int = 1) -> Findings:
-    """Interrupts an enclave before every Nth of its steps, and compares the result. Raises Unfinished if there is no enclave in the slot."""
+    """Interrupts an enclave before every Nth of its steps, and compares the result with that of the run without interrupts. Raises Unfinished if
+    there is no enclave in the slot, or if it executes no step."""
     with searching("timer", program, slot=slot, every=every, jobs=jobs if jobs > 1 else None) as (found, printer):
         run = ordered(program, "timer")
         options = TimerOptions(slot, every, jobs)
-        outcome, last = find_timer(run, options)
+        outcome, last_step = find_timer(run, options)
         timer_text(run, printer, options, outcome)
     difference = outcome.difference
     if difference is not None:
@@ -269,7 +270,7 @@ def timer(program: Program, *, slot: int = 0, every: int = 1, jobs: int = 1) -> 
     found.checks = ("e%d: same result with timer interrupts" % slot,)
     if outcome.not_resumed is not None:
         found.unfinished = "the host does not resume the enclave in slot %d after the interrupt at its step %d" % (slot, outcome.not_resumed.number)
-    elif last.is_cut:
+    elif last_step.is_cut:
         found.unfinished = "the run ended while the enclave in slot %d was running" % slot
     return found
 

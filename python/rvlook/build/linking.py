@@ -99,7 +99,8 @@ def stack_size(symbols: Sequence[NamedSymbol], name: str) -> int | None:
 
 
 def install_file(path: str, data: bytes) -> None:
-    """Replaces a file, never the target of a symbolic link. Raises BuildError; a device or a folder is refused."""
+    """Makes a file, or replaces a regular file or a symbolic link itself. Raises BuildError if there is a device or a folder, or if the file cannot
+    be written."""
     if os.path.exists(path) and not os.path.islink(path) and not os.path.isfile(path):
         raise BuildError("error: '%s' is not a regular file" % visible(path))
     try:

@@ -33,17 +33,15 @@ LEAST_RAM = 0x30000  # bytes; the directed scripts use them
 
 @dataclass(frozen=True)
 class MonitorFiles:
-    """An author's monitor: its image, a second file with the host, the file of symbols, the bytes of RAM, and the script lines of the boot.
-    `lowered` has the symbols at whose stores the timer line is lowered. `exact` compares PMP entries as stored. `memory` is that of host and
-    enclaves, FIRST-LAST; without it the RAM from 80010000 on."""
-    image: str
-    host: Optional[str] = None
-    symbols: Optional[str] = None
-    ram: int = LEAST_RAM
-    boot: Optional[str] = None
-    lowered: Sequence[str] = ()
-    exact: bool = False
-    memory: Optional[str] = None
+    """The files of an author's monitor, and how it is run."""
+    image: str  # the file of the monitor
+    host: Optional[str] = None  # a second file, with the host and its enclaves
+    symbols: Optional[str] = None  # the file of the symbols; by default the image
+    ram: int = LEAST_RAM  # bytes
+    boot: Optional[str] = None  # a file of commands before the first step
+    lowered: Sequence[str] = ()  # symbols: a store of the monitor to one of them clears the timer line
+    exact: bool = False  # whether PMP entries are compared as stored
+    memory: Optional[str] = None  # that of host and enclaves, as FIRST-LAST; by default the RAM from 80010000 on
 
     def setup(self) -> tuple[MonitorSetup, Symbols]:
         """Reads the files; returns the monitor and its symbols. Raises RvlookError."""

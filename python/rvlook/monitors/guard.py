@@ -1,5 +1,7 @@
-"""Guards a monitor whose calls are unknown: marks the registers of each world that traps, and checks its state at each return from M. Does all runs
-of `guard`: with marks, in pairs, and again for the code that was not executed."""
+"""The runs of `guard`, which checks a monitor whose calls are unknown.
+
+A run with marks writes random values into the registers of each world that traps, and checks the state of the hart at each return from M. Further
+runs come in pairs that differ in a secret. Others find the code of the monitor that no run executed."""
 from __future__ import annotations
 
 import random

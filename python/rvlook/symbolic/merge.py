@@ -127,7 +127,8 @@ class Merger:
         return taint_of(state, node), values
 
     def values_at_another(self, node: Node) -> Optional[FrozenSet[int]]:
-        """Returns the values of the unknown of another merged state, or None. If that unknown gets more values, its state is explored again."""
+        """Returns the values of an unknown of another place, or None if it may have any value. If it gets more values, its own merged state is
+        explored again, and so is what follows from it."""
         name = node.args[0]
         owner = self.by_prefix.get(name.partition("_")[0])
         place = unknown_place(name)

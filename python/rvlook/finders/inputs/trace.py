@@ -46,29 +46,25 @@ class TraceVisit:
 
 @dataclass
 class Trace:
-    """The steps of an enclave, by index.
+    """The steps of an enclave in a run with changed inputs, by index. The parent of a trace is the trace whose inputs were changed.
 
-    `steps` are their numbers in the run. `addresses` has the address of a load, a store or a call of the monitor (its a1), and `values` the
-    value that is stored to the window, or a6. `contexts` has the number of the call context. `traps` has cause and value of each trap, by index.
     `end` is `halted` if the host halts, and `limit` if the trace was cut. It is `waits` if the enclave waits for the host to change the window, and
-    `stuck` if it does not return for another reason. `changed` are the indices whose
-    access differs from the parent's, and `new` are ranges of steps that the parent does not have. `next_pc` is the pc after the last step, and
-    `total` the number of all steps of the run."""
+    `stuck` if the enclave does not return for another reason."""
     changes: Changes = ()
-    steps: array[int] = field(default_factory=lambda: array("I"))
+    steps: array[int] = field(default_factory=lambda: array("I"))  # the number of each step in the run
     pcs: array[int] = field(default_factory=lambda: array("I"))
-    addresses: array[int] = field(default_factory=lambda: array("I"))
-    values: array[int] = field(default_factory=lambda: array("I"))
-    contexts: array[int] = field(default_factory=lambda: array("I"))
-    traps: dict[int, tuple[int, int]] = field(default_factory=dict)
-    visits: list[TraceVisit] = field(default_factory=list)
+    addresses: array[int] = field(default_factory=lambda: array("I"))  # of each load and store; a1 of a call of the monitor
+    values: array[int] = field(default_factory=lambda: array("I"))  # stored to the window; a6 of a call of the monitor
+    contexts: array[int] = field(default_factory=lambda: array("I"))  # the number of the call context
+    traps: dict[int, tuple[int, int]] = field(default_factory=dict)  # the cause and the value of each trap, by index
+    visits: list[TraceVisit] = field(default_factory=list)  # the activations
     end: str = ""
-    changed: list[int] = field(default_factory=list)
-    new: list[tuple[int, int]] = field(default_factory=list)
-    next_pc: int = 0
+    changed: list[int] = field(default_factory=list)  # the indices whose access differs from that of the parent
+    new: list[tuple[int, int]] = field(default_factory=list)  # ranges of indices of steps that the parent does not have
+    next_pc: int = 0  # after the last step
     context: int = ROOT  # after the last step
-    total: int = 0
-    probes: Optional[Probes] = None
+    total: int = 0  # steps of the run, also those of the host
+    probes: Optional[Probes] = None  # made when another run first follows this trace
 
     def __len__(self) -> int:
         return len(self.pcs)

@@ -316,15 +316,16 @@ class ScheduleSearch:
                 yield new
 
     def is_in_part(self, node: SearchNode, hart: int) -> bool:
-        """Returns whether the first switch or timer interrupt, which is here, represents one within `first` and `last`. It could also come before
-        any of the independent steps around here, and in an endless loop in each round."""
+        """Returns whether a first switch or timer interrupt after a node is equivalent to one at a step from `bounds.first` to `bounds.last`. It is
+        equivalent to one before each of the independent steps around it, and in an endless loop to one in each later round."""
         state, last = node.point.state, node.point.last
         following = self.move(state, hart if last is None else last, node.schedule)
         low, high = node.low, node.cost.steps + (following.dependent.before if following else 0)
         is_late = following is None or high >= self.bounds.first
         if not is_late and last is not None and self.is_in_loop(state, last, node.schedule):
             length = self.cycles[state, last]
-            low += -((high - self.bounds.first) // length) * length
+            rounds = -((high - self.bounds.first) // length)  # up to `bounds.first`, rounded up
+            low += rounds * length
             is_late = True
         return is_late and (self.bounds.last is None or low <= self.bounds.last)
 
