@@ -31,6 +31,7 @@ class Story:
 
     def __init__(self, end: FinalState, outcome: Sequence[Observed], search: ScheduleSearch, symbols: Symbols,
                  end_pcs: Sequence[Set[int | None]]) -> None:
+        # `end_pcs`: for each hart the pcs of all final states
         self.end, self.outcome, self.search, self.symbols, self.end_pcs = end, outcome, search, symbols, end_pcs
 
     def heading(self) -> str:
@@ -54,7 +55,7 @@ class Story:
         return "%d transitions alone" % MOST_ALONE if is_alone else counted(search.bounds.steps, "step")
 
     def location(self, pc: int | None) -> str:
-        """Returns the source line of a pc, its symbol or its address; the pc must be known."""
+        """Returns the source line of a pc, its symbol or its address. The pc must not be None."""
         assert pc is not None
         return self.symbols.place(pc)
 
@@ -192,23 +193,20 @@ def level_text(search: ScheduleSearch) -> str:
 
 @dataclass(frozen=True)
 class RacesOptions:
-    """The options of a search: the forbidden final states, what distinguishes them, and the places at which a hart may end. It has at most so many
-    preemptions, timer interrupts and seconds. The first switch comes after step `first`, and not after `last`. `limit` is that of a hart that runs
-    alone, `plain` switches before each step, `symbols` is the file of variables, and `scripts` the folder for the inputs of final states. `jobs`
-    processes search and replay."""
-    forbid: Sequence[str] = ()
-    outcome: Sequence[str] = ()
-    end: Sequence[str] = ()
-    preemptions: Optional[int] = None
-    timers: int = 0
-    first: int = 0
-    last: Optional[int] = None
-    limit: int = 0
-    plain: bool = False
-    seconds: Optional[float] = None
-    symbols: Optional[str] = None
-    scripts: Optional[str] = None
-    jobs: int = 1
+    """The options of `races`."""
+    forbid: Sequence[str] = ()  # conditions that no final state may meet
+    outcome: Sequence[str] = ()  # what distinguishes final states; empty: all shared memory
+    end: Sequence[str] = ()  # the places at which a hart may end; empty: any
+    preemptions: Optional[int] = None  # at most; None: any number
+    timers: int = 0  # timer interrupts, at most
+    first: int = 0  # the first switch comes after this step,
+    last: Optional[int] = None  # and not after this one; None: any later step
+    limit: int = 0  # steps after which each hart ends; 0: no limit
+    plain: bool = False  # whether harts switch before each step, without reduction
+    seconds: Optional[float] = None  # of search and replay, at most; None: no limit
+    symbols: Optional[str] = None  # the file of variables; None: the image
+    scripts: Optional[str] = None  # the folder for inputs that replay the final states; None: not written
+    jobs: int = 1  # processes that search and replay
 
 
 def find_races(run: Run, options: RacesOptions) -> RacesReport:
@@ -256,16 +254,15 @@ def address_of(text: str, symbols: Symbols) -> int:
 
 @dataclass
 class RacesReport:
-    """A search and its final states. After the replay, `stories` describes them, `bad` has those that are forbidden with their conditions, and
-    `scripts` the input of the bench for each number."""
-    run: Run
-    symbols: Symbols
-    search: ScheduleSearch
-    found: FinalStates
-    conditions: List[Forbidden]
-    stories: List[Story] = field(default_factory=list)
-    bad: List[Tuple[Forbidden, FinalState]] = field(default_factory=list)
-    scripts: Dict[int, bytes] = field(default_factory=dict)
+    """A search and its final states."""
+    run: Run  # the run with its script
+    symbols: Symbols  # name addresses
+    search: ScheduleSearch  # has searched all orders
+    found: FinalStates  # the final states
+    conditions: List[Forbidden]  # of --forbid
+    stories: List[Story] = field(default_factory=list)  # describe the final states; empty before the replay
+    bad: List[Tuple[Forbidden, FinalState]] = field(default_factory=list)  # each condition that holds, with a final state that meets it
+    scripts: Dict[int, bytes] = field(default_factory=dict)  # the input of the bench for each number
 
     def title(self, end: FinalState) -> str:
         """Returns a final state as a line with its number."""
