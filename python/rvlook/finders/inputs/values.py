@@ -35,9 +35,9 @@ Content = Mapping[int, int]  # bytes by address
 
 @dataclass
 class Details:
-    """The bytes of each load from the window, and the operands of each branch, by index."""
-    loaded: dict[int, bytes] = field(default_factory=dict)
-    operands: dict[int, tuple[int, int]] = field(default_factory=dict)
+    """What a trace itself does not have, by index of the step."""
+    loaded: dict[int, bytes] = field(default_factory=dict)  # the bytes of each load from the window
+    operands: dict[int, tuple[int, int]] = field(default_factory=dict)  # of each branch
 
 
 class DetailReader:
@@ -45,7 +45,7 @@ class DetailReader:
 
     def __init__(self, tracer: Tracer, objects: Objects, fields: WindowFields) -> None:
         self.tracer, self.objects, self.fields = tracer, objects, fields
-        self.functions: dict[int, list[tuple[int, object]]] = {}
+        self.functions: dict[int, list[tuple[int, object]]] = {}  # by address: number and members of each parameter
         for parameter in objects.parameters:
             self.functions.setdefault(parameter.function, []).append((parameter.number, parameter.members))
 
@@ -109,14 +109,14 @@ class Input:
 
     `start` is the index of the first step that depends on them, and `step` the number of the step after which they are changed. `is_again` says that
     the enclave has loaded them before."""
-    visit: int
-    index: int
-    start: int
-    step: int
-    at: int
-    value: bytes
-    is_again: bool = False
-    register: int = 0
+    visit: int  # number of the activation, from 0
+    index: int  # of the load in the trace
+    start: int  # index of the first step that depends on the bytes
+    step: int  # number of the step of the run after which they are changed
+    at: int  # address; 0 for a register
+    value: bytes  # without a change
+    is_again: bool = False  # whether the enclave has loaded them before
+    register: int = 0  # its number; 0 for memory
     pc: int = 0  # of the load
     is_first: bool = False  # of those that the instruction loads in the activation
     is_part: bool = False  # of a buffer
@@ -134,9 +134,9 @@ class Input:
 
 @dataclass(frozen=True)
 class Child:
-    """A trace to be tried: its changes, and the index up to which it is the trace of its parent."""
-    changes: Changes
-    index: int
+    """A trace to be tried."""
+    changes: Changes  # of the inputs
+    index: int  # up to which it equals the trace of its parent
 
 
 class Values:
@@ -144,8 +144,8 @@ class Values:
 
     def __init__(self, tracer: Tracer, objects: Objects, fields: WindowFields, reader: DetailReader, seed: int) -> None:
         self.tracer, self.objects, self.fields, self.reader, self.rng = tracer, objects, fields, reader, random.Random(seed)
-        self.targets: list[int] = []  # addresses of objects
-        self.has_entry = False
+        self.targets: list[int] = []  # addresses of objects, which values point to
+        self.has_entry = False  # whether the registers at the entry are inputs
 
     # ---- inputs
 
@@ -203,7 +203,7 @@ class Values:
     # ---- values
 
     def children(self, trace: Trace, details: Details, inputs: list[Input]) -> Iterator[Child]:
-        """Yields the trace with one input changed more. Inputs that an earlier activation loads in the same way come last."""
+        """Yields the trace with one more input changed. Inputs that an earlier activation loads in the same way come last."""
         known: set[tuple[int, bytes, bool]] = set()
         parts: tuple[list[Input], list[Input]] = ([], [])
         for own in inputs:
@@ -226,7 +226,7 @@ class Values:
                     yield from self.fills(trace, own)
 
     def child(self, trace: Trace, input_: Input, value: bytes) -> Child:
-        """Returns a trace with an input changed more."""
+        """Returns a trace with one more input changed."""
         name = "a%d" % (input_.register - A0) if input_.register else self.name(input_.at)
         change = Change(input_.step, input_.at, value, input_.register, name, input_.value.hex())
         return Child(with_change(trace.changes, change), input_.start)
@@ -327,16 +327,16 @@ def words_of(content: dict[int, int], first: dict[int, int], visit: int, entry: 
 
 
 def with_change(changes: Changes, change: Change) -> Changes:
-    """Returns changes with one more, in the order of their steps; it replaces one of the same bytes at the same step."""
+    """Returns the changes with one more, in the order of their steps. The new change replaces one of the same bytes at the same step."""
     kept = [it for it in changes if (it.step, it.at, it.register, len(it.value)) != (change.step, change.at, change.register, len(change.value))]
     return tuple(sorted([*kept, change], key=lambda it: it.step))
 
 
 class HostRequest(NamedTuple):
-    """The bytes that an activation loads, by address. `step` is the last step before the activation, and `first` is its first one in the trace."""
-    step: int
-    first: int
-    content: Content
+    """A request of the host: the bytes that an activation loads from the window."""
+    step: int  # number of the last step of the run before the activation
+    first: int  # index of its first step in the trace
+    content: Content  # the bytes by address
 
 
 def reordered(trace: Trace, requests: Sequence[HostRequest], name: Callable[[int], str]) -> Iterator[Child]:
