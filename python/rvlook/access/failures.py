@@ -40,31 +40,30 @@ KNOWN = {it.lower(): it for it in (*names.STATUSES.values(), *CAUSES, *names.MAR
 
 
 class Turn(NamedTuple):
-    """Commands that change the state, and then `steps` steps of a hart."""
-    commands: tuple[str, ...]
-    hart: int
-    steps: int
+    """Commands that change the state, and then steps of a hart."""
+    commands: tuple[str, ...]  # without `step`
+    hart: int  # that steps
+    steps: int  # their number
 
 
 class Trapped(NamedTuple):
-    """A step that trapped: its number, its hart, where the hart was before it, and the reply to it."""
-    step: int
-    hart: int
-    at: Location
-    ran: Ran
+    """A step that trapped."""
+    step: int  # its number in the run
+    hart: int  # that did it
+    at: Location  # where the hart was before it
+    ran: Ran  # the reply to it
 
 
 @dataclass(frozen=True)
 class Failure:
-    """A trap, or a refused call, of an instruction. `name` is that of the cause or of the status, `value` that of the first trap, and `call` the
-    refused call; it is empty for a trap. `step` is the first step, `count` the number of times."""
-    name: str
-    step: int
-    hart: int
-    at: Location
-    value: str = ""
-    call: str = ""
-    count: int = 1
+    """A trap, or a refused call of the monitor, of an instruction."""
+    name: str  # of the cause, or of the status
+    step: int  # number of the first one
+    hart: int  # of the first one
+    at: Location  # pc, mode and world
+    value: str = ""  # of the first trap, hexadecimal digits; empty for a call
+    call: str = ""  # the refused call; empty for a trap
+    count: int = 1  # how often it occurred
 
     @property
     def key(self) -> tuple[object, ...]:
@@ -122,7 +121,7 @@ class Lagging:
 
     def __init__(self, bench: Bench) -> None:
         self.bench = bench
-        self.skipped: list[str] = []
+        self.skipped: list[str] = []  # the commands of skipped parts
 
     def skip(self, part: Sequence[Turn]) -> None:
         """Skips a part."""
@@ -145,14 +144,14 @@ def whole(part: Sequence[Turn]) -> list[str]:
 
 
 class Scan:
-    """A scan of a run with three benches. `locations` has where each hart is, and `traps` how many it had by its counters."""
+    """A scan of a run with three benches."""
 
     def __init__(self, run: Run, leader: Lagging, follower: Lagging, reader: Lagging) -> None:
-        self.leader, self.follower, self.reader = leader, follower, reader
+        self.leader, self.follower, self.reader = leader, follower, reader  # `follower` and `reader` lag behind `leader`
         self.harts = range(run.setup.harts)
-        self.locations = [Location(run.pc, run.mode, run.world) for _ in self.harts]
-        self.traps = [0 for _ in self.harts]
-        self.position = 0
+        self.locations = [Location(run.pc, run.mode, run.world) for _ in self.harts]  # where each hart is
+        self.traps = [0 for _ in self.harts]  # of each hart, by its counters
+        self.position = 0  # steps so far
 
     def failures(self, parts: Iterator[list[Turn]]) -> Iterator[Failure]:
         """Yields each failure in the order of steps."""
@@ -289,11 +288,10 @@ def failure_object(failure: Failure, symbols: Symbols) -> dict[str, Json]:
 
 @dataclass(frozen=True)
 class Expectation:
-    """A failure that an author expects. `name` is that of a cause or of a status, and `place` the function or the address of the instruction. Each
-    may be empty, which is any."""
-    text: str
-    name: str
-    place: str = ""
+    """A failure that the user expects."""
+    text: str  # as the user wrote it
+    name: str  # of a cause or of a status; empty: any
+    place: str = ""  # function or address of the instruction; empty: any
 
     def has(self, failure: Failure, symbols: Symbols) -> bool:
         """Returns whether a failure is expected."""
@@ -302,7 +300,7 @@ class Expectation:
 
 
 def expectation_of(text: str, symbols: Symbols) -> Expectation:
-    """Parses the value of --expect: a cause or a status, @PLACE, or both. Raises UsageError."""
+    """Parses the value of --expect: a cause or a status, @PLACE, or both. Raises UsageError if the name or the place is unknown."""
     name, _, place = text.partition("@")
     known = KNOWN.get(" ".join(name.replace("-", " ").lower().split()), "")
     if not known and (name or not place):

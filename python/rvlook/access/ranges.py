@@ -16,17 +16,17 @@ NOTHING, ALL, DATA = "---", "rwx", "rw-"
 
 @dataclass(frozen=True)
 class Range:
-    """Bytes from `first` up to, and not with, `end`."""
-    first: int
-    end: int
+    """A range of addresses."""
+    first: int  # the first byte
+    end: int  # the byte after the last one
 
 
 @dataclass(frozen=True)
 class Verdicts:
-    """The access rights to a range in each mode, and the replies of `access`, which name the entry that decides."""
-    range: Range
-    may: dict[str, str]
-    replies: tuple[str, ...]
+    """The access rights to a range."""
+    range: Range  # the range
+    may: dict[str, str]  # by mode, such as `rw-`
+    replies: tuple[str, ...]  # of `access`, which name the entry that decides
 
 
 def entry_range(entries: Sequence[PmpEntry], index: int) -> Range | None:

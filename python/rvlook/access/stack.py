@@ -40,16 +40,16 @@ UPPER = ("lui", "auipc")  # build the upper part of a constant
 
 
 class PointerOperation(NamedTuple):
-    """An instruction that writes a register or accesses memory: the register that it writes, and its operands. The result of a computation has
-    each operand as a summand as often as `factors` says; a result that is no pointer into the stack has none. `register` must be read: the base
-    of an access, or sp after a write of it; None if none is needed."""
-    writes: int
-    sources: tuple[int, int] = (0, 0)
-    factors: tuple[int, int] = (0, 0)
-    memory: Optional[MemoryOperand] = None
-    register: Optional[int] = None
-    is_store: bool = False
-    is_upper: bool = False
+    """An instruction that writes a register or accesses memory, as far as it moves pointers into the stack.
+
+    The result of a computation has each operand as a summand as often as `factors` says."""
+    writes: int  # number of the destination register; 0 for none
+    sources: tuple[int, int] = (0, 0)  # numbers of the operands
+    factors: tuple[int, int] = (0, 0)  # 0 for an operand that is not a summand
+    memory: Optional[MemoryOperand] = None  # the access; None for a computation
+    register: Optional[int] = None  # to be read: the base of an access, or sp after a write; None: no register
+    is_store: bool = False  # whether it stores
+    is_upper: bool = False  # whether it is lui or auipc
 
 
 def operation_of(line: bytes) -> PointerOperation | None:
@@ -76,9 +76,9 @@ def computation_of(instruction: Instruction) -> PointerOperation:
 
 @dataclass
 class Pointers:
-    """The coefficients of the registers of a world, and those of the words that it stored, by address."""
-    registers: list[int] = field(default_factory=lambda: [0, 0, 1, *[0] * (REGISTERS - 3)])
-    words: dict[int, int] = field(default_factory=dict)
+    """How often each register and stored word of a world has the stack pointer as a summand. 1 is a pointer into the stack."""
+    registers: list[int] = field(default_factory=lambda: [0, 0, 1, *[0] * (REGISTERS - 3)])  # coefficients of x0 to x31
+    words: dict[int, int] = field(default_factory=dict)  # coefficients of stored words, by address
 
     def is_pointer(self, register: int) -> bool:
         """Returns whether a register has a pointer into the stack."""
@@ -110,22 +110,22 @@ class Pointers:
 
 
 class Stack(NamedTuple):
-    """The bytes of a stack, from `bottom` up to before `top`."""
-    name: str
-    kind: str
-    bottom: int
-    top: int
+    """A stack."""
+    name: str  # begins its symbols
+    kind: str  # host, runtime, application or monitor
+    bottom: int  # its first byte
+    top: int  # the byte after the last one
 
 
 class Overflow(NamedTuple):
-    """The first use of a stack outside its range: a store, or a write of sp. `address` is the first byte stored, or the new sp."""
-    step: int
-    hart: int
-    world: str
-    pc: int
-    is_store: bool
-    address: int
-    stack: Stack
+    """The first use of a stack outside its range: a store, or a write of sp."""
+    step: int  # its number
+    hart: int  # that did it
+    world: str  # of the hart
+    pc: int  # of the instruction
+    is_store: bool  # false for a write of sp
+    address: int  # the first byte stored, or the new sp
+    stack: Stack  # that overflows
 
 
 def stacks_of(symbols: Symbols) -> dict[str, list[Stack]]:
@@ -155,8 +155,8 @@ class OverflowFinder:
 
     def __init__(self, stacks: dict[str, list[Stack]]) -> None:
         self.stacks = stacks
-        self.found: dict[str, Overflow] = {}
-        self.pointers: dict[str, Pointers] = {}
+        self.found: dict[str, Overflow] = {}  # the first overflow, by kind of stack
+        self.pointers: dict[str, Pointers] = {}  # of each world
         self.left_at: dict[str, int] = {}  # the pc at which an enclave left
         self.kinds: dict[tuple[bytes, bytes], Optional[str]] = {}  # of stack, by world and mode
 

@@ -44,7 +44,7 @@ class MonitorFiles:
     memory: Optional[str] = None  # that of host and enclaves, as FIRST-LAST; by default the RAM from 80010000 on
 
     def setup(self) -> tuple[MonitorSetup, Symbols]:
-        """Reads the files; returns the monitor and its symbols. Raises RvlookError."""
+        """Reads the files; returns the monitor and its symbols. Raises RvlookError if a file is invalid."""
         image = image_of(self.image)
         symbols = symbols_from(self.symbols, image)
         if self.host:
@@ -60,7 +60,7 @@ class MonitorFiles:
 
 
 def address_of(name: str, symbols: Symbols) -> int:
-    """Returns the address of a symbol or in hexadecimal digits. Raises RvlookError."""
+    """Returns the address of a symbol or in hexadecimal digits. Raises RvlookError if the text is neither."""
     address = symbols.address(name)
     if address is None:
         raise RvlookError(no_symbol(name, symbols))
@@ -69,11 +69,11 @@ def address_of(name: str, symbols: Symbols) -> int:
 
 @dataclass
 class Conformance:
-    """The result of `conform`: the outcome, and the shrunk script with the monitor as it was set up if there is a difference."""
-    outcome: ConformOutcome
-    setup: MonitorSetup
-    symbols: Symbols
-    shrunk: Optional[Shrinker] = None
+    """The result of `conform`."""
+    outcome: ConformOutcome  # of all scripts
+    setup: MonitorSetup  # the monitor, as the shrunk script runs it
+    symbols: Symbols  # of the monitor
+    shrunk: Optional[Shrinker] = None  # the shrunk script; None if there is no difference
 
     @property
     def finding(self) -> str:
@@ -83,7 +83,8 @@ class Conformance:
 
 
 def find_conform(files: MonitorFiles, plan: ScriptPlan, heard: Callable[[ConformOutcome], None] = lambda it: None) -> Conformance:
-    """Compares the monitors, and shrinks the script of the first difference. Calls `heard` before it shrinks. Raises RvlookError."""
+    """Compares the monitors, and shrinks the script of the first difference. Calls `heard` before it shrinks. Raises RvlookError if a file is
+    invalid, or if no script has the wanted name."""
     placement_of(files.memory, files.ram, LEAST_RAM)
     setup, symbols = files.setup()
     outcome = compare(setup, plan)

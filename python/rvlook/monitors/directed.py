@@ -358,20 +358,20 @@ def boundary_scripts(end: int) -> Iterator[tuple[str, list[Item]]]:
 
 
 class ReferenceState(NamedTuple):
-    """The state of the reference on which the next items depend: the world that runs, its mode and pc, and the enclave table."""
-    world: str
-    mode: str
-    pc: int
-    table: Sequence[Enclave]
+    """The state of the reference, on which the next items depend."""
+    world: str  # that runs
+    mode: str  # of the world
+    pc: int  # of the world
+    table: Sequence[Enclave]  # of the enclaves
 
 
 class RandomScript:
     """The source of a random script, which a seed determines. Some scripts create thirteen enclaves."""
 
     def __init__(self, seed: str, ram: int) -> None:
-        self.draw, self.end, self.is_begun = random.Random("conform %s" % seed), RAM_BASE + ram, False
-        self.fills_table = self.draw.random() < .3
-        self.makers = {"call": self.call, "access": self.access, "csr": self.csr, "registers": self.registers, "sret": self.sret,
+        self.draw, self.end, self.is_begun = random.Random("conform %s" % seed), RAM_BASE + ram, False  # `end`: of the RAM
+        self.fills_table = self.draw.random() < .3  # whether the script creates thirteen enclaves
+        self.makers = {"call": self.call, "access": self.access, "csr": self.csr, "registers": self.registers, "sret": self.sret,  # by kind of item
                        "fault": self.fault, "timer": self.timer, "jump": self.jump}
 
     def items(self, state: ReferenceState) -> list[Item]:

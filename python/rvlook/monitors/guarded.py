@@ -37,7 +37,7 @@ class NewVector(Exception):
 
     def __init__(self, address: int) -> None:
         super().__init__("%08x" % address)
-        self.address = address
+        self.address = address  # of the vector
 
 
 def vector_of_first_trap(setup: MonitorSetup, log: Sequence[str], steps: int) -> int:
@@ -58,11 +58,10 @@ def after(setup: MonitorSetup, log: Sequence[str], steps: int) -> Ran:
 
 
 class TrapsInM:
-    """The traps in M before one return from M. A handler of M must return to the instruction that trapped or to the next one. `is_code` says
-    whether an address is in memory of the monitor."""
+    """The traps in M before one return from M. A handler of M must return to the instruction that trapped or to the next one."""
 
     def __init__(self, is_code: Callable[[int], bool]) -> None:
-        self.is_code = is_code
+        self.is_code = is_code  # whether an address is in memory of the monitor
         self.pending: list[tuple[int, str]] = []  # pc of each trap whose handler runs, and its description
         self.handled: list[int] = []  # pc of each trap whose handler returned
 
@@ -95,8 +94,8 @@ class TrapLoop:
     """Finds a loop of traps below M: an instruction traps again and again with the same cause and access rights, with at most one step in between."""
 
     def __init__(self) -> None:
-        self.last: tuple[str, int, str, bytes] = ("", 0, "", b"")
-        self.count, self.steps = 0, 0
+        self.last: tuple[str, int, str, bytes] = ("", 0, "", b"")  # cause, pc, mode and PMP entries of the last trap
+        self.count, self.steps = 0, 0  # repetitions so far; steps below M at the last trap
 
     def is_closed(self, cause: str, entry: HartState, steps: int) -> bool:
         """Notes a trap, after a number of steps below M; returns whether it is one of such a loop."""
@@ -108,28 +107,26 @@ class TrapLoop:
 
 @dataclass(frozen=True)
 class HartState:
-    """The state of the hart in M: at the entry, of the world that trapped; at the return, of the world that continues. `pc` is mepc, and `mode`
-    is MPP."""
-    registers: tuple[int, ...]
-    csrs: dict[str, int]
-    pc: int
-    mode: str
-    entries: bytes
+    """The state of the hart in M: at the entry, of the world that trapped; at the return, of the world that continues."""
+    registers: tuple[int, ...]  # x0 to x31
+    csrs: dict[str, int]  # by name
+    pc: int  # mepc
+    mode: str  # MPP
+    entries: bytes  # the replies of `pmp`
     here: int  # pc of M
 
 
 @dataclass(frozen=True)
 class StayInM:
-    """A stay in M: the cause of the trap, the state at its entry and at its return, and its steps. If M did not return as it should, `fault` says
-    why, and `inside` is pc of M. `handled` has pc of each trap in M from which M returned, `loaded` the watched bytes that M loaded."""
-    cause: str
-    entry: HartState
-    exit: HartState
-    spent: int
-    fault: str = ""
-    inside: int = 0
-    handled: tuple[int, ...] = ()
-    loaded: frozenset[int] = frozenset()
+    """A stay in M, from a trap to the return."""
+    cause: str  # of the trap, 8 hexadecimal digits; empty for the first stay
+    entry: HartState  # state at the entry
+    exit: HartState  # state at the return
+    spent: int  # steps in M
+    fault: str = ""  # why M did not return as it should; empty if it did
+    inside: int = 0  # pc of M at the fault
+    handled: tuple[int, ...] = ()  # pc of each trap in M from which M returned
+    loaded: frozenset[int] = frozenset()  # the watched bytes that M loaded
 
 
 def entries_of(mtvec: int) -> list[int]:
@@ -138,12 +135,12 @@ def entries_of(mtvec: int) -> list[int]:
 
 
 class Guarded(MonitorBench):
-    """A bench with a monitor, its host and its enclaves. `steps` counts the steps below M. `log` has the lines that change the state; in it
-    `run N` has the number of steps that were done. `vectors` has the addresses to which traps go, at which the bench stops. `is_code` says whether an
-    address is in memory of the monitor."""
+    """A bench with a monitor, its host and its enclaves. `log` has the lines that change the state; in it `run N` has the number of steps that
+    were done. `is_code` says whether an address is in memory of the monitor."""
 
     def __init__(self, setup: MonitorSetup, vectors: Iterable[int] = (), is_code: Callable[[int], bool] = lambda _: True) -> None:
         super().__init__(setup, setup.own)
+        # `steps`: below M; `vectors`: addresses to which traps go, at which the bench stops
         self.steps, self.is_code, self.vectors, self.loop = 0, is_code, set(vectors), TrapLoop()
 
     def do(self, *lines: str) -> list[bytes]:

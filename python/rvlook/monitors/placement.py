@@ -17,10 +17,10 @@ RANGE = re.compile(r"([0-9a-f]{1,8})-([0-9a-f]{1,8})\Z", re.I)
 
 @dataclass(frozen=True)
 class Placement:
-    """Host and enclaves have the memory from `first` up to, and not with, `end`. Everything else is closed to S and U. If the monitor needs more than
-    the memory below 80010000, addresses of a script move by `offset` bytes."""
-    first: int
-    end: int
+    """The memory of host and enclaves. Everything else is closed to S and U. If the monitor needs more than the memory below 80010000, addresses
+    of a script move by `offset` bytes."""
+    first: int  # the first byte
+    end: int  # the byte after the last one
 
     @property
     def offset(self) -> int:

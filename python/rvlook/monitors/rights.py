@@ -13,11 +13,11 @@ BITS = (("r", 1), ("w", 2), ("x", 4))
 
 @dataclass(frozen=True)
 class Right:
-    """Bytes from `first` up to, and not with, `end` that S and U may access as `may` says, and the entry that decides, or None."""
-    first: int
-    end: int
-    may: str
-    entry: int | None
+    """A range with the access rights of S and U."""
+    first: int  # the first byte
+    end: int  # the byte after the last one
+    may: str  # three letters, such as `rw-`
+    entry: int | None  # index of the PMP entry that decides; None if no entry matches
 
     def __str__(self) -> str:
         return "%08x-%08x %s" % (self.first, self.end - 1, self.may)

@@ -47,7 +47,7 @@ class TracePart:
     own: array[int]  # the pc of each own step
     tails: Sequence[bytes]  # the end of the reply to each own step, from the world on
     starts: Set[int]  # indices of the own steps before which the enclave is entered
-    marked: Optional[Sequence[Tuple[int, Code, bool, bool]]] = None
+    marked: Optional[Sequence[Tuple[int, Code, bool, bool]]] = None  # index, instruction, more than an access, relative to sp; None before decoding
     text: bytes = b""  # the commands that read the registers of marked steps
 
 

@@ -105,10 +105,7 @@ class DetailReader:
 
 @dataclass(frozen=True)
 class Input:
-    """Bytes that a step loads from the window, or a register at an entry.
-
-    `start` is the index of the first step that depends on them, and `step` the number of the step after which they are changed. `is_again` says that
-    the enclave has loaded them before."""
+    """Bytes that a step loads from the window, or a register at an entry."""
     visit: int  # number of the activation, from 0
     index: int  # of the load in the trace
     start: int  # index of the first step that depends on the bytes
