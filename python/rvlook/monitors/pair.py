@@ -103,7 +103,7 @@ class BothSides(Closing):
     def __init__(self, setup: MonitorSetup, name: str, compares_memory: bool = True) -> None:
         self.setup, self.compares_memory, self.played = setup, compares_memory, Played(name)
         self.own, self.reference = Side(setup, is_own=True), Side(setup, is_own=False)
-        self.world, self.has_trapped = "host", False  # that runs; whether the last step trapped
+        self.world, self.has_trapped = "host", False  # the world that runs; whether a trap has occurred
         self.table: list[Enclave] = []
         self.left: dict[str, str] = {}  # how each enclave that is Stopped was left
         try:

@@ -107,8 +107,8 @@ class TwinResult:
     step: int = 0  # below M, at the difference
     pc: int = 0  # of the trap before the difference
     changes: int = 0  # how often the secret was inverted
-    returns: int = 0
-    why_cut: str = ""
+    returns: int = 0  # from M that were compared
+    why_cut: str = ""  # why the comparison ended early; empty if it did not
 
 
 def secrets_of(setup: MonitorSetup, ownership: Ownership, limit: int, vectors: set[int]) -> list[TwinSecret]:

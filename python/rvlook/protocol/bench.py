@@ -94,7 +94,7 @@ class Closing:
         self.close()
 
     def close(self) -> None:
-        """Releases what it holds."""
+        """Releases what the resource holds."""
 
 
 class Bench(Closing):
@@ -103,16 +103,16 @@ class Bench(Closing):
     def __init__(self, arguments: Sequence[str], image: bytes, harts: int = 1) -> None:
         path = program_path()
         try:
-            self.process = subprocess.Popen([path, *arguments], stdin=subprocess.PIPE, stdout=subprocess.PIPE, bufsize=0,
+            self.process = subprocess.Popen([path, *arguments], stdin=subprocess.PIPE, stdout=subprocess.PIPE, bufsize=0,  # the program
                                             start_new_session=True)
         except OSError as error:
             raise Unfinished("cannot run '%s': %s" % (path, error.strerror)) from None
         assert self.process.stdin and self.process.stdout
-        self.stdin, self.stdout = self.process.stdin, self.process.stdout
+        self.stdin, self.stdout = self.process.stdin, self.process.stdout  # its pipes
         os.set_blocking(self.stdin.fileno(), False)
         widen(self.stdin, self.stdout)
-        self.harts = harts
-        self.pending = memoryview(b"")
+        self.harts = harts  # their number
+        self.pending = memoryview(b"")  # input that is not written yet
         self.parts: list[bytes] = []  # what was read and not yet taken
         self.lines: list[bytes] = []  # complete lines that were read, the next one last
         self.send(image + b"--\n")

@@ -43,7 +43,7 @@ LONGEST_SHOWN = 160  # characters of a line in a message
 
 
 class Form(Enum):
-    """The form of an operand."""
+    """The form of an operand, with its description for messages."""
     count = "a decimal number from 1 to 1000000"
     register = "a register number (decimal, 0 to 31)"
     address = "an address (1 to 8 hexadecimal digits, optionally after 0x)"
@@ -61,9 +61,9 @@ class Form(Enum):
 
 @dataclass(frozen=True)
 class Command:
-    """A command's operands, by the letters of docs/COMMANDS.md."""
-    letters: str
-    forms: tuple[Form, ...]
+    """The operands of a command."""
+    letters: str  # as in docs/COMMANDS.md
+    forms: tuple[Form, ...]  # of the operands, in order
 
 
 COMMANDS = {
