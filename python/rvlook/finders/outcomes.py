@@ -169,7 +169,8 @@ def compared_with(name: str, value: str, symbols: Symbols) -> int | str:
 
 
 def outcomes_of(texts: Iterable[str] | None, conditions: Sequence[Forbidden], run: Run, path: str | None) -> list[Observed]:
-    """Returns what distinguishes final states, with what --forbid compares; empty if it is all shared memory. `path` is the file of --symbols."""
+    """Returns what distinguishes final states, with the parts that --forbid compares. Returns an empty list if all shared memory does. `path` is
+    the file of --symbols."""
     named = list(texts or ()) + [part[0] for it in conditions for part in it.parts]
     members = variables_of(path, run.setup.image).fixed if any("." in it for it in named) else ()
     return [outcome_of(it, run.setup.symbols, run.setup.harts, members) for it in dict.fromkeys(named)]

@@ -1,5 +1,6 @@
-"""The location, the values and the copies of a secret. It is in the region of an enclave, written right after `create`; in the image, written at
-reset; or in a register when an enclave first reaches an address. Its copies are maximal runs of bytes that the secret has in the same order."""
+"""The location, the values and the copies of a secret. A secret is in the region of an enclave, written right after `create`; in the image,
+written at reset; or in a register when an enclave first reaches an address. Its copies are maximal runs of bytes that the secret has in this
+order."""
 from __future__ import annotations
 
 import random

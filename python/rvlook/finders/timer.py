@@ -158,7 +158,7 @@ class TimerParts:
         return outcome
 
     def whole(self) -> InterruptedRun:
-        """Does all parts, or those up to the first difference."""
+        """Does all parts, or the parts up to the first difference."""
         whole = InterruptedRun()
         jobs = self.options.jobs
         for number, outcome in enumerate(results_of(self.part, jobs, jobs), 1):

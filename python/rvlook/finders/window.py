@@ -1,7 +1,7 @@
 """Examines what each activation of an enclave did with the bytes of its window.
 
-It read them, read them again (a double fetch), received them from another enclave, or wrote them, or an earlier activation left them. A second run
-shows whether what was written depends on a secret. Copies of the secret in the window are found too."""
+An activation reads bytes, reads them again (a double fetch), receives them from another enclave, or writes them. Bytes remain if an earlier
+activation left them. A second run shows whether the written bytes depend on a secret. Copies of the secret in the window are found too."""
 from __future__ import annotations
 
 from collections import defaultdict
@@ -106,7 +106,7 @@ def read(byte: Byte, pc: int) -> bool:
 
 
 def ranges(what: str, marks: Mapping[int, Marks]) -> list[MarkedBytes]:
-    """Joins adjacent bytes with the same marks. `marks` has them by offset."""
+    """Joins adjacent bytes with equal marks. `marks` has the marks by offset."""
     found: list[MarkedBytes] = []
     for at in sorted(marks):
         last = found[-1] if found else None
@@ -172,7 +172,7 @@ def reread(found: Mapping[int, Byte], symbols: Symbols) -> Iterator[MarkedBytes]
 
 
 def view_of(activation: Activation, leftovers: Leftovers, other: Activation | None, secret: Secret | None, context: WindowContext) -> ActivationView:
-    """Returns all findings of an activation. `other` is the same activation with another secret, if there is one."""
+    """Returns all findings of an activation. `other` is the corresponding activation of a run with another secret, or None."""
     public = context.public
     found, base = bytes_of(activation), activation.enclave.window
     theirs = bytes_of(other) if other else {}

@@ -17,8 +17,8 @@ SOURCES = re.compile(r"\bx(\d+)")
 
 class Kind(Enum):
     """The kind of an instruction, as far as a trace distinguishes it."""
-    LOAD = "r"  # as in a trace of accesses
-    STORE = "w"  # likewise
+    LOAD = "r"  # any load
+    STORE = "w"  # any store
     BRANCH = "branch"  # conditional
     CALL = "call"  # with its target in the instruction
     INDIRECT = "indirect"  # a call or jump to the address in a register

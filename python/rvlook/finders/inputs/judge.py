@@ -1,4 +1,4 @@
-"""Compares traces with those before them: which code and which objects they reach that no earlier one did, and which of this is a finding."""
+"""Judges traces: which code and which objects a trace reaches that no earlier trace reached, and which of its steps are findings."""
 from __future__ import annotations
 
 from collections import defaultdict
@@ -230,11 +230,12 @@ class TraceJudge:
 
     @staticmethod
     def is_inner(place: ObjectPlace, usual: set[ObjectPlace]) -> bool:
-        """Returns whether an object is a member of the same variable as a usual one, which the access may reach too: no array ends between them."""
+        """Returns whether an object is a member of a variable that has a usual object too, and no array ends between the two. The access may reach
+        it."""
         return any(it.variable and it.variable == place.variable and not it.is_array for it in usual)
 
     def previous(self, trace: Trace, index: int, key: Key) -> Optional[int]:
-        """Returns the index of the same access before a step, or None."""
+        """Returns the index of the last step before `index` with this pc and call context, or None."""
         for at in range(index - 1, max(-1, index - 400), -1):
             if trace.pcs[at] == key[1] and trace.contexts[at] == key[0]:
                 return at

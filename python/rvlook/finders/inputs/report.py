@@ -141,7 +141,7 @@ class Inputs:
         search.start(search.rules.secret.at if search.rules else None, options.entry)
 
     def findings(self) -> list[InputFinding]:
-        """Returns the findings of the search, those about its secret last."""
+        """Returns the findings of the search. Findings about the secret come last."""
         search = self.search
         assert search is not None
         found = [*search.judge.sure(), *self.states]
@@ -227,7 +227,7 @@ def failures_in(run: Run, slot: int) -> list[Failure]:
 
 
 def groups_of(search: InputSearch, findings: Sequence[InputFinding]) -> list[Group]:
-    """Returns the findings in groups: those of one kind at one source line, or at one instruction without source lines."""
+    """Returns the findings in groups. A group has one kind at one source line, or at one instruction without source lines."""
     found: dict[tuple[object, ...], list[InputFinding]] = {}
     for finding in findings:
         where = search.symbols.line(finding.pc) or finding.pc
@@ -294,7 +294,8 @@ def change_text(change: Change) -> str:
 
 
 def with_old_values(run: Run, changes: Changes) -> Changes:
-    """Returns changes with the values that each of them replaces: those that a run with the earlier changes alone has at that step."""
+    """Returns changes with the values that each of them replaces. A replaced value is that of a run with only the earlier changes, at the step of
+    the change."""
     found: list[Change] = []
     for change in changes:
         with run.replay() as replay:

@@ -61,7 +61,7 @@ def news_since(tracer: Tracer, known: TracerKnowledge) -> News:
 
 
 def new_frames(contexts: Contexts, known: TracerKnowledge) -> dict[int, int]:
-    """Returns the stack frames that differ from those that were known, by context."""
+    """Returns the stack frames that are new or differ from the known ones, by context."""
     return {it: sp for it, sp in contexts.frames.items() if known.frames.get(it) != sp}
 
 
@@ -146,7 +146,7 @@ class InputSearch:
         self.go_on_from(self.base)
 
     def go_on_from(self, trace: Trace) -> None:
-        """Adds a trace to those that the search goes on from."""
+        """Adds a trace to the traces from which the search goes on."""
         details = self.reader.read(trace)
         inputs = self.values.inputs(trace, details)
         for input_ in inputs:

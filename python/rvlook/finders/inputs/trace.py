@@ -104,7 +104,7 @@ class Trace:
                 self.visits.append(TraceVisit(begin_here, last, visit.ended_by, visit.answer) if is_whole else TraceVisit(begin_here))
 
     def differences(self) -> list[int]:
-        """Returns the indices of the steps that differ from those of the parent, or that come right before such steps."""
+        """Returns the indices of the steps that differ from the steps of the parent, or that come right before such steps."""
         found = set(self.changed)
         for first, end in self.new:
             found.update(range(max(0, first - 1), end))
@@ -179,7 +179,7 @@ class Probes:
         return head + b"".join(self.texts[first + 1:]), len(self.owners) - self.lines[first]
 
     def compare(self, first: int, replies: Sequence[bytes]) -> ProbeComparison:
-        """Compares the replies to the probes from one on with those of the trace."""
+        """Compares the replies to the probes from number `first` on with the replies of the trace."""
         found = ProbeComparison()
         start = self.lines[first]
         expected = self.expected[start:]

@@ -73,7 +73,7 @@ class Started:
     """A run to which the probes of its parent were sent."""
     run: Run  # with the changed inputs
     parent: Trace  # whose inputs were changed
-    joined: Joined  # from where it is expected to follow the parent
+    joined: Joined  # index of the parent and position of the run, from where it is expected to follow the parent
     changes: Changes  # of the inputs
     replay: Timeline  # of the run
     first: Optional[int] = None  # number of the first probe; None if there are none
@@ -215,7 +215,7 @@ class Tracer:
 
     def explore(self, run: Run, trace: Trace, position: int, other: tuple[Trace, int] | None) -> Joined | None:
         """Adds the steps of a run from a position on to its trace: up to its end, to the limit, or to where it joins another trace after an index.
-        Returns the latter, or None."""
+        Returns where it joins the other trace, or None."""
         begin = at = len(trace)
         with run.replay() as leader, run.replay() as reader:
             pc, is_own = self.go(leader, position)

@@ -152,7 +152,8 @@ class Values:
         return sorted(found, key=lambda it: (it.index, it.at, it.width, it.register))
 
     def loads(self, trace: Trace, details: Details, visit: TraceVisit) -> Iterator[tuple[int, int, bytes]]:
-        """Yields the loads of an activation from the window, without those of bytes that it has stored: the index, the address and the bytes."""
+        """Yields the index, the address and the bytes of each load of an activation from the window. Leaves out loads of bytes that the activation
+        has stored."""
         own: set[int] = set()
         for index in range(visit.first, (len(trace) - 1 if visit.last is None else visit.last) + 1):
             at, code = trace.addresses[index], self.tracer.code[trace.pcs[index]]
@@ -211,8 +212,8 @@ class Values:
             yield from self.round_robin(trace, details, part)
 
     def round_robin(self, trace: Trace, details: Details, inputs: list[Input]) -> Iterator[Child]:
-        """Yields the first value of each input, then the second of each, and so on. From the third on, other inputs get PER_PART values for each
-        value of a part of a buffer: branches and addresses more often depend on them."""
+        """Yields the first value of each input, then the second of each, and so on. From the third value on, other inputs get PER_PART values for
+        each value of a part of a buffer: branches and addresses depend on other inputs more often."""
         every = [(it, list(self.values(trace, details, it))) for it in inputs]
         for turn in range(PER_PART * max((len(values) for _, values in every), default=0)):
             for own, values in every:

@@ -83,7 +83,7 @@ class FinalStates:
         self.renumber()
 
     def add(self, end: FinalState) -> None:
-        """Adds a final state. Joins those with the same report, and keeps the simplest schedule."""
+        """Adds a final state. Joins final states with equal reports, and keeps the simplest schedule."""
         key = end.harts, end.values
         old = self.found.setdefault(key, end)
         if old is not end:
@@ -124,7 +124,7 @@ class Component:
     def __init__(self, search: ScheduleSearch, graph: Graph, vertices: Iterable[Vertex], component_of: Mapping[Vertex, int]) -> None:
         self.search, self.machine, self.graph = search, search.machine, graph
         self.vertices = sorted((it for it in vertices if it in graph.nodes), key=lambda it: graph.nodes[it].cost)  # by cost
-        self.all = set(vertices)  # also those that were not visited
+        self.all = set(vertices)  # also vertices that were not visited
         self.moves = moves_inside(graph, vertices, component_of) if self.vertices else {}  # of each hart, within the component
         self.state = graph.nodes[self.vertices[0]].point.state if self.vertices else search.machine.start  # of the first vertex
 
@@ -159,7 +159,7 @@ class Component:
         return NOT_SEARCHED if is_given_up else None
 
     def over(self, hart: int) -> HartEnd:
-        """Returns how and where a hart ended. It HALTS if it was expected to end elsewhere."""
+        """Returns how and where a hart ended. The hart HALTS if it was expected to end elsewhere."""
         machine, nodes = self.machine, self.graph.nodes
         pc = min(machine.pc(nodes[it].point.state, hart) for it in self.vertices)
         if hart in self.moves:
@@ -298,7 +298,7 @@ class Components:
     """The strongly connected components of the graph (Tarjan). Each component comes after those that it leads to."""
 
     def __init__(self, graph: Graph) -> None:
-        self.graph = graph
+        self.graph = graph  # whose components are found
         self.number: dict[Vertex, int] = {}  # the order in which vertices were entered
         self.low: dict[Vertex, int] = {}  # the least number that is reachable through open vertices
         self.stack: list[Vertex] = []  # the vertices whose component is not complete

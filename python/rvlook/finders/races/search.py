@@ -22,7 +22,7 @@ SEARCH_SHARE = 0.85  # of the time limit; the rest is for the analysis of the gr
 
 
 class DependentStep(NamedTuple):
-    """The dependent step of a move. A move has none if it consists of independent steps."""
+    """The dependent step of a move. In a move of independent steps only, `pc` and `look` are None."""
     before: int  # number of steps of the move before this one
     pc: Optional[int]  # None if the move has no dependent step
     look: Optional[Look]  # its access; None if the move has no dependent step
@@ -159,8 +159,8 @@ class SearchBounds(NamedTuple):
     preemptions: Optional[int] = None  # at most; None: any number
     timers: int = 0  # timer interrupts, at most
     steps: int = 1000000  # of one move; a hart that exceeds them is given up
-    first: int = 0  # the first switch or timer interrupt comes after this step of the run,
-    last: Optional[int] = None  # and not after this one; None: any later step
+    first: int = 0  # the first switch or timer interrupt comes right after this step of the run, or later,
+    last: Optional[int] = None  # and at the latest right after this one; None: no limit
 
     @property
     def is_part(self) -> bool:
@@ -323,7 +323,7 @@ class ScheduleSearch:
     # ---- moves
 
     def move(self, state: CachedState, hart: int, schedule: Schedule, is_timer: bool = False) -> Move | None:
-        """Returns the move of a hart, or None if it stops. `schedule` gives the schedule that leads here."""
+        """Returns the move of a hart, or None if the hart stops. `schedule` returns the schedule that leads to the state."""
         key = (state, hart, is_timer)
         moves = self.graph.moves
         if key not in moves:

@@ -199,8 +199,8 @@ class RacesOptions:
     end: Sequence[str] = ()  # the places at which a hart may end; empty: any
     preemptions: Optional[int] = None  # at most; None: any number
     timers: int = 0  # timer interrupts, at most
-    first: int = 0  # the first switch comes after this step,
-    last: Optional[int] = None  # and not after this one; None: any later step
+    first: int = 0  # the first switch or timer interrupt comes right after this step, or later,
+    last: Optional[int] = None  # and at the latest right after this one; None: no limit
     limit: int = 0  # steps after which each hart ends; 0: no limit
     plain: bool = False  # whether harts switch before each step, without reduction
     seconds: Optional[float] = None  # of search and replay, at most; None: no limit
@@ -245,7 +245,7 @@ def show_races(run: Run, printer: Printer, options: RacesOptions, findings: Repo
 
 
 def address_of(text: str, symbols: Symbols) -> int:
-    """Returns the address of a place; raises RvlookError."""
+    """Returns the address of a place. Raises RvlookError if the text is neither an address nor a symbol."""
     at = symbols.address(text)
     if at is None:
         raise RvlookError("'%s' is neither a hexadecimal address nor a symbol" % text)
@@ -307,7 +307,7 @@ def note(findings: ReportedCases, report: RacesReport) -> None:
 
 
 def replay(search: ScheduleSearch, found: FinalStates, conditions: Sequence[Forbidden], jobs: int) -> None:
-    """Replays the final states on the bench in `jobs` processes, forbidden ones first. Leaves out those for which no time is left."""
+    """Replays the final states on the bench in `jobs` processes, forbidden ones first. Leaves out the final states for which no time is left."""
     replayed: list[FinalState] = []
     is_forbidden = {id(end) for _, end in forbidden(conditions, found)}
     try:

@@ -38,5 +38,5 @@ class TimeLimit:
 
 
 def stop(*_: object) -> NoReturn:
-    """Raises OutOfTime."""
+    """Raises OutOfTime. Handles the alarm."""
     raise OutOfTime
