@@ -62,14 +62,15 @@ class Activation:
 
 
 def access_of(line: bytes) -> Need[MemoryOperand] | None:
-    """Returns the access of the instruction in a reply of `dis`, with the registers of its address and its stored value; None if it has none."""
+    """Returns the access of the instruction in a reply of `dis`, with the registers of its address and its stored value. Returns None for an
+    instruction without an access."""
     instruction = instruction_of(line)
     memory = instruction.memory if instruction else None
     return (memory, (memory.base, memory.register) if memory.kind == "w" else (memory.base,), False) if memory else None
 
 
 def operands_of(line: bytes) -> Need[MemoryOperand] | None:
-    """Returns the same as `access_of`, or the two operands of a division, as an access of the kind `d`."""
+    """Returns what `access_of` returns. For a division returns its two operands, as an access of the kind `d`."""
     instruction = instruction_of(line)
     if instruction is None or instruction.name not in DIVISIONS:
         return access_of(line)

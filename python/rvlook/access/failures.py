@@ -67,7 +67,7 @@ class Failure:
 
     @property
     def key(self) -> tuple[object, ...]:
-        """Returns what is the same for all times."""
+        """Returns the fields that are equal each time the failure occurs."""
         return self.name, self.at, self.call
 
 
@@ -128,11 +128,12 @@ class Lagging:
         self.skipped += whole(part)
 
     def ask(self, commands: Sequence[str]) -> list[bytes]:
-        """Does what was skipped and then these commands, and returns the replies to the latter. Each command has a reply of one line."""
+        """Runs the commands of the skipped parts and then these commands; returns the replies to these commands. Each command has a reply of one
+        line."""
         return self.block("".join(it + "\n" for it in commands).encode(), len(commands)).split(b"\n")[:-1]
 
     def block(self, text: bytes, count: int) -> bytes:
-        """Does what was skipped, and then commands whose replies have `count` lines; returns these replies."""
+        """Runs the commands of the skipped parts, and then commands whose replies have `count` lines; returns these replies."""
         skipped, self.skipped = self.skipped, []
         self.bench.replies_to(skipped)
         return self.bench.block(text, count) if count else b""
@@ -313,13 +314,14 @@ def expectation_of(text: str, symbols: Symbols) -> Expectation:
 
 
 class FailureReport:
-    """The report of the failures of a run. Failures that nobody expects are findings."""
+    """The report of the failures of a run. Failures that the user does not expect are findings."""
 
     def __init__(self, expected: Sequence[Expectation], symbols: Symbols, printer: Printer, findings: ReportedCases) -> None:
+        # --expect; names; where the report goes; the cases
         self.expected, self.symbols, self.printer, self.findings = expected, symbols, printer, findings
 
     def show(self, failures: Sequence[Failure]) -> None:
-        """Prints the failures: those that are expected as notes, the others as warnings."""
+        """Prints the failures: the expected ones as notes, the others as warnings."""
         self.printer.stream.flush()
         for number, failure in enumerate(failures):
             is_expected = any(other.has(failure, self.symbols) for other in self.expected)

@@ -125,7 +125,7 @@ def row_at(event: Event, address: int) -> Row:
 
 
 def rights_of(event: Event, address: int) -> dict[str, str]:
-    """Returns the access rights of each world to an address, by mode if they differ between modes. A world that does not exist has none."""
+    """Returns the access rights of each world to an address, by mode if they differ between modes. A world that does not exist has no rights."""
     row, found = row_at(event, address), {}
     for column in event.columns:
         for mode, rights in row.may[column.name].items():

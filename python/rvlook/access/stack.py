@@ -140,7 +140,7 @@ def stacks_of(symbols: Symbols) -> dict[str, list[Stack]]:
 
 
 def kind_of(world: str, mode: str, kinds: Container[str] = ()) -> str | None:
-    """Returns the kind of stack that a world uses in a mode, or None if it is not known. `kinds` are those that the symbols define."""
+    """Returns the kind of stack that a world uses in a mode, or None if the kind is unknown. `kinds` are the kinds that the symbols define."""
     if world == "bare" and mode == "M":
         return "monitor" if "monitor" in kinds else "host"
     if world == "bare" and "runtime" in kinds:
@@ -222,21 +222,21 @@ class OverflowFinder:
         return min(self.stacks[kind], key=lambda stack: min(abs(stack.bottom - address), abs(stack.top - address)))
 
     def stacks_of_world(self, kind: str) -> Sequence[str]:
-        """Returns the kinds of stacks to which a world may switch; none if the symbols do not define each of them."""
+        """Returns the kinds of stacks to which a world may switch. Returns no kind if the symbols do not define each of them."""
         kinds = KINDS.get(kind, ())
         return kinds if all(it in self.stacks for it in kinds) else ()
 
 
 @lru_cache(maxsize=65536)
 def need_of(line: bytes) -> Need[PointerOperation] | None:
-    """Returns the operation of the instruction in a reply of `dis`, and the register that it needs: the base of its access, or sp after a write of
-    it; None if it needs none."""
+    """Returns the operation of the instruction in a reply of `dis`, and the register that must be read: the base of its access, or sp after a
+    write of sp. Returns None if no register must be read."""
     operation = operation_of(line)
     return (operation, (operation.register,), operation.memory is None) if operation and operation.register is not None else None
 
 
 def overflows(run: Run, symbols: Symbols) -> list[Overflow]:
-    """Returns the first overflow of each kind of stack, in the order of the run; none if the symbols define no stack."""
+    """Returns the first overflow of each kind of stack, in the order of the run. Returns no overflow if the symbols define no stack."""
     stacks = stacks_of(symbols)
     if not stacks:
         return []
