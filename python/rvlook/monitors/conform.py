@@ -135,7 +135,7 @@ class Shrinker:
         return self.runs >= MOST_RUNS or time.monotonic() > self.end
 
     def is_shorter(self, items: list[Item]) -> bool:
-        """Runs a part of the script; keeps it, without what follows the difference, if it shows the same."""
+        """Runs a part of the script. If it shows the same difference, keeps it without the items after the difference."""
         self.runs += 1
         played = play(self.setup, self.played.name, items, self.wanted[0] is DifferenceKind.memory)
         if not played.differences or signature(played.differences[0]) != self.wanted:
@@ -155,7 +155,7 @@ class Shrinker:
         return found
 
     def shrink(self) -> Shrinker:
-        """Leaves out halves, quarters, and then single items, until none can be left out, or until Ctrl-C."""
+        """Leaves out halves, quarters, and then single items, until no item can be left out, or until Ctrl-C."""
         size = max(1, len(self.played.items) // 2)
         self.end = time.monotonic() + MOST_SECONDS
         try:

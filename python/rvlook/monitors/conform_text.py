@@ -207,7 +207,7 @@ class DifferenceReport:
 
 
 def source_of(writer: WritingInstruction, symbols: Symbols) -> str | None:
-    """Returns the source line of an instruction, or if it has none, of the last one that was executed before it and has one."""
+    """Returns the source line of an instruction. If it has no source line, returns that of the last instruction before it that has one."""
     return next((line for line in map(symbols.line, (writer.pc, *writer.path)) if line), None)
 
 
@@ -250,7 +250,7 @@ def wrapped(words: list[str]) -> list[str]:
 
 
 def write_scripts(folder: str, setup: MonitorSetup, shrunk: Shrinker, printer: Printer) -> None:
-    """Writes a script for each side, and prints the commands that show them. Raises Unfinished."""
+    """Writes a script for each side, and prints the commands that show the scripts. Raises Unfinished if a file cannot be written."""
     own, reference = os.path.join(folder, "own.script"), os.path.join(folder, "reference.script")
     try:
         os.makedirs(folder, exist_ok=True)

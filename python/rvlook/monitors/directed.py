@@ -371,7 +371,7 @@ class RandomScript:
     def __init__(self, seed: str, ram: int) -> None:
         self.draw, self.end, self.is_begun = random.Random("conform %s" % seed), RAM_BASE + ram, False  # `end`: of the RAM
         self.fills_table = self.draw.random() < .3  # whether the script creates thirteen enclaves
-        self.makers = {"call": self.call, "access": self.access, "csr": self.csr, "registers": self.registers, "sret": self.sret,  # by kind of item
+        self.makers = {"call": self.call, "access": self.access, "csr": self.csr, "registers": self.registers, "sret": self.sret,
                        "fault": self.fault, "timer": self.timer, "jump": self.jump}
 
     def items(self, state: ReferenceState) -> list[Item]:

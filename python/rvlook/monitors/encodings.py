@@ -37,7 +37,7 @@ def jump(base: int, offset: int = 0) -> int:
 
 
 def written_register(word: int) -> int:
-    """Returns the number of the integer register that an instruction writes; 0 if none."""
+    """Returns the number of the integer register that an instruction writes; 0 if it writes no register."""
     return 0 if word & 0x7F in (BRANCH, STORE) or word in (ECALL, EBREAK, MRET, SRET) else word >> 7 & 31
 
 

@@ -53,13 +53,15 @@ class Guard:
     loop: int | None = None  # pc of a trap that recurs for ever and ends the run; None without one
 
     def __post_init__(self) -> None:
-        self.draw = random.Random("guard %s" % self.timers)
-        self.world, self.calls = HOST, 0
+        self.draw = random.Random("guard %s" % self.timers)  # draws the steps before which the timer is raised
+        self.world, self.calls = HOST, 0  # that continues; calls of the host so far
+        # what the author declares; `ownership` has the ranges that exist at the present step
         self.declared = getattr(self, "declared", self.ownership)
-        self.live: set[OwnedRange] = set()
-        self.left: dict[str, Left] = {}
+        self.live: set[OwnedRange] = set()  # the live ranges
+        self.left: dict[str, Left] = {}  # the enclaves and the host, as each was left
         self.loaded: dict[OwnedRange, int] = {}  # ranges that are not live and that M loaded, and pc of the trap
         self.exposed: dict[OwnedRange, int] = {}  # of these the ranges to which the host may store after it, and pc of the host
+        # the world that was left last
         self.last = Left(HartState(registers=(), csrs={}, pc=0, mode="S", entries=b"", here=0), registers={}, csrs={}, is_call=False)
 
     def run(self) -> Violation | None:
@@ -174,7 +176,7 @@ class Guard:
         machine.set_state(self.restored(left, stay.exit, left.is_call), {name: left.state.csrs[name] for name in left.csrs})
 
     def restored(self, left: Left, state: HartState, is_call: bool) -> dict[int, int]:
-        """Returns the registers before the marks, for those that still have their marks."""
+        """Returns the registers before the marks, for the registers that still have their marks."""
         return {n: left.state.registers[n] for n, mark in left.registers.items()
                 if state.registers[n] == mark and not (is_call and n in self.ownership.hands)}
 

@@ -124,7 +124,7 @@ class StayInM:
     exit: HartState  # state at the return
     spent: int  # steps in M
     fault: str = ""  # why M did not return as it should; empty if it did
-    inside: int = 0  # pc of M at the fault
+    inside: int = 0  # pc of M at the fault; 0 without a fault
     handled: tuple[int, ...] = ()  # pc of each trap in M from which M returned
     loaded: frozenset[int] = frozenset()  # the watched bytes that M loaded
 
@@ -171,8 +171,8 @@ class Guarded(MonitorBench):
                          values[REGISTERS - 1])
 
     def to_return(self, cause: str, entry: HartState, watched: Sequence[int] = ()) -> StayInM:
-        """Runs M up to its mret to S or U, which is the next instruction then. Traps in M may come before, from which M must return. Notes which of
-        the watched bytes M loads. Raises NewVector."""
+        """Runs M up to its mret to S or U, which is the next instruction then. Traps in M may come before, from which M must return. Notes which
+        of the watched bytes M loads. Raises NewVector if M traps to an address that has no breakpoint."""
         watched = watched[:MOST_WATCHED - len(self.setup.lowered)]
         self.do(*("watch %x" % it for it in watched))
         found = self.to_mret(cause, entry)
@@ -180,7 +180,7 @@ class Guarded(MonitorBench):
         return found
 
     def to_mret(self, cause: str, entry: HartState) -> StayInM:
-        """Does the same with the watchpoints that are set."""
+        """Runs M up to its mret to S or U, with the watchpoints that are set."""
         spent, stops, fault, traps = 0, 0, "", TrapsInM(self.is_code)
         loaded: set[int] = set()
         while True:
@@ -205,7 +205,8 @@ class Guarded(MonitorBench):
             self.do("timer off")
 
     def after_part(self, ran: Ran, state: HartState, traps: TrapsInM) -> tuple[str, bool]:
-        """Handles a stop of the bench in M; returns why it is a violation, or an empty text, and whether M returns to S or U. Raises NewVector."""
+        """Handles a stop of the bench in M. Returns why the stop is a violation, or an empty text; and whether M returns to S or U. Raises
+        NewVector if M has trapped to an address that has no breakpoint."""
         if ran.mode != "M":
             return "M is left by another instruction than mret", False
         if ran.trap and state.here not in self.vectors:

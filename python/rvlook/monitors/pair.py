@@ -101,10 +101,10 @@ class BothSides(Closing):
     """Both sides. `compares_memory` selects whether memory is compared after each trap."""
 
     def __init__(self, setup: MonitorSetup, name: str, compares_memory: bool = True) -> None:
-        self.setup, self.compares_memory, self.played = setup, compares_memory, Played(name)
-        self.own, self.reference = Side(setup, is_own=True), Side(setup, is_own=False)
+        self.setup, self.compares_memory, self.played = setup, compares_memory, Played(name)  # `played`: the script so far
+        self.own, self.reference = Side(setup, is_own=True), Side(setup, is_own=False)  # the two monitors
         self.world, self.has_trapped = "host", False  # the world that runs; whether a trap has occurred
-        self.table: list[Enclave] = []
+        self.table: list[Enclave] = []  # of the enclaves, as the reference has it
         self.left: dict[str, str] = {}  # how each enclave that is Stopped was left
         try:
             self.compare(self.own.begin(), self.reference.begin(), has_trap=True)

@@ -43,7 +43,7 @@ def rights_of(lines: bytes, ram: int) -> tuple[Right, ...]:
 
 
 def closed_outside(rights: tuple[Right, ...], first: int, end: int, last: int) -> tuple[Right, ...]:
-    """Returns rights without those outside of a range; `last` is the end of the RAM."""
+    """Returns access rights that permit nothing outside the range from `first` up to before `end`. `last` is the end of the RAM."""
     inside = [Right(max(it.first, first), min(it.end, end), it.may, it.entry) for it in rights if it.first < end and first < it.end]
     found: list[Right] = []
     for right in (Right(RAM_BASE, first, NOTHING, None), *inside, Right(end, last, NOTHING, None)):

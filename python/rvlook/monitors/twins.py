@@ -150,7 +150,7 @@ class TwinRuns:
     def __init__(self, setup: MonitorSetup, ownership: Ownership, limit: int, vectors: set[int], secret: TwinSecret) -> None:
         self.setup, self.ownership, self.limit, self.vectors, self.secret = setup, ownership, limit, vectors, secret
         self.inverted: list[OwnedRange] = []  # the ranges that differ in the second run
-        self.changes, self.returns = 0, 0  # inversions so far; returns that were compared
+        self.changes, self.returns = 0, 0  # inversions so far, and returns that were compared
 
     def machine(self) -> Guarded:
         """Returns the machine of a run."""

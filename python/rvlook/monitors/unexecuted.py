@@ -89,7 +89,7 @@ def targets_of(words: dict[int, int], at: int) -> list[int]:
 
 
 def far_target(words: dict[int, int], at: int) -> list[int]:
-    """Returns the address to which an auipc and the jalr after it go; none for other instructions."""
+    """Returns the address to which an auipc and the jalr after it go; None for other instructions."""
     first, word = words.get(at - 4, 0), words[at]
     if word & 0x7F != JALR or first & 0x7F != AUIPC or first >> 7 & 31 != word >> 15 & 31:
         return []
