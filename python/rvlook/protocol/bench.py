@@ -52,8 +52,8 @@ def installed_program() -> str | None:
 
 
 def built_program() -> str:
-    """Returns the path of the program that ./prove has built, or builds one without proof. Ends the build on SIGTERM and Ctrl-C. Raises
-    Unfinished."""
+    """Returns the path of the program that ./prove has built, or builds one without proof. Ends the build on SIGTERM and Ctrl-C. Raises Unfinished
+    if there is no program and none can be built."""
     if not os.path.exists(FINDER):
         raise Unfinished("cannot find rvbench; add it to PATH, or set RVBENCH to its path")
     with subprocess.Popen([FINDER, "rvlook"], stdin=subprocess.DEVNULL, stdout=subprocess.PIPE, text=True) as building:
@@ -103,7 +103,7 @@ class Bench(Closing):
     def __init__(self, arguments: Sequence[str], image: bytes, harts: int = 1) -> None:
         path = program_path()
         try:
-            self.process = subprocess.Popen([path, *arguments], stdin=subprocess.PIPE, stdout=subprocess.PIPE, bufsize=0,  # the program
+            self.process = subprocess.Popen([path, *arguments], stdin=subprocess.PIPE, stdout=subprocess.PIPE, bufsize=0,
                                             start_new_session=True)
         except OSError as error:
             raise Unfinished("cannot run '%s': %s" % (path, error.strerror)) from None
@@ -187,7 +187,7 @@ class Bench(Closing):
         return line
 
     def reply(self, command: str) -> list[bytes]:
-        """Returns the lines of the reply to one command; none for a comment."""
+        """Returns the lines of the reply to one command; an empty list for a comment."""
         if not has_reply(command):
             return []
         if is_enclaves(command):

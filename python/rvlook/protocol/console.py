@@ -24,7 +24,7 @@ def word(data: bytes, offset: int) -> int:
 @dataclass
 class Console:
     """A console in the memory of a program."""
-    writer: str  # the name of the program that writes to it
+    writer: str  # who writes to it: host or enclave
     address: int  # of its first byte
     written: int = 0  # characters so far
     pending: str = ""  # the line that has not ended yet

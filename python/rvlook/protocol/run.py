@@ -73,7 +73,7 @@ class Setup:
 class End:
     """The end of a run."""
     steps: int  # of the run
-    why: str  # halted, limit, or the reason of the bench
+    why: str  # halted or limit
     pc: str  # eight hexadecimal digits
     mode: str  # of the hart
     world: str  # of the hart
@@ -227,7 +227,7 @@ class Run:
 
 
 def equal_at_end(lines: Sequence[AnyStr]) -> int:
-    """Returns how many lines at the end are the same."""
+    """Returns how many lines at the end are equal."""
     count = 1
     while count < len(lines) and lines[-1 - count] == lines[-1]:
         count += 1
@@ -235,7 +235,7 @@ def equal_at_end(lines: Sequence[AnyStr]) -> int:
 
 
 def equal_lines_at_end(data: bytes) -> int:
-    """Returns the same for replies to single steps as one text. No such reply is the end of another one."""
+    """Returns how many lines at the end of the replies to single steps, given as one text, are equal. No such reply is the end of another one."""
     at = begin_of_last(1, data)
     line, count = data[at:], 1
     while at and data.endswith(line, 0, at):

@@ -145,8 +145,8 @@ class Symbols:
         return "%s, in %s" % (caller, source) if caller and source else source
 
     def address(self, text: str) -> int | None:
-        """Returns the address of a name, a name+offset or hexadecimal digits, or None. For an ambiguous name, name@place is the first at or
-        after a place. Raises SymbolError."""
+        """Returns the address of a name, a name+offset or hexadecimal digits, or None. For an ambiguous name, name@place is the first at or after
+        a place. Raises SymbolError if the name is ambiguous, or if no symbol of this name is at or after the place."""
         named, plus, offset = text.partition("+")
         name, at, start = named.partition("@")
         try:
@@ -157,7 +157,8 @@ class Symbols:
             return None
 
     def address_of(self, name: str, first: int | None) -> int:
-        """Returns the address of a name: the only one, or the first from an address on. Raises SymbolError."""
+        """Returns the address of a name: the only one, or the first from an address on. Raises SymbolError if there is no such address or more
+        than one."""
         addresses = sorted(self.addresses_by_name[name])
         if first is not None:
             addresses = [it for it in addresses if it >= first][:1]

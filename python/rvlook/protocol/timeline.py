@@ -1,5 +1,5 @@
-"""A bench and its history since reset. The same commands give the same run each time, so an earlier step is reached by repeating them on
-another bench. Steps are counted over all harts."""
+"""A bench and its history since reset. Equal commands give equal runs, so an earlier step is reached by repeating the commands on another bench.
+Steps are counted over all harts."""
 from __future__ import annotations
 
 import re
@@ -142,7 +142,7 @@ class Timeline(Closing):
     back. It stays as long as the user repeats its actions. The caller sends what `lines_to` and `lines_up_to_next` return."""
 
     def __init__(self, setup: Setup, past: Iterable[Action] = (), hart: int = 0, future: Iterable[Action] = ()) -> None:
-        self.setup = setup
+        self.setup = setup  # of the bench
         self.past: list[Action] = []  # the actions so far
         self.future: deque[Action] = deque(future)  # the actions that follow
         self.stops: dict[str, None] = {}  # the commands that set breakpoints and watchpoints
@@ -150,7 +150,7 @@ class Timeline(Closing):
         mode, world = ("S", "host") if setup.monitor else ("M", "bare")
         # of each hart; `moved` counts actions that may have changed its world
         self.modes, self.worlds, self.moved = [mode] * setup.harts, [world] * setup.harts, [0] * setup.harts
-        self.bench = setup.bench()
+        self.bench = setup.bench()  # after all actions
         self.given: list[tuple[str, int]] = []  # commands whose replies are not read yet, and their harts
         self.follow(past, hart)
 
@@ -393,7 +393,7 @@ class Timeline(Closing):
         return schedule
 
     def step_before(self, hart: int) -> int | None:
-        """Returns the step before the last one of a hart, or None if it did none."""
+        """Returns the step before the last one of a hart, or None if the hart did no step."""
         at = self.position
         for action in reversed(self.past):
             if isinstance(action, ScheduledSteps):
