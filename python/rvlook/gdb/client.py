@@ -18,7 +18,7 @@ class FrameId:
     """The identity of a frame."""
 
     def __init__(self, sp: gdb.Value, pc: gdb.Value) -> None:
-        self.sp, self.pc = sp, pc
+        self.sp, self.pc = sp, pc  # of the frame
 
 
 class Assembly(Unwinder):

@@ -22,13 +22,14 @@ PATIENCE = 2  # seconds after which a waiting debugger gets a sign of life; lldb
 
 
 class Gone(Exception):
-    """The debugger has closed the connection."""
+    """Raised if the debugger has closed the connection."""
 
 
 class Link:
     """The connection with the debugger. It receives packets, Ctrl-C, and acknowledgements, which are ignored."""
 
     def __init__(self, reading: int, writing: int) -> None:
+        # file descriptors; the received bytes; whether packets are acknowledged
         self.reading, self.writing, self.buffer, self.acknowledged = reading, writing, b"", True
         self.kept: Any = None  # what must not be closed while the descriptors are used
 

@@ -46,9 +46,9 @@ class Server(Closing):
 
     def __init__(self, link: Link, setup: Setup, command_line: CommandLine, has_files: bool = True) -> None:
         self.link, self.setup, self.has_files, self.command_line = link, setup, has_files, command_line
-        self.extended = self.over = False
-        self.running: Moves | None = None
-        self.moved: int | None = None
+        self.extended = self.over = False  # the debugger uses extended mode; the connection ends
+        self.running: Moves | None = None  # None after the bench was ended
+        self.moved: int | None = None  # the hart that moves; None: any
         self.start()
 
     def start(self) -> None:

@@ -21,9 +21,9 @@ class CachedView:
     """The registers and the memory of a timeline, cached until anything changes."""
 
     def __init__(self, timeline: Timeline) -> None:
-        self.timeline, self.changes = timeline, -1
+        self.timeline, self.changes = timeline, -1  # `changes` of the timeline when the cache was filled
         self.values: dict[Any, Any] = {}  # registers by hart, and control registers by hart and number
-        self.lines: dict[int, bytes] = {}
+        self.lines: dict[int, bytes] = {}  # memory by address, LINE bytes each
 
     def check(self) -> None:
         """Discards the cached values if something may have changed."""
