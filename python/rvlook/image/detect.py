@@ -55,11 +55,11 @@ def has_key(data: bytes) -> bool:
 
 
 class Section(NamedTuple):
-    """A section of an ELF file: its type, its offset and size in bytes, and the section that it refers to (ELF, Section Headers)."""
-    kind: int
-    offset: int
-    size: int
-    link: int
+    """A section of an ELF file (ELF, Section Headers)."""
+    kind: int  # its type
+    offset: int  # in the file, bytes
+    size: int  # bytes
+    link: int  # index of the section that it refers to
 
 
 def extension_of(word: int) -> str | None:
