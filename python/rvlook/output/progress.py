@@ -16,6 +16,7 @@ class Progress:
 
     def __init__(self, stream: TextIO | None = None) -> None:
         self.stream = stream or sys.stderr
+        # `last`: time of the last update; `width`: characters of the line
         self.is_shown, self.last, self.width = self.stream.isatty() and not HEARD, time.monotonic(), 0
 
     def __enter__(self) -> Progress:
