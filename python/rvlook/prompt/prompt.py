@@ -39,14 +39,14 @@ LONGEST_INPUT = 1 << 16  # characters of a line; a longer one is read in parts
 
 class Keeper(Protocol):
     """An owner of the timeline of a session."""
-    timeline: Timeline
+    timeline: Timeline  # of the session
 
     def go(self, position: int) -> None:
         """Goes back to a step."""
 
 
 class TimelineKeeper:
-    """An owner of a timeline, which it replaces to go back; the history after that step is discarded."""
+    """An owner of a timeline. To go back, it replaces the timeline; the history after that step is discarded."""
 
     def __init__(self, timeline: Timeline) -> None:
         self.timeline = timeline
@@ -59,11 +59,12 @@ class TimelineKeeper:
 
 
 class PromptSession:
-    """The session of a prompt; `keeper` has its timeline."""
+    """The session of a prompt. Its keeper has the timeline."""
 
     def __init__(self, keeper: Keeper, run: Run, symbols: Symbols, printer: Printer) -> None:
+        # `finder`: reads access rights
         self.keeper, self.setup, self.symbols, self.printer, self.finder = keeper, run.setup, symbols, printer, EventFinder(run)
-        self.consoles = consoles_of(symbols)
+        self.consoles = consoles_of(symbols)  # that the program has
 
     @property
     def timeline(self) -> Timeline:
@@ -140,7 +141,7 @@ class PromptSession:
             self.print("  try: " + suggestion)
 
     def unknown_symbol(self, tokens: Sequence[str]) -> str | None:
-        """Returns the operand that should be an address or a value and is none, or None."""
+        """Returns an operand that should be an address or a value and is neither; None if there is no such operand."""
         command = COMMANDS.get(tokens[0])
         pairs = zip(tokens[1:], command.forms) if command and len(tokens) - 1 == len(command.forms) else ()
         return next((token for token, form in pairs if form in PLACES and not is_form(token, form)
