@@ -34,7 +34,7 @@ class Difference:
 
 @dataclass
 class Observation:
-    """What a host observes in one run."""
+    """The observations of a host in one run."""
     run: Run  # the run
     activations: list[Activation]  # of the enclave
     last: int  # number of the last step that is observed
@@ -78,7 +78,7 @@ class Comparison:
     """A comparison of two runs."""
 
     def __init__(self, one: Observation, two: Observation, secret: Secret, public: Public, is_strict: bool) -> None:
-        self.one, self.two, self.secret, self.public, self.is_strict = one, two, secret, public, is_strict
+        self.one, self.two, self.secret, self.public, self.is_strict = one, two, secret, public, is_strict  # `public`: what may differ
         self.found: dict[tuple[str, int | None], Difference] = {}  # by channel and instruction
         self.writers: dict[int, int] = {}  # the instruction that stored each byte of the window last
         for pair in zip(one.activations, two.activations):

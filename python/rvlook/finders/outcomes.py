@@ -90,8 +90,8 @@ class Forbidden(NamedTuple):
 
 
 def value_in(observed: Observed, machine: RaceMachine, state: CachedState) -> Value:
-    """Returns the value of a part of an outcome: bytes, the value of a register, the state of a slot's enclave (`none` without an enclave), or the
-    slots and the states of all enclaves."""
+    """Returns the value of a part of an outcome: bytes, the value of a register, or the state of a slot's enclave (`none` without an enclave). For
+    all enclaves returns the slots and their states."""
     if isinstance(observed, Bytes):
         return bytes(machine.bytes_at(machine.memories[state.memory], observed.at, observed.count) or ())
     if isinstance(observed, Register):
@@ -120,7 +120,7 @@ def value_text(value: Value) -> str:
 
 def outcome_of(text: str, symbols: Symbols, harts: int, members: Sequence[Member] = ()) -> Observed:
     """Parses --outcome: PLACE or PLACE:BYTES, VARIABLE.MEMBER, HART.REGISTER, a slot, or `enclaves`. `members` has the variables at fixed
-    addresses, down to their members. Raises RvlookError."""
+    addresses, down to their members. Raises RvlookError if the text is none of these forms, or if a symbol is unknown."""
     hart, dot, register = text.partition(".")
     if text == "enclaves":
         return EnclaveStates()

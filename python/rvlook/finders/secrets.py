@@ -213,7 +213,7 @@ def extended(data: bytes, secret: bytes, at: int, offset: int, size: int) -> Cop
 
 
 def not_covered(copies: Iterable[Copy]) -> list[Copy]:
-    """Returns the copies that no longer copy covers. Of copies at the same bytes returns the one with the lowest offset."""
+    """Returns the copies that no longer copy covers. If copies are at the same bytes, returns the one with the lowest offset."""
     kept, end = [], -1
     for copy in sorted(copies, key=lambda it: (it.at, -it.size, it.offset)):
         if copy.at + copy.size > end:

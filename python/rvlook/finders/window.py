@@ -57,7 +57,7 @@ class ActivationView:
 
 @dataclass(frozen=True)
 class WindowContext:
-    """What the report of a window needs."""
+    """The names and the public parts that the report of a window needs."""
     symbols: Symbols  # name instructions
     fields: WindowFields  # name offsets in the window
     public: Public  # what may differ
@@ -216,7 +216,7 @@ class WindowSearch:
     """A run whose activations are examined. If there is a secret, a second run has its complement."""
 
     def __init__(self, run: Run, variables: Variables, options: WindowOptions) -> None:
-        self.run, self.options, symbols = run, options, run.setup.symbols
+        self.run, self.options, symbols = run, options, run.setup.symbols  # with the secret of the program
         self.context = WindowContext(symbols, WindowFields(symbols), public_of(options.public, symbols))  # names, and what may differ
         self.secret: Secret | None = None  # None for no secret
         if options.at:

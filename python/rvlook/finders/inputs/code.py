@@ -9,7 +9,7 @@ from typing import Tuple
 
 from rvlook.protocol.instructions import BRANCHES, Instruction, instruction_of
 
-SP, A0, A1, A6 = 2, 10, 11, 16
+SP, A0, A1, A6 = 2, 10, 11, 16  # numbers of registers
 LINKS = (1, 5)  # registers that hold a return address (Unprivileged ISA, section 2.5)
 SAVED = {1, 8, 9, *range(18, 28)}  # ra and the callee-saved registers
 SOURCES = re.compile(r"\bx(\d+)")
@@ -33,7 +33,7 @@ ENDS_BLOCK = (Kind.BRANCH, Kind.CALL, Kind.INDIRECT, Kind.RETURN, Kind.TRAP_RETU
 
 @dataclass(frozen=True, eq=False)
 class Code:
-    """A decoded instruction. Equal replies of `dis` share one object. A register is its number; 0 stands for no register."""
+    """A decoded instruction. Equal replies of `dis` share one object. A register is given by its number; 0 means no register."""
     kind: Kind  # the kind
     text: str  # as `dis` writes it; empty if it cannot be fetched
     probes: Tuple[int, ...] = ()  # registers to read before it: base and stored register, or a6 and a1

@@ -59,7 +59,7 @@ class InputFinding:
 
 @dataclass
 class Seen:
-    """What the traces so far have reached."""
+    """The results of the traces so far."""
     pairs: set[tuple[int, int]] = field(default_factory=set)  # pcs before and after the end of a block
     objects: dict[Key, set[ObjectPlace]] = field(default_factory=dict)  # that each access reaches in the run itself
     first: dict[Key, set[ObjectPlace]] = field(default_factory=dict)  # that each other access reached when it was first seen

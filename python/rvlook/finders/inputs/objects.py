@@ -19,6 +19,7 @@ class ObjectPlace(NamedTuple):
     is_array: bool = False  # whether it is an array
 
 
+# places outside all objects
 WINDOW, OUTSIDE, UNUSED, NOTHING = (ObjectPlace(it) for it in ("the window", "memory outside region and window", "the unused stack", "no object"))
 
 
@@ -26,7 +27,7 @@ class Objects:
     """The objects of an enclave: variables and their members by DWARF, else symbols; then local variables and stack frames."""
 
     def __init__(self, enclave: Enclave, symbols: Symbols, variables: Variables, contexts: Contexts) -> None:
-        self.enclave, self.symbols, self.contexts = enclave, symbols, contexts
+        self.enclave, self.symbols, self.contexts = enclave, symbols, contexts  # `contexts`: have the stack frames
         self.fixed = [it for it in variables.fixed if enclave.has(it.at)]  # variables at fixed addresses, down to their members
         self.starts = [it.at for it in self.fixed]  # the addresses of `fixed`
         self.locals, self.parameters = variables.locals, variables.parameters  # of functions

@@ -38,7 +38,7 @@ class SecretRules:
     """Compares which parts of a secret come out of each trace."""
 
     def __init__(self, search: InputSearch, secret: Secret, public: Public) -> None:
-        self.search, self.secret, self.public = search, secret, public
+        self.search, self.secret, self.public = search, secret, public  # `public`: the outputs that may depend on the secret
         self.known: set[int] = set()  # offsets of bytes of the secret that come out and are not public
         self.found: list[InputFinding] = []  # the bytes that come out
         self.open: list[tuple[Trace, list[Output]]] = []  # traces with outputs, to be compared with the checks
@@ -110,8 +110,9 @@ class SecretRules:
     # ---- checks
 
     def refused(self, trace: Trace, visits: set[int]) -> None:
-        """Takes a trace with one change, and learns a check from it. The branch by which it leaves the trace of the run itself is a check if the
-        trace then keeps the secret inside. A branch that depends on memory of the region is also a check if the answer of the activation changes."""
+        """Takes a trace with one change, and records a check that the trace shows. The branch by which it leaves the trace of the run itself is a
+        check if the trace then keeps the secret inside. A branch that depends on memory of the region is also a check if the answer of the
+        activation changes."""
         base, at = self.search.base, first_difference(self.search.base, trace)
         if len(trace.changes) != 1 or not 0 < at < min(len(trace), len(base)):
             return

@@ -158,7 +158,7 @@ class Probes:
     """The probes of a trace, in order, and the replies to them. A probe has one reply to its first command, and one for each register."""
 
     def __init__(self, probes: Sequence[TraceProbe]) -> None:
-        self.probes = probes
+        self.probes = probes  # in the order of the run
         self.indices = [it.at for it in probes]  # of their steps
         self.texts = [b""] * len(probes)  # the commands of each probe
         self.lines, self.owners = [0], []  # `lines`: number of replies before each probe; `owners`: the probe of each reply

@@ -23,10 +23,10 @@ from rvlook.protocol.run import EQUAL, Run, equal_at_end
 from rvlook.protocol.stretch import SHARED
 from rvlook.protocol.timeline import Timeline
 
-FIRST_CHUNK, LAST_CHUNK = 256, 8192  # single steps in one exchange
+FIRST_CHUNK, LAST_CHUNK = 256, 8192  # single steps of the first exchange, and of an exchange at most
 MORE = 8000  # steps of a run beyond twice those up to the last one of the enclave in the run itself
 ROUND, REGISTERS = 256, 33  # the most steps of a loop that waits for the host; lines of `regs`
-PATIENCE, PART = 1000000, 50000  # steps in which an enclave must return, and after how many of them that is checked
+PATIENCE, PART = 1000000, 50000  # steps in which an enclave must return, and steps after which this is checked
 SAME, FAR, OCCURRENCES = 16, 4096, 4  # equal steps after which a path has joined another, how far that is searched, and how often a pc is considered
 MOST_FOLLOWED = 24  # times that a run follows its parent
 ENDED_BY = {0: "exit", 1: "stop", 2: "timer"}

@@ -19,10 +19,10 @@ from rvlook.finders.inputs.trace import Change, Changes, Trace, TraceVisit, runs
 from rvlook.finders.inputs.tracer import Tracer, advance
 from rvlook.protocol.memory_map import RAM_BASE
 
-SOURCES_BACK, DEEPEST = 64, 4  # steps and instructions that are followed back to where a register comes from
+SOURCES_BACK, DEEPEST = 64, 4  # steps that are searched, and instructions that are followed, back to where a register comes from
 WORD = 4  # bytes
 AHEAD = 400  # steps after a load in which branches and accesses are considered
-MOST_VALUES, MOST_ACCESSES, MOST_OBJECTS = 64, 6, 6
+MOST_VALUES, MOST_ACCESSES, MOST_OBJECTS = 64, 6, 6  # of an input; whose addresses an input may move; objects that values point to
 MOST_WORDS = 4  # of the words of a buffer
 MOST_CONSTANTS = 12
 PER_PART = 3
@@ -35,7 +35,7 @@ Content = Mapping[int, int]  # bytes by address
 
 @dataclass
 class Details:
-    """What a trace itself does not have, by index of the step."""
+    """Loads and branches of a trace, by index of the step."""
     loaded: dict[int, bytes] = field(default_factory=dict)  # the bytes of each load from the window
     operands: dict[int, tuple[int, int]] = field(default_factory=dict)  # of each branch
 
@@ -44,7 +44,7 @@ class DetailReader:
     """Reads the details of traces."""
 
     def __init__(self, tracer: Tracer, objects: Objects, fields: WindowFields) -> None:
-        self.tracer, self.objects, self.fields = tracer, objects, fields
+        self.tracer, self.objects, self.fields = tracer, objects, fields  # `fields`: names of the fields of the window
         self.functions: dict[int, list[tuple[int, object]]] = {}  # by address: number and members of each parameter
         for parameter in objects.parameters:
             self.functions.setdefault(parameter.function, []).append((parameter.number, parameter.members))
@@ -140,6 +140,7 @@ class Values:
     """Finds the inputs of a trace and the values to try."""
 
     def __init__(self, tracer: Tracer, objects: Objects, fields: WindowFields, reader: DetailReader, seed: int) -> None:
+        # `rng` draws the random values
         self.tracer, self.objects, self.fields, self.reader, self.rng = tracer, objects, fields, reader, random.Random(seed)
         self.targets: list[int] = []  # addresses of objects, which values point to
         self.has_entry = False  # whether the registers at the entry are inputs

@@ -14,6 +14,7 @@ from rvlook.finders.races.machine import CachedState, RaceMachine, Segment, Work
 from rvlook.finders.races.search import Edge, Graph, Move, ScheduleSearch, SearchNode, Vertex, schedule_of
 from rvlook.finders.races.time_limit import OutOfTime
 
+# how a hart ended; `waits` and `runs on` are endless loops without and with changes of memory
 ENDED, HALTS, WAITS, RUNS_ON, UNFINISHED, NOT_SEARCHED = "ended", "halts", "waits", "runs on", "unfinished", "not searched"
 GRACE, SLACK = 0.01, 0.3  # beyond the time limit for the analysis and the replays: a share of it, and seconds
 
@@ -122,7 +123,7 @@ class Component:
     """A strongly connected component of the graph of orders."""
 
     def __init__(self, search: ScheduleSearch, graph: Graph, vertices: Iterable[Vertex], component_of: Mapping[Vertex, int]) -> None:
-        self.search, self.machine, self.graph = search, search.machine, graph
+        self.search, self.machine, self.graph = search, search.machine, graph  # the vertices and edges are those of `graph`
         self.vertices = sorted((it for it in vertices if it in graph.nodes), key=lambda it: graph.nodes[it].cost)  # by cost
         self.all = set(vertices)  # also vertices that were not visited
         self.moves = moves_inside(graph, vertices, component_of) if self.vertices else {}  # of each hart, within the component
@@ -299,7 +300,7 @@ class Components:
 
     def __init__(self, graph: Graph) -> None:
         self.graph = graph  # whose components are found
-        self.number: dict[Vertex, int] = {}  # the order in which vertices were entered
+        self.number: dict[Vertex, int] = {}  # by vertex: its number in the order of visits
         self.low: dict[Vertex, int] = {}  # the least number that is reachable through open vertices
         self.stack: list[Vertex] = []  # the vertices whose component is not complete
         self.on_stack: set[Vertex] = set()  # the same vertices

@@ -119,7 +119,7 @@ class MovesAhead:
     """The moves that other processes have computed for a search. They are valid in one round, until a new region is created."""
 
     def __init__(self, search: ScheduleSearch, jobs: int) -> None:
-        self.search, self.machine, self.jobs = search, search.machine, jobs
+        self.search, self.machine, self.jobs = search, search.machine, jobs  # `jobs`: number of processes
         self.moves: dict[MoveKey, AheadMove] = {}  # computed by other processes and not yet used
         self.merged: set[Touched] = set()  # accesses that the search has recorded
         self.valid_for = (0, 0)  # the round, and the number of regions
