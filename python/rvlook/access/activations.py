@@ -94,7 +94,7 @@ class Activations:
     """The activations of a run after a step. `is_strict` records the operands of divisions too. A bare run is one activation without a window."""
 
     def __init__(self, run: Run, start: int = 0, is_strict: bool = False) -> None:
-        self.run, self.start, self.is_strict = run, start, is_strict
+        self.run, self.start, self.is_strict = run, start, is_strict  # `start`: the step after which activations are taken
         self.worlds = [run.world] * run.setup.harts  # of each hart
         self.open: list[Activation | None] = [None] * run.setup.harts  # of each hart; None if no enclave runs there
         self.numbers: Counter[str] = Counter()  # activations so far, by world

@@ -120,7 +120,7 @@ class Lagging:
     """A bench that does the parts of a run. Parts that it skips are done before the next one that it examines."""
 
     def __init__(self, bench: Bench) -> None:
-        self.bench = bench
+        self.bench = bench  # that does the parts
         self.skipped: list[str] = []  # the commands of skipped parts
 
     def skip(self, part: Sequence[Turn]) -> None:
@@ -149,7 +149,7 @@ class Scan:
 
     def __init__(self, run: Run, leader: Lagging, follower: Lagging, reader: Lagging) -> None:
         self.leader, self.follower, self.reader = leader, follower, reader  # `follower` and `reader` lag behind `leader`
-        self.harts = range(run.setup.harts)
+        self.harts = range(run.setup.harts)  # their numbers
         self.locations = [Location(run.pc, run.mode, run.world) for _ in self.harts]  # where each hart is
         self.traps = [0 for _ in self.harts]  # of each hart, by its counters
         self.position = 0  # steps so far
@@ -317,7 +317,7 @@ class FailureReport:
     """The report of the failures of a run. Failures that the user does not expect are findings."""
 
     def __init__(self, expected: Sequence[Expectation], symbols: Symbols, printer: Printer, findings: ReportedCases) -> None:
-        # --expect; names; where the report goes; the cases
+        # `expected`: the values of --expect; `findings`: the cases of the subcommand
         self.expected, self.symbols, self.printer, self.findings = expected, symbols, printer, findings
 
     def show(self, failures: Sequence[Failure]) -> None:

@@ -54,7 +54,7 @@ class FieldReader:
     """Adds the fields that the calls of each activation of a run show."""
 
     def __init__(self, run: Run, parameters: Sequence[Parameter], fields: WindowFields) -> None:
-        self.run, self.parameters, self.fields = run, parameters, fields
+        self.run, self.parameters, self.fields = run, parameters, fields  # `fields` receives the fields that are found
         self.known: set[int] = set()  # functions
 
     def read(self, activation: Activation) -> None:

@@ -130,7 +130,7 @@ class EventFinder:
     """Finds the events among the steps, and caches the replies of `access` for PMP entries."""
 
     def __init__(self, run: Run) -> None:
-        self.run, self.setup = run, run.setup
+        self.run, self.setup = run, run.setup  # the run with its configuration
         self.verdicts: dict[tuple[str, ...], list[Verdicts]] = {}  # by replies of `pmp`
         self.state = RightsState(entries=(), worlds=(), enclaves=())  # nothing is known yet
 

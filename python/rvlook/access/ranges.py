@@ -10,8 +10,8 @@ from rvlook.protocol.memory_map import MONITOR_END, RAM_BASE
 from rvlook.protocol.replies import Enclave, PmpEntry, entry_of
 
 KINDS = "rwx"
-TOR, NA4, NAPOT = 1, 2, 3
-NOTHING, ALL, DATA = "---", "rwx", "rw-"
+TOR, NA4, NAPOT = 1, 2, 3  # values of the field A of pmpcfg
+NOTHING, ALL, DATA = "---", "rwx", "rw-"  # access rights
 
 
 @dataclass(frozen=True)

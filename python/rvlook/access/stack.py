@@ -25,14 +25,14 @@ from rvlook.protocol.run import Run
 from rvlook.protocol.stretch import Stretch
 from rvlook.protocol.symbols import Symbols
 
-SP, A0, A1 = 2, 10, 11
+SP, A0, A1 = 2, 10, 11  # numbers of registers
 WORD = 4  # bytes of a pointer
 REGISTERS = 32
 NAME = re.compile(r"(.*(host|runtime|application|monitor))_stack_bottom\Z")
 KINDS = {"host": ("host",), "runtime": ("runtime", "application"), "application": ("runtime", "application")}  # the stacks of a world, by one of them
 POINTED = {"host": ("host",), "runtime": ("runtime", "application"), "application": ("application",)}  # the stacks that a store may reach
 MASK = 0xFFFFFFFF
-TIMER, CALL = names.TIMER.encode(), names.ECALL_FROM_S.encode()
+TIMER, CALL = names.TIMER.encode(), names.ECALL_FROM_S.encode()  # causes of traps
 
 
 FACTORS = {"add": (1, 1), "or": (1, 1), "sub": (1, -1)}
@@ -154,7 +154,7 @@ class OverflowFinder:
     """Finds the first overflow of each kind of stack."""
 
     def __init__(self, stacks: dict[str, list[Stack]]) -> None:
-        self.stacks = stacks
+        self.stacks = stacks  # by kind
         self.found: dict[str, Overflow] = {}  # the first overflow, by kind of stack
         self.pointers: dict[str, Pointers] = {}  # of each world
         self.left_at: dict[str, int] = {}  # the pc at which an enclave left

@@ -60,7 +60,7 @@ class Counting:
     """Counts steps by their fields, and loads and stores by address and width. With `by_mode` each mode is a world."""
 
     def __init__(self, by_mode: bool) -> None:
-        self.by_mode = by_mode
+        self.by_mode = by_mode  # whether each mode is a world
         self.steps: Counter[tuple[bytes, bytes, bytes]] = Counter()  # by pc, world and trap
         self.touched: Counter[tuple[bytes, str, int, int, bool]] = Counter()  # by world, kind, address, width and `done`
 
@@ -129,7 +129,7 @@ class Touches:
         self.permitted: dict[str, list[tuple[Range, str, set[str]]]] = defaultdict(list)  # range, meaning and kinds, by world
         # each mode of a bare run is a world, if it enters S or U
         has_modes = not run.setup.monitor and any(isinstance(it, Stretch) and LOWER_MODE.search(it.data) for it in run.stretches())
-        found, self.end = accesses(run, has_modes)
+        found, self.end = accesses(run, has_modes)  # of the run
         for key, count in found.items():
             self.counts[AccessKind(key.world, key.kind, key.done)][key.address, key.width] += count
         changes = [it for it in events(run) if isinstance(it, Event)]
