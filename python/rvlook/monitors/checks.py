@@ -11,10 +11,10 @@ from rvlook.protocol.memory_map import MONITOR_END
 from rvlook.protocol.names import ECALL_FROM_S, TIMER, abi_name
 from rvlook.protocol.replies import ROW
 
-SIE, SPIE, SPP, MXR = 2, 0x20, 0x100, 0x80000
+SIE, SPIE, SPP, MXR = 2, 0x20, 0x100, 0x80000  # bits of sstatus
 MARKED_CSRS = ("sscratch", "sepc", "scause", "stval")
 SWITCHING = (ECALL_FROM_S, TIMER)  # causes of traps that may switch worlds on purpose
-A0, A7 = 10, 17
+A0, A7 = 10, 17  # numbers of registers
 
 
 @dataclass

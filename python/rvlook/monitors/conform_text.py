@@ -141,7 +141,7 @@ class DifferenceReport:
     """Shows a difference."""
 
     def __init__(self, setup: MonitorSetup, symbols: Symbols, printer: Printer, outcome: ConformOutcome) -> None:
-        self.setup, self.symbols, self.printer, self.outcome = setup, symbols, printer, outcome
+        self.setup, self.symbols, self.printer, self.outcome = setup, symbols, printer, outcome  # `outcome` has the script before it was shrunk
 
     def show(self, shrunk: Shrinker) -> None:
         """Shows the shrunk script, the values of both sides, and the instructions in M that wrote them."""

@@ -7,8 +7,8 @@ from typing import Callable, Iterator
 from rvlook.monitors.items import MASK
 from rvlook.monitors.rights import Right
 
-MONITOR, HOST = "monitor", "host"
-SHARED, HANDS, ONCE, SECRET = "shared", "hands", "once", "secret"
+MONITOR, HOST = "monitor", "host"  # owners that every file declares
+SHARED, HANDS, ONCE, SECRET = "shared", "hands", "once", "secret"  # other first words of a line
 ALL, DATA = "rwx", "rw-"
 Words = Callable[[int], int]  # the word of memory at an address
 
@@ -79,7 +79,7 @@ class OwnedRange:
 
 @dataclass
 class Ownership:
-    """Who owns which memory, and what else the author declares."""
+    """The owners of all memory, and what else the author declares."""
     ranges: list[OwnedRange] = field(default_factory=list)  # all of them
     hands: set[int] = field(default_factory=lambda: {10, 11})  # registers that hand values over at a call
     once: set[str] = field(default_factory=set)  # owners that run once

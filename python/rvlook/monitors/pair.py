@@ -38,7 +38,7 @@ class Cell:
 
 @dataclass
 class ScriptCoverage:
-    """What scripts have covered."""
+    """The coverage of scripts."""
     scripts: int = 0  # their number
     steps: int = 0  # below M
     returns: int = 0  # from M

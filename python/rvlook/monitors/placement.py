@@ -60,7 +60,7 @@ class Placement:
 
 def placement_of(text: str | None, ram: int, least: int) -> Placement:
     """Returns the placement that --memory names; without it all of the RAM from 80010000 on. `least` is the smallest RAM of a script. Raises
-    UsageError if the range is invalid or too small."""
+    UsageError if the range is invalid, or if it or the RAM is too small."""
     end = RAM_BASE + ram
     if text is None:
         if ram < least:

@@ -12,7 +12,7 @@ from rvlook.protocol.names import NUMBER_OF
 from rvlook.protocol.symbols import Symbols
 
 FORMS = "expected 'OWNER [RIGHTS] FIRST-LAST', 'shared', 'table', 'hands', 'once' or 'secret', as 'rvlook guard --help' says"
-WHILE, TABLE, CALLS, REGION, WINDOW = "while", "table", "calls", "region", "window"
+WHILE, TABLE, CALLS, REGION, WINDOW = "while", "table", "calls", "region", "window"  # words in a line
 RANGE = re.compile(r"([0-9a-fA-F]{1,8})-([0-9a-fA-F]{1,8})\Z")
 LETTERS = re.compile(r"[r-][w-][x-]\Z")
 CONDITION = re.compile(r"([^=!<>]+)(=|!=|<|>=)([0-9a-fA-F]{1,8})\Z")

@@ -129,7 +129,7 @@ class MonitorBench(Closing):
     """A bench with a monitor."""
 
     def __init__(self, setup: MonitorSetup, run: Setup) -> None:
-        self.setup, self.run, self.bench = setup, run, run.bench()
+        self.setup, self.run, self.bench = setup, run, run.bench()  # `run`: the configuration of `bench`
         self.log: list[str] = []  # all lines that change the state
 
     def close(self) -> None:
@@ -162,7 +162,7 @@ class Side(MonitorBench):
 
     def __init__(self, setup: MonitorSetup, is_own: bool) -> None:
         super().__init__(setup, setup.own if is_own else setup.reference)
-        self.is_own, self.placement = is_own, setup.placement
+        self.is_own, self.placement = is_own, setup.placement  # whether it is the author's monitor
         self.stays: list[Stay] = []  # in M so far
         self.pc, self.mode = self.placement.host, "S"  # of S or U before the next step, and their mode
 

@@ -87,7 +87,7 @@ class Track:
 
 @dataclass(frozen=True)
 class TwinSecret:
-    """What the second run of a pair inverts. A field is empty if nothing of its kind is inverted."""
+    """The private state that the second run of a pair inverts. A field is empty if nothing of its kind is inverted."""
     name: str  # for the report
     owners: frozenset[str] = frozenset()  # of ranges
     world: str = ""  # whose registers are inverted
@@ -148,6 +148,7 @@ class TwinRuns:
     """Two runs. The second one has other values in the private state of an enclave, or in unused memory of the monitor."""
 
     def __init__(self, setup: MonitorSetup, ownership: Ownership, limit: int, vectors: set[int], secret: TwinSecret) -> None:
+        # `secret`: what the second run inverts
         self.setup, self.ownership, self.limit, self.vectors, self.secret = setup, ownership, limit, vectors, secret
         self.inverted: list[OwnedRange] = []  # the ranges that differ in the second run
         self.changes, self.returns = 0, 0  # inversions so far, and returns that were compared

@@ -135,7 +135,7 @@ class BlockReplay:
     """A repeated run with breakpoints at the first of some blocks. When a block is executed, the next one gets its breakpoint."""
 
     def __init__(self, setup: MonitorSetup, blocks: Sequence[Block]) -> None:
-        self.bench = setup.own.bench()
+        self.bench = setup.own.bench()  # does the run
         self.waiting = [it.first for it in blocks]  # blocks without a breakpoint, by first address
         self.decided = set(self.waiting[:BREAKPOINTS])  # a breakpoint is set there during the whole run
         self.missing = set(self.waiting)  # which were not executed so far

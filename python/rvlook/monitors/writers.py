@@ -49,7 +49,7 @@ class StayReplay(Closing):
     """The author's side of a script, brought to the begin of one of its stays in M."""
 
     def __init__(self, setup: MonitorSetup, played: Played, stay: Stay) -> None:
-        self.bench, self.stay = setup.own.bench(), stay
+        self.bench, self.stay = setup.own.bench(), stay  # at the beginning of `stay`
         self.bench.replies_to(played.own_log[:stay.line])
 
     def close(self) -> None:
@@ -187,7 +187,7 @@ def last_store(setup: MonitorSetup, played: Played, address: int, skipped: int =
 
 @dataclass(frozen=True)
 class Divergence:
-    """Where two similar calls take different paths in M."""
+    """The instruction after which two similar calls take different paths in M."""
     pc: int  # the last instruction that both execute
     own_next: int  # pc after it in the call of the script
     other_next: int  # pc after it in the similar call
