@@ -52,8 +52,8 @@ class Form(Enum):
     byte = "a byte (1 or 2 hexadecimal digits, without 0x)"
     csr = "a CSR number (1 to 3 hexadecimal digits, without 0x)"
     mode = "M, S or U"
-    kind = "r, w or x"
-    width = "1, 2 or 4"
+    kind = "r, w or x"  # of an access
+    width = "1, 2 or 4"  # bytes of an access
     line = "on or off"
     hart = "0 or 1"
     schedule = "a schedule (1 to 64 digits 0 and 1)"

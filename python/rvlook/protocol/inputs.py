@@ -7,7 +7,7 @@ from typing import Iterator, NamedTuple, Optional
 
 ELF_MAGIC = b"\x7fELF"
 HEADER = 52  # bytes of the header of a 32-bit ELF file
-AT_SEGMENTS, AT_SIZES = 28, 42  # in that header
+AT_SEGMENTS, AT_SIZES = 28, 42  # offsets in that header of the place, and of the size and number, of the program headers
 SEGMENT = struct.Struct("<8I")
 LOAD = 1
 

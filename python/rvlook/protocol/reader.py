@@ -83,7 +83,7 @@ class Reader(Closing, Generic[Item]):
     """A bench that follows a run, stretch after stretch. `needs` returns what is needed of the instruction in a reply of `dis`, or None."""
 
     def __init__(self, run: Run, needs: Callable[[bytes], Optional[Need[Item]]]) -> None:
-        self.run, self.replay, self.needs = run, run.replay(), needs
+        self.run, self.replay, self.needs = run, run.replay(), needs  # `replay` follows the run
         self.probes: Dict[Tuple[bytes, bool], Optional[Probe]] = {}  # by the reply of `dis`, and whether stores are read
 
     def close(self) -> None:

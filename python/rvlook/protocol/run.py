@@ -91,7 +91,7 @@ class Run:
         self.is_known = False  # whether `kept` has the whole run
         self.ended: str | None = None  # why the run ended, if the plan has its steps after the script
         with setup.bench() as bench:
-            self.pc = bench.ask("regs")[0][32][3:]
+            self.pc = bench.ask("regs")[0][32][3:]  # at reset, eight hexadecimal digits
             for line in setup.lines:
                 self.play(bench, line)
             if setup.schedule:

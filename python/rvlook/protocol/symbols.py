@@ -61,7 +61,7 @@ class Symbols:
     """The symbols and the source lines of a program. `symbols` are in any order; `units` have the source lines."""
 
     def __init__(self, symbols: Sequence[Symbol] = (), units: Iterable[Unit] = ()) -> None:
-        self.units = list(units)
+        self.units = list(units)  # have the source lines
         best = {it.address: it for it in sorted(symbols, key=lambda it: (it.rank, it.name), reverse=True)}
         self.ordered = [best[address] for address in sorted(best) if address >= RAM_BASE]  # one for each address in RAM, in the order of addresses
         self.addresses = [symbol.address for symbol in self.ordered]  # of `ordered`
