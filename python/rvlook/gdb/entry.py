@@ -31,8 +31,7 @@ class LastEntries:
     """Caches for each hart the entry that was found last."""
 
     def __init__(self) -> None:
-        # by hart: the entry, the step up to which it is valid, and a count that changes if the hart may have left
-        # by hart: the entry, the step up to which it is valid, and a timeline with its count for the hart in `moved`
+        # By hart: the entry, and the step up to which it is valid. The timeline and its count in `moved` show that the hart stayed.
         self.known: dict[int, tuple[Entered | None, int, tuple[Timeline, int] | None]] = {}
 
     def limit(self, position: int) -> None:

@@ -29,7 +29,7 @@ class Link:
     """The connection with the debugger. It receives packets, Ctrl-C, and acknowledgements, which are ignored."""
 
     def __init__(self, reading: int, writing: int) -> None:
-        # file descriptors; the received bytes; whether packets are acknowledged
+        # `reading`, `writing`: file descriptors; `buffer`: received bytes; `acknowledged`: whether packets are acknowledged
         self.reading, self.writing, self.buffer, self.acknowledged = reading, writing, b"", True
         self.kept: Any = None  # what must not be closed while the descriptors are used
 
@@ -141,7 +141,7 @@ def hex_of(text: str) -> str:
 
 
 def number_of(text: str) -> int:
-    """Returns a hexadecimal number of the protocol; raises ValueError if the text is none. `int` takes signs, blanks and `0x` too."""
+    """Returns a hexadecimal number of the protocol. Raises ValueError for another text. `int` takes signs, blanks and `0x` too."""
     if not NUMBER.match(text):
         raise ValueError(text)
     return int(text, 16)

@@ -9,7 +9,7 @@ from rvlook.protocol.replies import Ran, bytes_of, step_of
 from rvlook.protocol.timeline import Timeline
 
 LINE = 64
-SP, PC, REGISTERS = 2, 32, 33
+SP, PC, REGISTERS = 2, 32, 33  # numbers of registers, and lines of `regs`
 
 
 def line_of(address: int) -> str:
