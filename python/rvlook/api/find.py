@@ -65,7 +65,7 @@ class Findings(List[Finding]):
 
     def __init__(self, findings: Sequence[Finding] = (), command: str = "") -> None:
         super().__init__(findings)
-        # that repeats the search; its output; notes and warnings; why it did not finish, else empty
+        # `command` repeats the search, `report` is its output, `notes` has notes and warnings, `unfinished` says why it did not finish
         self.command, self.report, self.notes, self.unfinished = command, "", "", ""
         self.checks: Tuple[str, ...] = ()  # names of all checks
 

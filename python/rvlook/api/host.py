@@ -22,7 +22,7 @@ from rvlook.protocol.run import Setup
 if TYPE_CHECKING:
     from rvlook.api.machine import Machine
 
-A0, A1, A6, A7 = 10, 11, 16, 17
+A0, A1, A6, A7 = 10, 11, 16, 17  # numbers of registers
 WORD = 4  # bytes of an instruction
 MOST_BREAKS = 31  # breakpoints that a search may use
 MOST_WATCHED = 24  # watchpoints of one place; the consoles have the others
@@ -182,7 +182,8 @@ class EnclaveHandle:
 
     def run(self, until: Optional[PlaceLike] = None, touches: Optional[PlaceLike] = None) -> CallResult:
         """Enters the enclave, and returns its answer. With `until` the enclave stays before the instruction at that place. With `touches` it stays
-        after the first load or store of a byte there. `finish` then continues it. Raises NotReached if the place is not reached."""
+        after the first load or store of a byte there. `finish` then continues it. Raises NotReached if the enclave does not reach the place, or if
+        there is no answer within the limit in steps."""
         return self.go("run", until, touches)
 
     def resume(self, until: Optional[PlaceLike] = None, touches: Optional[PlaceLike] = None) -> CallResult:

@@ -36,7 +36,7 @@ class Places:
     """The places that the symbols and the types of a program name."""
 
     def __init__(self, symbols: Symbols, types: Types) -> None:
-        self.symbols, self.types = symbols, types
+        self.symbols, self.types = symbols, types  # from the symbol table and from DWARF
 
     def find(self, where: PlaceLike) -> Place:
         """Returns the place of a name or an address. Raises SymbolError for an unknown name, with the most similar name."""

@@ -106,7 +106,7 @@ class AccessMap:
     changes."""
 
     def __init__(self, event: Event, symbols: Symbols) -> None:
-        self.event, self.symbols = event, symbols
+        self.event, self.symbols = event, symbols  # has the rights of all worlds
 
     def __str__(self) -> str:
         text = io.StringIO()
