@@ -30,7 +30,7 @@ class Budget:
     """The entries and the processor time that are left for one ELF file."""
 
     def __init__(self) -> None:
-        self.entries, self.seconds = MOST_ENTRIES, MOST_SECONDS
+        self.entries, self.seconds = MOST_ENTRIES, MOST_SECONDS  # that are left, of processor time for `seconds`
 
     def spend(self, count: int) -> None:
         """Takes entries from the budget. Raises BudgetExceeded if fewer are left."""

@@ -72,7 +72,7 @@ def decoded(text: bytes) -> bytes | None:
 def image_of(path: str, kind: str = "auto") -> Image:
     """Reads an image. Hexadecimal digits, and any text before a line `--`, are passed on unchanged; rvbench reports their errors. The lines after
     `--` are a script. All other bytes are the image itself. The symbols of each opened file have a budget of their own. Raises RvlookError if the
-    file cannot be read, is another text, or is too large."""
+    file cannot be read, is a text but no hex image, or is too large."""
     data = read_file(path)
     budget_of.cache_clear()
     cut = next((it for it in SEPARATOR.finditer(data) if len(it[1]) <= LONGEST_LINE), None)

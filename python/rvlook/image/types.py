@@ -45,7 +45,7 @@ class Type:
 
 @dataclass
 class Types:
-    """What the DWARF entries of an image name."""
+    """The names in the DWARF entries of an image."""
     structures: dict[str, Type] = field(default_factory=dict)  # and unions
     variables: dict[str, tuple[int, Type]] = field(default_factory=dict)  # with their addresses
     constants: dict[str, int] = field(default_factory=dict)  # of enumerations
