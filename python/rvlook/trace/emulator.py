@@ -29,7 +29,7 @@ class Why(Enum):
     end = "ended"  # the program has called finish(status)
     loop = "endless loop"  # a hart jumps to itself, where a program may end
     hang = "endless loop that is no end"  # a hart jumps to itself in an enclave or in the middle of a function
-    fault = "fault"  # an instruction traps again and again
+    fault = "fault"  # a jump to 0, or an instruction that traps again and again
     limit = "limit"  # of --steps
 
 

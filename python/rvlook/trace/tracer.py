@@ -99,7 +99,7 @@ class RunTracer:
     """The steps from `first` to `last`, with the lines of the script between them."""
 
     def __init__(self, run: Run, first: int = 1, last: int | None = None) -> None:
-        self.run, self.first, self.last = run, first, last
+        self.run, self.first, self.last = run, first, last  # `last`: None: to the end
         start = Location(run.pc, run.mode, run.world)
         self.harts = [Hart(start) for _ in range(run.setup.harts)]  # before their next steps
         self.position = self.hart = 0  # steps so far; the chosen hart
