@@ -49,7 +49,7 @@ class TimelineKeeper:
     """An owner of a timeline. To go back, it replaces the timeline; the history after that step is discarded."""
 
     def __init__(self, timeline: Timeline) -> None:
-        self.timeline = timeline
+        self.timeline = timeline  # the present one
 
     def go(self, position: int) -> None:
         """Goes back to a step. Keeps breaks and watches."""
