@@ -62,7 +62,7 @@ class Secret:
 
 
 def created(run: Run, slot: int) -> Event:
-    """Returns the event at which the enclave of a slot is created. Raises Unfinished if none is created."""
+    """Returns the event at which the enclave of a slot is created. Raises Unfinished if the run creates no enclave in the slot."""
     found = next((it for it in events(run) if not isinstance(it, End) and it.cause == "create" and it.slot == slot), None)
     if found is None:
         raise Unfinished("no enclave is created in slot %d" % slot)
@@ -82,8 +82,8 @@ def place_and_size(text: str, symbols: Symbols) -> tuple[int, int | None]:
 
 
 def secret_of(text: str, symbols: Symbols, run: Run, slot: int, size: int | None = None) -> Secret:
-    """Returns the secret that --at names, all zeros. `size` is the length of the given values; None if there are none. Raises RvlookError if the
-    size is unknown, or if the bytes are outside the RAM or the region."""
+    """Returns the secret that --at names, all zeros. `size` is the length of the given values; None without values. Raises RvlookError if the size
+    is unknown, or if the bytes are outside the RAM or the region."""
     register = REGISTER_AT.match(text)
     if register and register[1] in names.NUMBER_OF and text.split("@")[0] not in symbols.by_name:
         return register_secret(register, symbols, run, slot)

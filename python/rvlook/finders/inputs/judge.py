@@ -126,8 +126,8 @@ class TraceJudge:
         return is_new
 
     def unusual(self, trace: Trace) -> Iterator[int]:
-        """Yields the indices of the steps that differ from those of the parent. Leaves out plain steps and steps that equal one that is no
-        finding."""
+        """Yields the indices of the steps that differ from those of the parent. Leaves out plain steps, and steps that equal an earlier step
+        without a finding."""
         if self.version != self.tracer.contexts.version:
             self.version = self.tracer.contexts.version
             self.usual.clear()

@@ -149,8 +149,8 @@ class SecretRules:
         return bool(branches_of(self.search, trace, range(first)).get(pc, set()) - {target})
 
     def segments(self, traces: Sequence[tuple[Trace, list[Output]]]) -> Iterator[tuple[Trace, Output, dict[int, set[int]]]]:
-        """Yields each output of some traces with the branches since the activation of the output before it. Leaves out those whose steps up to then
-        are the steps of the run itself, unless the trace is that of the run itself."""
+        """Yields each output of some traces with the branches since the activation of the output before it. Leaves out outputs whose steps up to
+        then are the steps of the run itself, unless the trace is that of the run itself."""
         base = self.search.base
         for trace, outputs in traces:
             same, first = 0 if trace is base else first_difference(base, trace), 0

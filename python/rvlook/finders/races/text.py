@@ -269,7 +269,7 @@ class RacesReport:
         return "final state %d: %s" % (end.number, self.stories[end.number - 1].heading())
 
     def is_finding(self, story: Story) -> bool:
-        """Returns whether a final state counts as found if none is forbidden."""
+        """Returns whether a final state counts as a finding if there is no --forbid."""
         return story.end.number > 1 or not {how for how, _ in story.end.harts} <= {ENDED, UNFINISHED, NOT_SEARCHED}
 
     def cut_text(self) -> str:
