@@ -189,7 +189,7 @@ class OverflowFinder:
                 pointers.access(memory, address) if memory else pointers.compute(operation)
 
     def enter(self, hart: int, world: str, pc: int) -> Pointers:
-        """Returns the pointers of a world that continues at pc. An enclave that is entered elsewhere than where it left has none."""
+        """Returns the pointers of a world that continues at pc. If an enclave is entered elsewhere than where it left, only sp is a pointer."""
         key = world if world.startswith("e") else "%s %d" % (world, hart)
         left = self.left_at.get(world)
         if key not in self.pointers or left is not None and pc not in (left, left + 4):

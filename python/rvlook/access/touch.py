@@ -200,7 +200,7 @@ def joined(rows: Iterable[tuple[Range, str, set[str]]]) -> list[tuple[Range, str
 
 
 def within(addresses: list[int], found: Range) -> list[int]:
-    """Returns those of the ascending addresses that are in a range."""
+    """Returns the addresses in a range. The given addresses are ascending."""
     return addresses[bisect_right(addresses, found.first - 1):bisect_right(addresses, found.end - 1)]
 
 
