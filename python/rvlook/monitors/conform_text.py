@@ -77,7 +77,7 @@ class Conformance:
 
     @property
     def finding(self) -> str:
-        """Returns the first difference as a text; empty if there is none."""
+        """Returns the first difference as a text; empty without a difference."""
         first = self.shrunk.played.differences[0] if self.shrunk else None
         return "%s: %s, not %s" % (first.name, first.own, first.reference) if first else ""
 

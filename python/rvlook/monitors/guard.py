@@ -45,7 +45,7 @@ class Guard:
     limit: int  # steps below M
     timers: str = ""  # seed of the steps before which the timer is raised; empty: never
     violation: Violation | None = None  # the first one; None if there is none
-    counts: Counter[str] = field(default_factory=Counter)  # of the checks
+    counts: Counter[str] = field(default_factory=Counter)  # of steps, returns and other events, by name
     activity: dict[str, Counter[str]] = field(default_factory=lambda: defaultdict(Counter))  # of each owner: entered, left, continued, given_back
     log: list[str] = field(default_factory=list)  # the lines that repeat the run
     vectors: set[int] = field(default_factory=set)  # addresses to which traps go
@@ -281,7 +281,7 @@ class GuardResults:
 
     @property
     def finding(self) -> str:
-        """Returns the first violation as a text; empty if there is none."""
+        """Returns the first violation as a text; empty without a violation."""
         return "%s: %s" % (self.violation.check, self.violation.text) if self.violation else ""
 
     @property

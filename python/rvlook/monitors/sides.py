@@ -198,7 +198,7 @@ class Side(MonitorBench):
         return lines + (["timer " + item.line] if item.line else [])
 
     def stay(self, trap: str, world: str) -> SideState:
-        """Does the steps in M up to the return; the fault says why there is none."""
+        """Does the steps in M up to the return. If M does not return, the fault of the state says why."""
         first, spent, fault = len(self.log), 0, ""
         while self.mode == "M" and not fault:
             ran, last = (step_of(it.decode()) for it in self.do(STAY, "step 1"))
