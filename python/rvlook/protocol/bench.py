@@ -53,7 +53,7 @@ def installed_program() -> str | None:
 
 def built_program() -> str:
     """Returns the path of the program that ./prove has built, or builds one without proof. Ends the build on SIGTERM and Ctrl-C. Raises Unfinished
-    if there is no program and none can be built."""
+    if the program cannot be found or built."""
     if not os.path.exists(FINDER):
         raise Unfinished("cannot find rvbench; add it to PATH, or set RVBENCH to its path")
     with subprocess.Popen([FINDER, "rvlook"], stdin=subprocess.DEVNULL, stdout=subprocess.PIPE, text=True) as building:

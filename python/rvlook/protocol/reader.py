@@ -46,7 +46,7 @@ class Probe(NamedTuple):
 
 
 def probe_of(line: bytes, need: Need[Item] | None, has_store: bool) -> Probe | None:
-    """Returns the questions about the instruction in a reply of `dis`: its need, and the base of its store; None if there are none."""
+    """Returns the questions about the instruction in a reply of `dis`: its need, and the base of its store. Returns None if there is no question."""
     code = instruction_of(line) if has_store else None
     store = code.memory if code and code.memory and code.memory.kind == "w" else None
     item, registers, is_after = need or (None, (), False)
@@ -117,7 +117,7 @@ class Reader(Closing, Generic[Item]):
         return reads_of(asked, values_of(replay.bench.block(asked.text, asked.text.count(b"\n"))))
 
     def probe(self, line: bytes, has_store: bool) -> Probe | None:
-        """Returns the questions about the instruction in a reply of `dis`; None if there are none."""
+        """Returns the questions about the instruction in a reply of `dis`, or None if there is no question."""
         if (line, has_store) not in self.probes:
             self.probes[line, has_store] = probe_of(line, self.needs(line), has_store)
         return self.probes[line, has_store]

@@ -252,7 +252,7 @@ class Timeline(Closing):
                 self.reach(number, mode, world, trap != "-")
 
     def reach(self, hart: int, mode: str, world: str, trapped: object) -> None:
-        """Sets mode and world of a hart. If it trapped on the way, it may have been in other worlds."""
+        """Sets mode and world of a hart. If the hart trapped on the way, it may have been in other worlds."""
         self.moved[hart] += bool(trapped or world != self.worlds[hart])
         self.modes[hart], self.worlds[hart] = mode, world
 
@@ -300,7 +300,7 @@ class Timeline(Closing):
     # the way forward
 
     def lines_to(self, step: int) -> list[str]:
-        """Returns the commands of the future up to a step, without those right after it. After the future the chosen hart continues."""
+        """Returns the commands of the future up to a step, without the commands right after the step. After the future the chosen hart continues."""
         lines: list[str] = []
         while self.position < step:
             head = self.future[0] if self.future else ScheduledSteps(str(self.hart), step - self.position)
