@@ -45,7 +45,7 @@ class Monitor:
     def __init__(self, moves: Moves, command_line: CommandLine, has_files: bool = True) -> None:
         self.moves, self.entry, self.refreshes = moves, LastEntries(), False  # `refreshes`: whether the debugger reads registers again
         self.session: PromptSession | None = None  # runs the commands of the prompt; None before the first one
-        self.has_files, self.read = has_files, command_line.read  # whether a line may name files
+        self.has_files, self.read = has_files, command_line.read  # whether a line may name files; parses the arguments of a subcommand
         self.subcommands = tuple(it for it in command_line.names if it not in (*OTHERS, *NOT_OFFERED))  # over an image
 
     def line(self, text: str) -> str:
@@ -137,7 +137,7 @@ class Monitor:
     # commands of the server
 
     def catch(self, what: str | None = None) -> None:
-        """Adds a catchpoint, or removes all, and prints those that are set."""
+        """Adds a catchpoint, or removes all, and prints the catchpoints that are set."""
         stops, has_worlds = self.moves.stops, self.moves.timeline.setup.monitor
         if what == "none":
             stops.caught.clear()

@@ -39,7 +39,7 @@ class CachedView:
         return self.values[hart]
 
     def csr(self, hart: int, number: int) -> str | None:
-        """Returns a control and status register in hexadecimal digits, or None if there is none."""
+        """Returns a control and status register in hexadecimal digits, or None for a number without a register."""
         self.check()
         if (hart, number) not in self.values:
             self.timeline.choose(hart)
