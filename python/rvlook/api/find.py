@@ -46,7 +46,7 @@ Names = Union[str, Sequence[str]]
 
 @dataclass(frozen=True, repr=False)
 class Finding:
-    """A finding. The fields about an instruction are None if the finding names none."""
+    """A finding. If it names no instruction, the fields about an instruction are None."""
     title: str  # the check
     text: str  # what it found
     script: Optional[str] = None  # the input of rvbench that repeats it; None if the finder writes none
@@ -70,7 +70,7 @@ class Findings(List[Finding]):
         self.checks: Tuple[str, ...] = ()  # names of all checks
 
     def _repr_html_(self) -> str:
-        """Returns the findings as an HTML table, or a line if there are none."""
+        """Returns the findings as an HTML table, or a line if the list is empty."""
         if not self:
             what = "did not finish: " + self.unfinished if self.unfinished else "no finding in %d checks" % len(self.checks)
             return "<p>%s</p>" % html.escape(what)

@@ -187,7 +187,7 @@ class EnclaveHandle:
         return self.go("run", until, touches)
 
     def resume(self, until: Optional[PlaceLike] = None, touches: Optional[PlaceLike] = None) -> CallResult:
-        """Resumes the enclave. The parameters and the result are those of `run`."""
+        """Resumes the enclave. Parameters, result and errors are as for `run`."""
         return self.go("resume", until, touches)
 
     def go(self, name: str, until: Optional[PlaceLike], touches: Optional[PlaceLike]) -> CallResult:

@@ -109,8 +109,8 @@ class Machine(HostStepper):
         return [] if place is None else self.program.place(place).addresses
 
     def watched(self, place: Optional[PlaceLike]) -> List[int]:
-        """Returns the addresses to watch for a place: each byte, or the first byte of each word if there are many; none for None. Raises RvlookError
-        for a place that is too large."""
+        """Returns the addresses to watch for a place: each byte, or the first byte of each word if there are many. Returns an empty list for None.
+        Raises RvlookError for a place that is too large."""
         if place is None:
             return []
         found = self.program.place(place)

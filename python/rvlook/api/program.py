@@ -59,7 +59,7 @@ class Program:
     def __init__(self, run: Run, files: Sequence[str] = (), has_boot: bool = False) -> None:
         self.run, self.setup, self.symbols = run, run.setup, run.setup.symbols  # with its configuration and its symbols
         self.files = files  # the options of a command line that name files
-        self.has_boot = has_boot  # whether a monitor of the user's own boots first
+        self.has_boot = has_boot  # whether `boot` was given, which no command line repeats
 
     @property
     def name(self) -> str:

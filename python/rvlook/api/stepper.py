@@ -163,7 +163,7 @@ class Stepper(Closing):
         return ran
 
     def set_stops(self, places: Iterable[int], watched: Iterable[int]) -> None:
-        """Sets these breakpoints and watchpoints, and those that show that a console is written to."""
+        """Sets these breakpoints and watchpoints, and the watchpoints that show that a console is written to."""
         own = {it.address + offset for it in self.consoles for offset in (WRITTEN, ENDED)}
         self.timeline.set_stops(["break %x" % it for it in sorted(places)] + ["watch %x" % it for it in sorted({*watched, *own})])
 
