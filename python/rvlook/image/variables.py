@@ -252,7 +252,7 @@ class UnitEntries:
             yield from self.located(entry, ranges, is_sp)
 
     def located(self, entry: Any, ranges: Sequence[tuple[int, int]], is_sp: bool) -> Iterator[Variable]:
-        """Yields a variable with each of its locations; none for a structure."""
+        """Yields a variable with each of its locations. Yields nothing for a structure."""
         kind = self.plain(self.type_of(entry))
         size = self.size(kind)
         if kind is None or is_aggregate(kind) or not 0 < size <= WORD:
@@ -330,8 +330,8 @@ class Variable:
 
 
 def frames_of(path: str | None, image: Image, executed: Sequence[int]) -> Sequence[Variable]:
-    """Returns the variables of the ELF file of the symbols, or else of the image; none without DWARF. Leaves out each compilation unit
-    without an executed instruction. `executed` has the addresses of the executed instructions, in ascending order."""
+    """Returns the variables of the ELF file of the symbols, or else of the image. Returns no variables without DWARF. Leaves out each compilation
+    unit without an executed instruction. `executed` has the addresses of the executed instructions, in ascending order."""
     return read_elf(*debugged(path, image), "no variables", lambda file: [
         it for dwarf, unit in compilation_units(file) if has_any(ranges_of(dwarf, unit, unit.get_top_DIE()), executed)
         for it in UnitEntries(dwarf, unit).variables()]) or ()
