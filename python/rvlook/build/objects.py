@@ -70,7 +70,7 @@ class Workshop:
         return [self.compile(os.path.join(self.shared, "string.c"), name, *options)]
 
     def names(self, objects: Iterable[str]) -> tuple[set[str], set[str]]:
-        """Returns the global names that objects define, and those that they use and none of them defines."""
+        """Returns the global names that objects define, and the names that they use and that no object defines."""
         symbols = [symbol for path in objects for symbol in self.symbols(path)]
         defined = {it.name for it in symbols if it.address}
         return defined, {it.name for it in symbols if not it.address} - defined
