@@ -219,8 +219,8 @@ def run_own(owner: object, name: str, *operands: str) -> bool:
 
 
 def steps_to(ahead: Timeline, is_end: Callable[[str, str], bool]) -> int | None:
-    """Returns the number of steps to the first one that a test accepts by its reply and the one before it; None if none comes, or the hart does
-    nothing more."""
+    """Returns the number of steps to the first step that a test accepts by its reply and the reply before it. Returns None if the test accepts no
+    step, or if the hart does nothing more."""
     before = "mode=%s" % ahead.modes[ahead.hart]
     for done in range(0, MOST_STEPS, CHUNK):
         lines = ahead.bench.block(b"step 1\n" * CHUNK, CHUNK).decode().splitlines()
