@@ -123,7 +123,7 @@ def end_of_run(replies: Sequence[str], index: int, start: str) -> int:
 
 
 def marked_end(replies: Sequence[str], index: int) -> int:
-    """Returns the index after the replies of two benches to one command; 0 if there are none at `index`."""
+    """Returns the index after the replies of two benches to one command; 0 if no such replies are at `index`."""
     end = end_of_run(replies, end_of_run(replies, index, "a: "), "b: ")
     return end if end > index else 0
 
