@@ -16,12 +16,12 @@ LONGEST_REASON = 200  # characters of an error that no one foresaw
 
 class RvlookError(Exception):
     """An argument or an input that rvlook cannot use. Its text is the message."""
-    status = REFUSED
+    status = REFUSED  # the exit status
 
 
 class Unfinished(RvlookError):
     """An error that stops rvlook although its arguments and inputs may be valid."""
-    status = UNFINISHED
+    status = UNFINISHED  # the exit status
 
 
 class UsageError(RvlookError):

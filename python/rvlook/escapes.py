@@ -8,9 +8,8 @@ FLIP = 0x40  # from a control character to its letter
 
 
 def visible(text: str) -> str:
-    """Returns a text without control characters. Those of ASCII become ^X, as readelf and objdump show them.
-
-    Any other character that cannot be printed becomes <U+XXXX>: the controls of ISO 8859-1, bidirectional controls, lone surrogates and the like."""
+    """Returns a text without control characters. Control characters of ASCII become ^X, as readelf and objdump show them. Any other character that
+    cannot be printed becomes <U+XXXX>: the controls of ISO 8859-1, bidirectional controls, lone surrogates and the like."""
     if text.isprintable():
         return text
     text = CONTROL.sub(lambda match: "^" + chr(ord(match[0]) ^ FLIP), text)

@@ -22,39 +22,36 @@ BARE = "bare"
 
 
 class Operation(NamedTuple):
-    """A load (`r`), a store (`w`) or a division (`d`) of a step.
-
-    `address` and `width` are 0 for a division. `values` has the bytes of a store or the operands of a division, and is empty for a load. `done` is
-    false if the step trapped."""
-    step: int
-    pc: int
-    kind: str
-    address: int
-    width: int
-    values: Sequence[int]
-    done: bool
+    """A load, a store or a division in a step."""
+    step: int  # number of the step of the run
+    pc: int  # of the instruction
+    kind: str  # r for a load, w for a store, d for a division
+    address: int  # of the access; 0 for a division
+    width: int  # bytes of the access; 0 for a division
+    values: Sequence[int]  # the bytes of a store, or the operands of a division; empty for a load
+    done: bool  # false if the step trapped
 
 
 @dataclass
 class Activation:
-    """An activation: an enclave on a hart, from the step that enters it to the one that leaves it. `number` counts the activations of its
-    slot."""
-    world: str
-    hart: int
-    first: int
-    number: int
-    enclave: Enclave
-    last: int = 0
-    ended_by: str = ""
-    answer: tuple[int, ...] = ()
+    """An activation: an enclave on a hart, from the step that enters it to the one that leaves it. An index counts the steps of the enclave from
+    0."""
+    world: str  # the enclave, such as `e0`; `bare` on the bare bench
+    hart: int  # on which it runs
+    first: int  # number of the step that enters
+    number: int  # of the activation in its slot
+    enclave: Enclave  # its entry in the enclave table
+    last: int = 0  # number of the step that leaves; 0 while it runs
+    ended_by: str = ""  # exit, stop, timer, or none at the end of the run
+    answer: tuple[int, ...] = ()  # a0 and a1 of the host after it; may be empty
     pc: Optional[int] = None  # of the last step
     pcs: array[int] = field(default_factory=lambda: array("I"))  # of each step, with its mode in the lowest bits
     steps: array[int] = field(default_factory=lambda: array("I"))  # the number of each
     traps: dict[int, bytes] = field(default_factory=dict)  # of the steps that trapped, by index
-    operations: list[Operation] = field(default_factory=list)
-    operations_at: array[int] = field(default_factory=lambda: array("I"))  # the indices of these steps
-    before: bytes = b""
-    after: bytes = b""
+    operations: list[Operation] = field(default_factory=list)  # loads and stores, and divisions if they are recorded
+    operations_at: array[int] = field(default_factory=lambda: array("I"))  # the index of the step of each operation
+    before: bytes = b""  # the window at the entry
+    after: bytes = b""  # the window at the end
     others: tuple[str, ...] = ()  # the world of the other hart, where there is one
     table: tuple[Enclave, ...] = ()  # of the live enclaves
 
@@ -65,14 +62,15 @@ class Activation:
 
 
 def access_of(line: bytes) -> Need[MemoryOperand] | None:
-    """Returns the access of the instruction in a reply of `dis`, with the registers of its address and its stored value; None if it has none."""
+    """Returns the access of the instruction in a reply of `dis`, with the registers of its address and its stored value. Returns None for an
+    instruction without an access."""
     instruction = instruction_of(line)
     memory = instruction.memory if instruction else None
     return (memory, (memory.base, memory.register) if memory.kind == "w" else (memory.base,), False) if memory else None
 
 
 def operands_of(line: bytes) -> Need[MemoryOperand] | None:
-    """Returns the same as `access_of`, or the two operands of a division, as an access of the kind `d`."""
+    """Returns what `access_of` returns. For a division returns its two operands, as an access of the kind `d`."""
     instruction = instruction_of(line)
     if instruction is None or instruction.name not in DIVISIONS:
         return access_of(line)
@@ -96,11 +94,11 @@ class Activations:
     """The activations of a run after a step. `is_strict` records the operands of divisions too. A bare run is one activation without a window."""
 
     def __init__(self, run: Run, start: int = 0, is_strict: bool = False) -> None:
-        self.run, self.start, self.is_strict = run, start, is_strict
-        self.worlds = [run.world] * run.setup.harts
-        self.open: list[Activation | None] = [None] * run.setup.harts
-        self.numbers: Counter[str] = Counter()
-        self.end: End | None = None
+        self.run, self.start, self.is_strict = run, start, is_strict  # `start`: the step after which activations are taken
+        self.worlds = [run.world] * run.setup.harts  # of each hart
+        self.open: list[Activation | None] = [None] * run.setup.harts  # of each hart; None if no enclave runs there
+        self.numbers: Counter[str] = Counter()  # activations so far, by world
+        self.end: End | None = None  # None until the run has ended
 
     def all(self) -> Generator[Activation, None, None]:
         """Yields each activation after it has ended; one that is open at the end of the run comes last."""

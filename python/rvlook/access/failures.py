@@ -40,35 +40,34 @@ KNOWN = {it.lower(): it for it in (*names.STATUSES.values(), *CAUSES, *names.MAR
 
 
 class Turn(NamedTuple):
-    """Commands that change the state, and then `steps` steps of a hart."""
-    commands: tuple[str, ...]
-    hart: int
-    steps: int
+    """Commands that change the state, and then steps of a hart."""
+    commands: tuple[str, ...]  # without `step`
+    hart: int  # that steps
+    steps: int  # their number
 
 
 class Trapped(NamedTuple):
-    """A step that trapped: its number, its hart, where the hart was before it, and the reply to it."""
-    step: int
-    hart: int
-    at: Location
-    ran: Ran
+    """A step that trapped."""
+    step: int  # its number in the run
+    hart: int  # that did it
+    at: Location  # where the hart was before it
+    ran: Ran  # the reply to it
 
 
 @dataclass(frozen=True)
 class Failure:
-    """A trap, or a refused call, of an instruction. `name` is that of the cause or of the status, `value` that of the first trap, and `call` the
-    refused call; it is empty for a trap. `step` is the first step, `count` the number of times."""
-    name: str
-    step: int
-    hart: int
-    at: Location
-    value: str = ""
-    call: str = ""
-    count: int = 1
+    """A trap, or a refused call of the monitor, of an instruction."""
+    name: str  # of the cause, or of the status
+    step: int  # number of the first one
+    hart: int  # of the first one
+    at: Location  # pc, mode and world
+    value: str = ""  # of the first trap, hexadecimal digits; empty for a call
+    call: str = ""  # the refused call; empty for a trap
+    count: int = 1  # how often it occurred
 
     @property
     def key(self) -> tuple[object, ...]:
-        """Returns what is the same for all times."""
+        """Returns the fields that are equal each time the failure occurs."""
         return self.name, self.at, self.call
 
 
@@ -121,19 +120,20 @@ class Lagging:
     """A bench that does the parts of a run. Parts that it skips are done before the next one that it examines."""
 
     def __init__(self, bench: Bench) -> None:
-        self.bench = bench
-        self.skipped: list[str] = []
+        self.bench = bench  # that does the parts
+        self.skipped: list[str] = []  # the commands of skipped parts
 
     def skip(self, part: Sequence[Turn]) -> None:
         """Skips a part."""
         self.skipped += whole(part)
 
     def ask(self, commands: Sequence[str]) -> list[bytes]:
-        """Does what was skipped and then these commands, and returns the replies to the latter. Each command has a reply of one line."""
+        """Runs the commands of the skipped parts and then these commands; returns the replies to these commands. Each command has a reply of one
+        line."""
         return self.block("".join(it + "\n" for it in commands).encode(), len(commands)).split(b"\n")[:-1]
 
     def block(self, text: bytes, count: int) -> bytes:
-        """Does what was skipped, and then commands whose replies have `count` lines; returns these replies."""
+        """Runs the commands of the skipped parts, and then commands whose replies have `count` lines; returns these replies."""
         skipped, self.skipped = self.skipped, []
         self.bench.replies_to(skipped)
         return self.bench.block(text, count) if count else b""
@@ -145,14 +145,14 @@ def whole(part: Sequence[Turn]) -> list[str]:
 
 
 class Scan:
-    """A scan of a run with three benches. `locations` has where each hart is, and `traps` how many it had by its counters."""
+    """A scan of a run with three benches."""
 
     def __init__(self, run: Run, leader: Lagging, follower: Lagging, reader: Lagging) -> None:
-        self.leader, self.follower, self.reader = leader, follower, reader
-        self.harts = range(run.setup.harts)
-        self.locations = [Location(run.pc, run.mode, run.world) for _ in self.harts]
-        self.traps = [0 for _ in self.harts]
-        self.position = 0
+        self.leader, self.follower, self.reader = leader, follower, reader  # `follower` and `reader` lag behind `leader`
+        self.harts = range(run.setup.harts)  # their numbers
+        self.locations = [Location(run.pc, run.mode, run.world) for _ in self.harts]  # where each hart is
+        self.traps = [0 for _ in self.harts]  # of each hart, by its counters
+        self.position = 0  # steps so far
 
     def failures(self, parts: Iterator[list[Turn]]) -> Iterator[Failure]:
         """Yields each failure in the order of steps."""
@@ -289,11 +289,10 @@ def failure_object(failure: Failure, symbols: Symbols) -> dict[str, Json]:
 
 @dataclass(frozen=True)
 class Expectation:
-    """A failure that an author expects. `name` is that of a cause or of a status, and `place` the function or the address of the instruction. Each
-    may be empty, which is any."""
-    text: str
-    name: str
-    place: str = ""
+    """A failure that the user expects."""
+    text: str  # as the user wrote it
+    name: str  # of a cause or of a status; empty: any
+    place: str = ""  # function or address of the instruction; empty: any
 
     def has(self, failure: Failure, symbols: Symbols) -> bool:
         """Returns whether a failure is expected."""
@@ -302,7 +301,7 @@ class Expectation:
 
 
 def expectation_of(text: str, symbols: Symbols) -> Expectation:
-    """Parses the value of --expect: a cause or a status, @PLACE, or both. Raises UsageError."""
+    """Parses the value of --expect: a cause or a status, @PLACE, or both. Raises UsageError if the name or the place is unknown."""
     name, _, place = text.partition("@")
     known = KNOWN.get(" ".join(name.replace("-", " ").lower().split()), "")
     if not known and (name or not place):
@@ -315,13 +314,14 @@ def expectation_of(text: str, symbols: Symbols) -> Expectation:
 
 
 class FailureReport:
-    """The report of the failures of a run. Failures that nobody expects are findings."""
+    """The report of the failures of a run. Failures that the user does not expect are findings."""
 
     def __init__(self, expected: Sequence[Expectation], symbols: Symbols, printer: Printer, findings: ReportedCases) -> None:
+        # `expected`: the values of --expect; `findings`: the cases of the subcommand
         self.expected, self.symbols, self.printer, self.findings = expected, symbols, printer, findings
 
     def show(self, failures: Sequence[Failure]) -> None:
-        """Prints the failures: those that are expected as notes, the others as warnings."""
+        """Prints the failures: the expected ones as notes, the others as warnings."""
         self.printer.stream.flush()
         for number, failure in enumerate(failures):
             is_expected = any(other.has(failure, self.symbols) for other in self.expected)

@@ -13,11 +13,11 @@ A0 = 10
 
 
 class WindowFields:
-    """Names of the fields of the window. `rows` has the address and the member of each."""
+    """Names of the fields of the window."""
 
     def __init__(self, symbols: Symbols) -> None:
         self.symbols = symbols
-        self.rows: list[tuple[int, Member]] = []
+        self.rows: list[tuple[int, Member]] = []  # address and member of each field
 
     def add(self, address: int, members: tuple[Member, ...]) -> None:
         """Adds the members of the memory at an address, unless its fields are known. Structures come before single values."""
@@ -54,7 +54,7 @@ class FieldReader:
     """Adds the fields that the calls of each activation of a run show."""
 
     def __init__(self, run: Run, parameters: Sequence[Parameter], fields: WindowFields) -> None:
-        self.run, self.parameters, self.fields = run, parameters, fields
+        self.run, self.parameters, self.fields = run, parameters, fields  # `fields` receives the fields that are found
         self.known: set[int] = set()  # functions
 
     def read(self, activation: Activation) -> None:

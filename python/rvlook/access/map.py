@@ -23,10 +23,10 @@ ENTRY_WRITTEN = re.compile(rb" csrr\w+ x\d+, 0x3[ab][0-9a-f],")  # pmpcfg0 to pm
 
 @dataclass(frozen=True)
 class Column:
-    """A world whose access rights are shown: that of a hart, or a derived one that runs on no hart."""
-    name: str
-    world: str
-    hart: Optional[int]
+    """A world whose access rights are shown."""
+    name: str  # of the column
+    world: str  # its world
+    hart: Optional[int]  # on which the world runs; None: on no hart, so the rights are derived
 
     @property
     def derived(self) -> bool:
@@ -36,44 +36,44 @@ class Column:
 
 @dataclass(frozen=True)
 class Row:
-    """A range of RAM, its meaning, and for each column the access rights in each mode."""
-    range: Range
-    what: str
-    may: dict[str, dict[str, str]]
+    """A range of RAM with the access rights to it."""
+    range: Range  # the range
+    what: str  # its meaning; empty on the bare bench
+    may: dict[str, dict[str, str]]  # rights by column and mode
 
 
 @dataclass(frozen=True)
 class Event:
-    """A change of access rights, and the rights after it. `pc` is that of the instruction, `cause` what changed them."""
-    step: int
-    hart: int
-    cause: str
-    slot: Optional[int]
-    status: Optional[str]
-    text: Optional[str]
-    pc: str
-    mode: str
-    world: str
-    enclaves: tuple[Enclave, ...]
-    columns: tuple[Column, ...]
-    rows: tuple[Row, ...]
+    """A change of access rights, and the rights after it."""
+    step: int  # number of the step that changed them; 0 for the reset
+    hart: int  # that did the step
+    cause: str  # reset, pmp, timer, or the name of a call
+    slot: Optional[int]  # of the enclave; None if there is none
+    status: Optional[str]  # of the call, 8 hexadecimal digits; None if it has none
+    text: Optional[str]  # the instruction; None if it is not known
+    pc: str  # of the instruction, 8 hexadecimal digits
+    mode: str  # after the step
+    world: str  # after the step
+    enclaves: tuple[Enclave, ...]  # the enclave table after the step
+    columns: tuple[Column, ...]  # of the worlds
+    rows: tuple[Row, ...]  # of the ranges of RAM
 
 
 @dataclass(frozen=True)
 class RightsState:
-    """The state that decides access rights: the PMP entries and the world of each hart, and the enclave table."""
-    entries: tuple[tuple[str, ...], ...]
-    worlds: tuple[str, ...]
-    enclaves: tuple[Enclave, ...]
+    """The state that decides access rights."""
+    entries: tuple[tuple[str, ...], ...]  # for each hart the replies of `pmp`
+    worlds: tuple[str, ...]  # of each hart
+    enclaves: tuple[Enclave, ...]  # the enclave table
 
 
 @dataclass(frozen=True)
 class Cause:
-    """The cause of an event: its name, and the slot, the status and the text of the instruction if they apply."""
-    name: str
-    slot: Optional[int] = None
-    status: Optional[str] = None
-    text: Optional[str] = None
+    """The cause of an event. The fields that do not apply are None."""
+    name: str  # reset, pmp, timer, or the name of a call
+    slot: Optional[int] = None  # of the enclave
+    status: Optional[str] = None  # of the call, 8 hexadecimal digits
+    text: Optional[str] = None  # the instruction
 
 
 def events(run: Run) -> Iterator[Event | End]:
@@ -82,7 +82,7 @@ def events(run: Run) -> Iterator[Event | End]:
 
 
 def events_and_refusals(run: Run) -> Iterator[Event | Failure | End]:
-    """Yields the same as `events`, and each call that the monitor refuses."""
+    """Yields what `events` yields, and each call that the monitor refuses."""
     finder = EventFinder(run)
     with run.replay() as replay:
         yield finder.at_reset(replay)
@@ -113,7 +113,7 @@ def changed_entries(run: Run) -> Iterator[tuple[int, int] | End]:
 
 
 def written_entry(line: bytes) -> Need[bytes] | None:
-    """Returns the reply of `dis` if its instruction accesses a PMP register, else None. It needs no register."""
+    """Returns the reply of `dis` if its instruction accesses a PMP register, else None. The step needs no register."""
     return (line, (), False) if ENTRY_WRITTEN.search(line) else None
 
 
@@ -130,8 +130,8 @@ class EventFinder:
     """Finds the events among the steps, and caches the replies of `access` for PMP entries."""
 
     def __init__(self, run: Run) -> None:
-        self.run, self.setup = run, run.setup
-        self.verdicts: dict[tuple[str, ...], list[Verdicts]] = {}
+        self.run, self.setup = run, run.setup  # the run with its configuration
+        self.verdicts: dict[tuple[str, ...], list[Verdicts]] = {}  # by replies of `pmp`
         self.state = RightsState(entries=(), worlds=(), enclaves=())  # nothing is known yet
 
     def at_reset(self, replay: Timeline) -> Event:

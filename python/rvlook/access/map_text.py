@@ -125,7 +125,7 @@ def row_at(event: Event, address: int) -> Row:
 
 
 def rights_of(event: Event, address: int) -> dict[str, str]:
-    """Returns the access rights of each world to an address, by mode if they differ between modes. A world that does not exist has none."""
+    """Returns the access rights of each world to an address, by mode if they differ between modes. A world that does not exist has no rights."""
     row, found = row_at(event, address), {}
     for column in event.columns:
         for mode, rights in row.may[column.name].items():
@@ -168,7 +168,7 @@ def cells_of(row: Row, event: Event) -> Iterator[str]:
 
 
 def row_text(row: Row, cells: Iterable[str], widths: Sequence[int]) -> str:
-    """Returns a row as a line; `widths` are those of the columns, in characters."""
+    """Returns a row as a line. `widths` has the width of each column, in characters."""
     size = names.size_text(row.range.end - row.range.first)
     ends = "%08x-%08x" % (row.range.first, row.range.end - 1)
     shown = "".join(cell.ljust(width) for cell, width in zip(cells, widths))

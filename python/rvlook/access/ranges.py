@@ -10,23 +10,23 @@ from rvlook.protocol.memory_map import MONITOR_END, RAM_BASE
 from rvlook.protocol.replies import Enclave, PmpEntry, entry_of
 
 KINDS = "rwx"
-TOR, NA4, NAPOT = 1, 2, 3
-NOTHING, ALL, DATA = "---", "rwx", "rw-"
+TOR, NA4, NAPOT = 1, 2, 3  # values of the field A of pmpcfg
+NOTHING, ALL, DATA = "---", "rwx", "rw-"  # access rights
 
 
 @dataclass(frozen=True)
 class Range:
-    """Bytes from `first` up to, and not with, `end`."""
-    first: int
-    end: int
+    """A range of addresses."""
+    first: int  # the first byte
+    end: int  # the byte after the last one
 
 
 @dataclass(frozen=True)
 class Verdicts:
-    """The access rights to a range in each mode, and the replies of `access`, which name the entry that decides."""
-    range: Range
-    may: dict[str, str]
-    replies: tuple[str, ...]
+    """The access rights to a range."""
+    range: Range  # the range
+    may: dict[str, str]  # by mode, such as `rw-`
+    replies: tuple[str, ...]  # of `access`, which name the entry that decides
 
 
 def entry_range(entries: Sequence[PmpEntry], index: int) -> Range | None:

@@ -20,20 +20,20 @@ from rvlook.protocol.symbols import Symbols
 
 @dataclass(frozen=True)
 class Transient:
-    """A range that S may access only inside M: the event that opened it, and the rights that S has in no state before or after."""
-    event: Event
-    range: Range
-    may: str
+    """A range that S may access only while M runs."""
+    event: Event  # opened it
+    range: Range  # the range
+    may: str  # the rights that S has neither before nor after
 
 
 @dataclass(frozen=True)
 class Return:
-    """A return from M: its step, where S or U continues, the last event up to it, and the transient states of the stay before it."""
-    step: int
-    pc: str
-    mode: str
-    event: Event
-    transients: tuple[Transient, ...]
+    """A return from M."""
+    step: int  # its number
+    pc: str  # where S or U continues
+    mode: str  # S or U
+    event: Event  # the last change of rights up to it
+    transients: tuple[Transient, ...]  # of the stay in M before it
 
 
 def mode_returns(run: Run) -> Iterator[tuple[int, str, str] | End]:

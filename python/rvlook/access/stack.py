@@ -25,14 +25,14 @@ from rvlook.protocol.run import Run
 from rvlook.protocol.stretch import Stretch
 from rvlook.protocol.symbols import Symbols
 
-SP, A0, A1 = 2, 10, 11
+SP, A0, A1 = 2, 10, 11  # numbers of registers
 WORD = 4  # bytes of a pointer
 REGISTERS = 32
 NAME = re.compile(r"(.*(host|runtime|application|monitor))_stack_bottom\Z")
 KINDS = {"host": ("host",), "runtime": ("runtime", "application"), "application": ("runtime", "application")}  # the stacks of a world, by one of them
 POINTED = {"host": ("host",), "runtime": ("runtime", "application"), "application": ("application",)}  # the stacks that a store may reach
 MASK = 0xFFFFFFFF
-TIMER, CALL = names.TIMER.encode(), names.ECALL_FROM_S.encode()
+TIMER, CALL = names.TIMER.encode(), names.ECALL_FROM_S.encode()  # causes of traps
 
 
 FACTORS = {"add": (1, 1), "or": (1, 1), "sub": (1, -1)}
@@ -40,16 +40,16 @@ UPPER = ("lui", "auipc")  # build the upper part of a constant
 
 
 class PointerOperation(NamedTuple):
-    """An instruction that writes a register or accesses memory: the register that it writes, and its operands. The result of a computation has
-    each operand as a summand as often as `factors` says; a result that is no pointer into the stack has none. `register` must be read: the base
-    of an access, or sp after a write of it; None if none is needed."""
-    writes: int
-    sources: tuple[int, int] = (0, 0)
-    factors: tuple[int, int] = (0, 0)
-    memory: Optional[MemoryOperand] = None
-    register: Optional[int] = None
-    is_store: bool = False
-    is_upper: bool = False
+    """An instruction that writes a register or accesses memory, as far as it moves pointers into the stack.
+
+    The result of a computation has each operand as a summand as often as `factors` says."""
+    writes: int  # number of the destination register; 0 for none
+    sources: tuple[int, int] = (0, 0)  # numbers of the operands
+    factors: tuple[int, int] = (0, 0)  # 0 for an operand that is not a summand
+    memory: Optional[MemoryOperand] = None  # the access; None for a computation
+    register: Optional[int] = None  # to be read: the base of an access, or sp after a write; None: no register
+    is_store: bool = False  # whether it stores
+    is_upper: bool = False  # whether it is lui or auipc
 
 
 def operation_of(line: bytes) -> PointerOperation | None:
@@ -76,9 +76,9 @@ def computation_of(instruction: Instruction) -> PointerOperation:
 
 @dataclass
 class Pointers:
-    """The coefficients of the registers of a world, and those of the words that it stored, by address."""
-    registers: list[int] = field(default_factory=lambda: [0, 0, 1, *[0] * (REGISTERS - 3)])
-    words: dict[int, int] = field(default_factory=dict)
+    """How often each register and stored word of a world has the stack pointer as a summand. 1 is a pointer into the stack."""
+    registers: list[int] = field(default_factory=lambda: [0, 0, 1, *[0] * (REGISTERS - 3)])  # coefficients of x0 to x31
+    words: dict[int, int] = field(default_factory=dict)  # coefficients of stored words, by address
 
     def is_pointer(self, register: int) -> bool:
         """Returns whether a register has a pointer into the stack."""
@@ -110,22 +110,22 @@ class Pointers:
 
 
 class Stack(NamedTuple):
-    """The bytes of a stack, from `bottom` up to before `top`."""
-    name: str
-    kind: str
-    bottom: int
-    top: int
+    """A stack."""
+    name: str  # begins its symbols
+    kind: str  # host, runtime, application or monitor
+    bottom: int  # its first byte
+    top: int  # the byte after the last one
 
 
 class Overflow(NamedTuple):
-    """The first use of a stack outside its range: a store, or a write of sp. `address` is the first byte stored, or the new sp."""
-    step: int
-    hart: int
-    world: str
-    pc: int
-    is_store: bool
-    address: int
-    stack: Stack
+    """The first use of a stack outside its range: a store, or a write of sp."""
+    step: int  # its number
+    hart: int  # that did it
+    world: str  # of the hart
+    pc: int  # of the instruction
+    is_store: bool  # false for a write of sp
+    address: int  # the first byte stored, or the new sp
+    stack: Stack  # that overflows
 
 
 def stacks_of(symbols: Symbols) -> dict[str, list[Stack]]:
@@ -140,7 +140,7 @@ def stacks_of(symbols: Symbols) -> dict[str, list[Stack]]:
 
 
 def kind_of(world: str, mode: str, kinds: Container[str] = ()) -> str | None:
-    """Returns the kind of stack that a world uses in a mode, or None if it is not known. `kinds` are those that the symbols define."""
+    """Returns the kind of stack that a world uses in a mode, or None if the kind is unknown. `kinds` are the kinds that the symbols define."""
     if world == "bare" and mode == "M":
         return "monitor" if "monitor" in kinds else "host"
     if world == "bare" and "runtime" in kinds:
@@ -154,9 +154,9 @@ class OverflowFinder:
     """Finds the first overflow of each kind of stack."""
 
     def __init__(self, stacks: dict[str, list[Stack]]) -> None:
-        self.stacks = stacks
-        self.found: dict[str, Overflow] = {}
-        self.pointers: dict[str, Pointers] = {}
+        self.stacks = stacks  # by kind
+        self.found: dict[str, Overflow] = {}  # the first overflow, by kind of stack
+        self.pointers: dict[str, Pointers] = {}  # of each world
         self.left_at: dict[str, int] = {}  # the pc at which an enclave left
         self.kinds: dict[tuple[bytes, bytes], Optional[str]] = {}  # of stack, by world and mode
 
@@ -189,7 +189,7 @@ class OverflowFinder:
                 pointers.access(memory, address) if memory else pointers.compute(operation)
 
     def enter(self, hart: int, world: str, pc: int) -> Pointers:
-        """Returns the pointers of a world that continues at pc. An enclave that is entered elsewhere than where it left has none."""
+        """Returns the pointers of a world that continues at pc. If an enclave is entered elsewhere than where it left, only sp is a pointer."""
         key = world if world.startswith("e") else "%s %d" % (world, hart)
         left = self.left_at.get(world)
         if key not in self.pointers or left is not None and pc not in (left, left + 4):
@@ -222,21 +222,21 @@ class OverflowFinder:
         return min(self.stacks[kind], key=lambda stack: min(abs(stack.bottom - address), abs(stack.top - address)))
 
     def stacks_of_world(self, kind: str) -> Sequence[str]:
-        """Returns the kinds of stacks to which a world may switch; none if the symbols do not define each of them."""
+        """Returns the kinds of stacks to which a world may switch. Returns no kind if the symbols do not define each of them."""
         kinds = KINDS.get(kind, ())
         return kinds if all(it in self.stacks for it in kinds) else ()
 
 
 @lru_cache(maxsize=65536)
 def need_of(line: bytes) -> Need[PointerOperation] | None:
-    """Returns the operation of the instruction in a reply of `dis`, and the register that it needs: the base of its access, or sp after a write of
-    it; None if it needs none."""
+    """Returns the operation of the instruction in a reply of `dis`, and the register that must be read: the base of its access, or sp after a
+    write of sp. Returns None if no register must be read."""
     operation = operation_of(line)
     return (operation, (operation.register,), operation.memory is None) if operation and operation.register is not None else None
 
 
 def overflows(run: Run, symbols: Symbols) -> list[Overflow]:
-    """Returns the first overflow of each kind of stack, in the order of the run; none if the symbols define no stack."""
+    """Returns the first overflow of each kind of stack, in the order of the run. Returns no overflow if the symbols define no stack."""
     stacks = stacks_of(symbols)
     if not stacks:
         return []

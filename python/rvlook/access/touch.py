@@ -29,13 +29,12 @@ LOWER_MODE = re.compile(rb"mode=[SU]")
 
 
 class Access(NamedTuple):
-    """Accesses of a world of one kind (`r`, `w` or `x`) at an address, `width` bytes each, done or refused. On the bare bench the world may be a
-    mode."""
-    world: str
-    kind: str
-    address: int
-    width: int
-    done: bool
+    """Accesses of one kind by a world."""
+    world: str  # on the bare bench it may be a mode
+    kind: str  # r, w or x
+    address: int  # of the first byte
+    width: int  # bytes
+    done: bool  # false if the accesses were refused
 
 
 def accesses(run: Run, by_mode: bool = False) -> tuple[Counter[Access], End]:
@@ -61,9 +60,9 @@ class Counting:
     """Counts steps by their fields, and loads and stores by address and width. With `by_mode` each mode is a world."""
 
     def __init__(self, by_mode: bool) -> None:
-        self.by_mode = by_mode
-        self.steps: Counter[tuple[bytes, bytes, bytes]] = Counter()
-        self.touched: Counter[tuple[bytes, str, int, int, bool]] = Counter()
+        self.by_mode = by_mode  # whether each mode is a world
+        self.steps: Counter[tuple[bytes, bytes, bytes]] = Counter()  # by pc, world and trap
+        self.touched: Counter[tuple[bytes, str, int, int, bool]] = Counter()  # by world, kind, address, width and `done`
 
     def take(self, stretch: Stretch, reads: Reads[MemoryOperand]) -> None:
         """Counts the accesses of the steps of a stretch."""
@@ -89,29 +88,29 @@ class Counting:
 
 @dataclass(frozen=True)
 class AccessKind:
-    """Accesses of a world of one kind, done or refused."""
-    world: str
-    kind: str
-    done: bool
+    """Accesses of a world of one kind."""
+    world: str  # on the bare bench it may be a mode
+    kind: str  # r, w or x
+    done: bool  # false if the accesses were refused
 
 
 @dataclass(frozen=True)
 class Touched:
-    """Bytes within one symbol, and the number of accesses."""
-    range: Range
-    symbol: Optional[str]
-    count: int
+    """Accessed bytes within one symbol."""
+    range: Range  # the bytes
+    symbol: Optional[str]  # None if there is none
+    count: int  # number of accesses
 
 
 @dataclass(frozen=True)
 class Permitted:
-    """A range that a world may access, the kinds, the number of bytes accessed by each kind, and the lowest and highest of them."""
-    what: str
-    range: Range
-    kinds: str
-    touched: dict[str, int]
-    lowest: Optional[int]
-    highest: Optional[int]
+    """A range that a world may access, and which part it accessed."""
+    what: str  # its meaning
+    range: Range  # the range
+    kinds: str  # of permitted accesses
+    touched: dict[str, int]  # number of accessed bytes by kind
+    lowest: Optional[int]  # accessed address; None without an access
+    highest: Optional[int]  # accessed address; None without an access
 
     @property
     def enough(self) -> int:
@@ -126,11 +125,11 @@ class Touches:
     """The accesses of a run, counted by first byte and width."""
 
     def __init__(self, run: Run) -> None:
-        self.counts: dict[AccessKind, Counter[tuple[int, int]]] = defaultdict(Counter)
-        self.permitted: dict[str, list[tuple[Range, str, set[str]]]] = defaultdict(list)
+        self.counts: dict[AccessKind, Counter[tuple[int, int]]] = defaultdict(Counter)  # by address and width
+        self.permitted: dict[str, list[tuple[Range, str, set[str]]]] = defaultdict(list)  # range, meaning and kinds, by world
         # each mode of a bare run is a world, if it enters S or U
         has_modes = not run.setup.monitor and any(isinstance(it, Stretch) and LOWER_MODE.search(it.data) for it in run.stretches())
-        found, self.end = accesses(run, has_modes)
+        found, self.end = accesses(run, has_modes)  # of the run
         for key, count in found.items():
             self.counts[AccessKind(key.world, key.kind, key.done)][key.address, key.width] += count
         changes = [it for it in events(run) if isinstance(it, Event)]
@@ -201,7 +200,7 @@ def joined(rows: Iterable[tuple[Range, str, set[str]]]) -> list[tuple[Range, str
 
 
 def within(addresses: list[int], found: Range) -> list[int]:
-    """Returns those of the ascending addresses that are in a range."""
+    """Returns the addresses in a range. The given addresses are ascending."""
     return addresses[bisect_right(addresses, found.first - 1):bisect_right(addresses, found.end - 1)]
 
 

@@ -31,7 +31,8 @@ def build(folder: PathLike, target: PathLike, monitor: Union[PathLike, None] = N
 
 
 def copy_of(source: str, copies: str) -> str:
-    """Copies a folder into another one, with a link to each of its siblings; returns the path of the copy. Raises OSError."""
+    """Copies a folder into another one, with a link to each of its siblings; returns the path of the copy. Raises OSError if a file cannot be
+    copied."""
     parent, name = os.path.split(source)
     for entry in os.listdir(parent):
         if entry != name:

@@ -64,7 +64,7 @@ def findings_text(found: Findings, folder: str, name: str) -> str:
 
 
 def write_script(folder: str, name: str, script: str) -> str:
-    """Writes an input of rvbench to a file named after a test, and returns its path. Raises OSError."""
+    """Writes an input of rvbench to a file named after a test, and returns its path. Raises OSError if the file cannot be written."""
     os.makedirs(folder, exist_ok=True)
     path = os.path.join(folder, re.sub(r"\W+", "_", name).strip("_") + ".input")
     with open(path, "w", encoding="latin-1", newline="") as file:

@@ -46,14 +46,13 @@ Names = Union[str, Sequence[str]]
 
 @dataclass(frozen=True, repr=False)
 class Finding:
-    """A finding. `title` is the check, `text` what it found. `script` is the input of rvbench that repeats it, if the finder writes one. `pc`, `step`
-    and `source` (file and line) are those of the instruction, if there is one."""
-    title: str
-    text: str
-    script: Optional[str] = None
-    pc: Optional[int] = None
-    step: Optional[int] = None
-    source: Optional[str] = None
+    """A finding. If it names no instruction, the fields about an instruction are None."""
+    title: str  # the check
+    text: str  # what it found
+    script: Optional[str] = None  # the input of rvbench that repeats it; None if the finder writes none
+    pc: Optional[int] = None  # of the instruction
+    step: Optional[int] = None  # its number
+    source: Optional[str] = None  # file and line
 
     def __str__(self) -> str:
         return "%s: %s" % (self.title, self.text)
@@ -62,16 +61,16 @@ class Finding:
 
 
 class Findings(List[Finding]):
-    """The findings of one search, false if there are none. `checks` has the names of all checks, `report` the output, and `notes` the notes and
-    warnings. `command` is the command line that repeats the search. `unfinished` says why the search did not finish, if so."""
+    """The findings of one search. The list is false if it is empty."""
 
     def __init__(self, findings: Sequence[Finding] = (), command: str = "") -> None:
         super().__init__(findings)
+        # `command` repeats the search, `report` is its output, `notes` has notes and warnings, `unfinished` says why it did not finish
         self.command, self.report, self.notes, self.unfinished = command, "", "", ""
-        self.checks: Tuple[str, ...] = ()
+        self.checks: Tuple[str, ...] = ()  # names of all checks
 
     def _repr_html_(self) -> str:
-        """Returns the findings as an HTML table, or a line if there are none."""
+        """Returns the findings as an HTML table, or a line if the list is empty."""
         if not self:
             what = "did not finish: " + self.unfinished if self.unfinished else "no finding in %d checks" % len(self.checks)
             return "<p>%s</p>" % html.escape(what)
@@ -104,7 +103,7 @@ def command_of(finder: str, program: Optional[Program], *words: str, **options: 
 
 
 def image_arguments(program: Program) -> List[str]:
-    """Returns the arguments for the image of a program. Those with their default value are left out."""
+    """Returns the arguments for the image of a program. Leaves out the arguments with their default values."""
     setup = program.setup
     found = [setup.image.name, "--monitor" if setup.monitor else "--no-monitor", *program.files]
     for name, value, default in (("harts", setup.harts, 1), ("ram", setup.ram, RAM), ("steps", setup.limit, STEPS)):
@@ -255,7 +254,7 @@ def guard(image: PathLike, ranges: PathLike, *, host: Optional[PathLike] = None,
 
 def timer(program: Program, *, slot: int = 0, every: int = 1, jobs: int = 1) -> Findings:
     """Interrupts an enclave before every Nth of its steps, and compares the result with that of the run without interrupts. Raises Unfinished if
-    there is no enclave in the slot, or if it executes no step."""
+    there is no enclave in the slot, or if the enclave executes no step."""
     with searching("timer", program, slot=slot, every=every, jobs=jobs if jobs > 1 else None) as (found, printer):
         run = ordered(program, "timer")
         options = TimerOptions(slot, every, jobs)

@@ -22,19 +22,19 @@ from rvlook.protocol.run import Setup
 if TYPE_CHECKING:
     from rvlook.api.machine import Machine
 
-A0, A1, A6, A7 = 10, 11, 16, 17
+A0, A1, A6, A7 = 10, 11, 16, 17  # numbers of registers
 WORD = 4  # bytes of an instruction
 MOST_BREAKS = 31  # breakpoints that a search may use
 MOST_WATCHED = 24  # watchpoints of one place; the consoles have the others
 
 
 class HostStepper(Stepper):
-    """A machine in which the test can be the host. `interrupts` N interrupts an enclave before every Nth of its steps."""
+    """A machine in which the test can be the host."""
 
     def __init__(self, setup: Setup, schedule: str, interrupts: Optional[int], at: Optional[Snapshot]) -> None:
         super().__init__(setup, schedule, at)
-        self.interrupts = interrupts
-        self.words = lru_cache(maxsize=None)(self.find_words)
+        self.interrupts = interrupts  # N: an interrupt comes before every Nth step of an enclave; None: no interrupts
+        self.words = lru_cache(maxsize=None)(self.find_words)  # finds the addresses of an instruction, cached
 
     def find_words(self, word: int) -> List[int]:
         """Returns the addresses of an instruction in the image. Raises RvlookError if there are too many for breakpoints."""
@@ -56,7 +56,8 @@ class HostStepper(Stepper):
         return self.took(step_of(self.do("step 1")[0][0]))
 
     def run_to_call(self, call: Optional[str], world: Optional[str], limit: Optional[int]) -> None:
-        """Runs until the monitor has answered a call of this name, or until the selected hart is in a world. Raises NotReached."""
+        """Runs until the monitor has answered a call of this name, or until the selected hart is in a world. Raises NotReached if the run ends
+        before, or after `limit` steps."""
         if call is not None and call not in names.Call.__members__:
             raise RvlookError("no call '%s'; the calls are %s" % (call, ", ".join(names.Call.__members__)))
         end, ecalls = self.steps + self.most(limit), self.words(ECALL)
@@ -147,7 +148,7 @@ class HostStepper(Stepper):
 
 
 def number_of(register: str) -> int:
-    """Returns the number of an integer register that can be set. Raises RvlookError."""
+    """Returns the number of an integer register that can be set. Raises RvlookError for x0 and for an unknown name."""
     number = names.NUMBER_OF.get(register, 0)
     if not number:
         raise RvlookError("cannot set '%s'; only x1 to x31 and their ABI names can be set" % register)
@@ -158,7 +159,7 @@ class EnclaveHandle:
     """An enclave that the test has created: the test is its host."""
 
     def __init__(self, machine: Machine, slot: int) -> None:
-        self.machine, self.slot, self.hart = machine, slot, machine.hart
+        self.machine, self.slot, self.hart = machine, slot, machine.hart  # `hart` is the one that was selected
 
     @property
     def entry(self) -> Enclave:
@@ -180,16 +181,17 @@ class EnclaveHandle:
         return self.machine.view(structure, address)
 
     def run(self, until: Optional[PlaceLike] = None, touches: Optional[PlaceLike] = None) -> CallResult:
-        """Enters the enclave, and returns its answer. With `until` it stays before the instruction at that place. With `touches` it stays after the
-        first load or store of a byte there. `finish` goes on. Raises NotReached."""
+        """Enters the enclave, and returns its answer. With `until` the enclave stays before the instruction at that place. With `touches` it stays
+        after the first load or store of a byte there. `finish` then continues it. Raises NotReached if the enclave does not reach the place, or if
+        there is no answer within the limit in steps."""
         return self.go("run", until, touches)
 
     def resume(self, until: Optional[PlaceLike] = None, touches: Optional[PlaceLike] = None) -> CallResult:
-        """Resumes the enclave. The parameters and the result are those of `run`."""
+        """Resumes the enclave. Parameters, result and errors are as for `run`."""
         return self.go("resume", until, touches)
 
     def go(self, name: str, until: Optional[PlaceLike], touches: Optional[PlaceLike]) -> CallResult:
-        """Enters the enclave by a call. Raises NotReached if it exits before the place."""
+        """Enters the enclave by a call. Raises NotReached if the enclave exits before the place."""
         machine, self.hart = self.machine, self.machine.hart
         machine.enter({"a0": self.slot, "a6": names.Call[name].value, "a7": names.KEY})
         if until is None and touches is None:
@@ -207,7 +209,8 @@ class EnclaveHandle:
         raise NotReached("the enclave never %s: the host has its answer, %s" % (what, machine.answer()))
 
     def finish(self) -> CallResult:
-        """Goes on after `run` or `resume` with a place, until the host has the answer. Selects the hart of the enclave. Raises NotReached."""
+        """Continues after `run` or `resume` with a place, until the host has the answer. Selects the hart of the enclave. Raises NotReached if
+        there is no answer within the limit in steps."""
         if self.machine.hart != self.hart:
             self.machine.hart = self.hart
         return self.machine.answer()

@@ -28,7 +28,7 @@ class Registers:
     """The registers of the selected hart by name: `registers["a0"] = 1`, `registers["mepc"]`. Control and status registers are only read."""
 
     def __init__(self, machine: Machine) -> None:
-        self.machine = machine
+        self.machine = machine  # whose selected hart is read
 
     def __getitem__(self, name: str) -> int:
         if name == "pc":
@@ -41,7 +41,7 @@ class Registers:
 
 
 def csr_number(name: str) -> int:
-    """Returns the number of a control and status register. Raises RvlookError, with the most similar name."""
+    """Returns the number of a control and status register. Raises RvlookError for an unknown name, with the most similar name."""
     if name not in names.CSRS:
         raise RvlookError("no register '%s'%s" % (name, meant(name, [*names.NUMBER_OF, *names.CSRS])))
     return names.CSRS[name]
@@ -53,9 +53,9 @@ class Machine(HostStepper):
 
     def __init__(self, program: Program, schedule: str = "", interrupts: Optional[int] = None, at: Optional[Snapshot] = None) -> None:
         super().__init__(program.setup, schedule, interrupts, at)
-        self.program: Program = program
-        self.finder = EventFinder(program.run)
-        self.registers = Registers(self)
+        self.program: Program = program  # that was loaded
+        self.finder = EventFinder(program.run)  # reads access rights
+        self.registers = Registers(self)  # by name
 
     # ---- forward
 
@@ -105,12 +105,12 @@ class Machine(HostStepper):
         return Ending("halted", self.where)
 
     def addresses(self, place: Optional[PlaceLike]) -> List[int]:
-        """Returns the addresses of a place; none for None."""
+        """Returns the addresses of a place. Returns an empty list for None."""
         return [] if place is None else self.program.place(place).addresses
 
     def watched(self, place: Optional[PlaceLike]) -> List[int]:
-        """Returns the addresses to watch for a place: each byte, or the first byte of each word if there are many; none for None. Raises RvlookError
-        for a place that is too large."""
+        """Returns the addresses to watch for a place: each byte, or the first byte of each word if there are many. Returns an empty list for None.
+        Raises RvlookError for a place that is too large."""
         if place is None:
             return []
         found = self.program.place(place)
@@ -172,7 +172,8 @@ class Machine(HostStepper):
         self.do(*poke_commands(self.program.place(place).address, data))
 
     def view(self, structure: str, place: PlaceLike) -> View:
-        """Returns a structure at a place, whose members are attributes: `view("request", "window_base").pin = b"27182818"`. Raises SymbolError."""
+        """Returns a structure at a place, whose members are attributes: `view("request", "window_base").pin = b"27182818"`. Raises SymbolError if
+        the place or the structure is unknown."""
         return View(self, self.program.place(place).address, self.program.structure(structure))
 
     # ---- access

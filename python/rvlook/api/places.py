@@ -19,17 +19,16 @@ PART = re.compile(r"\.(\w+)|\[(\d+)\]")
 
 @dataclass(frozen=True)
 class Place:
-    """A place: its name, address, size in bytes (0 if it is not known) and type. `inlined` has the addresses of the copies of a function that the
-    compiler made in place of calls."""
-    name: str
-    address: int
-    size: int = 0
-    type: Type = UNTYPED
-    inlined: Tuple[int, ...] = ()
+    """A place in a program."""
+    name: str  # as it was asked for
+    address: int  # of its first byte
+    size: int = 0  # bytes; 0 if unknown
+    type: Type = UNTYPED  # of C; UNTYPED if unknown
+    inlined: Tuple[int, ...] = ()  # addresses of the copies of a function that the compiler made in place of calls
 
     @property
     def addresses(self) -> list[int]:
-        """Returns the address, and those of the copies."""
+        """Returns the address, and the addresses of the copies."""
         return [self.address, *self.inlined]
 
 
@@ -37,10 +36,10 @@ class Places:
     """The places that the symbols and the types of a program name."""
 
     def __init__(self, symbols: Symbols, types: Types) -> None:
-        self.symbols, self.types = symbols, types
+        self.symbols, self.types = symbols, types  # from the symbol table and from DWARF
 
     def find(self, where: PlaceLike) -> Place:
-        """Returns the place of a name or an address. Raises SymbolError, with the most similar name."""
+        """Returns the place of a name or an address. Raises SymbolError for an unknown name, with the most similar name."""
         if isinstance(where, int):
             return Place(self.symbols.name(where) or "%08x" % where, where)
         if LINE.fullmatch(where):
@@ -59,8 +58,8 @@ class Places:
         return Place(where, address, symbol.size if symbol else 0, inlined=inlined)
 
     def of_variable(self, path: str) -> Optional[Place]:
-        """Returns the place of a variable, or of a member or an element of one, such as `left.status` and `answers[1]`; None if the name is not
-        that of a variable. Raises SymbolError."""
+        """Returns the place of a variable, or of a member or an element of one, such as `left.status` and `answers[1]`. Returns None if the name
+        is not that of a variable. Raises SymbolError if the variable has no such member or element."""
         head = re.split(r"[.\[]", path, maxsplit=1)[0]
         rest = path[len(head):]
         if head not in self.types.variables or PART.sub("", rest):
@@ -83,7 +82,8 @@ class Places:
 
 
 def element_of(kind: Type, index: int, path: str) -> tuple[int, Type]:
-    """Returns the offset in bytes and the type of an element of an array. Raises SymbolError."""
+    """Returns the offset in bytes and the type of an element of an array. Raises SymbolError if the type is no array, or if the index is too
+    large."""
     count = kind.size // kind.element.size if kind.element and kind.element.size else 0
     if kind.element is None or index >= count:
         raise SymbolError("no element %d in '%s', which has %d" % (index, path, count))

@@ -65,7 +65,7 @@ def pytest_generate_tests(metafunc: pytest.Metafunc) -> None:
 
 def path_of(request: Any, path: str) -> str:
     """Returns the path of a file or folder, which is relative to the folder of the test file or to the root of the tests. A folder is built, and
-    the path is that of its ELF file. Raises RvlookError."""
+    the path is that of its ELF file. Raises RvlookError if there is no such file or folder, or if the folder cannot be built."""
     for base in (str(request.path.parent), str(request.config.rootpath)):
         found = os.path.join(base, path)
         if os.path.isdir(found):
@@ -77,7 +77,7 @@ def path_of(request: Any, path: str) -> str:
 
 
 def built(request: Any, folder: str) -> str:
-    """Builds a folder by examples/build, once in a session; returns the ELF file. Raises RvlookError."""
+    """Builds a folder by examples/build, once in a session; returns the ELF file. Raises RvlookError if the folder cannot be built."""
     if folder not in BUILT:
         name = os.path.basename(folder)
         BUILT[folder] = build(folder, request.getfixturevalue("tmp_path_factory").mktemp(name) / (name + ".elf"))
@@ -120,7 +120,7 @@ def constants(program: Program) -> Constants:
 
 @pytest.hookimpl(tryfirst=True)
 def pytest_pyfunc_call(pyfuncitem: pytest.Function) -> Optional[bool]:
-    """Searches in place of the body of a test with the marker `finds_nothing` or `verified`. Raises Found."""
+    """Searches in place of the body of a test with the marker `finds_nothing` or `verified`. Raises Found if the search has a finding."""
     searches = [pyfuncitem.get_closest_marker(it) for it in SEARCHES]
     for marker in filter(None, searches):
         if marker.name == "verified":

@@ -41,12 +41,12 @@ class Constants:
 
 
 class Page:
-    """The page of a whole run, which a notebook shows. `html` is its text."""
+    """The page of a whole run, which a notebook shows."""
 
     def __init__(self, run: Run) -> None:
         text = io.StringIO()
         show_page(run, run.setup.symbols, Printer(as_json=False, stream=text), page_template(), [run.setup.image.name], [])
-        self.html = text.getvalue()
+        self.html = text.getvalue()  # the text
 
     def _repr_html_(self) -> str:
         """Returns the page as a frame."""
@@ -54,12 +54,12 @@ class Page:
 
 
 class Program:
-    """An image that was loaded. `start` gives machines at the end of its script, each a new one."""
+    """An image that was loaded. `start` returns a new machine at the end of its script."""
 
     def __init__(self, run: Run, files: Sequence[str] = (), has_boot: bool = False) -> None:
-        self.run, self.setup, self.symbols = run, run.setup, run.setup.symbols
+        self.run, self.setup, self.symbols = run, run.setup, run.setup.symbols  # with its configuration and its symbols
         self.files = files  # the options of a command line that name files
-        self.has_boot = has_boot
+        self.has_boot = has_boot  # whether `boot` was given, which no command line repeats
 
     @property
     def name(self) -> str:
@@ -93,11 +93,11 @@ class Program:
         return Machine(self, digits, interrupts)
 
     def place(self, where: PlaceLike) -> Place:
-        """Returns the place of a name or an address. Raises SymbolError, with the most similar name."""
+        """Returns the place of a name or an address. Raises SymbolError for an unknown name, with the most similar name."""
         return self.places.find(where)
 
     def structure(self, name: str) -> Type:
-        """Returns the type of a structure. Raises SymbolError, with the most similar name."""
+        """Returns the type of a structure. Raises SymbolError for an unknown name, with the most similar name."""
         if name not in self.types.structures:
             raise SymbolError("no structure '%s'%s" % (name, meant(name, self.types.structures, "build the program with -g")))
         return self.types.structures[name]
@@ -108,7 +108,7 @@ class Program:
 
 
 def schedule_of(schedule: Union[int, str, None]) -> str:
-    """Returns a schedule as digits that repeat; empty for None. Raises RvlookError."""
+    """Returns a schedule as digits that repeat; empty for None. Raises RvlookError if the schedule is invalid."""
     if isinstance(schedule, int) and 1 <= schedule <= LONGEST // 2:
         return alternating(schedule)
     text = "" if schedule is None else str(schedule)

@@ -26,36 +26,36 @@ UNTIL_THE_END = 0  # a breakpoint at an address without RAM, where a trap withou
 
 
 class MadeCall(NamedTuple):
-    """A call that the test has made as the host. `kept` has the registers that it used, with their values before. `left_at` is the address after its
-    `ecall`, and `slot` is a0."""
-    kept: Dict[int, int]
-    left_at: int
-    slot: int
-    has_entered: bool = False
+    """A call that the test has made as the host."""
+    kept: Dict[int, int]  # registers that the call used, with their values before
+    left_at: int  # the address after its ecall
+    slot: int  # a0 of the call
+    has_entered: bool = False  # whether the call has entered an enclave
 
 
 class Snapshot(NamedTuple):
     """A point of a run, to which `restore` returns."""
-    past: Tuple[Action, ...]
-    hart: int
+    past: Tuple[Action, ...]  # all that was done since reset
+    hart: int  # that is selected
     scheduled: int = 0  # steps that the schedule has done
     consoles: Tuple[Tuple[int, str, Optional[int]], ...] = ()  # of each: the characters written, the line that has not ended, and the status
     lines: Tuple[str, ...] = ()  # complete lines of the consoles
-    trap: Optional[Trap] = None
+    trap: Optional[Trap] = None  # the last one; None without one
     calls: Tuple[Tuple[int, MadeCall], ...] = ()  # of each hart, the call under way
 
 
 class Stepper(Closing):
-    """A machine that can be moved forward. `timeline` has the simulator and all that was done since reset."""
+    """A machine that can be moved forward."""
 
     def __init__(self, setup: Setup, schedule: str, at: Optional[Snapshot]) -> None:
-        self.setup, self.schedule = setup, schedule
-        self.consoles: List[Console] = consoles_of(setup.symbols)
-        self.lines: List[str] = []
-        self.calls: Dict[int, MadeCall] = {}
-        self.trap: Optional[Trap] = None
-        self.scheduled = 0
-        self.turns: Iterator[Tuple[int, int]] = turns_of(schedule) if schedule else iter(())
+        self.setup, self.schedule = setup, schedule  # digits of harts; empty: only the selected hart steps
+        self.consoles: List[Console] = consoles_of(setup.symbols)  # that the program has
+        self.lines: List[str] = []  # complete lines of the consoles
+        self.calls: Dict[int, MadeCall] = {}  # by hart: the call under way
+        self.trap: Optional[Trap] = None  # the last one since the last call that moved the machine; None without one
+        self.scheduled = 0  # steps that the schedule has done
+        self.turns: Iterator[Tuple[int, int]] = turns_of(schedule) if schedule else iter(())  # hart and steps of the next turns
+        # the simulator, and all that was done since reset
         self.timeline = Timeline.of_script(setup) if at is None else Timeline(setup, at.past, at.hart)
         if at is not None:
             self.take(at)
@@ -163,7 +163,7 @@ class Stepper(Closing):
         return ran
 
     def set_stops(self, places: Iterable[int], watched: Iterable[int]) -> None:
-        """Sets these breakpoints and watchpoints, and those that show that a console is written to."""
+        """Sets these breakpoints and watchpoints, and the watchpoints that show that a console is written to."""
         own = {it.address + offset for it in self.consoles for offset in (WRITTEN, ENDED)}
         self.timeline.set_stops(["break %x" % it for it in sorted(places)] + ["watch %x" % it for it in sorted({*watched, *own})])
 

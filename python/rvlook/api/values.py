@@ -24,9 +24,9 @@ class NotReached(RvlookError):
 
 @dataclass(frozen=True)
 class Trap:
-    """A trap: its cause (mcause) and its value (mtval), both as numbers."""
-    cause: int
-    value: int
+    """A trap."""
+    cause: int  # mcause
+    value: int  # mtval
 
     @property
     def name(self) -> str:
@@ -39,18 +39,17 @@ class Trap:
 
 @dataclass(frozen=True)
 class Ending:
-    """The end of a program. `why` is `finished`, `halted` (in an endless loop) or `fault`; `status` is that of finish(status), else None."""
-    why: str
-    place: str
-    status: Optional[int] = None
+    """The end of a program."""
+    why: str  # finished, halted (in an endless loop), or fault
+    place: str  # of the next instruction, as text
+    status: Optional[int] = None  # of finish(status); None for another end
 
 
 @dataclass(frozen=True)
 class CallResult:
-    """The answer of the monitor to a call of the host. `how` is `done`, `refused`, `exited`, `stopped`, `interrupted`, or `running` if the enclave
-    has not exited yet. `value` is a1 as a number; for `refused` it is the name of the status, or a0 if the status has none."""
-    how: str
-    value: object = 0
+    """The answer of the monitor to a call of the host."""
+    how: str  # done, refused, exited, stopped, interrupted, or running if the enclave has not exited yet
+    value: object = 0  # a1; for `refused` the name of the status, or a0 if the status has none
 
     def __str__(self) -> str:
         if self.how == "interrupted":
@@ -93,9 +92,8 @@ def refused(why: str) -> CallResult:
 
 
 class Rights(str):
-    """Access rights, such as `rw-`. If the bytes of a place have different rights, these are joined by `/`, and equal no single ones. `reason` has
-    the ranges and their rights."""
-    reason: str
+    """Access rights, such as `rw-`. If the bytes of a place have different rights, these are joined by `/`, and equal no single rights."""
+    reason: str  # the ranges and their rights
 
     def __new__(cls, text: str, reason: str = "") -> Rights:
         self = super().__new__(cls, text)
@@ -108,7 +106,7 @@ class AccessMap:
     changes."""
 
     def __init__(self, event: Event, symbols: Symbols) -> None:
-        self.event, self.symbols = event, symbols
+        self.event, self.symbols = event, symbols  # has the rights of all worlds
 
     def __str__(self) -> str:
         text = io.StringIO()

@@ -39,9 +39,9 @@ class View:
     """A structure in memory. Its members are attributes; each use of one reads or writes the memory of the machine. `view["pin"]` is the address
     of a member."""
     __slots__ = ("_memory", "_address", "_type")
-    _memory: Machine
-    _address: int
-    _type: Type
+    _memory: Machine  # that the members read and write
+    _address: int  # of the structure
+    _type: Type  # of the structure
 
     def __init__(self, memory: Machine, address: int, kind: Type) -> None:
         for name, value in (("_memory", memory), ("_address", address), ("_type", kind)):

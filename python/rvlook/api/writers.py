@@ -14,7 +14,8 @@ Access = Tuple[int, bool]  # the step of a load or store, and whether the test w
 
 
 def writer_of(setup: Setup, past: Sequence[Action], address: int) -> Optional[str]:
-    """Returns what last stored the byte at an address, as text; None if nothing has, or if it is none of the last MOST_ACCESSES accesses."""
+    """Returns what last stored the byte at an address, as text. Returns None if nothing has stored it, or if the store is not among the last
+    MOST_ACCESSES accesses."""
     for step, is_poke in reversed(accesses(setup, past, address)[-MOST_ACCESSES:]):
         if is_poke:
             return "the test, after step %d" % step

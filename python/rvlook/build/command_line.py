@@ -41,19 +41,19 @@ INTERRUPTED = 130
 
 @dataclass
 class Request:
-    """A command line: the compiler (empty for the default), the least stack in bytes, the folders as they were given, and the file of the ELF."""
-    compiler: str = ""
-    least: int = 1024
-    monitor: str = ""
-    folder: str = ""
-    kept: str = ""
+    """A command line."""
+    compiler: str = ""  # empty: the default
+    least: int = 1024  # bytes of the stack, at least
+    monitor: str = ""  # its folder, as it was given; empty for no monitor
+    folder: str = ""  # of the sources, as it was given
+    kept: str = ""  # the file of the ELF; empty: the default
 
 
 @dataclass(frozen=True)
 class Folders:
-    """The absolute paths of the folder and of the monitor's folder, which is empty if there is none."""
-    folder: str
-    monitor: str
+    """The absolute paths of the folders."""
+    folder: str  # of the sources
+    monitor: str  # empty without a monitor
 
     @property
     def is_monitor(self) -> bool:
@@ -62,8 +62,8 @@ class Folders:
 
 
 def request_of(arguments: Sequence[str]) -> Request:
-    """Parses the command line. Options come first; the first argument that is none is the folder, even if it begins with a dash. Raises
-    BuildError."""
+    """Parses the command line. Options come first; the first argument that is no option is the folder, even if it begins with a dash. Raises
+    BuildError if the command line is invalid."""
     request, rest = Request(), list(arguments)
     while rest and take_option(request, rest):
         pass
@@ -76,7 +76,7 @@ def request_of(arguments: Sequence[str]) -> Request:
 
 
 def take_option(request: Request, rest: List[str]) -> bool:
-    """Takes an option from the front of the arguments; returns whether there was one. Raises BuildError."""
+    """Takes an option from the front of the arguments; returns whether there was one. Raises BuildError if its value is invalid."""
     value = rest[1] if len(rest) > 1 else ""
     if rest[0] in ("--clang", "--gcc"):
         request.compiler = rest.pop(0)[2:]
@@ -94,7 +94,7 @@ def take_option(request: Request, rest: List[str]) -> bool:
 
 
 def folder_of(name: str, examples: str) -> str:
-    """Returns the absolute path of a folder, or of the folder in the examples. Raises BuildError."""
+    """Returns the absolute path of a folder, or of the folder in the examples. Raises BuildError if there is no such folder."""
     found = next((it for it in (os.path.abspath(name), os.path.join(examples, name)) if os.path.isdir(it)), None)
     if found is None:
         raise BuildError("error: no folder '%s', neither here nor in examples" % visible(name))
@@ -102,7 +102,7 @@ def folder_of(name: str, examples: str) -> str:
 
 
 def folders_of(request: Request, examples: str) -> Folders:
-    """Returns the folders that are built, which have the sources that they need. Raises BuildError."""
+    """Returns the folders that are built. Raises BuildError if a folder does not exist or lacks a file that it needs."""
     folder = folder_of(request.folder, examples)
     monitor = folder_of(request.monitor, examples) if request.monitor else folder if is_monitor(folder) else ""
     if monitor and not is_monitor(monitor):
@@ -115,7 +115,7 @@ def folders_of(request: Request, examples: str) -> Folders:
 
 
 def build(request: Request, examples: str) -> None:
-    """Builds a folder. Raises BuildError."""
+    """Builds a folder. Raises BuildError if the folder cannot be built."""
     folders = folders_of(request, examples)
     kept, shared = os.path.abspath(request.kept) if request.kept else "", os.path.join(examples, "shared")
     cflags = tuple(os.environ.get("CFLAGS", "").split())

@@ -29,14 +29,14 @@ DEBUGGING = "N"  # the kind of a symbol that nm shows and no program has
 
 @dataclass(frozen=True)
 class Script:
-    """The linker scripts, and the one that a message names, with the folder into which a user may copy it; None if it is the user's own."""
-    options: Tuple[str, ...]
-    name: str
-    copied_to: str | None = None
+    """The linker scripts of a program."""
+    options: Tuple[str, ...]  # for the linker
+    name: str  # of the script that a message names
+    copied_to: str | None = None  # the folder into which a user may copy it; None if it is the user's own
 
 
 def link(workshop: Workshop, script: Script, options: Sequence[str]) -> str:
-    """Links all objects; returns the path of the ELF file. Raises BuildError."""
+    """Links all objects; returns the path of the ELF file. Raises BuildError if the linker fails, or if a symbol has a control character."""
     target = os.path.join(workshop.made, "program.elf")
     objects = [os.path.join(workshop.made, it) for it in sorted(os.listdir(workshop.made)) if it.endswith(".o") and not it.startswith(".")]
     done = run([*workshop.toolchain.link, *options, *LINKED, *script.options, "-o", target, *objects], workshop.folder)
@@ -64,7 +64,7 @@ def reason(output: str, script: Script) -> str:
 
 def check_names(path: str) -> None:
     """Checks that no name in the string tables of an ELF32 file has a control character: a line break would add lines to what nm and objdump
-    print. Raises BuildError."""
+    print. Raises BuildError if a name has one."""
     data = Path(path).read_bytes()
     tables = (data[it.offset:it.offset + it.size] for it in sections_of(data) if it.kind == STRING_TABLE)
     bad = next((name for table in tables for name in table.split(b"\0") if BAD_NAME.search(name)), None)
@@ -73,7 +73,8 @@ def check_names(path: str) -> None:
 
 
 def report_stacks(workshop: Workshop, path: str, least: int) -> None:
-    """Prints the bytes of each stack, and warns of a small one. A stack is from NAME_stack_bottom to NAME_stack_top; link.ld may define none."""
+    """Prints the bytes of each stack, and warns of a small one. A stack is from NAME_stack_bottom to NAME_stack_top. A link.ld need not define a
+    stack."""
     symbols = symbols_in(workshop.toolchain, path)
     sizes = {name: size for name in STACKS for size in [stack_size(symbols, name)] if size is not None}
     if not any(it.name == "application" for it in symbols):

@@ -19,10 +19,10 @@ STRING_FUNCTIONS = {"memcpy", "memmove", "memset", "memcmp"}  # which a compiler
 
 
 class NamedSymbol(NamedTuple):
-    """A line of nm: the address in hexadecimal (empty if the symbol is undefined), the letter of its kind, and its name."""
-    address: str
-    kind: str
-    name: str
+    """A line of nm."""
+    address: str  # hexadecimal digits; empty if undefined
+    kind: str  # its letter
+    name: str  # of the symbol
 
 
 def symbols_in(toolchain: Toolchain, path: str, *options: str) -> list[NamedSymbol]:
@@ -33,16 +33,17 @@ def symbols_in(toolchain: Toolchain, path: str, *options: str) -> list[NamedSymb
 
 @dataclass
 class Workshop:
-    """The folder of the sources, the shared folder, a temporary folder of the objects, and the compiler with the options of CFLAGS."""
-    toolchain: Toolchain
-    folder: str
-    shared: str
-    made: str
-    cflags: Tuple[str, ...]
-    listed: dict[str, Sequence[NamedSymbol]] = field(default_factory=dict)
+    """The folders and the toolchain of a build."""
+    toolchain: Toolchain  # the compiler and its tools
+    folder: str  # of the sources
+    shared: str  # the shared folder
+    made: str  # a temporary folder for objects
+    cflags: Tuple[str, ...]  # the options of CFLAGS
+    listed: dict[str, Sequence[NamedSymbol]] = field(default_factory=dict)  # symbols of objects, by path
 
     def compile(self, source: str, name: str, *options: str) -> str:
-        """Compiles a source to the object of this name; returns its path. Prints the warnings of the compiler. Raises BuildError.
+        """Compiles a source to the object of this name; returns its path. Prints the warnings of the compiler. Raises BuildError if the source is no
+        regular file or does not compile.
 
         The source is passed as a path, so that it is no option and no response file (@FILE). C is compiled in the folder DIR, to which relative
         paths in CFLAGS are relative; assembly in the folder of the source, to which .incbin is relative."""
@@ -69,7 +70,7 @@ class Workshop:
         return [self.compile(os.path.join(self.shared, "string.c"), name, *options)]
 
     def names(self, objects: Iterable[str]) -> tuple[set[str], set[str]]:
-        """Returns the global names that objects define, and those that they use and none of them defines."""
+        """Returns the global names that objects define, and the names that they use and that no object defines."""
         symbols = [symbol for path in objects for symbol in self.symbols(path)]
         defined = {it.name for it in symbols if it.address}
         return defined, {it.name for it in symbols if not it.address} - defined

@@ -20,10 +20,10 @@ DROP_UNUSED = ("-Wl,--gc-sections", "-Wl,-u,enclave_entry")
 
 @dataclass
 class Programs:
-    """The objects of the host and of the enclave, and whether functions that no one uses are dropped."""
-    host: List[str] = field(default_factory=list)
-    enclave: List[str] = field(default_factory=list)
-    drops_unused: bool = False
+    """The objects of a program."""
+    host: List[str] = field(default_factory=list)  # paths
+    enclave: List[str] = field(default_factory=list)  # paths
+    drops_unused: bool = False  # whether functions that no one uses are dropped
 
 
 def sources_in(folder: str) -> list[str]:
@@ -56,7 +56,7 @@ def compile_monitor(workshop: Workshop, folder: str) -> None:
 
 
 def compile_programs(workshop: Workshop) -> Programs:
-    """Compiles the host and the enclave of the folder. Raises BuildError."""
+    """Compiles the host and the enclave of the folder. Raises BuildError if a source does not compile."""
     programs = Programs([compile_start(workshop)], compile_entry(workshop))
     for source in sources_in(workshop.folder):
         if source not in FIRST:

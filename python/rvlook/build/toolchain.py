@@ -16,19 +16,19 @@ NO_LOOP_CALLS = "-fno-tree-loop-distribute-patterns"  # keeps gcc from making a 
 
 
 class BuildError(RvlookError):
-    """A folder that cannot be built. Its text is the message, of one or more lines."""
-    status = 1
+    """Raised for a folder that cannot be built. Its text is the message, of one or more lines."""
+    status = 1  # the exit status
 
 
 @dataclass(frozen=True)
 class Toolchain:
-    """The commands of a toolchain, each with its fixed arguments; the first word is the path of a program."""
-    compile: Tuple[str, ...]
-    link: Tuple[str, ...]
-    merge: Tuple[str, ...]
-    object_copy: Tuple[str, ...]
-    list_symbols: Tuple[str, ...]
-    disassemble: Tuple[str, ...]
+    """The commands of a toolchain, each with its fixed arguments. The first word is the path of a program."""
+    compile: Tuple[str, ...]  # a source to an object
+    link: Tuple[str, ...]  # objects to an ELF file
+    merge: Tuple[str, ...]  # objects to one object
+    object_copy: Tuple[str, ...]  # copies and changes an object
+    list_symbols: Tuple[str, ...]  # nm
+    disassemble: Tuple[str, ...]  # objdump
     of_string_functions: Tuple[str, ...]  # options for the file that defines memcpy
 
 
@@ -54,7 +54,7 @@ def gcc() -> Toolchain:
 
 
 def found(name: str, *arguments: str) -> tuple[str, ...]:
-    """Returns the absolute path of a program on the PATH, followed by its arguments. Raises BuildError."""
+    """Returns the absolute path of a program on the PATH, followed by its arguments. Raises BuildError if the program is not installed."""
     path = shutil.which(name)
     if path is None:
         raise BuildError("error: %s is not installed; %s" % (name, PACKAGES))

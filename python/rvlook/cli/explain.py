@@ -21,16 +21,16 @@ MOST_ERRORS = 10000  # errors of an input that are explained
 
 @dataclass(frozen=True)
 class Explained:
-    """An error: the line (0 for the whole input), its text, the reply, its meaning, and what to write instead."""
-    line: int
-    text: str
-    reply: str
-    meaning: str
-    suggestion: Optional[str]
+    """An error of an input."""
+    line: int  # its number; 0 for the whole input
+    text: str  # of the line
+    reply: str  # of the bench
+    meaning: str  # of the reply
+    suggestion: Optional[str]  # what to write instead; None if nothing is known
 
 
 def replies_to(arguments: Sequence[str], data: bytes) -> list[str]:
-    """Returns the lines that the bench writes for an input; raises Unfinished."""
+    """Returns the lines that the bench writes for an input. Raises Unfinished if the bench cannot be run."""
     try:
         done = subprocess.run([program_path(), *arguments], input=data, capture_output=True, check=False)
     except OSError as error:
@@ -123,7 +123,7 @@ def end_of_run(replies: Sequence[str], index: int, start: str) -> int:
 
 
 def marked_end(replies: Sequence[str], index: int) -> int:
-    """Returns the index after the replies of two benches to one command; 0 if there are none at `index`."""
+    """Returns the index after the replies of two benches to one command; 0 if no such replies are at `index`."""
     end = end_of_run(replies, end_of_run(replies, index, "a: "), "b: ")
     return end if end > index else 0
 

@@ -21,7 +21,7 @@ LEAST_SIZE = 4096
 
 def region_bytes(path: str, data: bytes, base: int, size: int) -> bytes:
     """Returns the bytes of a region, padded with zeros: the segments of an ELF file, or the bytes of another file from the base on. Raises
-    RvlookError."""
+    RvlookError if the file has more bytes than the region."""
     if not data.startswith(ELF_MAGIC):
         if len(data) > size:
             raise RvlookError("'%s' has %d bytes, but the region has only %d" % (path, len(data), size))

@@ -20,7 +20,7 @@ START = os.path.join("enclaves", "hello")
 
 
 def examples() -> str:
-    """Returns the folder of the examples, with `build`. Raises Unfinished if there is none."""
+    """Returns the folder of the examples, with `build`. Raises Unfinished if the folder does not exist."""
     for example in EXAMPLES:
         folder = os.path.realpath(os.path.join(PACKAGE, example))
         if os.path.exists(os.path.join(folder, "build")):

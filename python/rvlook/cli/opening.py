@@ -102,7 +102,7 @@ def opened(arguments: Namespace) -> tuple[Run, Symbols, Printer]:
 
 
 def opened_monitored(arguments: Namespace) -> tuple[Run, Symbols, Printer]:
-    """Returns the same as `opened`, for a subcommand that needs the monitor of rvbench, which reports the enclaves."""
+    """Returns what `opened` returns, for a subcommand that needs the monitor of rvbench, which reports the enclaves."""
     run, symbols, printer = opened(arguments)
     if not run.setup.monitor:
         raise UsageError("%s requires the monitor of rvbench, but %s runs bare; use --monitor" % (arguments.subcommand, run.setup.image.name))

@@ -98,7 +98,7 @@ NAMES = tuple(name for name, *_ in (*OVER_AN_IMAGE, *OTHERS))  # each is also th
 
 
 def parser_of(name: str = "") -> Parser:
-    """Returns the parser of all subcommands. If the arguments begin with the name of one, no other one has its options."""
+    """Returns the parser of all subcommands. If the arguments begin with the name of a subcommand, only this subcommand has its options."""
     parser = Parser(prog="rvlook", usage=USAGE, epilog=SUBCOMMANDS, formatter_class=argparse.RawDescriptionHelpFormatter,
                     description="Show what a host and its enclaves can access, and when, in a run of rvbench.")
     parser.set_defaults(findings=ReportedCases(), is_report=False, junit=None, subcommand=None, command_line=(NAMES, read))

@@ -24,28 +24,28 @@ SAME, FAR = 4, 4096  # equal steps after which two runs have converged; the most
 
 @dataclass
 class Difference:
-    """A difference of two runs: the channel, the first step in each run, the values, the instruction, and how often it occurs there."""
-    what: str
-    steps: tuple[int, int]
+    """A difference of two runs in a channel at an instruction."""
+    what: str  # the channel, one of CHANNELS
+    steps: tuple[int, int]  # the number of the first step, in each run
     values: tuple[Any, ...]  # their form depends on `what`
-    pc: Optional[int] = None
-    count: int = 1
+    pc: Optional[int] = None  # of the instruction; None for the total number of steps
+    count: int = 1  # how often the channel differs there
 
 
 @dataclass
 class Observation:
-    """The observations of a host in one run: the activations of the enclave, and the last step."""
-    run: Run
-    activations: list[Activation]
-    last: int
+    """The observations of a host in one run."""
+    run: Run  # the run
+    activations: list[Activation]  # of the enclave
+    last: int  # number of the last step that is observed
     is_cut: bool = False  # by --steps, before the enclave exited
 
 
 @dataclass(frozen=True)
 class Public:
-    """The permitted differences: the result, bytes of the window, and stores of instructions in a range."""
-    answer: bool = False
-    ranges: tuple[tuple[int, int], ...] = ()
+    """The permitted differences, of --public."""
+    answer: bool = False  # whether the results may differ
+    ranges: tuple[tuple[int, int], ...] = ()  # address and size: of bytes of the window, or of instructions
 
     def has(self, address: int) -> bool:
         """Returns whether an address may differ."""
@@ -75,12 +75,12 @@ def observe(run: Run, secret: Secret, is_strict: bool) -> Observation:
 
 
 class Comparison:
-    """A comparison of two runs. `found` has the differences by channel and instruction."""
+    """A comparison of two runs."""
 
     def __init__(self, one: Observation, two: Observation, secret: Secret, public: Public, is_strict: bool) -> None:
-        self.one, self.two, self.secret, self.public, self.is_strict = one, two, secret, public, is_strict
-        self.found: dict[tuple[str, int | None], Difference] = {}
-        self.writers: dict[int, int] = {}
+        self.one, self.two, self.secret, self.public, self.is_strict = one, two, secret, public, is_strict  # `public`: what may differ
+        self.found: dict[tuple[str, int | None], Difference] = {}  # by channel and instruction
+        self.writers: dict[int, int] = {}  # the instruction that stored each byte of the window last
         for pair in zip(one.activations, two.activations):
             self.compare_steps(*pair)
             self.compare_ends(*pair)
@@ -120,8 +120,8 @@ class Comparison:
             x, y = self.diverge(one, x, two, y, theirs)
 
     def diverge(self, one: Activation, x: int, two: Activation, y: int, theirs: Mapping[int, Operation]) -> tuple[int, int]:
-        """Adds the step by which two ways diverge before x and y; returns where they are compared again. At the same pc that step is the
-        next one, which traps in one run and not, or otherwise, in the other. Its access is compared too."""
+        """Adds the step by which two runs diverge before x and y; returns where they are compared again. If the pcs at x and y are equal, this
+        step is the next one: it traps in one run only, or has another trap in the other. Then compares its access too."""
         if x < len(one.pcs) and y < len(two.pcs) and one.pcs[x] == two.pcs[y]:
             mine, other = operation_at(one, x), theirs.get(y)
             if mine and other:
@@ -207,7 +207,7 @@ def common_length(one: Activation, x: int, two: Activation, y: int) -> int:
 
 
 def convergence(one: Activation, x: int, two: Activation, y: int) -> tuple[int, int]:
-    """Returns where two activations converge: after the fewest steps from x and y; the ends if they do not."""
+    """Returns where two activations converge: after the fewest steps from x and y. Returns the ends if they do not converge."""
     indices = defaultdict(list)
     for second in range(y, min(y + FAR, len(two.pcs))):
         indices[two.pcs[second]].append(second)

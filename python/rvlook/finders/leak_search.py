@@ -19,31 +19,29 @@ MOST_GUESSES = 8  # values of the host near which secrets are drawn
 
 @dataclass(frozen=True)
 class LeakOptions:
-    """The options of a comparison: the place of the secret, the slot of its enclave, what may differ, and whether operands of divisions count.
-    `values` has two secrets. Without them `tries` pairs are drawn with a seed. Those from `first` to `last` are run, `jobs` at the same time, for at
-    most `seconds`."""
-    at: str
-    slot: int = 0
-    public: Sequence[str] = ()
-    is_strict: bool = False
-    values: Sequence[bytes] = ()
-    tries: Optional[int] = None
-    first: int = 1
-    last: Optional[int] = None
-    seed: int = 0
-    seconds: Optional[float] = None
-    jobs: int = 1
+    """The options of `leak`."""
+    at: str  # the place of the secret
+    slot: int = 0  # of the enclave
+    public: Sequence[str] = ()  # what may differ
+    is_strict: bool = False  # whether operands of divisions are compared
+    values: Sequence[bytes] = ()  # two secrets, or empty if pairs are drawn
+    tries: Optional[int] = None  # number of drawn pairs; None if `values` is given
+    first: int = 1  # number of the first pair that is run
+    last: Optional[int] = None  # number of the last one; None: the last drawn one
+    seed: int = 0  # of the drawn pairs
+    seconds: Optional[float] = None  # at most; None: no limit
+    jobs: int = 1  # number of processes
 
 
 class Leak:
-    """A run, its secret, and how it is compared. `cut` says why an observation ended too early, if one did. `is_hidden` decides whether no secret
-    changes what the host observes."""
+    """A run with its secret, and how runs are compared."""
 
     def __init__(self, run: Run, options: LeakOptions, is_hidden: Callable[[Leak], bool] = lambda _: False) -> None:
+        # `cut`: why an observation ended early; `is_hidden` decides whether no secret changes what the host observes
         self.run, self.symbols, self.options, self.cut, self.is_hidden = run, run.setup.symbols, options, "", is_hidden
         self.public, self.is_strict = public_of(options.public, self.symbols), options.is_strict
         left_out = {"operand"} - ({"operand"} if self.is_strict else set()) | (set() if run.setup.monitor else {"answer", "window"})
-        self.channels = [it for it in CHANNELS if it not in left_out]
+        self.channels = [it for it in CHANNELS if it not in left_out]  # that are compared
 
     def secret(self, size: int | None = None) -> Secret:
         """Returns the secret that the options name; `size` is its length in bytes."""
@@ -64,15 +62,14 @@ class Leak:
 
 @dataclass(frozen=True)
 class Compared:
-    """A pair of secrets by number, whether the first one is that of the program, the answers with both, and the channels in which they differ.
-    `found` and `both` are the comparison and the observations. A drawn pair has none if it does not differ, or was compared by another process."""
-    number: int
-    secrets: Sequence[Secret]
-    is_own: bool
-    answers: Sequence[object]
-    channels: Sequence[str]
-    found: Optional[Comparison]
-    both: Sequence[Observation]
+    """The result of comparing two runs with a pair of secrets."""
+    number: int  # of the pair, from 1
+    secrets: Sequence[Secret]  # the two secrets
+    is_own: bool  # whether the first secret is that of the program
+    answers: Sequence[object]  # what the enclave answered with each secret; empty if the secrets were given
+    channels: Sequence[str]  # in which the runs differ
+    found: Optional[Comparison]  # None for a drawn pair that does not differ, or that another process compared
+    both: Sequence[Observation]  # the observations; empty if `found` is None
 
     @property
     def comparison(self) -> Comparison:
@@ -83,11 +80,11 @@ class Compared:
 
 @dataclass
 class Tried:
-    """The result of drawn pairs: each pair, why some were left out, and whether Ctrl-C ended the search. `again` compares a pair once more."""
-    pairs: List[Compared] = field(default_factory=list)
-    again: Callable[[Compared], Compared] = lambda it: it
-    cut: str = ""
-    is_interrupted: bool = False
+    """The result of drawn pairs."""
+    pairs: List[Compared] = field(default_factory=list)  # that were compared
+    again: Callable[[Compared], Compared] = lambda it: it  # returns a pair with its comparison, which it repeats if need be
+    cut: str = ""  # why some pairs were left out; empty if all were compared
+    is_interrupted: bool = False  # whether Ctrl-C ended the search
 
     @property
     def verdicts(self) -> set[int]:
@@ -107,7 +104,7 @@ class Tried:
 
 
 def compare_given(leak: Leak) -> Compared:
-    """Compares the runs with the two secrets that the options give. Raises RvlookError."""
+    """Compares the runs with the two secrets that the options give. Raises RvlookError if the secrets differ in length."""
     values = leak.options.values
     if len(values[0]) != len(values[1]):
         raise RvlookError("the two secrets differ in length")
@@ -147,7 +144,8 @@ def compare_drawn(leak: Leak, heard: Callable[[Compared], None] = lambda it: Non
 
 
 def task(leak: Leak, own: Secret, base: Observation, pairs: Sequence[Pair], number: int) -> tuple[Compared, str]:
-    """Compares a pair, by its index; returns it, and why an observation ended too early. With several jobs leaves out the runs, which are large."""
+    """Compares a pair, by its index; returns the result, and why an observation ended too early. With several jobs leaves out the runs, which are
+    large."""
     pair = try_pair(leak, own, base, pairs[number])
     return (pair if leak.options.jobs == 1 else replace(pair, found=None, both=())), leak.cut
 
@@ -176,7 +174,7 @@ def try_pair(leak: Leak, own: Secret, base: Observation, pair: Pair) -> Compared
 
 
 def values_in(texts: Sequence[str]) -> list[bytes]:
-    """Returns secrets that are given as hexadecimal digits. Raises RvlookError."""
+    """Returns secrets that are given as hexadecimal digits. Raises RvlookError if a text is not pairs of digits."""
     try:
         return [bytes.fromhex(text) for text in texts]
     except ValueError:

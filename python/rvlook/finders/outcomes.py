@@ -26,28 +26,28 @@ WORD_BYTES = 4
 
 
 class Bytes(NamedTuple):
-    """`count` bytes at an address."""
-    name: str
-    at: int
+    """Bytes in memory."""
+    name: str  # as the user wrote it, or of a symbol
+    at: int  # address
     count: int  # type: ignore[assignment]  # a tuple has a method of that name
 
 
 class Register(NamedTuple):
     """A register of a hart."""
-    name: str
-    hart: int
-    number: int
+    name: str  # as the user wrote it
+    hart: int  # its number
+    number: int  # of the register, 0 to 31
 
 
 class Slot(NamedTuple):
-    """The state of a slot's enclave."""
-    name: str
-    slot: int
+    """The state of the enclave in a slot."""
+    name: str  # as the user wrote it
+    slot: int  # its number
 
 
 class EnclaveStates(NamedTuple):
     """The states of all enclaves."""
-    name: str = "enclaves"
+    name: str = "enclaves"  # the same for all
 
 
 Observed = Union[Bytes, Register, Slot, EnclaveStates]
@@ -55,12 +55,12 @@ Value = Union[bytes, int, str, Tuple[Tuple[int, str], ...]]  # of one of those, 
 
 
 class Watched(NamedTuple):
-    """The bytes and the registers, each with its hart, that distinguish final states."""
-    addresses: frozenset[int] = frozenset()
-    registers: frozenset[tuple[int, int]] = frozenset()
+    """The parts of an outcome that the steps of a hart can change."""
+    addresses: frozenset[int] = frozenset()  # of bytes
+    registers: frozenset[tuple[int, int]] = frozenset()  # hart and number of each register
 
     def may_change(self, hart: int, look: Look) -> bool:
-        """Returns whether a step of a hart may change one of them."""
+        """Returns whether a step of a hart may change a part of the outcome."""
         if look.kind in ("call", "timer"):
             return True
         if look.kind == "w":
@@ -70,16 +70,16 @@ class Watched(NamedTuple):
 
 
 def watched_of(outcome: Iterable[Observed]) -> Watched:
-    """Returns what the steps of a hart may change of an outcome."""
+    """Returns the bytes and registers of an outcome."""
     return Watched(frozenset(at for it in outcome if isinstance(it, Bytes) for at in range(it.at, it.at + it.count)),
                    frozenset((it.hart, it.number) for it in outcome if isinstance(it, Register)))
 
 
 class Forbidden(NamedTuple):
-    """Comparisons that are forbidden together: name, operator and value of each; or how a hart must not end."""
-    text: str
-    parts: tuple[tuple[str, str, Union[int, str]], ...]
-    how: str = ""
+    """A condition of --forbid: comparisons that hold together, or how a hart ends."""
+    text: str  # as the user wrote it
+    parts: tuple[tuple[str, str, Union[int, str]], ...]  # name, operator and value of each comparison
+    how: str = ""  # one of the values of HOW; empty for comparisons
 
     def holds(self, end: FinalState, names_of: Sequence[str]) -> bool:
         """Returns whether a final state meets the condition."""
@@ -90,7 +90,8 @@ class Forbidden(NamedTuple):
 
 
 def value_in(observed: Observed, machine: RaceMachine, state: CachedState) -> Value:
-    """Returns bytes, the value of a register, the state of a slot's enclave (or `none`), or the slots and the states of all enclaves."""
+    """Returns the value of a part of an outcome: bytes, the value of a register, or the state of a slot's enclave (`none` without an enclave). For
+    all enclaves returns the slots and their states."""
     if isinstance(observed, Bytes):
         return bytes(machine.bytes_at(machine.memories[state.memory], observed.at, observed.count) or ())
     if isinstance(observed, Register):
@@ -119,7 +120,7 @@ def value_text(value: Value) -> str:
 
 def outcome_of(text: str, symbols: Symbols, harts: int, members: Sequence[Member] = ()) -> Observed:
     """Parses --outcome: PLACE or PLACE:BYTES, VARIABLE.MEMBER, HART.REGISTER, a slot, or `enclaves`. `members` has the variables at fixed
-    addresses, down to their members. Raises RvlookError."""
+    addresses, down to their members. Raises RvlookError if the text is none of these forms, or if a symbol is unknown."""
     hart, dot, register = text.partition(".")
     if text == "enclaves":
         return EnclaveStates()
@@ -142,7 +143,7 @@ def outcome_of(text: str, symbols: Symbols, harts: int, members: Sequence[Member
 
 
 def condition_of(text: str, symbols: Symbols) -> Forbidden:
-    """Parses --forbid: comparisons joined by `and`, or one of HOW and ALIASES. Raises RvlookError."""
+    """Parses --forbid: comparisons joined by `and`, or one of HOW and ALIASES. Raises RvlookError if the text is neither."""
     name = ALIASES.get(text.strip(), text.strip())
     if name in HOW:
         return Forbidden(text, (), HOW[name])
@@ -154,7 +155,8 @@ def condition_of(text: str, symbols: Symbols) -> Forbidden:
 
 
 def compared_with(name: str, value: str, symbols: Symbols) -> int | str:
-    """Parses the value of a comparison: a number, decimal or after 0x, a symbol's address, or the state of an enclave. Raises RvlookError."""
+    """Parses the value of a comparison: a number, decimal or after 0x, a symbol's address, or the state of an enclave. Raises RvlookError if the
+    value is neither a number nor a symbol."""
     if re.fullmatch(r"e\d+", name) and name not in symbols.by_name:
         return value
     try:
@@ -167,7 +169,8 @@ def compared_with(name: str, value: str, symbols: Symbols) -> int | str:
 
 
 def outcomes_of(texts: Iterable[str] | None, conditions: Sequence[Forbidden], run: Run, path: str | None) -> list[Observed]:
-    """Returns what distinguishes final states, with what --forbid compares; empty if it is all shared memory. `path` is the file of --symbols."""
+    """Returns what distinguishes final states, with the parts that --forbid compares. Returns an empty list if all shared memory does. `path` is
+    the file of --symbols."""
     named = list(texts or ()) + [part[0] for it in conditions for part in it.parts]
     members = variables_of(path, run.setup.image).fixed if any("." in it for it in named) else ()
     return [outcome_of(it, run.setup.symbols, run.setup.harts, members) for it in dict.fromkeys(named)]

@@ -1,5 +1,6 @@
-"""The location, the values and the copies of a secret. It is in the region of an enclave, written right after `create`; in the image, written at
-reset; or in a register when an enclave first reaches an address. Its copies are maximal runs of bytes that the secret has in the same order."""
+"""The location, the values and the copies of a secret. A secret is in the region of an enclave, written right after `create`; in the image,
+written at reset; or in a register when an enclave first reaches an address. Its copies are maximal runs of bytes that the secret has in this
+order."""
 from __future__ import annotations
 
 import random
@@ -30,12 +31,12 @@ LEAST = 4  # bytes of a reported copy; the whole secret if that is shorter
 @dataclass(frozen=True)
 class Secret:
     """Bytes that are poked into memory after a step, or written to a register."""
-    slot: int
-    at: int
-    step: int
-    bytes: Bytes
-    register: int = 0
-    hart: int = 0
+    slot: int  # of the enclave
+    at: int  # the address; 0 for a register
+    step: int  # the number of the step after which they are written
+    bytes: Bytes  # the value; little-endian in a register
+    register: int = 0  # its number; 0 for memory
+    hart: int = 0  # of the register
 
     def lines(self) -> list[str]:
         """Returns the commands that set the secret."""
@@ -61,7 +62,7 @@ class Secret:
 
 
 def created(run: Run, slot: int) -> Event:
-    """Returns the event at which the enclave of a slot is created; raises Unfinished if it is not."""
+    """Returns the event at which the enclave of a slot is created. Raises Unfinished if the run creates no enclave in the slot."""
     found = next((it for it in events(run) if not isinstance(it, End) and it.cause == "create" and it.slot == slot), None)
     if found is None:
         raise Unfinished("no enclave is created in slot %d" % slot)
@@ -69,7 +70,8 @@ def created(run: Run, slot: int) -> Event:
 
 
 def place_and_size(text: str, symbols: Symbols) -> tuple[int, int | None]:
-    """Parses PLACE or PLACE:BYTES into an address and a number of bytes, None if it is not known. Raises RvlookError."""
+    """Parses PLACE or PLACE:BYTES into an address and a number of bytes, which is None if unknown. Raises RvlookError if the place is neither an
+    address nor a symbol."""
     name, _, count = text.partition(":")
     at = symbols.address(name)
     if at is None or count and not COUNT.match(count):
@@ -80,7 +82,8 @@ def place_and_size(text: str, symbols: Symbols) -> tuple[int, int | None]:
 
 
 def secret_of(text: str, symbols: Symbols, run: Run, slot: int, size: int | None = None) -> Secret:
-    """Returns the secret that --at names, all zeros. `size` is the length of the given values, if there are any. Raises RvlookError."""
+    """Returns the secret that --at names, all zeros. `size` is the length of the given values; None without values. Raises RvlookError if the size
+    is unknown, or if the bytes are outside the RAM or the region."""
     register = REGISTER_AT.match(text)
     if register and register[1] in names.NUMBER_OF and text.split("@")[0] not in symbols.by_name:
         return register_secret(register, symbols, run, slot)
@@ -103,7 +106,7 @@ def secret_of(text: str, symbols: Symbols, run: Run, slot: int, size: int | None
 
 
 def register_secret(match: re.Match[str], symbols: Symbols, run: Run, slot: int) -> Secret:
-    """Returns the secret in a register when the enclave first reaches an address; raises Unfinished if it does not."""
+    """Returns the secret in a register when the enclave first reaches an address. Raises Unfinished if the enclave never reaches the address."""
     pc, _ = place_and_size(match[2], symbols)
     with closing(Activations(run).all()) as every:
         for activation in every:
@@ -115,10 +118,10 @@ def register_secret(match: re.Match[str], symbols: Symbols, run: Run, slot: int)
 
 @dataclass(frozen=True)
 class Pair:
-    """Two secrets to compare, by number; `one` is None for the secret of the program itself."""
-    number: int
-    one: Optional[Bytes]
-    two: Bytes
+    """Two secrets to compare."""
+    number: int  # from 1
+    one: Optional[Bytes]  # None: the secret of the program itself
+    two: Bytes  # drawn
 
 
 def drawn_pairs(own: bytes, guesses: Sequence[bytes], seed: int, first: int, last: int) -> list[Pair]:
@@ -160,14 +163,15 @@ def drawn(size: int, seed: int, count: int) -> list[bytes]:
 
 
 class Copy(NamedTuple):
-    """`size` bytes at an index that equal those of the secret from an offset."""
-    at: int
-    size: int
-    offset: int
+    """Bytes that equal a part of the secret."""
+    at: int  # their index in the data
+    size: int  # number of bytes
+    offset: int  # of the part in the secret
 
 
 def copies_in(data: bytes, secret: bytes) -> list[Copy]:
-    """Returns the copies, by index. Bytes that are all equal, such as zeros, are none, and neither is what a longer copy covers."""
+    """Returns the copies of parts of the secret in data, by index. Leaves out parts whose bytes are all equal, such as zeros, and parts that a
+    longer copy covers."""
     least = min(LEAST, len(secret))
     found: list[Copy] = []
     ends: dict[int, int] = {}  # of the last copy at each distance between the bytes and the secret
@@ -209,7 +213,7 @@ def extended(data: bytes, secret: bytes, at: int, offset: int, size: int) -> Cop
 
 
 def not_covered(copies: Iterable[Copy]) -> list[Copy]:
-    """Returns those that no longer copy covers; of copies at the same bytes the one with the lowest offset."""
+    """Returns the copies that no longer copy covers. If copies are at the same bytes, returns the one with the lowest offset."""
     kept, end = [], -1
     for copy in sorted(copies, key=lambda it: (it.at, -it.size, it.offset)):
         if copy.at + copy.size > end:

@@ -29,46 +29,45 @@ ENDED = ("Exited", "Stopped")  # states after which steps of the host are not co
 
 @dataclass(frozen=True)
 class TimerOptions:
-    """The options of a run with timer interrupts: the slot of the enclave, before every how many steps one comes, and the number of processes."""
-    slot: int = 0
-    every: int = 1
-    jobs: int = 1
+    """The options of `timer`."""
+    slot: int = 0  # of the enclave
+    every: int = 1  # an interrupt comes before every so many steps
+    jobs: int = 1  # number of processes
 
 
 class Inside(NamedTuple):
-    """A step of the enclave: pc, reply, whether the host ran before it, and a0 and a1 of the host if it leaves."""
-    pc: bytes
-    reply: bytes
-    is_entered: bool
-    answer: tuple[bytes, ...] = ()
+    """A step of the enclave."""
+    pc: bytes  # 8 hexadecimal digits
+    reply: bytes  # of the bench to the step
+    is_entered: bool  # whether the host ran before it
+    answer: tuple[bytes, ...] = ()  # a0 and a1 of the host, as replies, if the enclave leaves; else empty
 
 
 @dataclass(frozen=True)
 class Last:
-    """The last step of the enclave, or of the run if it has none; its entry in the enclave table; and whether it was running when --steps ended the
-    run."""
-    step: int
-    enclave: Enclave
-    is_cut: bool = False
+    """The end of the comparison in the run without interrupts."""
+    step: int  # the last step of the enclave, or of the run if the enclave does not end
+    enclave: Enclave  # its entry in the enclave table
+    is_cut: bool = False  # whether the enclave was running when --steps ended the run
 
 
 @dataclass(frozen=True)
 class TimerDifference:
-    """The first step of the enclave with another result, or its final state."""
-    number: int
-    pc: Optional[str]
-    expected: str
-    actual: str
+    """A step of the enclave with another result, or another final state."""
+    number: int  # of the step, from 1
+    pc: Optional[str]  # hexadecimal digits; None for the final state
+    expected: str  # the reply without interrupts
+    actual: str  # the reply with interrupts
 
 
 @dataclass
 class InterruptedRun:
-    """The result of the interrupted run, or of a part of it. `finish` is the final state, which only the last part has."""
-    steps: int = 0
-    interrupts: int = 0
-    difference: Optional[TimerDifference] = None
+    """The result of the run with interrupts, or of a part of it."""
+    steps: int = 0  # of the enclave
+    interrupts: int = 0  # that were taken
+    difference: Optional[TimerDifference] = None  # the first one; None if the results are equal
     not_resumed: Optional[TimerDifference] = None  # the step before which the host did not enter the enclave
-    finish: Sequence[str] = ()
+    finish: Sequence[str] = ()  # the final state; only the last part has it
 
     @property
     def is_other(self) -> bool:
@@ -77,7 +76,7 @@ class InterruptedRun:
 
 
 def last_of(run: Run, slot: int) -> Last:
-    """Returns the last step of the enclave after the script. Raises Unfinished if there is no enclave."""
+    """Returns the last step of the enclave after the script. Raises Unfinished if no enclave is in the slot."""
     found, end = None, None
     for event in events(run):
         if isinstance(event, End):
@@ -130,12 +129,12 @@ def interrupted(replay: Timeline, steps: Iterator[tuple[int, Inside]], every: in
 
 @dataclass(frozen=True)
 class TimerParts:
-    """The interrupted run in `jobs` parts of as many steps, each done by a process of its own. A process first repeats the parts before its own,
+    """The run with interrupts, in `jobs` parts with the same number of steps. Another process does each part. It first repeats the earlier parts
     without a comparison."""
-    run: Run
-    options: TimerOptions
-    last: Last
-    progress: Progress
+    run: Run  # without interrupts
+    options: TimerOptions  # slot, distance of interrupts, and jobs
+    last: Last  # where the comparison ends
+    progress: Progress  # shows the finished parts
 
     @property
     def steps(self) -> int:
@@ -159,7 +158,7 @@ class TimerParts:
         return outcome
 
     def whole(self) -> InterruptedRun:
-        """Does all parts, or those up to the first difference."""
+        """Does all parts, or the parts up to the first difference."""
         whole = InterruptedRun()
         jobs = self.options.jobs
         for number, outcome in enumerate(results_of(self.part, jobs, jobs), 1):
@@ -243,7 +242,8 @@ def finish_of(bench: Bench, enclave: Enclave) -> list[str]:
 
 
 def find_timer(run: Run, options: TimerOptions) -> tuple[InterruptedRun, Last]:
-    """Runs an enclave with and without timer interrupts; returns the result, and its last step. Raises Unfinished if it executes no step."""
+    """Runs an enclave with and without timer interrupts; returns the result, and the last step of the enclave. Raises Unfinished if the enclave
+    executes no step after the script."""
     last = last_of(run, options.slot)
     with run.replay() as quiet, Progress() as progress:
         quiet.go(last.step)

@@ -1,7 +1,7 @@
 """Examines what each activation of an enclave did with the bytes of its window.
 
-It read them, read them again (a double fetch), received them from another enclave, or wrote them, or an earlier activation left them. A second run
-shows whether what was written depends on a secret. Copies of the secret in the window are found too."""
+An activation reads bytes, reads them again (a double fetch), receives them from another enclave, or writes them. Bytes remain if an earlier
+activation left them. A second run shows whether the written bytes depend on a secret. Copies of the secret in the window are found too."""
 from __future__ import annotations
 
 from collections import defaultdict
@@ -21,14 +21,13 @@ Marks = Tuple[Tuple[int, ...], Optional[bool], bool]  # instructions, whether it
 
 
 class MarkedBytes(NamedTuple):
-    """Bytes of the window from an offset on with the same marks: what was done, and by which instructions. `is_secret` is None without a
-    secret; `is_public` is true if --public names the bytes or the instruction."""
-    what: str
-    first: int
-    size: int
-    pcs: tuple[int, ...]
-    is_secret: Optional[bool] = None
-    is_public: bool = False
+    """Adjacent bytes of the window that an activation treated alike."""
+    what: str  # reads, rereads, receives, writes or remains
+    first: int  # offset in the window
+    size: int  # number of bytes
+    pcs: tuple[int, ...]  # the instructions; for `remains` the instruction and the number of its activation
+    is_secret: Optional[bool] = None  # whether they change with the secret; None if this is not compared
+    is_public: bool = False  # whether --public names the bytes or the instruction
     world: str = ""  # that stored the bytes which the enclave receives
 
     @property
@@ -38,10 +37,10 @@ class MarkedBytes(NamedTuple):
 
 
 class SecretCopy(NamedTuple):
-    """A copy of a part of the secret in the window, whether it changes with the secret, and whether --public names it."""
-    copy: Copy
-    is_secret: bool
-    is_public: bool
+    """A copy of a part of the secret in the window."""
+    copy: Copy  # its offsets in the window and in the secret
+    is_secret: bool  # whether it changes with the secret
+    is_public: bool  # whether --public names it
 
     @property
     def is_finding(self) -> bool:
@@ -51,30 +50,27 @@ class SecretCopy(NamedTuple):
 
 @dataclass(frozen=True)
 class ActivationView:
-    """The findings of one activation: its ranges, and the copies of the secret."""
-    found: list[MarkedBytes]
-    copies: list[SecretCopy]
+    """The findings of one activation."""
+    found: list[MarkedBytes]  # ranges of the window
+    copies: list[SecretCopy]  # of parts of the secret
 
 
 @dataclass(frozen=True)
 class WindowContext:
-    """The names of instructions and of fields of the window, and what may differ."""
-    symbols: Symbols
-    fields: WindowFields
-    public: Public
+    """The names and the public parts that the report of a window needs."""
+    symbols: Symbols  # name instructions
+    fields: WindowFields  # name offsets in the window
+    public: Public  # what may differ
 
 
 @dataclass
 class Byte:
-    """A byte of the window in one activation, and the instructions that accessed it.
-
-    `read_at` and `input_at` are the last and the first one that read it before a store of the enclave. `again` has the pairs that reread it.
-    `stored_at` is the last one that stored to it, and `values` has the stored values."""
-    read_at: Optional[int] = None
-    input_at: Optional[int] = None
-    again: dict[tuple[int, int], bool] = field(default_factory=dict)  # of pairs of instructions
-    stored_at: Optional[int] = None
-    values: bytearray = field(default_factory=bytearray)
+    """A byte of the window in one activation, with the instructions that accessed it."""
+    read_at: Optional[int] = None  # the last load before a store of the enclave; None if there is none
+    input_at: Optional[int] = None  # the first such load
+    again: dict[tuple[int, int], bool] = field(default_factory=dict)  # pairs of successive loads (a double fetch)
+    stored_at: Optional[int] = None  # the last store; None if there is none
+    values: bytearray = field(default_factory=bytearray)  # all stored values
 
 
 def bytes_of(activation: Activation) -> dict[int, Byte]:
@@ -110,7 +106,7 @@ def read(byte: Byte, pc: int) -> bool:
 
 
 def ranges(what: str, marks: Mapping[int, Marks]) -> list[MarkedBytes]:
-    """Joins adjacent bytes with the same marks. `marks` has them by offset."""
+    """Joins adjacent bytes with equal marks. `marks` has the marks by offset."""
     found: list[MarkedBytes] = []
     for at in sorted(marks):
         last = found[-1] if found else None
@@ -122,17 +118,17 @@ def ranges(what: str, marks: Mapping[int, Marks]) -> list[MarkedBytes]:
 
 
 class Kept(NamedTuple):
-    """A byte that an activation left: its value, the instruction that stored it, and the number of the activation."""
-    value: int
-    pc: int
-    activation: int
+    """A byte that an activation left in the window."""
+    value: int  # of the byte
+    pc: int  # the instruction that stored it
+    activation: int  # its number
 
 
 class Leftovers:
-    """The data that the activations of each enclave left in its window: the value of each byte, its instruction and activation."""
+    """The data that the activations of each enclave left in its window."""
 
     def __init__(self) -> None:
-        self.kept: dict[str, dict[int, Kept]] = defaultdict(dict)
+        self.kept: dict[str, dict[int, Kept]] = defaultdict(dict)  # by world and by offset
         self.stored: dict[int, tuple[int, int, str]] = {}  # the value, the instruction and the world that stored each byte of any window last
 
     def received(self, activation: Activation, found: Mapping[int, Byte]) -> dict[int, tuple[int, str]]:
@@ -176,7 +172,7 @@ def reread(found: Mapping[int, Byte], symbols: Symbols) -> Iterator[MarkedBytes]
 
 
 def view_of(activation: Activation, leftovers: Leftovers, other: Activation | None, secret: Secret | None, context: WindowContext) -> ActivationView:
-    """Returns all findings of an activation. `other` is the same activation with another secret, if there is one."""
+    """Returns all findings of an activation. `other` is the corresponding activation of a run with another secret, or None."""
     public = context.public
     found, base = bytes_of(activation), activation.enclave.window
     theirs = bytes_of(other) if other else {}
@@ -210,26 +206,27 @@ def copies_of(activation: Activation, other: Activation | None, secret: Secret, 
 
 @dataclass(frozen=True)
 class WindowOptions:
-    """The options of a search: the slot of the enclave (all without one), the place of the secret (none without one), and what may depend on it."""
-    at: Optional[str] = None
-    slot: Optional[int] = None
-    public: Sequence[str] = ()
+    """The options of `window`."""
+    at: Optional[str] = None  # the place of the secret; None for no secret
+    slot: Optional[int] = None  # of the enclave; None: all enclaves
+    public: Sequence[str] = ()  # what may depend on the secret
 
 
 class WindowSearch:
-    """A run whose activations are examined, with a second run that has another secret if there is one."""
+    """A run whose activations are examined. If there is a secret, a second run has its complement."""
 
     def __init__(self, run: Run, variables: Variables, options: WindowOptions) -> None:
-        self.run, self.options, symbols = run, options, run.setup.symbols
-        self.context = WindowContext(symbols, WindowFields(symbols), public_of(options.public, symbols))
-        self.secret: Secret | None = None
+        self.run, self.options, symbols = run, options, run.setup.symbols  # with the secret of the program
+        self.context = WindowContext(symbols, WindowFields(symbols), public_of(options.public, symbols))  # names, and what may differ
+        self.secret: Secret | None = None  # None for no secret
         if options.at:
             secret = secret_of(options.at, symbols, run, 0 if options.slot is None else options.slot)
             self.secret = secret.with_bytes(secret.bytes_in(run))
-        self.reader = FieldReader(run, variables.parameters, self.context.fields)
+        self.reader = FieldReader(run, variables.parameters, self.context.fields)  # reads the parameters of the enclave
 
     def views(self, heard: Callable[[int], None] = lambda step: None) -> Iterator[tuple[Activation, ActivationView]]:
-        """Yields each activation with its findings. Calls `heard` with the last step of each activation. Raises Unfinished if there is none."""
+        """Yields each activation with its findings. Calls `heard` with the last step of each activation. Raises Unfinished if no activation is
+        found."""
         others = with_complement(self.run, self.secret) if self.secret else iter(())
         leftovers, slot, number = Leftovers(), self.options.slot, 0
         for activation in Activations(self.run).all():

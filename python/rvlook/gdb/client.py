@@ -11,14 +11,14 @@ SAVED = ["ra", "sp", *("s%d" % number for number in range(12))]  # what a functi
 KEPT = ["world", "priv", "stvec", "host_pc", *("host_" + name for name in SAVED)]  # what a trap leaves as it is
 HANDLER = 0xFFFFFFFC  # of stvec: where traps go
 SWAP = 0x14011173  # csrrw sp, sscratch, sp: the stack of the handler for that of what it interrupted, and back
-STORE, TO_SP, MOVE_SP = 0x2023, 0x2, 0x10113  # sw with the base sp; addi sp, sp
+STORE, TO_SP, MOVE_SP = 0x2023, 0x2, 0x10113  # sw, the number of sp, and addi sp, sp
 
 
 class FrameId:
     """The identity of a frame."""
 
     def __init__(self, sp: gdb.Value, pc: gdb.Value) -> None:
-        self.sp, self.pc = sp, pc
+        self.sp, self.pc = sp, pc  # of the frame
 
 
 class Assembly(Unwinder):

@@ -38,18 +38,18 @@ TWO = {
 
 
 def extended(value: int, bits: int) -> int:
-    """Sign-extends the low bits of a value; raises ExpressionError for 0 bits."""
+    """Sign-extends the low `bits` bits of a value. Raises ExpressionError if `bits` is 0."""
     if bits == 0:
         raise ExpressionError("a value of no bits")
     return signed(value & (1 << bits) - 1, bits)
 
 
 class ExpressionStack:
-    """The stack of an expression. `register` and `memory` read a register by its number, and bytes by address and count."""
+    """The stack of an expression. `register` reads a register by its number; `memory` reads bytes by address and count."""
 
     def __init__(self, code: bytes, register: Callable[[int], int], memory: Callable[[int, int], bytes]) -> None:
-        self.code, self.register, self.memory, self.at = code, register, memory, 0
-        self.stack: list[int] = []
+        self.code, self.register, self.memory, self.at = code, register, memory, 0  # `at`: index of the next byte of the code
+        self.stack: list[int] = []  # numbers modulo 2 to the 64
 
     def number(self, size: int) -> int:
         """Reads the next bytes of the code as a big-endian number."""

@@ -15,10 +15,10 @@ PC, CALL = 32, 4  # the register pc, and the bytes of an ecall
 
 @dataclass(frozen=True)
 class Entered:
-    """The step that entered the enclave, and the registers of the host before it in digits; `pc` is that of its ecall."""
-    step: int
-    pc: str
-    values: tuple[str, ...]
+    """The step that entered the enclave."""
+    step: int  # its number
+    pc: str  # of the ecall, eight hexadecimal digits
+    values: tuple[str, ...]  # the registers of the host before it, in hexadecimal digits
 
     @property
     def registers(self) -> dict[str, str]:
@@ -28,13 +28,14 @@ class Entered:
 
 
 class LastEntries:
-    """Caches for each hart the entry that was found last, up to which step it is valid, and by what the timeline shows that the hart stayed."""
+    """Caches for each hart the entry that was found last."""
 
     def __init__(self) -> None:
+        # By hart: the entry, and the step up to which it is valid. The timeline and its count in `moved` show that the hart stayed.
         self.known: dict[int, tuple[Entered | None, int, tuple[Timeline, int] | None]] = {}
 
     def limit(self, position: int) -> None:
-        """Limits what is known to the steps up to this one, as what follows may change."""
+        """Limits the cache to the steps up to this one, because later steps may change."""
         self.known = {hart: (entry, min(sure, position), witness) for hart, (entry, sure, witness) in self.known.items()}
 
     def find(self, timeline: Timeline, hart: int) -> Entered | None:

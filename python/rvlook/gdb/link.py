@@ -22,13 +22,14 @@ PATIENCE = 2  # seconds after which a waiting debugger gets a sign of life; lldb
 
 
 class Gone(Exception):
-    """The debugger has closed the connection."""
+    """Raised if the debugger has closed the connection."""
 
 
 class Link:
     """The connection with the debugger. It receives packets, Ctrl-C, and acknowledgements, which are ignored."""
 
     def __init__(self, reading: int, writing: int) -> None:
+        # `reading`, `writing`: file descriptors; `buffer`: received bytes; `acknowledged`: whether packets are acknowledged
         self.reading, self.writing, self.buffer, self.acknowledged = reading, writing, b"", True
         self.kept: Any = None  # what must not be closed while the descriptors are used
 
@@ -140,7 +141,7 @@ def hex_of(text: str) -> str:
 
 
 def number_of(text: str) -> int:
-    """Returns a hexadecimal number of the protocol; raises ValueError if the text is none. `int` takes signs, blanks and `0x` too."""
+    """Returns a hexadecimal number of the protocol. Raises ValueError for another text. `int` takes signs, blanks and `0x` too."""
     if not NUMBER.match(text):
         raise ValueError(text)
     return int(text, 16)

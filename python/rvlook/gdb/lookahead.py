@@ -75,7 +75,7 @@ def steps_of(ahead: Timeline, actions: Iterable[Action]) -> Iterator[ScheduledSt
 
 
 def blocks_of(ahead: Timeline, actions: Iterable[Action]) -> Iterator[ScheduledSteps]:
-    """Yields the same in blocks, each of the steps of one exchange."""
+    """Yields the steps that `steps_of` yields, in blocks: each block has the steps of one exchange."""
     return (steps_within(it, at, at + BLOCK) for it in steps_of(ahead, actions) for at in range(0, it.count, BLOCK))
 
 

@@ -1,4 +1,4 @@
-"""The commands of `monitor`: those of the bench and of the prompt, the subcommands of rvlook over what was done so far, and those of the
+"""The commands of `monitor`: the commands of the bench and of the prompt, the subcommands of rvlook over the steps so far, and the commands of the
 server itself."""
 from __future__ import annotations
 
@@ -34,18 +34,18 @@ READ_FILES, FOLDERS = ("script", "symbols", "file", "input"), ("scripts", "sourc
 
 
 class CommandLine(NamedTuple):
-    """The command line of rvlook for `monitor`: the names of the subcommands, and the function that parses the arguments of one."""
-    names: tuple[str, ...]
-    read: Callable[[Sequence[str]], Namespace]
+    """The command line of rvlook for `monitor`."""
+    names: tuple[str, ...]  # of the subcommands
+    read: Callable[[Sequence[str]], Namespace]  # parses the arguments of a subcommand
 
 
 class Monitor:
     """Runs lines of `monitor`. Only with `has_files` may a line name files."""
 
     def __init__(self, moves: Moves, command_line: CommandLine, has_files: bool = True) -> None:
-        self.moves, self.entry, self.refreshes = moves, LastEntries(), False
-        self.session: PromptSession | None = None
-        self.has_files, self.read = has_files, command_line.read
+        self.moves, self.entry, self.refreshes = moves, LastEntries(), False  # `refreshes`: whether the debugger reads registers again
+        self.session: PromptSession | None = None  # runs the commands of the prompt; None before the first one
+        self.has_files, self.read = has_files, command_line.read  # whether a line may name files; parses the arguments of a subcommand
         self.subcommands = tuple(it for it in command_line.names if it not in (*OTHERS, *NOT_OFFERED))  # over an image
 
     def line(self, text: str) -> str:
@@ -137,7 +137,7 @@ class Monitor:
     # commands of the server
 
     def catch(self, what: str | None = None) -> None:
-        """Adds a catchpoint, or removes all, and prints those that are set."""
+        """Adds a catchpoint, or removes all, and prints the catchpoints that are set."""
         stops, has_worlds = self.moves.stops, self.moves.timeline.setup.monitor
         if what == "none":
             stops.caught.clear()

@@ -32,23 +32,22 @@ SET = "[pc is set to %08x by a jump that was executed as step %d]"
 
 
 class Start(NamedTuple):
-    """The start of some steps: the position, the future there, and the world of each hart, which the caller updates after each step."""
-    position: int
-    future: Deque[Action]
-    worlds: list[str]
+    """The start of some steps."""
+    position: int  # steps before it
+    future: Deque[Action]  # the actions that follow
+    worlds: list[str]  # of each hart; the caller updates them after each step
 
 
 class Moves:
-    """Moves the harts for a debugger. `link` is the connection. `ready` has benches at earlier steps; `follower` is a bench that follows this
-    one to stops that it has passed."""
+    """Moves the harts for a debugger."""
 
     def __init__(self, timeline: Timeline, link: Link) -> None:
-        self.timeline, self.view, self.link, self.stops = timeline, CachedView(timeline), link, Stops()
-        self.schedule = timeline.setup.schedule or alternating(TURN)
-        self.ready: dict[int, Timeline] = {}
-        self.follower: Timeline | None = None
-        self.careful = 0
-        self.notes: list[str] = []
+        self.timeline, self.view, self.link, self.stops = timeline, CachedView(timeline), link, Stops()  # `link`: the connection
+        self.schedule = timeline.setup.schedule or alternating(TURN)  # of the harts that run
+        self.ready: dict[int, Timeline] = {}  # benches at earlier steps
+        self.follower: Timeline | None = None  # a bench that follows `timeline` to stops that `timeline` has passed; None without one
+        self.careful = 0  # steps that still have one exchange per run
+        self.notes: list[str] = []  # for the user, not shown yet
         self.stops_after_watch = False  # whether the debugger expects a watchpoint to halt after the access
 
     def close(self) -> None:

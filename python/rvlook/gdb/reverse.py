@@ -18,16 +18,16 @@ AT_RESET = "replaylog:begin;"
 
 
 class Interrupted(Exception):
-    """Ctrl-C came during the search for a stop."""
+    """Raised if Ctrl-C came during the search for a stop."""
 
 
 class Back:
     """Moves the harts back for a debugger. Caches the stops of the part that was searched last."""
 
     def __init__(self, moves: Moves) -> None:
-        self.moves, self.first, self.end = moves, 0, 0
-        self.key: tuple[Any, ...] | None = None
-        self.found: list[tuple[int, Halt]] = []
+        self.moves, self.first, self.end = moves, 0, 0  # steps of the part that was searched last
+        self.key: tuple[Any, ...] | None = None  # what the cached stops depend on; None: nothing is cached
+        self.found: list[tuple[int, Halt]] = []  # the cached stops, after their steps
 
     def discard(self) -> None:
         """Discards the cached stops, since the steps may change."""
@@ -58,7 +58,7 @@ class Back:
             raise Interrupted
 
     def go(self, hart: int, harts: Sequence[int]) -> Halt:
-        """Goes to the last stop of these harts before here; stays here if Ctrl-C comes before it is found."""
+        """Goes to the last stop of these harts before the present step. Stays at the present step if Ctrl-C comes before the stop is found."""
         try:
             return self.go_to_stop(hart, harts)
         except Interrupted:

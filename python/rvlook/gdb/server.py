@@ -27,6 +27,7 @@ from rvlook.protocol.timeline import Timeline
 NAME = re.compile(r"[Qqv][A-Za-z]+\??|b[cs]|.", re.S)
 CONDITION = re.compile(r"X([0-9a-f]{1,4}),([0-9a-f]+)")
 VALUE = re.compile(r"[0-9a-fA-F]{8}\Z")
+# kinds of breakpoints, and the names and accesses of kinds of watchpoints, by their numbers in the protocol
 BREAKS, WATCHES = ("0", "1"), {"2": ("watch", "w"), "3": ("rwatch", "r"), "4": ("awatch", "rw")}
 FEATURES = ("PacketSize=4000;QStartNoAckMode+;qXfer:features:read+;qXfer:memory-map:read+;qXfer:threads:read+;vContSupported+;"
             "ReverseStep+;ReverseContinue+;ConditionalBreakpoints+")
@@ -45,18 +46,19 @@ class Server(Closing):
     """Replies to packets. `shown` is the hart that is shown, `moved` the one that moves (None for any), `last` the one that halted."""
 
     def __init__(self, link: Link, setup: Setup, command_line: CommandLine, has_files: bool = True) -> None:
+        # `has_files`: whether `monitor` may name files
         self.link, self.setup, self.has_files, self.command_line = link, setup, has_files, command_line
-        self.extended = self.over = False
-        self.running: Moves | None = None
-        self.moved: int | None = None
+        self.extended = self.over = False  # the debugger uses extended mode; the connection ends
+        self.running: Moves | None = None  # None after the bench was ended
+        self.moved: int | None = None  # the hart that moves; None: any
         self.start()
 
     def start(self) -> None:
         """Starts a bench, and runs the script."""
         self.close()
         moves = self.running = Moves(Timeline.of_script(self.setup), self.link)
-        self.back, self.commands = Back(moves), Monitor(moves, self.command_line, self.has_files)
-        self.shown = self.last = moves.timeline.hart
+        self.back, self.commands = Back(moves), Monitor(moves, self.command_line, self.has_files)  # move back; run lines of `monitor`
+        self.shown = self.last = moves.timeline.hart  # the hart that is shown; the hart that halted last
         self.moved = None
         self.consoles = consoles_of(self.setup.symbols)
 
@@ -124,7 +126,7 @@ class Server(Closing):
         return "hart %d: %s in %s" % (hart, self.timeline.worlds[hart], self.timeline.modes[hart])
 
     def hart_of(self, thread: str) -> int:
-        """Returns the hart of a thread, the last one that halted for any thread. Raises Refused."""
+        """Returns the hart of a thread, the last one that halted for any thread. Raises Refused if there is no such thread."""
         hart = self.last if thread in ("", "0", "-1") else number_of(thread) - 1
         if not 0 <= hart < self.setup.harts:
             raise Refused("no such thread")
@@ -366,7 +368,7 @@ ACTS: Dict[str, Callable[[Server, str], Optional[str]]] = {
 
 def link_of(setup: Setup, port: int | None) -> Link:
     """Opens the connection with the debugger: the standard streams, or a port of this machine for the first client. A thread turns away later
-    clients. Raises RvlookError."""
+    clients. Raises RvlookError if standard input is a terminal, or if the port cannot be used."""
     if port is None and sys.stdin.isatty():
         arguments = " ".join([*(["--monitor"] if setup.monitor else []), setup.image.name])
         raise RvlookError("standard input is a terminal, not a debugger; "

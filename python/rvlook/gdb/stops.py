@@ -18,11 +18,11 @@ PC, NO_TRAP = 32, b"trap=-"  # the register pc, and the end of a reply without a
 
 @dataclass(frozen=True)
 class Watch:
-    """Bytes that are watched for kinds of access, and the name of that watchpoint in the protocol."""
-    name: str
-    kinds: str
-    first: int
-    count: int
+    """A watchpoint of the debugger."""
+    name: str  # of its kind in the protocol: watch, rwatch or awatch
+    kinds: str  # of accesses: r, w or both
+    first: int  # address of the first byte
+    count: int  # bytes
 
     @property
     def bytes(self) -> range:
@@ -36,11 +36,11 @@ class Watch:
 
 @dataclass(frozen=True)
 class Halt:
-    """A halt on a hart. `reason` is that of the protocol, empty for a step, a breakpoint and a signal; `message` is a line for the user."""
-    hart: int
-    reason: str = ""
-    signal: int = STEPPED
-    message: str = ""
+    """A halt on a hart."""
+    hart: int  # its number
+    reason: str = ""  # of the protocol; empty for a step, a breakpoint and a signal
+    signal: int = STEPPED  # its number
+    message: str = ""  # a line for the user; may be empty
 
 
 def signal_of(trap: RanTrap | None) -> int:
@@ -49,14 +49,13 @@ def signal_of(trap: RanTrap | None) -> int:
 
 
 class Stops:
-    """The breakpoints, watchpoints and catchpoints. `breaks` has for each address its kinds of breakpoint with their conditions; the bench has
-    no room for those in `beyond`."""
+    """The breakpoints, watchpoints and catchpoints."""
 
     def __init__(self) -> None:
-        self.breaks: dict[int, dict[str, list[bytes]]] = {}
-        self.beyond: set[int] = set()
-        self.watches: list[Watch] = []
-        self.caught: set[str] = set()
+        self.breaks: dict[int, dict[str, list[bytes]]] = {}  # conditions by address and kind
+        self.beyond: set[int] = set()  # addresses of breakpoints for which the bench has no room
+        self.watches: list[Watch] = []  # in the order in which they were set
+        self.caught: set[str] = set()  # events of `catch`
         self.questions: dict[str, None] = {}  # the commands whose replies decided conditions
 
     @property
@@ -154,7 +153,7 @@ class Stops:
         return self.decided(pc, reply_to)
 
     def decided(self, pc: int, reply_to: Callable[[str], str]) -> bool:
-        """Returns the same as `holds`, with the replies of `reply_to`."""
+        """Returns what `holds` returns, with the replies of `reply_to`."""
         kinds = self.breaks.get(pc, {"": []}).values()
         if not all(kinds):
             return True

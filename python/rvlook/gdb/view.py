@@ -9,7 +9,7 @@ from rvlook.protocol.replies import Ran, bytes_of, step_of
 from rvlook.protocol.timeline import Timeline
 
 LINE = 64
-SP, PC, REGISTERS = 2, 32, 33
+SP, PC, REGISTERS = 2, 32, 33  # numbers of registers, and lines of `regs`
 
 
 def line_of(address: int) -> str:
@@ -21,9 +21,9 @@ class CachedView:
     """The registers and the memory of a timeline, cached until anything changes."""
 
     def __init__(self, timeline: Timeline) -> None:
-        self.timeline, self.changes = timeline, -1
+        self.timeline, self.changes = timeline, -1  # `changes` of the timeline when the cache was filled
         self.values: dict[Any, Any] = {}  # registers by hart, and control registers by hart and number
-        self.lines: dict[int, bytes] = {}
+        self.lines: dict[int, bytes] = {}  # memory by address, LINE bytes each
 
     def check(self) -> None:
         """Discards the cached values if something may have changed."""
@@ -39,7 +39,7 @@ class CachedView:
         return self.values[hart]
 
     def csr(self, hart: int, number: int) -> str | None:
-        """Returns a control and status register in hexadecimal digits, or None if there is none."""
+        """Returns a control and status register in hexadecimal digits, or None for a number without a register."""
         self.check()
         if (hart, number) not in self.values:
             self.timeline.choose(hart)

@@ -20,7 +20,7 @@ UNIT, UNIT_RANGE = 100, 10  # what a compilation unit and a range of it cost; ea
 
 
 class BudgetExceeded(Exception):
-    """The reading of an ELF file took too much."""
+    """Raised if reading an ELF file takes more entries or time than the budget has."""
 
     def __init__(self) -> None:
         super().__init__(LIMIT)
@@ -30,17 +30,18 @@ class Budget:
     """The entries and the processor time that are left for one ELF file."""
 
     def __init__(self) -> None:
-        self.entries, self.seconds = MOST_ENTRIES, MOST_SECONDS
+        self.entries, self.seconds = MOST_ENTRIES, MOST_SECONDS  # that are left, of processor time for `seconds`
 
     def spend(self, count: int) -> None:
-        """Takes entries from the budget; raises BudgetExceeded if it does not have them."""
+        """Takes entries from the budget. Raises BudgetExceeded if fewer are left."""
         self.entries -= count
         if self.entries < 0:
             raise BudgetExceeded
 
     @contextmanager
     def limits(self) -> Iterator[None]:
-        """Bounds the body, which may call `spend`. Raises BudgetExceeded if it takes too much. A body inside a body has the limits of the outer."""
+        """Bounds the body, which may call `spend`. Raises BudgetExceeded if the body takes too many entries or too much time. A body inside a body
+        has the limits of the outer one."""
         if ACTIVE:
             yield
             return

@@ -19,10 +19,12 @@ KEY_HIGH, KEY_HIGH_MASK = 0x0A455037, 0xFFFFF07F  # lui of any register, 0xa455
 KEY_LOW, KEY_LOW_MASK = 0xE4300893, 0xFFF07FFF  # addi a7 of any register, -445
 ECALL = 0x00000073
 KEY_SET = re.compile(r"\s*setreg\s+(17|x17|a7)\s+(0x)?0?a454e43\s*\Z", re.I)
-SECTIONS_AT, SECTIONS, SECTION = 32, 46, struct.Struct("<10I")  # where an ELF32 header has the place and the size and number of section headers
-SYMBOL_TABLE, SYMBOL, FUNCTION = 2, struct.Struct("<IIIBBH"), 2  # types of a section and of a symbol (ELF, Symbol Table)
+# offsets in an ELF32 header of the place, and of the size and number, of the section headers; a section header
+SECTIONS_AT, SECTIONS, SECTION = 32, 46, struct.Struct("<10I")
+# a type of section; an entry of the symbol table; a type of symbol (ELF, Symbol Table)
+SYMBOL_TABLE, SYMBOL, FUNCTION = 2, struct.Struct("<IIIBBH"), 2
 WORD = 4  # bytes of an instruction
-OPCODE, ATOMIC, FENCE = 0x7F, 0x2F, 0x0F
+OPCODE, ATOMIC, FENCE = 0x7F, 0x2F, 0x0F  # the bits of the opcode, and two opcodes
 FENCE_I, FENCE_I_MASK = 0x100F, 0x707F
 FLOATING = (0x07, 0x27, 0x43, 0x47, 0x4B, 0x4F, 0x53)
 IS_CANDIDATE = bytes(it & OPCODE in (ATOMIC, FENCE, *FLOATING) for it in range(256))  # by the lowest byte of a word
@@ -55,11 +57,11 @@ def has_key(data: bytes) -> bool:
 
 
 class Section(NamedTuple):
-    """A section of an ELF file: its type, its offset and size in bytes, and the section that it refers to (ELF, Section Headers)."""
-    kind: int
-    offset: int
-    size: int
-    link: int
+    """A section of an ELF file (ELF, Section Headers)."""
+    kind: int  # its type
+    offset: int  # in the file, bytes
+    size: int  # bytes
+    link: int  # index of the section that it refers to
 
 
 def extension_of(word: int) -> str | None:

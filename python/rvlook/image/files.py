@@ -21,7 +21,7 @@ PRINTABLE = re.compile(rb"[\t\r\n\x20-\x7e]*\Z")
 
 
 def read_file(path: str) -> bytes:
-    """Returns the bytes of a file, at most MOST_READ; raises RvlookError."""
+    """Returns the bytes of a file. Raises RvlookError if the file cannot be read, or has more than MOST_READ bytes."""
     try:
         with open(path, "rb") as file:
             return bounded(file, path)
@@ -52,7 +52,8 @@ def digits_of(data: bytes) -> bytes:
 
 
 def script_lines(data: bytes, path: str, before: int = 0) -> tuple[ScriptLine, ...]:
-    """Returns the lines of a script that follows `before` lines of a file. Leaves out lines --, which are for two benches. Raises RvlookError."""
+    """Returns the lines of a script that follows `before` lines of a file. Leaves out lines --, which are for two benches. Raises RvlookError if
+    there are more than MOST_LINES."""
     if data.count(b"\n") > MOST_LINES:
         raise RvlookError("script '%s' is too long: it has more than %d lines" % (path, MOST_LINES))
     lines = enumerate(lines_of(data.decode("latin-1")), before + 1)
@@ -70,7 +71,8 @@ def decoded(text: bytes) -> bytes | None:
 
 def image_of(path: str, kind: str = "auto") -> Image:
     """Reads an image. Hexadecimal digits, and any text before a line `--`, are passed on unchanged; rvbench reports their errors. The lines after
-    `--` are a script. All other bytes are the image itself. The symbols of each opened file have a budget of their own. Raises RvlookError."""
+    `--` are a script. All other bytes are the image itself. The symbols of each opened file have a budget of their own. Raises RvlookError if the
+    file cannot be read, is a text but no hex image, or is too large."""
     data = read_file(path)
     budget_of.cache_clear()
     cut = next((it for it in SEPARATOR.finditer(data) if len(it[1]) <= LONGEST_LINE), None)

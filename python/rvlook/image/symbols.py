@@ -33,12 +33,12 @@ T = TypeVar("T")
 
 class SymbolEntry(NamedTuple):
     """An entry of the symbol table of an ELF file (ELF, Symbol Table)."""
-    name: int
-    value: int
-    size: int
-    info: int
-    other: int
-    section: int
+    name: int  # offset in the string table
+    value: int  # the address
+    size: int  # bytes; 0 if unknown
+    info: int  # type and binding
+    other: int  # visibility
+    section: int  # index of its section
 
 
 def symbols_of(path: str, data: bytes | None) -> Symbols:
@@ -52,7 +52,8 @@ def symbols_of(path: str, data: bytes | None) -> Symbols:
 
 
 def symbols_from(path: str | None, image: Image) -> Symbols:
-    """Returns the symbols of a file, or else those of the image if it is an ELF file. Raises RvlookError."""
+    """Returns the symbols of the file `path`, or without a path the symbols of an image that is an ELF file. Raises RvlookError if the file has no
+    symbols or cannot be read."""
     if path:
         found = symbols_of(path, read_file(path))
         if not found:

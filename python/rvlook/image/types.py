@@ -17,13 +17,12 @@ NUMBERS = (1, 2, 4)  # sizes in bytes of a type that is read as a number
 
 @dataclass(frozen=True)
 class Type:
-    """A type of C with its size in bytes, 0 if it is not known. A structure or union has `members`, each with its offset in bytes. An array has
-    an `element`."""
-    name: str
-    size: int
-    is_signed: bool = False
-    element: Optional[Type] = None
-    members: Mapping[str, tuple[int, Type]] = field(default_factory=dict)
+    """A type of C."""
+    name: str  # of the type
+    size: int  # bytes; 0 if unknown
+    is_signed: bool = False  # whether a number is signed
+    element: Optional[Type] = None  # of an array; None for another type
+    members: Mapping[str, tuple[int, Type]] = field(default_factory=dict)  # of a structure or union, with their offsets in bytes
 
     @property
     def is_number(self) -> bool:
@@ -38,7 +37,7 @@ class Type:
         return self.element is None or self.element.size <= 1 and not self.element.members
 
     def member(self, name: str) -> tuple[int, Type]:
-        """Returns the offset in bytes and the type of a member. Raises SymbolError."""
+        """Returns the offset in bytes and the type of a member. Raises SymbolError if the type has no such member."""
         if name not in self.members:
             raise SymbolError("no member '%s' in '%s'%s" % (name, self.name, meant(name, self.members)))
         return self.members[name]
@@ -46,12 +45,11 @@ class Type:
 
 @dataclass
 class Types:
-    """Structures and enumeration constants by name; variables by name, each with its address; and of each inlined function the addresses at
-    which its code begins."""
-    structures: dict[str, Type] = field(default_factory=dict)
-    variables: dict[str, tuple[int, Type]] = field(default_factory=dict)
-    constants: dict[str, int] = field(default_factory=dict)
-    inlined: dict[str, set[int]] = field(default_factory=dict)
+    """The names in the DWARF entries of an image."""
+    structures: dict[str, Type] = field(default_factory=dict)  # and unions
+    variables: dict[str, tuple[int, Type]] = field(default_factory=dict)  # with their addresses
+    constants: dict[str, int] = field(default_factory=dict)  # of enumerations
+    inlined: dict[str, set[int]] = field(default_factory=dict)  # of each inlined function the addresses at which its code begins
     ambiguous: set[str] = field(default_factory=set)  # names of several variables, which `variables` leaves out
 
     def add_variable(self, name: str, address: int, kind: Type) -> None:
@@ -61,7 +59,7 @@ class Types:
 
 
 def types_of(image: Image) -> Types:
-    """Returns what the DWARF entries of an image name; nothing without DWARF. Warns if they cannot be read."""
+    """Returns what the DWARF entries of an image name; nothing without DWARF. Warns if the entries cannot be read."""
     return read_elf(image.name, image.data or b"", "no types", read_types) or Types()
 
 

@@ -35,44 +35,42 @@ Where = Tuple[str, int]  # `register`, `sp`, `entry` (the sp at the function's e
 
 @dataclass(frozen=True)
 class Member:
-    """A variable, or a member of one: its offset or address, its size in bytes, its name, and the size of an element if it is an array. `row` is the
-    size of a row of an array of arrays, else 0."""
-    at: int
-    size: int
-    name: str
-    element: int = 0
-    row: int = 0
-    is_union: bool = False
+    """A variable, or a member of one."""
+    at: int  # address, or offset in bytes
+    size: int  # bytes
+    name: str  # with the names of the members that lead to it
+    element: int = 0  # bytes of an element of an array; 0 for no array
+    row: int = 0  # bytes of a row of an array of arrays, else 0
+    is_union: bool = False  # whether its type is a union
 
 
 @dataclass(frozen=True)
 class Local:
-    """A member of a variable in a stack frame, for the instructions from `first` up to before `end`. Its offset is from sp if `is_sp`, else from the
-    caller's sp."""
-    first: int
-    end: int
-    is_sp: bool
-    member: Member
+    """A member of a variable in a stack frame, for a range of instructions."""
+    first: int  # address of the first instruction
+    end: int  # address after the last one
+    is_sp: bool  # whether the offset is from sp, not from the caller's sp
+    member: Member  # at an offset
 
 
 @dataclass(frozen=True)
 class Parameter:
-    """A parameter that points to memory: the address of its function, its number, and the members there."""
-    function: int
-    number: int
-    members: Tuple[Member, ...]
+    """A parameter that points to memory."""
+    function: int  # address of its function
+    number: int  # from 0; 0 is in a0
+    members: Tuple[Member, ...]  # of that memory
 
 
 @dataclass(frozen=True)
 class Variables:
     """The variables of an image."""
-    fixed: Sequence[Member] = ()
-    locals: Sequence[Local] = ()
-    parameters: Sequence[Parameter] = ()
+    fixed: Sequence[Member] = ()  # at fixed addresses
+    locals: Sequence[Local] = ()  # in stack frames
+    parameters: Sequence[Parameter] = ()  # that point to memory
 
 
 def variables_of(path: str | None, image: Image) -> Variables:
-    """Returns the variables of the ELF file of the symbols, or else of the image; none without DWARF."""
+    """Returns the variables of the ELF file of the symbols, or else of the image. Returns no variables without DWARF."""
     return read_elf(*debugged(path, image), "no variables", read_variables) or Variables()
 
 
@@ -95,12 +93,12 @@ def read_variables(file: Any) -> Variables:
 
 
 class UnitEntries:
-    """The entries of a compilation unit. `children` has those below each entry, by offset."""
+    """The entries of a compilation unit."""
 
     def __init__(self, dwarf: Any, unit: Any) -> None:
         self.dwarf, self.unit = dwarf, unit
-        self.entries: dict[int, Any] = {}
-        self.children: dict[int, list[Any]] = {}
+        self.entries: dict[int, Any] = {}  # by offset
+        self.children: dict[int, list[Any]] = {}  # the entries below each entry, by offset
         opened: list[list[Any]] = [[]]
         for entry in entries_of(dwarf, unit):
             if entry.is_null():
@@ -254,7 +252,7 @@ class UnitEntries:
             yield from self.located(entry, ranges, is_sp)
 
     def located(self, entry: Any, ranges: Sequence[tuple[int, int]], is_sp: bool) -> Iterator[Variable]:
-        """Yields a variable with each of its locations; none for a structure."""
+        """Yields a variable with each of its locations. Yields nothing for a structure."""
         kind = self.plain(self.type_of(entry))
         size = self.size(kind)
         if kind is None or is_aggregate(kind) or not 0 < size <= WORD:
@@ -276,7 +274,7 @@ class UnitEntries:
 
     @staticmethod
     def location(entry: Any) -> bytes:
-        """Returns the location of a variable as an expression; empty if there is none."""
+        """Returns the location of a variable as an expression; empty for a variable without a location."""
         attribute = entry.attributes.get("DW_AT_location")
         return bytes(attribute.value) if attribute is not None and isinstance(attribute.value, list) else b""
 
@@ -323,17 +321,17 @@ def signed(data: bytes) -> int:
 
 @dataclass(frozen=True)
 class Variable:
-    """A variable for the instructions from `first` up to before `end`, of the functions of these instructions."""
-    first: int
-    end: int
-    name: str
-    where: Where
-    size: int
+    """A variable for a range of instructions of its function."""
+    first: int  # address of the first instruction
+    end: int  # address after the last one
+    name: str  # of the variable
+    where: Where  # its location
+    size: int  # bytes
 
 
 def frames_of(path: str | None, image: Image, executed: Sequence[int]) -> Sequence[Variable]:
-    """Returns the variables of the ELF file of the symbols, or else of the image; none without DWARF. Leaves out each compilation unit
-    without an executed instruction. `executed` has the addresses of the executed instructions, in ascending order."""
+    """Returns the variables of the ELF file of the symbols, or else of the image. Returns no variables without DWARF. Leaves out each compilation
+    unit without an executed instruction. `executed` has the addresses of the executed instructions, in ascending order."""
     return read_elf(*debugged(path, image), "no variables", lambda file: [
         it for dwarf, unit in compilation_units(file) if has_any(ranges_of(dwarf, unit, unit.get_top_DIE()), executed)
         for it in UnitEntries(dwarf, unit).variables()]) or ()

@@ -11,27 +11,27 @@ from rvlook.protocol.memory_map import MONITOR_END
 from rvlook.protocol.names import ECALL_FROM_S, TIMER, abi_name
 from rvlook.protocol.replies import ROW
 
-SIE, SPIE, SPP, MXR = 2, 0x20, 0x100, 0x80000
+SIE, SPIE, SPP, MXR = 2, 0x20, 0x100, 0x80000  # bits of sstatus
 MARKED_CSRS = ("sscratch", "sepc", "scause", "stval")
 SWITCHING = (ECALL_FROM_S, TIMER)  # causes of traps that may switch worlds on purpose
-A0, A7 = 10, 17
+A0, A7 = 10, 17  # numbers of registers
 
 
 @dataclass
 class Left:
-    """A world that was left: the state before the marks, the marks of its registers and S-mode registers, and whether it made a call."""
-    state: HartState
-    registers: dict[int, int]
-    csrs: dict[str, int]
-    is_call: bool
+    """A world that was left."""
+    state: HartState  # before the marks
+    registers: dict[int, int]  # the marks, by number
+    csrs: dict[str, int]  # the marks of S-mode registers, by name
+    is_call: bool  # whether the world made a call
 
 
 @dataclass
 class MemoryAndRights:
-    """The bytes after the range of the monitor at the entry to M and at the return, and the access rights of the world that trapped."""
-    before: bytes
-    after: bytes
-    rights: tuple[Right, ...] = ()
+    """The memory after the range of the monitor, and the rights to it, in one stay in M."""
+    before: bytes  # bytes at the entry to M
+    after: bytes  # bytes at the return
+    rights: tuple[Right, ...] = ()  # of the world that trapped
 
 
 def may_at(rights: tuple[Right, ...], at: int) -> str:

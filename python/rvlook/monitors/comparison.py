@@ -15,30 +15,29 @@ SHOWN_RANGES = 4
 
 class DifferenceKind(Enum):
     """What differs."""
-    fault = "fault in M"
-    trap = "trap"
-    mode = "mode"
-    pc = "pc"
-    register = "register"
-    csr = "csr"
-    entry = "PMP entry"
-    rights = "access rights"
-    memory = "memory"
+    fault = "fault in M"  # the author's monitor does not return
+    trap = "trap"  # of the step below M
+    mode = "mode"  # after the step
+    pc = "pc"  # after the step
+    register = "register"  # x1 to x31
+    csr = "csr"  # a register of S, or a part of M that affects S
+    entry = "PMP entry"  # as stored, with --exact
+    rights = "access rights"  # that PMP entries give
+    memory = "memory"  # of host and enclaves
 
 
 @dataclass(frozen=True)
 class MonitorDifference:
-    """One difference: its kind, a name such as `x10` or `sepc`, and the values of both monitors. `place` locates it: the number of a register or
-    of a PMP entry, or the address of a byte."""
-    kind: DifferenceKind
-    name: str
-    own: str
-    reference: str
-    place: int | None = None
+    """One difference of two monitors."""
+    kind: DifferenceKind  # what differs
+    name: str  # such as `x10` or `sepc`
+    own: str  # the value of the author's monitor
+    reference: str  # the value of the reference
+    place: int | None = None  # number of a register or PMP entry, or an address; None for others
 
 
 def differences(own: SideState, reference: SideState, setup: MonitorSetup) -> list[MonitorDifference]:
-    """Returns all differences but those of memory. After a fault in M it is the only one."""
+    """Returns all differences except those of memory. A fault in M is returned alone."""
     is_exact = setup.exact
     if own.fault:
         return [MonitorDifference(DifferenceKind.fault, own.fault, "pc %08x" % own.pc, "pc %08x" % reference.pc, own.pc)]

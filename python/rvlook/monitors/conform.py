@@ -24,14 +24,13 @@ NAMED = (DifferenceKind.register, DifferenceKind.csr, DifferenceKind.entry)
 
 @dataclass(frozen=True)
 class Task:
-    """One script: its items, or the seed and the number of items of a random script. `ram` is the size of the RAM, 0 for that of the setup. The
-    memory of a long script is compared at its end, and of any other script after each trap."""
-    name: str
-    items: tuple[Item, ...] = ()
-    seed: str = ""
-    count: int = 0
-    ram: int = 0
-    is_long: bool = False
+    """A script to run: its items, or the seed of a random script."""
+    name: str  # of the script
+    items: tuple[Item, ...] = ()  # empty for a random script
+    seed: str = ""  # of a random script; else empty
+    count: int = 0  # items of a random script
+    ram: int = 0  # bytes; 0: as in the setup
+    is_long: bool = False  # whether memory is compared only at the end, not after each trap
 
     def setup(self, setup: MonitorSetup) -> MonitorSetup:
         """Returns the configuration with the RAM of the script."""
@@ -40,27 +39,25 @@ class Task:
 
 @dataclass(frozen=True)
 class ScriptPlan:
-    """The scripts to run: those of the table whose names contain `only`, then `tries` random ones of `count` items. `seconds` limits the time.
-    `is_deep` adds scripts with many calls, and with large blocks in a larger RAM. With `has_ram` the RAM stays as it is."""
-    tries: int
-    count: int
-    seed: str
-    only: str = ""
-    seconds: float | None = None
-    jobs: int = 1
-    is_deep: bool = False
-    has_ram: bool = False
+    """The scripts to run: those of the table, then random ones."""
+    tries: int  # number of random scripts
+    count: int  # items of each random script
+    seed: str  # of the random scripts
+    only: str = ""  # a part of the names of the scripts to run; empty: all
+    seconds: float | None = None  # at most; None: no limit
+    jobs: int = 1  # number of processes
+    is_deep: bool = False  # adds scripts with many calls, and with large blocks in a larger RAM
+    has_ram: bool = False  # whether the user gave the size of the RAM, which then stays
 
 
 @dataclass
 class ConformOutcome:
-    """The scripts that were run: what they covered, and the first one with a difference with its task. `left` scripts were not run, because of the
-    time limit or Ctrl-C."""
-    coverage: ScriptCoverage = field(default_factory=ScriptCoverage)
-    different: Played | None = None
-    task: Task | None = None
-    left: int = 0
-    is_interrupted: bool = False
+    """The result of the scripts that were run."""
+    coverage: ScriptCoverage = field(default_factory=ScriptCoverage)  # of the scripts
+    different: Played | None = None  # the first script with a difference; None if there is none
+    task: Task | None = None  # of that script
+    left: int = 0  # scripts that were not run, because of the time limit or Ctrl-C
+    is_interrupted: bool = False  # whether Ctrl-C ended the comparison
 
 
 def tasks_of(plan: ScriptPlan, ram: int, placement: Placement | None = None) -> list[Task]:
@@ -126,11 +123,11 @@ def signature(difference: MonitorDifference) -> tuple[DifferenceKind, str]:
 
 
 class Shrinker:
-    """Shrinks the script of one difference. `played` is the shortest script so far, as it was run, and `runs` counts the runs."""
+    """Shrinks the script of one difference."""
 
     def __init__(self, setup: MonitorSetup, played: Played) -> None:
-        self.setup, self.played, self.runs, self.is_interrupted = setup, played, 0, False
-        self.wanted, self.end = signature(played.differences[0]), float("inf")
+        self.setup, self.played, self.runs, self.is_interrupted = setup, played, 0, False  # `played`: the shortest script so far
+        self.wanted, self.end = signature(played.differences[0]), float("inf")  # what a shorter script must show; when to stop (monotonic clock)
 
     @property
     def is_over(self) -> bool:
@@ -138,7 +135,7 @@ class Shrinker:
         return self.runs >= MOST_RUNS or time.monotonic() > self.end
 
     def is_shorter(self, items: list[Item]) -> bool:
-        """Runs a part of the script; keeps it, without what follows the difference, if it shows the same."""
+        """Runs a part of the script. If it shows the same difference, keeps it without the items after the difference."""
         self.runs += 1
         played = play(self.setup, self.played.name, items, self.wanted[0] is DifferenceKind.memory)
         if not played.differences or signature(played.differences[0]) != self.wanted:
@@ -158,7 +155,7 @@ class Shrinker:
         return found
 
     def shrink(self) -> Shrinker:
-        """Leaves out halves, quarters, and then single items, until none can be left out, or until Ctrl-C."""
+        """Leaves out halves, quarters, and then single items, until no item can be left out, or until Ctrl-C."""
         size = max(1, len(self.played.items) // 2)
         self.end = time.monotonic() + MOST_SECONDS
         try:

@@ -44,7 +44,7 @@ class MonitorFiles:
     memory: Optional[str] = None  # that of host and enclaves, as FIRST-LAST; by default the RAM from 80010000 on
 
     def setup(self) -> tuple[MonitorSetup, Symbols]:
-        """Reads the files; returns the monitor and its symbols. Raises RvlookError."""
+        """Reads the files; returns the monitor and its symbols. Raises RvlookError if a file is invalid."""
         image = image_of(self.image)
         symbols = symbols_from(self.symbols, image)
         if self.host:
@@ -60,7 +60,7 @@ class MonitorFiles:
 
 
 def address_of(name: str, symbols: Symbols) -> int:
-    """Returns the address of a symbol or in hexadecimal digits. Raises RvlookError."""
+    """Returns the address of a symbol or in hexadecimal digits. Raises RvlookError if the text is neither."""
     address = symbols.address(name)
     if address is None:
         raise RvlookError(no_symbol(name, symbols))
@@ -69,21 +69,22 @@ def address_of(name: str, symbols: Symbols) -> int:
 
 @dataclass
 class Conformance:
-    """The result of `conform`: the outcome, and the shrunk script with the monitor as it was set up if there is a difference."""
-    outcome: ConformOutcome
-    setup: MonitorSetup
-    symbols: Symbols
-    shrunk: Optional[Shrinker] = None
+    """The result of `conform`."""
+    outcome: ConformOutcome  # of all scripts
+    setup: MonitorSetup  # the monitor, as the shrunk script runs it
+    symbols: Symbols  # of the monitor
+    shrunk: Optional[Shrinker] = None  # the shrunk script; None if there is no difference
 
     @property
     def finding(self) -> str:
-        """Returns the first difference as a text; empty if there is none."""
+        """Returns the first difference as a text; empty without a difference."""
         first = self.shrunk.played.differences[0] if self.shrunk else None
         return "%s: %s, not %s" % (first.name, first.own, first.reference) if first else ""
 
 
 def find_conform(files: MonitorFiles, plan: ScriptPlan, heard: Callable[[ConformOutcome], None] = lambda it: None) -> Conformance:
-    """Compares the monitors, and shrinks the script of the first difference. Calls `heard` before it shrinks. Raises RvlookError."""
+    """Compares the monitors, and shrinks the script of the first difference. Calls `heard` before it shrinks. Raises RvlookError if a file is
+    invalid, or if no script has the wanted name."""
     placement_of(files.memory, files.ram, LEAST_RAM)
     setup, symbols = files.setup()
     outcome = compare(setup, plan)
@@ -140,7 +141,7 @@ class DifferenceReport:
     """Shows a difference."""
 
     def __init__(self, setup: MonitorSetup, symbols: Symbols, printer: Printer, outcome: ConformOutcome) -> None:
-        self.setup, self.symbols, self.printer, self.outcome = setup, symbols, printer, outcome
+        self.setup, self.symbols, self.printer, self.outcome = setup, symbols, printer, outcome  # `outcome` has the script before it was shrunk
 
     def show(self, shrunk: Shrinker) -> None:
         """Shows the shrunk script, the values of both sides, and the instructions in M that wrote them."""
@@ -206,7 +207,7 @@ class DifferenceReport:
 
 
 def source_of(writer: WritingInstruction, symbols: Symbols) -> str | None:
-    """Returns the source line of an instruction, or if it has none, of the last one that was executed before it and has one."""
+    """Returns the source line of an instruction. If it has no source line, returns that of the last instruction before it that has one."""
     return next((line for line in map(symbols.line, (writer.pc, *writer.path)) if line), None)
 
 
@@ -249,7 +250,7 @@ def wrapped(words: list[str]) -> list[str]:
 
 
 def write_scripts(folder: str, setup: MonitorSetup, shrunk: Shrinker, printer: Printer) -> None:
-    """Writes a script for each side, and prints the commands that show them. Raises Unfinished."""
+    """Writes a script for each side, and prints the commands that show the scripts. Raises Unfinished if a file cannot be written."""
     own, reference = os.path.join(folder, "own.script"), os.path.join(folder, "reference.script")
     try:
         os.makedirs(folder, exist_ok=True)

@@ -17,9 +17,9 @@ from rvlook.protocol.replies import Enclave
 
 PAGE = 0x1000
 HOST = MONITOR_END
-HOST_HANDLER, HANDLER = HOST + 0x800, 0x800  # stvec of the host; of an enclave, from its base on
-WINDOW, OTHER_WINDOW = 0x80012000, 0x80013000
-FIRST, SECOND, THIRD = 0x80014000, 0x80018000, 0x8001C000  # regions
+HOST_HANDLER, HANDLER = HOST + 0x800, 0x800  # stvec of the host, and of an enclave, from its base on
+WINDOW, OTHER_WINDOW = 0x80012000, 0x80013000  # two windows
+FIRST, SECOND, THIRD = 0x80014000, 0x80018000, 0x8001C000  # bases of three regions
 WIDE = 0x80020000  # the region of a larger enclave
 SUPERVISOR_CSRS = ("stvec", "sscratch", "sepc", "scause", "stval", "sstatus")
 FAULTS = (("illegal instruction", 0), ("ebreak", EBREAK), ("mret", MRET), ("csrr mstatus", csrr(7, CSRS["mstatus"])),
@@ -27,7 +27,7 @@ FAULTS = (("illegal instruction", 0), ("ebreak", EBREAK), ("mret", MRET), ("csrr
           ("load from 0", load(7, 0)), ("store to 0", store(7, 0)), ("jump to 2", jump(0, 2)), ("jump to 0", jump(0)))
 HOST_SIZE = 16 * PAGE  # bytes that the host has before the first large block
 CORNERS = (0, 1, 0x7F, 0x80, 0x7FFF, 0x8000, 0x7FFFFFFF, 0x80000000, 0x80000001, 0xFFFF0000, MASK, RAM_BASE + PAGE, HOST, FIRST)
-MANY_CREATES, MANY_CALLS = 260, 1030  # more than eight and ten bits count
+MANY_CREATES, MANY_CALLS = 260, 1030  # more than eight bits count, and more than ten
 GOOD = {"a0": FIRST, "a1": PAGE, "a2": WINDOW, "a3": PAGE, "a4": FIRST}
 ODD_SIZE = 0x1800
 SLOTS = (1, 12, 13, 14, 16, 32, 64, 0x80000000, MASK, 0x100, 0x10000000)
@@ -358,19 +358,19 @@ def boundary_scripts(end: int) -> Iterator[tuple[str, list[Item]]]:
 
 
 class ReferenceState(NamedTuple):
-    """The state of the reference on which the next items depend: the world that runs, its mode and pc, and the enclave table."""
-    world: str
-    mode: str
-    pc: int
-    table: Sequence[Enclave]
+    """The state of the reference, on which the next items depend."""
+    world: str  # that runs
+    mode: str  # of the world
+    pc: int  # of the world
+    table: Sequence[Enclave]  # of the enclaves
 
 
 class RandomScript:
     """The source of a random script, which a seed determines. Some scripts create thirteen enclaves."""
 
     def __init__(self, seed: str, ram: int) -> None:
-        self.draw, self.end, self.is_begun = random.Random("conform %s" % seed), RAM_BASE + ram, False
-        self.fills_table = self.draw.random() < .3
+        self.draw, self.end, self.is_begun = random.Random("conform %s" % seed), RAM_BASE + ram, False  # `end`: of the RAM
+        self.fills_table = self.draw.random() < .3  # whether the script creates thirteen enclaves
         self.makers = {"call": self.call, "access": self.access, "csr": self.csr, "registers": self.registers, "sret": self.sret,
                        "fault": self.fault, "timer": self.timer, "jump": self.jump}
 

@@ -3,11 +3,11 @@ from __future__ import annotations
 
 from rvlook.protocol.names import CSRS
 
-ECALL, EBREAK, MRET, SRET, NOP = 0x73, 0x100073, 0x30200073, 0x10200073, 0x13
+ECALL, EBREAK, MRET, SRET, NOP = 0x73, 0x100073, 0x30200073, 0x10200073, 0x13  # instructions
 BACK = 0xFFDFF06F  # jal zero, -4
 WORD = 2  # the width of a load or store of four bytes, as funct3
-BRANCH, LOAD, STORE, SYSTEM = 0x63, 0x03, 0x23, 0x73
-JAL, JALR, AUIPC = 0x6F, 0x67, 0x17
+BRANCH, LOAD, STORE, SYSTEM = 0x63, 0x03, 0x23, 0x73  # opcodes
+JAL, JALR, AUIPC = 0x6F, 0x67, 0x17  # opcodes
 READ_SET = (2, 3, 6, 7)  # funct3 of csrrs and csrrc, which write nothing if rs1 is x0
 
 
@@ -37,7 +37,7 @@ def jump(base: int, offset: int = 0) -> int:
 
 
 def written_register(word: int) -> int:
-    """Returns the number of the integer register that an instruction writes; 0 if none."""
+    """Returns the number of the integer register that an instruction writes; 0 if it writes no register."""
     return 0 if word & 0x7F in (BRANCH, STORE) or word in (ECALL, EBREAK, MRET, SRET) else word >> 7 & 31
 
 

@@ -29,41 +29,39 @@ FILL = 0x40000001  # bits that every mark has, so that it is not a small number
 
 @dataclass(frozen=True)
 class Violation:
-    """A check that failed: its name, the text, and the step below M after which it was found. `pc` is that of the world that had trapped, or of the
-    host before the first trap. `inside` is pc of M if M itself fails, else 0."""
-    check: str
-    text: str
-    step: int
-    pc: int
-    inside: int = 0
+    """A check that failed."""
+    check: str  # its name
+    text: str  # what was found
+    step: int  # below M, after which it was found
+    pc: int  # of the world that had trapped, or of the host before the first trap
+    inside: int = 0  # pc of M if M itself fails, else 0
 
 
 @dataclass
 class Guard:
-    """One run. `timers` is the seed of the steps before which the timer is raised; without it there are none. `activity` counts how often each owner
-    was `entered`, was `left`, `continued` after it was left, and had its range `given_back`. `log` has the lines that repeat the run. `vectors` has
-    the addresses to which traps go, `handled` pc of each trap in M from which M returned. `loop` is pc of a trap that comes again and again, which
-    ends the run."""
-    setup: MonitorSetup
-    ownership: Ownership
-    limit: int
-    timers: str = ""
-    violation: Violation | None = None
-    counts: Counter[str] = field(default_factory=Counter)
-    activity: dict[str, Counter[str]] = field(default_factory=lambda: defaultdict(Counter))
-    log: list[str] = field(default_factory=list)
-    vectors: set[int] = field(default_factory=set)
-    handled: Counter[int] = field(default_factory=Counter)
-    loop: int | None = None
+    """One run with marks, and its checks."""
+    setup: MonitorSetup  # the monitor
+    ownership: Ownership  # of the memory, at the present step
+    limit: int  # steps below M
+    timers: str = ""  # seed of the steps before which the timer is raised; empty: never
+    violation: Violation | None = None  # the first one; None if there is none
+    counts: Counter[str] = field(default_factory=Counter)  # of steps, returns and other events, by name
+    activity: dict[str, Counter[str]] = field(default_factory=lambda: defaultdict(Counter))  # of each owner: entered, left, continued, given_back
+    log: list[str] = field(default_factory=list)  # the lines that repeat the run
+    vectors: set[int] = field(default_factory=set)  # addresses to which traps go
+    handled: Counter[int] = field(default_factory=Counter)  # pc of each trap in M from which M returned
+    loop: int | None = None  # pc of a trap that recurs for ever and ends the run; None without one
 
     def __post_init__(self) -> None:
-        self.draw = random.Random("guard %s" % self.timers)
-        self.world, self.calls = HOST, 0
+        self.draw = random.Random("guard %s" % self.timers)  # draws the steps before which the timer is raised
+        self.world, self.calls = HOST, 0  # that continues; calls of the host so far
+        # what the author declares; `ownership` has the ranges that exist at the present step
         self.declared = getattr(self, "declared", self.ownership)
-        self.live: set[OwnedRange] = set()
-        self.left: dict[str, Left] = {}
+        self.live: set[OwnedRange] = set()  # the live ranges
+        self.left: dict[str, Left] = {}  # the enclaves and the host, as each was left
         self.loaded: dict[OwnedRange, int] = {}  # ranges that are not live and that M loaded, and pc of the trap
         self.exposed: dict[OwnedRange, int] = {}  # of these the ranges to which the host may store after it, and pc of the host
+        # the world that was left last
         self.last = Left(HartState(registers=(), csrs={}, pc=0, mode="S", entries=b"", here=0), registers={}, csrs={}, is_call=False)
 
     def run(self) -> Violation | None:
@@ -79,7 +77,7 @@ class Guard:
                 self.__post_init__()
 
     def run_once(self) -> None:
-        """Runs up to the first violation, the limit, or the end of the host. Raises NewVector."""
+        """Runs up to the first violation, the limit, or the end of the host. Raises NewVector if M uses a trap vector that has no breakpoint."""
         with Guarded(self.setup, self.vectors, self.ownership.is_monitor) as machine:
             self.log, self.vectors = machine.log, machine.vectors
             stay = machine.begin()
@@ -178,7 +176,7 @@ class Guard:
         machine.set_state(self.restored(left, stay.exit, left.is_call), {name: left.state.csrs[name] for name in left.csrs})
 
     def restored(self, left: Left, state: HartState, is_call: bool) -> dict[int, int]:
-        """Returns the registers before the marks, for those that still have their marks."""
+        """Returns the registers before the marks, for the registers that still have their marks."""
         return {n: left.state.registers[n] for n, mark in left.registers.items()
                 if state.registers[n] == mark and not (is_call and n in self.ownership.hands)}
 
@@ -244,14 +242,14 @@ class Guard:
 
 @dataclass(frozen=True)
 class GuardPlan:
-    """The runs to do: one without and `timers` ones with timer interrupts, each of at most `limit` steps below M. `jobs` run at the same time."""
-    setup: MonitorSetup
-    ownership: Ownership
-    symbols: Symbols
-    limit: int
-    seed: int
-    timers: int
-    jobs: int
+    """The runs to do: one without timer interrupts, then `timers` runs with them."""
+    setup: MonitorSetup  # the monitor
+    ownership: Ownership  # of the memory
+    symbols: Symbols  # of the monitor
+    limit: int  # steps below M of each run
+    seed: int  # of the timer interrupts
+    timers: int  # number of runs with timer interrupts
+    jobs: int  # runs at the same time
 
     def name(self, number: int) -> str:
         """Returns the name of a run with marks."""
@@ -266,12 +264,12 @@ class GuardPlan:
 
 @dataclass
 class GuardResults:
-    """What was done. `pairs`, `code` and `never` are None for what was not done, because of a violation or of Ctrl-C."""
-    guards: list[Guard] = field(default_factory=list)
-    pairs: list[TwinResult] | None = None
-    code: MonitorBlocks | None = None
-    never: list[Block] | None = None
-    is_interrupted: bool = False
+    """The results of all runs. A result is None if its task was not done, because of a violation or Ctrl-C."""
+    guards: list[Guard] = field(default_factory=list)  # the runs with marks
+    pairs: list[TwinResult] | None = None  # of runs with different secrets
+    code: MonitorBlocks | None = None  # of the monitor
+    never: list[Block] | None = None  # blocks that no run executes
+    is_interrupted: bool = False  # whether Ctrl-C ended the runs
 
     @property
     def violation(self) -> Violation | None:
@@ -283,7 +281,7 @@ class GuardResults:
 
     @property
     def finding(self) -> str:
-        """Returns the first violation as a text; empty if there is none."""
+        """Returns the first violation as a text; empty without a violation."""
         return "%s: %s" % (self.violation.check, self.violation.text) if self.violation else ""
 
     @property

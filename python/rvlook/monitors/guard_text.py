@@ -164,7 +164,7 @@ def lines_of(symbols: Symbols, code: MonitorBlocks, found: Sequence[Block]) -> I
 
 
 def places_of(symbols: Symbols, blocks: Sequence[Block]) -> str:
-    """Returns the source lines of blocks, and the addresses of the blocks that have none."""
+    """Returns the source lines of blocks. Returns the address of a block that has no source line."""
     lines = [{it for at in range(block.first, block.end, 4) for it in [symbols.source(at)] if it} for block in blocks]
     sources = sorted({place_of(it) for members in lines for it in members})
     texts = ["%s:%s" % (file, ranges_text([number for _, number in members])) for file, members in groupby(sources, lambda it: it[0])]

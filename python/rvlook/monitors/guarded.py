@@ -21,7 +21,7 @@ SUPERVISOR = ("sscratch", "sepc", "scause", "stval", "stvec", "sstatus")
 STATE_CSRS = (*SUPERVISOR, "mepc", "mstatus", "mtvec")
 STATE = "".join(["regs\n", *("csr %x\n" % CSRS[name] for name in STATE_CSRS), "pmp\n"]).encode()
 STATE_LINES = REGISTERS + len(STATE_CSRS) + ENTRIES
-MPP_SHIFT, MPP_M = 11, 3
+MPP_SHIFT, MPP_M = 11, 3  # of MPP in mstatus, and its value for M
 MODES = "US?M"
 SWITCHED = 0x80122  # SIE, SPIE, SPP and MXR
 T0 = 5
@@ -37,7 +37,7 @@ class NewVector(Exception):
 
     def __init__(self, address: int) -> None:
         super().__init__("%08x" % address)
-        self.address = address
+        self.address = address  # of the vector
 
 
 def vector_of_first_trap(setup: MonitorSetup, log: Sequence[str], steps: int) -> int:
@@ -58,11 +58,10 @@ def after(setup: MonitorSetup, log: Sequence[str], steps: int) -> Ran:
 
 
 class TrapsInM:
-    """The traps in M before one return from M. A handler of M must return to the instruction that trapped or to the next one. `is_code` says
-    whether an address is in memory of the monitor."""
+    """The traps in M before one return from M. A handler of M must return to the instruction that trapped or to the next one."""
 
     def __init__(self, is_code: Callable[[int], bool]) -> None:
-        self.is_code = is_code
+        self.is_code = is_code  # whether an address is in memory of the monitor
         self.pending: list[tuple[int, str]] = []  # pc of each trap whose handler runs, and its description
         self.handled: list[int] = []  # pc of each trap whose handler returned
 
@@ -95,8 +94,8 @@ class TrapLoop:
     """Finds a loop of traps below M: an instruction traps again and again with the same cause and access rights, with at most one step in between."""
 
     def __init__(self) -> None:
-        self.last: tuple[str, int, str, bytes] = ("", 0, "", b"")
-        self.count, self.steps = 0, 0
+        self.last: tuple[str, int, str, bytes] = ("", 0, "", b"")  # cause, pc, mode and PMP entries of the last trap
+        self.count, self.steps = 0, 0  # repetitions so far; steps below M at the last trap
 
     def is_closed(self, cause: str, entry: HartState, steps: int) -> bool:
         """Notes a trap, after a number of steps below M; returns whether it is one of such a loop."""
@@ -108,28 +107,26 @@ class TrapLoop:
 
 @dataclass(frozen=True)
 class HartState:
-    """The state of the hart in M: at the entry, of the world that trapped; at the return, of the world that continues. `pc` is mepc, and `mode`
-    is MPP."""
-    registers: tuple[int, ...]
-    csrs: dict[str, int]
-    pc: int
-    mode: str
-    entries: bytes
+    """The state of the hart in M: at the entry, of the world that trapped; at the return, of the world that continues."""
+    registers: tuple[int, ...]  # x0 to x31
+    csrs: dict[str, int]  # by name
+    pc: int  # mepc
+    mode: str  # MPP
+    entries: bytes  # the replies of `pmp`
     here: int  # pc of M
 
 
 @dataclass(frozen=True)
 class StayInM:
-    """A stay in M: the cause of the trap, the state at its entry and at its return, and its steps. If M did not return as it should, `fault` says
-    why, and `inside` is pc of M. `handled` has pc of each trap in M from which M returned, `loaded` the watched bytes that M loaded."""
-    cause: str
-    entry: HartState
-    exit: HartState
-    spent: int
-    fault: str = ""
-    inside: int = 0
-    handled: tuple[int, ...] = ()
-    loaded: frozenset[int] = frozenset()
+    """A stay in M, from a trap to the return."""
+    cause: str  # of the trap, 8 hexadecimal digits; empty for the first stay
+    entry: HartState  # state at the entry
+    exit: HartState  # state at the return
+    spent: int  # steps in M
+    fault: str = ""  # why M did not return as it should; empty if it did
+    inside: int = 0  # pc of M at the fault; 0 without a fault
+    handled: tuple[int, ...] = ()  # pc of each trap in M from which M returned
+    loaded: frozenset[int] = frozenset()  # the watched bytes that M loaded
 
 
 def entries_of(mtvec: int) -> list[int]:
@@ -138,12 +135,12 @@ def entries_of(mtvec: int) -> list[int]:
 
 
 class Guarded(MonitorBench):
-    """A bench with a monitor, its host and its enclaves. `steps` counts the steps below M. `log` has the lines that change the state; in it
-    `run N` has the number of steps that were done. `vectors` has the addresses to which traps go, at which the bench stops. `is_code` says whether an
-    address is in memory of the monitor."""
+    """A bench with a monitor, its host and its enclaves. `log` has the lines that change the state; in it `run N` has the number of steps that
+    were done. `is_code` says whether an address is in memory of the monitor."""
 
     def __init__(self, setup: MonitorSetup, vectors: Iterable[int] = (), is_code: Callable[[int], bool] = lambda _: True) -> None:
         super().__init__(setup, setup.own)
+        # `steps`: below M; `vectors`: addresses to which traps go, at which the bench stops
         self.steps, self.is_code, self.vectors, self.loop = 0, is_code, set(vectors), TrapLoop()
 
     def do(self, *lines: str) -> list[bytes]:
@@ -174,8 +171,8 @@ class Guarded(MonitorBench):
                          values[REGISTERS - 1])
 
     def to_return(self, cause: str, entry: HartState, watched: Sequence[int] = ()) -> StayInM:
-        """Runs M up to its mret to S or U, which is the next instruction then. Traps in M may come before, from which M must return. Notes which of
-        the watched bytes M loads. Raises NewVector."""
+        """Runs M up to its mret to S or U, which is the next instruction then. Traps in M may come before, from which M must return. Notes which
+        of the watched bytes M loads. Raises NewVector if M traps to an address that has no breakpoint."""
         watched = watched[:MOST_WATCHED - len(self.setup.lowered)]
         self.do(*("watch %x" % it for it in watched))
         found = self.to_mret(cause, entry)
@@ -183,7 +180,7 @@ class Guarded(MonitorBench):
         return found
 
     def to_mret(self, cause: str, entry: HartState) -> StayInM:
-        """Does the same with the watchpoints that are set."""
+        """Runs M up to its mret to S or U, with the watchpoints that are set."""
         spent, stops, fault, traps = 0, 0, "", TrapsInM(self.is_code)
         loaded: set[int] = set()
         while True:
@@ -208,7 +205,8 @@ class Guarded(MonitorBench):
             self.do("timer off")
 
     def after_part(self, ran: Ran, state: HartState, traps: TrapsInM) -> tuple[str, bool]:
-        """Handles a stop of the bench in M; returns why it is a violation, or an empty text, and whether M returns to S or U. Raises NewVector."""
+        """Handles a stop of the bench in M. Returns why the stop is a violation, or an empty text; and whether M returns to S or U. Raises
+        NewVector if M has trapped to an address that has no breakpoint."""
         if ran.mode != "M":
             return "M is left by another instruction than mret", False
         if ran.trap and state.here not in self.vectors:

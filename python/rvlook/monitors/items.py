@@ -16,14 +16,13 @@ T0, T1, T2 = 5, 6, 7  # registers that the instructions of the items use
 
 @dataclass(frozen=True)
 class Item:
-    """One item: `data` is poked, `registers` are set, and `word` is poked at pc. If it is None, the instruction there stays. The timer line is
-    set as `line` says, and `steps` steps (0 or 1) are done."""
-    text: str
-    word: int | None = None
-    registers: tuple[tuple[int, int], ...] = ()
-    line: str = ""
-    data: tuple[tuple[int, bytes], ...] = ()
-    steps: int = 1
+    """One item of a script. The parts are done in the order of the fields `data`, `registers`, `word`, `line` and `steps`."""
+    text: str  # describes the item
+    word: int | None = None  # instruction that is poked at pc; None: the instruction there stays
+    registers: tuple[tuple[int, int], ...] = ()  # number and value of each register that is set
+    line: str = ""  # on or off: how the timer line is set; empty: unchanged
+    data: tuple[tuple[int, bytes], ...] = ()  # address and bytes that are poked
+    steps: int = 1  # 0 or 1
 
     @property
     def call_number(self) -> int | None:

@@ -20,7 +20,7 @@ def segments_of(image: Image) -> list[Segment]:
 
 def joined(monitor: Image, path: str) -> tuple[Image, Symbols]:
     """Returns an image with the segments of both files, which begins where the monitor does, and the symbols of the second file. Raises
-    RvlookError."""
+    RvlookError if a file cannot be used, or if segments overlap."""
     host = image_of(path)
     parts = [(it, monitor) for it in segments_of(monitor)] + [(it, host) for it in segments_of(host)]
     refuse_overlap([(it.address, it.address + it.in_memory, image.name) for it, image in parts])

@@ -7,35 +7,34 @@ from typing import Callable, Iterator
 from rvlook.monitors.items import MASK
 from rvlook.monitors.rights import Right
 
-MONITOR, HOST = "monitor", "host"
-SHARED, HANDS, ONCE, SECRET = "shared", "hands", "once", "secret"
+MONITOR, HOST = "monitor", "host"  # owners that every file declares
+SHARED, HANDS, ONCE, SECRET = "shared", "hands", "once", "secret"  # other first words of a line
 ALL, DATA = "rwx", "rw-"
 Words = Callable[[int], int]  # the word of memory at an address
 
 
 @dataclass(frozen=True)
 class WordCondition:
-    """A comparison with a value: of the word at an address, or of the number of calls of the host if there is no address."""
-    at: int | None
-    compare: Callable[[int, int], bool]
-    value: int
+    """A comparison of a word in memory, or of the number of calls of the host, with a value."""
+    at: int | None  # address of the word; None: the number of calls
+    compare: Callable[[int, int], bool]  # the operator
+    value: int  # the right operand
 
     def holds(self, words: Words, calls: int, base: int = 0) -> bool:
-        """Returns whether it holds; `base` is added to the address."""
+        """Returns whether the condition holds; `base` is added to the address."""
         return self.compare(calls if self.at is None else words(base + self.at & MASK), self.value)
 
 
 @dataclass(frozen=True)
 class RangesTable:
-    """A table in memory of the monitor that has the ranges of its enclaves. Each element has words with the base and the size of the region, and of
-    the window, at these offsets. It counts while the conditions hold, whose addresses are offsets, too."""
-    name: str
-    count: int
-    first: int
-    stride: int
-    region: tuple[int, int]
-    window: tuple[int, int] | None
-    when: tuple[WordCondition, ...]
+    """A table in memory of the monitor that has the ranges of its enclaves. An element counts while all conditions hold."""
+    name: str  # begins the names of its enclaves
+    count: int  # number of elements
+    first: int  # address of the first element
+    stride: int  # bytes from element to element
+    region: tuple[int, int]  # offsets of the words with base and size of the region
+    window: tuple[int, int] | None  # likewise of the window; None without windows
+    when: tuple[WordCondition, ...]  # addresses are offsets in the element
 
     def ranges(self, words: Words, calls: int) -> Iterator[OwnedRange]:
         """Yields the ranges of the elements that count."""
@@ -57,15 +56,14 @@ class RangesTable:
 
 @dataclass(frozen=True)
 class OwnedRange:
-    """Bytes from `first` up to, and not with, `end`, and what the owner may do with them, or the worlds that share them. A timed range exists
-    while its conditions hold, or while a table has it."""
-    first: int
-    end: int
-    owner: str
-    may: str = ALL
-    sharers: tuple[str, ...] = ()
-    is_timed: bool = False
-    when: tuple[WordCondition, ...] = ()
+    """A range of memory and its owner."""
+    first: int  # the first byte
+    end: int  # the byte after the last one
+    owner: str  # monitor, host, shared, or an enclave
+    may: str = ALL  # what the owner, or each sharer, may do
+    sharers: tuple[str, ...] = ()  # the worlds that share it
+    is_timed: bool = False  # whether it exists only while its conditions hold, or while a table has it
+    when: tuple[WordCondition, ...] = ()  # its conditions
 
     def has(self, at: int) -> bool:
         """Returns whether an address is in the range."""
@@ -81,15 +79,15 @@ class OwnedRange:
 
 @dataclass
 class Ownership:
-    """All ranges, the registers that hand values over at a call, the owners that run once, and secret ranges of the monitor."""
-    ranges: list[OwnedRange] = field(default_factory=list)
-    hands: set[int] = field(default_factory=lambda: {10, 11})
-    once: set[str] = field(default_factory=set)
-    tables: list[RangesTable] = field(default_factory=list)
-    secrets: list[OwnedRange] = field(default_factory=list)
+    """The owners of all memory, and what else the author declares."""
+    ranges: list[OwnedRange] = field(default_factory=list)  # all of them
+    hands: set[int] = field(default_factory=lambda: {10, 11})  # registers that hand values over at a call
+    once: set[str] = field(default_factory=set)  # owners that run once
+    tables: list[RangesTable] = field(default_factory=list)  # have further ranges
+    secrets: list[OwnedRange] = field(default_factory=list)  # secret ranges of the monitor
 
     def now(self, words: Words, calls: int) -> Ownership:
-        """Returns the ranges that exist with these words of memory after a number of calls. If all exist always, it is the same object."""
+        """Returns the ranges that exist with these words of memory after a number of calls. Returns this object if all ranges exist always."""
         if not self.tables and not any(it.when for it in self.ranges):
             return self
         ranges = [it for it in self.ranges if all(one.holds(words, calls) for one in it.when)]

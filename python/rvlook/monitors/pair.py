@@ -30,22 +30,22 @@ A0 = 10
 
 @dataclass(frozen=True)
 class Cell:
-    """One cell of the table, and how often the scripts reached it."""
-    group: str
-    name: str
-    count: int
+    """One cell of the coverage table."""
+    group: str  # such as `switch`
+    name: str  # in the group
+    count: int  # how often scripts reached it
 
 
 @dataclass
 class ScriptCoverage:
-    """Counts of scripts, steps below M, returns from M and steps in M, and of each cell. `most` is the longest stay in M and its item."""
-    scripts: int = 0
-    steps: int = 0
-    returns: int = 0
-    spent: int = 0
-    most: tuple[int, str] = (0, "")
+    """The coverage of scripts."""
+    scripts: int = 0  # their number
+    steps: int = 0  # below M
+    returns: int = 0  # from M
+    spent: int = 0  # steps in M
+    most: tuple[int, str] = (0, "")  # steps of the longest stay in M, and its item
     calls: Counter[tuple[str, str, str]] = field(default_factory=Counter)  # side, call, result
-    switches: Counter[str] = field(default_factory=Counter)
+    switches: Counter[str] = field(default_factory=Counter)  # by name, see SWITCHES
     redirected: Counter[tuple[str, str, int]] = field(default_factory=Counter)  # side, mode, cause
 
     def add(self, other: ScriptCoverage) -> None:
@@ -74,22 +74,22 @@ class ScriptCoverage:
 
 @dataclass(frozen=True)
 class PairStep:
-    """An item that was done: the world that did it, and the result in words; empty if there was no trap."""
-    item: Item
-    world: str
-    result: str
+    """An item that was done."""
+    item: Item  # the item
+    world: str  # that did it
+    result: str  # in words; empty without a trap
 
 
 @dataclass
 class Played:
-    """A script that was run: its steps up to the first difference, the differences, what it covered, and the lines of both sides."""
-    name: str
-    steps: list[PairStep] = field(default_factory=list)
-    differences: list[MonitorDifference] = field(default_factory=list)
-    coverage: ScriptCoverage = field(default_factory=ScriptCoverage)
-    own_log: list[str] = field(default_factory=list)
-    reference_log: list[str] = field(default_factory=list)
-    stays: list[Stay] = field(default_factory=list)
+    """A script that was run."""
+    name: str  # of the script
+    steps: list[PairStep] = field(default_factory=list)  # up to the first difference
+    differences: list[MonitorDifference] = field(default_factory=list)  # at that step
+    coverage: ScriptCoverage = field(default_factory=ScriptCoverage)  # of the script
+    own_log: list[str] = field(default_factory=list)  # lines of the author's side
+    reference_log: list[str] = field(default_factory=list)  # lines of the reference
+    stays: list[Stay] = field(default_factory=list)  # of the author's side in M
 
     @property
     def items(self) -> list[Item]:
@@ -101,10 +101,10 @@ class BothSides(Closing):
     """Both sides. `compares_memory` selects whether memory is compared after each trap."""
 
     def __init__(self, setup: MonitorSetup, name: str, compares_memory: bool = True) -> None:
-        self.setup, self.compares_memory, self.played = setup, compares_memory, Played(name)
-        self.own, self.reference = Side(setup, is_own=True), Side(setup, is_own=False)
-        self.world, self.has_trapped = "host", False
-        self.table: list[Enclave] = []
+        self.setup, self.compares_memory, self.played = setup, compares_memory, Played(name)  # `played`: the script so far
+        self.own, self.reference = Side(setup, is_own=True), Side(setup, is_own=False)  # the two monitors
+        self.world, self.has_trapped = "host", False  # the world that runs; whether a trap has occurred
+        self.table: list[Enclave] = []  # of the enclaves, as the reference has it
         self.left: dict[str, str] = {}  # how each enclave that is Stopped was left
         try:
             self.compare(self.own.begin(), self.reference.begin(), has_trap=True)

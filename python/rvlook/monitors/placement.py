@@ -17,10 +17,10 @@ RANGE = re.compile(r"([0-9a-f]{1,8})-([0-9a-f]{1,8})\Z", re.I)
 
 @dataclass(frozen=True)
 class Placement:
-    """Host and enclaves have the memory from `first` up to, and not with, `end`. Everything else is closed to S and U. If the monitor needs more than
-    the memory below 80010000, addresses of a script move by `offset` bytes."""
-    first: int
-    end: int
+    """The memory of host and enclaves. Everything else is closed to S and U. If the monitor needs more than the memory below 80010000, addresses
+    of a script move by `offset` bytes."""
+    first: int  # the first byte
+    end: int  # the byte after the last one
 
     @property
     def offset(self) -> int:
@@ -60,7 +60,7 @@ class Placement:
 
 def placement_of(text: str | None, ram: int, least: int) -> Placement:
     """Returns the placement that --memory names; without it all of the RAM from 80010000 on. `least` is the smallest RAM of a script. Raises
-    UsageError."""
+    UsageError if the range is invalid, or if it or the RAM is too small."""
     end = RAM_BASE + ram
     if text is None:
         if ram < least:

@@ -12,7 +12,7 @@ from rvlook.protocol.names import NUMBER_OF
 from rvlook.protocol.symbols import Symbols
 
 FORMS = "expected 'OWNER [RIGHTS] FIRST-LAST', 'shared', 'table', 'hands', 'once' or 'secret', as 'rvlook guard --help' says"
-WHILE, TABLE, CALLS, REGION, WINDOW = "while", "table", "calls", "region", "window"
+WHILE, TABLE, CALLS, REGION, WINDOW = "while", "table", "calls", "region", "window"  # words in a line
 RANGE = re.compile(r"([0-9a-fA-F]{1,8})-([0-9a-fA-F]{1,8})\Z")
 LETTERS = re.compile(r"[r-][w-][x-]\Z")
 CONDITION = re.compile(r"([^=!<>]+)(=|!=|<|>=)([0-9a-fA-F]{1,8})\Z")
@@ -22,7 +22,7 @@ MALFORMED = (ValueError, KeyError, IndexError)
 
 
 def ownership_of(path: str, symbols: Symbols) -> Ownership:
-    """Reads a file of ranges. Raises RvlookError."""
+    """Reads a file of ranges. Raises RvlookError if a line is malformed, or if a needed range is missing."""
     found = Ownership()
     for number, text in enumerate(read_file(path).decode("latin-1").splitlines(), 1):
         words = text.split("#")[0].split()
@@ -60,7 +60,7 @@ def add_line(found: Ownership, words: list[str], symbols: Symbols) -> None:
 
 
 def condition_of(text: str, symbols: Symbols | None) -> WordCondition:
-    """Returns a condition; without symbols its place is an offset. Raises ValueError."""
+    """Returns a condition; without symbols its place is an offset. Raises ValueError if the text is malformed."""
     match = CONDITION.match(text)
     if not match:
         raise ValueError
@@ -70,7 +70,7 @@ def condition_of(text: str, symbols: Symbols | None) -> WordCondition:
 
 
 def address_of(text: str, symbols: Symbols) -> int:
-    """Returns the address of a place. Raises ValueError."""
+    """Returns the address of a place. Raises ValueError if the place is unknown."""
     address = symbols.address(text)
     if address is None:
         raise ValueError
@@ -78,7 +78,7 @@ def address_of(text: str, symbols: Symbols) -> int:
 
 
 def range_of(words: list[str], when: tuple[WordCondition, ...]) -> OwnedRange:
-    """Returns the range of a line. Raises ValueError."""
+    """Returns the range of a line. Raises ValueError if the line is malformed."""
     match = RANGE.match(words[-1])
     owner, *others = words[:-1] or [""]
     may = others.pop() if others and LETTERS.match(others[-1]) else ALL
@@ -88,7 +88,7 @@ def range_of(words: list[str], when: tuple[WordCondition, ...]) -> OwnedRange:
 
 
 def secret_of(words: list[str], symbols: Symbols) -> OwnedRange:
-    """Returns the bytes of the monitor that a line names. Raises ValueError."""
+    """Returns the bytes of the monitor that a line names. Raises ValueError if the line is malformed."""
     _, place, size = words
     first = address_of(place, symbols)
     if int(size, 16) <= 0:

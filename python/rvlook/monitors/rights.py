@@ -13,11 +13,11 @@ BITS = (("r", 1), ("w", 2), ("x", 4))
 
 @dataclass(frozen=True)
 class Right:
-    """Bytes from `first` up to, and not with, `end` that S and U may access as `may` says, and the entry that decides, or None."""
-    first: int
-    end: int
-    may: str
-    entry: int | None
+    """A range with the access rights of S and U."""
+    first: int  # the first byte
+    end: int  # the byte after the last one
+    may: str  # three letters, such as `rw-`
+    entry: int | None  # index of the PMP entry that decides; None if no entry matches
 
     def __str__(self) -> str:
         return "%08x-%08x %s" % (self.first, self.end - 1, self.may)
@@ -43,7 +43,7 @@ def rights_of(lines: bytes, ram: int) -> tuple[Right, ...]:
 
 
 def closed_outside(rights: tuple[Right, ...], first: int, end: int, last: int) -> tuple[Right, ...]:
-    """Returns rights without those outside of a range; `last` is the end of the RAM."""
+    """Returns access rights that permit nothing outside the range from `first` up to before `end`. `last` is the end of the RAM."""
     inside = [Right(max(it.first, first), min(it.end, end), it.may, it.entry) for it in rights if it.first < end and first < it.end]
     found: list[Right] = []
     for right in (Right(RAM_BASE, first, NOTHING, None), *inside, Right(end, last, NOTHING, None)):

@@ -43,16 +43,14 @@ def size_line(ram: int) -> str:
 
 @dataclass(frozen=True)
 class MonitorSetup:
-    """The author's monitor and how it is run: `boot` has the lines before the first step, `returns` the addresses of its `mret` instructions. A
-    store to an address of `lowered` clears the timer line. Without such an address it is cleared when the interrupt is taken. `memory` is where host
-    and enclaves are; None is all of the RAM from 80010000 on."""
-    image: Image
-    ram: int
-    boot: tuple[str, ...]
-    returns: tuple[int, ...]
-    lowered: tuple[int, ...] = ()
-    exact: bool = False
-    memory: Placement | None = None
+    """The author's monitor and how it is run."""
+    image: Image  # of the monitor
+    ram: int  # bytes
+    boot: tuple[str, ...]  # lines before the first step
+    returns: tuple[int, ...]  # addresses of its mret instructions
+    lowered: tuple[int, ...] = ()  # a store to one of them clears the timer line; empty: taking the interrupt clears it
+    exact: bool = False  # whether PMP entries are compared as stored
+    memory: Placement | None = None  # of host and enclaves; None: all RAM from 80010000 on
 
     def with_ram(self, ram: int) -> MonitorSetup:
         """Returns the configuration with another size of the RAM. The default boot passes the size to the monitor."""
@@ -76,7 +74,8 @@ class MonitorSetup:
 
 
 def return_addresses(image: Image) -> tuple[int, ...]:
-    """Returns the addresses of the words `mret` in the segments of an ELF file. Raises RvlookError if there are none or too many."""
+    """Returns the addresses of the words `mret` in the segments of an ELF file. Raises RvlookError if the file is not a 32-bit ELF file, or has no
+    or too many mret instructions."""
     data = image.data or b""
     if not image.is_elf_32:
         raise RvlookError("'%s' is not a 32-bit ELF file, which a monitor must be" % image.name)
@@ -97,17 +96,16 @@ def words_in(data: bytes, address: int, word: int) -> list[int]:
 
 @dataclass(frozen=True)
 class SideState:
-    """The state after a step, as S and U can observe it. `below` has the replies of x0 to x31, pc and the S-mode registers, `above` the values
-    of DECIDING and EXACT, `entries` the replies of `pmp`. `spent` is the number of steps in M, `fault` why M did not return, if so."""
-    pc: int
-    mode: str
-    trap: str
-    world: str
-    below: bytes
-    above: tuple[int, ...]
-    entries: bytes
-    spent: int = 0
-    fault: str = ""
+    """The state after a step, as S and U can observe it."""
+    pc: int  # after the step
+    mode: str  # after the step
+    trap: str  # cause and value, or a hyphen
+    world: str  # after the step
+    below: bytes  # the replies of x0 to x31, pc and the S-mode registers
+    above: tuple[int, ...]  # the values of DECIDING and EXACT
+    entries: bytes  # the replies of `pmp`
+    spent: int = 0  # steps in M
+    fault: str = ""  # why M did not return; empty if it did
 
     @property
     def registers(self) -> list[int]:
@@ -122,17 +120,17 @@ class SideState:
 
 @dataclass(frozen=True)
 class Stay:
-    """One stay of the author's side in M: the number of lines in the log before it, and its steps."""
-    line: int
-    steps: int
+    """One stay of the author's side in M."""
+    line: int  # lines of the log before it
+    steps: int  # in M
 
 
 class MonitorBench(Closing):
-    """A bench with a monitor. `log` has all lines that change the state."""
+    """A bench with a monitor."""
 
     def __init__(self, setup: MonitorSetup, run: Setup) -> None:
-        self.setup, self.run, self.bench = setup, run, run.bench()
-        self.log: list[str] = []
+        self.setup, self.run, self.bench = setup, run, run.bench()  # `run`: the configuration of `bench`
+        self.log: list[str] = []  # all lines that change the state
 
     def close(self) -> None:
         """Ends the bench."""
@@ -164,9 +162,9 @@ class Side(MonitorBench):
 
     def __init__(self, setup: MonitorSetup, is_own: bool) -> None:
         super().__init__(setup, setup.own if is_own else setup.reference)
-        self.is_own, self.placement = is_own, setup.placement
-        self.stays: list[Stay] = []
-        self.pc, self.mode = self.placement.host, "S"
+        self.is_own, self.placement = is_own, setup.placement  # whether it is the author's monitor
+        self.stays: list[Stay] = []  # in M so far
+        self.pc, self.mode = self.placement.host, "S"  # of S or U before the next step, and their mode
 
     def begin(self) -> SideState:
         """Goes to the first instruction below M. Raises RvlookError if the bench refuses the image or a line of the boot."""
@@ -200,7 +198,7 @@ class Side(MonitorBench):
         return lines + (["timer " + item.line] if item.line else [])
 
     def stay(self, trap: str, world: str) -> SideState:
-        """Does the steps in M up to the return; the fault says why there is none."""
+        """Does the steps in M up to the return. If M does not return, the fault of the state says why."""
         first, spent, fault = len(self.log), 0, ""
         while self.mode == "M" and not fault:
             ran, last = (step_of(it.decode()) for it in self.do(STAY, "step 1"))

@@ -26,18 +26,18 @@ PAGE = 0x1000
 
 @dataclass
 class Track:
-    """One run up to a return from M: the machine, the world that continues, and the live ranges that are closed to it. A range is live from the
-    return at which it is closed to the host, or its owner runs, until the host gets it back. `inverted` has the ranges that were inverted at the
-    last trap."""
-    machine: Guarded
-    declared: Ownership
-    limit: int
-    world: str = HOST
-    returns: int = 0
-    calls: int = 0
-    live: set[OwnedRange] = field(default_factory=set)
-    closed: list[OwnedRange] = field(default_factory=list)
-    inverted: list[OwnedRange] = field(default_factory=list)
+    """One run up to a return from M.
+
+    A range becomes live at the return at which it is closed to the host or its owner runs. It stays live until the host gets it back."""
+    machine: Guarded  # that runs
+    declared: Ownership  # what the author declares
+    limit: int  # steps below M
+    world: str = HOST  # that continues
+    returns: int = 0  # from M so far
+    calls: int = 0  # of the host so far
+    live: set[OwnedRange] = field(default_factory=set)  # the live ranges
+    closed: list[OwnedRange] = field(default_factory=list)  # the live ranges that are closed to the world that continues
+    inverted: list[OwnedRange] = field(default_factory=list)  # ranges that were inverted at the last trap
 
     def __post_init__(self) -> None:
         self.ownership = self.declared
@@ -87,11 +87,11 @@ class Track:
 
 @dataclass(frozen=True)
 class TwinSecret:
-    """The difference of the second run of a pair: the ranges of these owners, the registers of one of them, and ranges of the monitor."""
-    name: str
-    owners: frozenset[str] = frozenset()
-    world: str = ""
-    ranges: tuple[OwnedRange, ...] = ()
+    """The private state that the second run of a pair inverts. A field is empty if nothing of its kind is inverted."""
+    name: str  # for the report
+    owners: frozenset[str] = frozenset()  # of ranges
+    world: str = ""  # whose registers are inverted
+    ranges: tuple[OwnedRange, ...] = ()  # of the monitor
 
     @property
     def text(self) -> str:
@@ -101,15 +101,14 @@ class TwinSecret:
 
 @dataclass(frozen=True)
 class TwinResult:
-    """The result of a pair of runs: what differs, with the step below M and pc of the trap before it, the changes, and the returns that were
-    compared. `why_cut` says why the comparison ended early, if it did."""
-    secret: TwinSecret
-    difference: str = ""
-    step: int = 0
-    pc: int = 0
-    changes: int = 0
-    returns: int = 0
-    why_cut: str = ""
+    """The result of a pair of runs."""
+    secret: TwinSecret  # what was inverted
+    difference: str = ""  # what differs; empty if nothing does
+    step: int = 0  # below M, at the difference
+    pc: int = 0  # of the trap before the difference
+    changes: int = 0  # how often the secret was inverted
+    returns: int = 0  # from M that were compared
+    why_cut: str = ""  # why the comparison ended early; empty if it did not
 
 
 def secrets_of(setup: MonitorSetup, ownership: Ownership, limit: int, vectors: set[int]) -> list[TwinSecret]:
@@ -149,9 +148,10 @@ class TwinRuns:
     """Two runs. The second one has other values in the private state of an enclave, or in unused memory of the monitor."""
 
     def __init__(self, setup: MonitorSetup, ownership: Ownership, limit: int, vectors: set[int], secret: TwinSecret) -> None:
+        # `secret`: what the second run inverts
         self.setup, self.ownership, self.limit, self.vectors, self.secret = setup, ownership, limit, vectors, secret
-        self.inverted: list[OwnedRange] = []
-        self.changes, self.returns = 0, 0
+        self.inverted: list[OwnedRange] = []  # the ranges that differ in the second run
+        self.changes, self.returns = 0, 0  # inversions so far, and returns that were compared
 
     def machine(self) -> Guarded:
         """Returns the machine of a run."""

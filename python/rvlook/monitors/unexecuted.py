@@ -23,17 +23,16 @@ MOST_STEPS = 1000000  # of one `run`
 
 
 class Block(NamedTuple):
-    """A basic block: the addresses of its first instruction and of the end."""
-    first: int
-    end: int
+    """A basic block."""
+    first: int  # address of its first instruction
+    end: int  # address after its last instruction
 
 
 @dataclass
 class MonitorBlocks:
-    """The basic blocks of a monitor by their first addresses. `functions` has the end of each function by its first address; it is empty if the
-    symbols have no functions."""
-    blocks: dict[int, Block]
-    functions: dict[int, int]
+    """The basic blocks of a monitor."""
+    blocks: dict[int, Block]  # by first address
+    functions: dict[int, int]  # the end of each function, by first address; may be empty
 
     def __post_init__(self) -> None:
         self.ordered = sorted(self.functions)
@@ -90,7 +89,7 @@ def targets_of(words: dict[int, int], at: int) -> list[int]:
 
 
 def far_target(words: dict[int, int], at: int) -> list[int]:
-    """Returns the address to which an auipc and the jalr after it go; none for other instructions."""
+    """Returns the address to which an auipc and the jalr after it go; None for other instructions."""
     first, word = words.get(at - 4, 0), words[at]
     if word & 0x7F != JALR or first & 0x7F != AUIPC or first >> 7 & 31 != word >> 15 & 31:
         return []
@@ -133,14 +132,14 @@ def blocks_of(addresses: Sequence[int], leaders: set[int]) -> dict[int, Block]:
 
 
 class BlockReplay:
-    """A run that is repeated. It has breakpoints at the first of some blocks. A block that is executed makes room for the next one."""
+    """A repeated run with breakpoints at the first of some blocks. When a block is executed, the next one gets its breakpoint."""
 
     def __init__(self, setup: MonitorSetup, blocks: Sequence[Block]) -> None:
-        self.bench = setup.own.bench()
-        self.waiting = [it.first for it in blocks]
+        self.bench = setup.own.bench()  # does the run
+        self.waiting = [it.first for it in blocks]  # blocks without a breakpoint, by first address
         self.decided = set(self.waiting[:BREAKPOINTS])  # a breakpoint is set there during the whole run
         self.missing = set(self.waiting)  # which were not executed so far
-        self.pc = 0
+        self.pc = 0  # where the run is
 
     def run(self, log: Sequence[str]) -> None:
         """Repeats a run up to its end."""

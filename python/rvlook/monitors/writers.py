@@ -38,19 +38,18 @@ CHANGES: tuple[Callable[[int], int], ...] = (  # of one argument, the smallest o
 
 @dataclass(frozen=True)
 class WritingInstruction:
-    """An instruction in M: its address, and its text with ABI names. `address` is what it loads or stores, if that is known. `path` has the
-    addresses of the instructions that were executed before it, the last one first, because a compiler may give it no source line."""
-    pc: int
-    text: str
-    address: int | None = None
-    path: tuple[int, ...] = ()
+    """An instruction in M that wrote a value."""
+    pc: int  # its address
+    text: str  # with ABI names
+    address: int | None = None  # that it accesses; None if unknown
+    path: tuple[int, ...] = ()  # pcs before it, the last one first: a compiler may give it no source line
 
 
 class StayReplay(Closing):
     """The author's side of a script, brought to the begin of one of its stays in M."""
 
     def __init__(self, setup: MonitorSetup, played: Played, stay: Stay) -> None:
-        self.bench, self.stay = setup.own.bench(), stay
+        self.bench, self.stay = setup.own.bench(), stay  # at the beginning of `stay`
         self.bench.replies_to(played.own_log[:stay.line])
 
     def close(self) -> None:
@@ -188,12 +187,12 @@ def last_store(setup: MonitorSetup, played: Played, address: int, skipped: int =
 
 @dataclass(frozen=True)
 class Divergence:
-    """The last instruction in M that both calls execute, the next one of each, the similar call, and its result on both monitors."""
-    pc: int
-    own_next: int
-    other_next: int
-    call: str
-    result: str
+    """The instruction after which two similar calls take different paths in M."""
+    pc: int  # the last instruction that both execute
+    own_next: int  # pc after it in the call of the script
+    other_next: int  # pc after it in the similar call
+    call: str  # the similar call
+    result: str  # of the similar call on both monitors
 
 
 def similar_calls(item: Item) -> Iterator[Item]:

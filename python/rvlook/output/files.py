@@ -13,10 +13,9 @@ TRIES = 100
 
 @contextmanager
 def replacing(path: str) -> Iterator[tuple[str, int]]:
-    """Gives the path and the descriptor of a new file, which replaces the one at `path` after the body.
-
-    If `path` is a symbolic link, the link is replaced and its target stays as it is. If the body raises, the file at `path` stays as it is. Raises
-    OSError."""
+    """Gives the path and the descriptor of a new file, which replaces the one at `path` after the body. If `path` is a symbolic link, the link is
+    replaced and its target stays as it is. If the body raises, the file at `path` stays as it is. Raises OSError if the new file cannot be made or
+    renamed."""
     temporary, file = new_beside(path)
     try:
         yield temporary, file
@@ -27,13 +26,13 @@ def replacing(path: str) -> Iterator[tuple[str, int]]:
 
 
 def replace_file(path: str, data: bytes) -> None:
-    """Makes the file at `path` have these bytes, and the mode of a new file. Raises OSError."""
+    """Makes the file at `path` have these bytes, and the mode of a new file. Raises OSError if the file cannot be written."""
     with replacing(path) as (_, file), open(file, "wb") as stream:
         stream.write(data)
 
 
 def write_files(folder: str, files: Iterable[tuple[str, bytes]]) -> None:
-    """Makes a folder, and files in it, each with a name and bytes. Raises Unfinished."""
+    """Makes a folder, and files in it, each with a name and bytes. Raises Unfinished if a file cannot be written."""
     try:
         os.makedirs(folder, exist_ok=True)
         for name, data in files:
@@ -43,14 +42,14 @@ def write_files(folder: str, files: Iterable[tuple[str, bytes]]) -> None:
 
 
 def replace_by(path: str, write: Callable[[str], object]) -> None:
-    """Replaces the file at `path` by one that `write` writes, which gets the path of a new file. Raises OSError."""
+    """Replaces the file at `path` by one that `write` writes, which gets the path of a new file. Raises OSError if the file cannot be written."""
     with replacing(path) as (temporary, file):
         os.close(file)
         write(temporary)
 
 
 def new_beside(path: str) -> tuple[str, int]:
-    """Makes a new file in the folder of `path`; returns its path and its descriptor. Raises OSError."""
+    """Makes a new file in the folder of `path`; returns its path and its descriptor. Raises OSError if the folder cannot be written."""
     folder = os.path.dirname(path) or "."
     for _ in range(TRIES):
         temporary = os.path.join(folder, ".rvlook." + os.urandom(6).hex())

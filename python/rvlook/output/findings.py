@@ -13,20 +13,20 @@ from rvlook.output.files import replace_by
 
 @dataclass(frozen=True)
 class Case:
-    """A check of a subcommand, its finding (empty if there is none), and the seconds that it took."""
-    name: str
-    finding: str = ""
-    seconds: float = 0
+    """A check of a subcommand."""
+    name: str  # of the check
+    finding: str = ""  # empty if there is none
+    seconds: float = 0  # that the check took
 
 
 class ReportedCases:
-    """The cases of one subcommand, the lines of the script that the bench refused, and why it could not finish, if so."""
+    """The cases of one subcommand, and what kept it from finishing."""
 
     def __init__(self) -> None:
-        self.cases: list[Case] = []
-        self.refused: list[str] = []
-        self.cut = ""
-        self.distrusted = False
+        self.cases: list[Case] = []  # in order
+        self.refused: list[str] = []  # lines of the script that the bench refused
+        self.cut = ""  # why the subcommand could not finish; empty if it did
+        self.distrusted = False  # whether the result cannot be trusted
         self.program_status = 0  # the exit status of a program that was run
         self.since = time.monotonic()  # when the last case was added
 

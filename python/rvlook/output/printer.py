@@ -27,11 +27,11 @@ class ObjectWriter(Protocol):
 
 
 class Style(Enum):
-    """The style of a part of a line; plain on a terminal without colours."""
-    heading = "1"
-    good = "32"
-    bad = "31"
-    aside = "2"
+    """The style of a part of a line, as the number of its escape sequence. Plain on a terminal without colours."""
+    heading = "1"  # bold
+    good = "32"  # green
+    bad = "31"  # red
+    aside = "2"  # faint
 
 
 OWN_ESCAPES = re.compile("(\033\\[(?:0|%s)m)" % "|".join(it.value for it in Style))
@@ -42,9 +42,9 @@ class Printer:
     """Writes lines and objects to standard output."""
 
     def __init__(self, as_json: bool = False, stream: TextIO | None = None) -> None:
-        self.as_json, self.stream = as_json, stream or sys.stdout
+        self.as_json, self.stream = as_json, stream or sys.stdout  # whether objects are written; the output
         has_terminal = self.stream.isatty() and os.environ.get("TERM", "dumb") != "dumb" and "NO_COLOR" not in os.environ
-        self.colours = has_terminal and not as_json
+        self.colours = has_terminal and not as_json  # whether `styled` uses colours
 
     def line(self, text: str = "") -> None:
         """Prints a line, or lines. Makes control characters visible, except those of `styled`."""

@@ -15,7 +15,8 @@ class Progress:
     """The progress line. It is updated at most five times a second, and removed at the end."""
 
     def __init__(self, stream: TextIO | None = None) -> None:
-        self.stream = stream or sys.stderr
+        self.stream = stream or sys.stderr  # standard error by default
+        # `last`: time of the last update; `width`: characters of the line
         self.is_shown, self.last, self.width = self.stream.isatty() and not HEARD, time.monotonic(), 0
 
     def __enter__(self) -> Progress:

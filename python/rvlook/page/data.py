@@ -26,7 +26,7 @@ KINDS = {"r": 0, "w": 1}
 KINDS_OF_ARRAYS = "BHI"
 COMMON = ("stdin", "image", "program.elf")  # names that do not identify a run
 MAP = ("enclaves", "columns", "rows")
-REFUSED, NO_VALUE = 2, 4  # added to the kind of an access that trapped, and of one without a value
+REFUSED, NO_VALUE = 2, 4  # added to the kind of an access that trapped, and to that of an access without a value
 LEVEL = 4  # of zlib; level 6 takes twice the time, for 2 % fewer bytes
 BRANCH = re.compile(r"b|jal ")
 TOUCH = ("step", "address", "width", "kind", "name", "value")
@@ -49,7 +49,7 @@ class NumberColumns:
     """Arrays of numbers as bytes, each aligned to four bytes."""
 
     def __init__(self) -> None:
-        self.bytes = bytearray()
+        self.bytes = bytearray()  # all arrays so far
 
     def add(self, numbers: array[int]) -> dict[str, int]:
         """Appends an array, in little-endian numbers of the least width that is enough; returns its location."""
@@ -80,7 +80,7 @@ class Collector:
     """Takes the steps of a run, and its other objects as a printer does, and keeps those parts that the page shows."""
 
     def __init__(self, run: Run, symbols: Symbols) -> None:
-        self.objects, self.symbols = ObjectTrace(run, symbols, self), symbols
+        self.objects, self.symbols = ObjectTrace(run, symbols, self), symbols  # makes the objects of steps, and calls `object` of this collector
         self.path = ""  # of the image
         self.run: dict[str, Any] = {}  # the object `run`
         self.sites = NumberedValues()  # a pc with the values of SITE, and the text that is shown
@@ -93,8 +93,8 @@ class Collector:
         self.changes = array("B")  # how many registers each step changed
         self.registers, self.values = array("B"), array("I")  # the changed ones of all steps, and their new values
         self.touches: list[tuple[int, ...]] = []  # the columns of TOUCH for each load or store
-        self.calls: list[dict[str, Any]] = []
-        self.events: list[dict[str, Any]] = []
+        self.calls: list[dict[str, Any]] = []  # objects `call`, in the order of steps
+        self.events: list[dict[str, Any]] = []  # changes of access rights, in the order of steps
         self.others: dict[str, list[dict[str, Any]]] = {"end": [], "command": [], "console": []}  # objects of other kinds
         self.granules: set[int] = set()  # of memory that is accessed, by address / GRANULE
         self.labels: dict[str, int] = {}  # the lowest accessed address in each symbol

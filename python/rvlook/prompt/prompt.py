@@ -39,17 +39,17 @@ LONGEST_INPUT = 1 << 16  # characters of a line; a longer one is read in parts
 
 class Keeper(Protocol):
     """An owner of the timeline of a session."""
-    timeline: Timeline
+    timeline: Timeline  # of the session
 
     def go(self, position: int) -> None:
         """Goes back to a step."""
 
 
 class TimelineKeeper:
-    """An owner of a timeline, which it replaces to go back; the history after that step is discarded."""
+    """An owner of a timeline. To go back, it replaces the timeline; the history after that step is discarded."""
 
     def __init__(self, timeline: Timeline) -> None:
-        self.timeline = timeline
+        self.timeline = timeline  # the present one
 
     def go(self, position: int) -> None:
         """Goes back to a step. Keeps breaks and watches."""
@@ -59,11 +59,12 @@ class TimelineKeeper:
 
 
 class PromptSession:
-    """The session of a prompt; `keeper` has its timeline."""
+    """The session of a prompt. Its keeper has the timeline."""
 
     def __init__(self, keeper: Keeper, run: Run, symbols: Symbols, printer: Printer) -> None:
+        # `finder`: reads access rights
         self.keeper, self.setup, self.symbols, self.printer, self.finder = keeper, run.setup, symbols, printer, EventFinder(run)
-        self.consoles = consoles_of(symbols)
+        self.consoles = consoles_of(symbols)  # that the program has
 
     @property
     def timeline(self) -> Timeline:
@@ -140,7 +141,7 @@ class PromptSession:
             self.print("  try: " + suggestion)
 
     def unknown_symbol(self, tokens: Sequence[str]) -> str | None:
-        """Returns the operand that should be an address or a value and is none, or None."""
+        """Returns an operand that should be an address or a value and is neither; None if there is no such operand."""
         command = COMMANDS.get(tokens[0])
         pairs = zip(tokens[1:], command.forms) if command and len(tokens) - 1 == len(command.forms) else ()
         return next((token for token, form in pairs if form in PLACES and not is_form(token, form)
@@ -218,8 +219,8 @@ def run_own(owner: object, name: str, *operands: str) -> bool:
 
 
 def steps_to(ahead: Timeline, is_end: Callable[[str, str], bool]) -> int | None:
-    """Returns the number of steps to the first one that a test accepts by its reply and the one before it; None if none comes, or the hart does
-    nothing more."""
+    """Returns the number of steps to the first step that a test accepts by its reply and the reply before it. Returns None if the test accepts no
+    step, or if the hart does nothing more."""
     before = "mode=%s" % ahead.modes[ahead.hart]
     for done in range(0, MOST_STEPS, CHUNK):
         lines = ahead.bench.block(b"step 1\n" * CHUNK, CHUNK).decode().splitlines()

@@ -52,8 +52,8 @@ def installed_program() -> str | None:
 
 
 def built_program() -> str:
-    """Returns the path of the program that ./prove has built, or builds one without proof. Ends the build on SIGTERM and Ctrl-C. Raises
-    Unfinished."""
+    """Returns the path of the program that ./prove has built, or builds one without proof. Ends the build on SIGTERM and Ctrl-C. Raises Unfinished
+    if the program cannot be found or built."""
     if not os.path.exists(FINDER):
         raise Unfinished("cannot find rvbench; add it to PATH, or set RVBENCH to its path")
     with subprocess.Popen([FINDER, "rvlook"], stdin=subprocess.DEVNULL, stdout=subprocess.PIPE, text=True) as building:
@@ -94,7 +94,7 @@ class Closing:
         self.close()
 
     def close(self) -> None:
-        """Releases what it holds."""
+        """Releases what the resource holds."""
 
 
 class Bench(Closing):
@@ -108,11 +108,11 @@ class Bench(Closing):
         except OSError as error:
             raise Unfinished("cannot run '%s': %s" % (path, error.strerror)) from None
         assert self.process.stdin and self.process.stdout
-        self.stdin, self.stdout = self.process.stdin, self.process.stdout
+        self.stdin, self.stdout = self.process.stdin, self.process.stdout  # its pipes
         os.set_blocking(self.stdin.fileno(), False)
         widen(self.stdin, self.stdout)
-        self.harts = harts
-        self.pending = memoryview(b"")
+        self.harts = harts  # their number
+        self.pending = memoryview(b"")  # input that is not written yet
         self.parts: list[bytes] = []  # what was read and not yet taken
         self.lines: list[bytes] = []  # complete lines that were read, the next one last
         self.send(image + b"--\n")
@@ -187,7 +187,7 @@ class Bench(Closing):
         return line
 
     def reply(self, command: str) -> list[bytes]:
-        """Returns the lines of the reply to one command; none for a comment."""
+        """Returns the lines of the reply to one command; an empty list for a comment."""
         if not has_reply(command):
             return []
         if is_enclaves(command):

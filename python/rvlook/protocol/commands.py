@@ -43,7 +43,7 @@ LONGEST_SHOWN = 160  # characters of a line in a message
 
 
 class Form(Enum):
-    """The form of an operand."""
+    """The form of an operand, with its description for messages."""
     count = "a decimal number from 1 to 1000000"
     register = "a register number (decimal, 0 to 31)"
     address = "an address (1 to 8 hexadecimal digits, optionally after 0x)"
@@ -52,8 +52,8 @@ class Form(Enum):
     byte = "a byte (1 or 2 hexadecimal digits, without 0x)"
     csr = "a CSR number (1 to 3 hexadecimal digits, without 0x)"
     mode = "M, S or U"
-    kind = "r, w or x"
-    width = "1, 2 or 4"
+    kind = "r, w or x"  # of an access
+    width = "1, 2 or 4"  # bytes of an access
     line = "on or off"
     hart = "0 or 1"
     schedule = "a schedule (1 to 64 digits 0 and 1)"
@@ -61,9 +61,9 @@ class Form(Enum):
 
 @dataclass(frozen=True)
 class Command:
-    """A command's operands, by the letters of docs/COMMANDS.md."""
-    letters: str
-    forms: tuple[Form, ...]
+    """The operands of a command."""
+    letters: str  # as in docs/COMMANDS.md
+    forms: tuple[Form, ...]  # of the operands, in order
 
 
 COMMANDS = {

@@ -23,11 +23,11 @@ def word(data: bytes, offset: int) -> int:
 
 @dataclass
 class Console:
-    """A console at an address. `written` counts its characters so far, `pending` is the line that has not ended yet."""
-    writer: str
-    address: int
-    written: int = 0
-    pending: str = ""
+    """A console in the memory of a program."""
+    writer: str  # who writes to it: host or enclave
+    address: int  # of its first byte
+    written: int = 0  # characters so far
+    pending: str = ""  # the line that has not ended yet
     status: int | None = None  # of the program, once it has ended
     ring: dict[int, str] = field(default_factory=dict)  # what stores left there, as two hexadecimal digits
 

@@ -7,21 +7,21 @@ from typing import Iterator, NamedTuple, Optional
 
 ELF_MAGIC = b"\x7fELF"
 HEADER = 52  # bytes of the header of a 32-bit ELF file
-AT_SEGMENTS, AT_SIZES = 28, 42  # in that header
+AT_SEGMENTS, AT_SIZES = 28, 42  # offsets in that header of the place, and of the size and number, of the program headers
 SEGMENT = struct.Struct("<8I")
 LOAD = 1
 
 
 class Segment(NamedTuple):
-    """A program header (ELF, Program Header): an offset in the file, addresses, and sizes in the file and in memory, in bytes."""
-    kind: int
-    offset: int
-    virtual: int
-    address: int
-    in_file: int
-    in_memory: int
-    flags: int
-    alignment: int
+    """A program header (ELF, Program Header)."""
+    kind: int  # LOAD for a loaded segment
+    offset: int  # in the file, bytes
+    virtual: int  # the virtual address
+    address: int  # the physical address
+    in_file: int  # size in the file, bytes
+    in_memory: int  # size in memory, bytes
+    flags: int  # the access rights
+    alignment: int  # in bytes
 
 
 def segments_of(data: bytes) -> Iterator[Segment]:
@@ -37,21 +37,20 @@ def segments_of(data: bytes) -> Iterator[Segment]:
 
 @dataclass(frozen=True)
 class ScriptLine:
-    """A line of a script: its text in the file, its file and line number, and its text in the syntax of the bench."""
-    given: str
-    location: str
-    text: str
+    """A line of a script."""
+    given: str  # as in the file
+    location: str  # its file and line number
+    text: str  # in the syntax of the bench
     refused: str = ""  # why a name in it says no address, if one does not
 
 
 @dataclass(frozen=True)
 class Image:
-    """An image: the text that the bench reads before the line `--`, its bytes (None if the text is malformed), and the lines of the script
-    after that line."""
-    name: str
-    text: bytes
-    data: Optional[bytes]
-    script: tuple[ScriptLine, ...] = ()
+    """An image, and the script that follows it in the input."""
+    name: str  # its path
+    text: bytes  # what the bench reads before the line `--`
+    data: Optional[bytes]  # its bytes; None if the text is malformed
+    script: tuple[ScriptLine, ...] = ()  # the lines after `--`
 
     @property
     def is_elf(self) -> bool:

@@ -16,22 +16,21 @@ BRANCHES = ("beq", "bne", "blt", "bge", "bltu", "bgeu")
 
 
 class MemoryOperand(NamedTuple):
-    """The operand of a load (`r`) or store (`w`): `width` bytes at a base register and an offset, from or to another register."""
-    kind: str
-    width: int
-    base: int
-    offset: int
-    register: int
+    """The operand of a load or store."""
+    kind: str  # r for a load, w for a store
+    width: int  # bytes
+    base: int  # number of the base register
+    offset: int  # bytes, signed
+    register: int  # number of the loaded or stored register
 
 
 @dataclass(frozen=True, eq=False)
 class Instruction:
-    """A word of memory, as a reply of `dis` has it; equal replies have the same one. `operands` are the numbers of its registers and its
-    immediates, in the order of the text."""
-    word: str
-    text: str
-    name: str
-    operands: tuple[int, ...]
+    """A word of memory, as a reply of `dis` has it. Equal replies share one object."""
+    word: str  # in hexadecimal digits
+    text: str  # of the reply
+    name: str  # such as `addi`
+    operands: tuple[int, ...]  # numbers of registers and immediates, in the order of the text
     writes: int  # the register, 0 where there is none
 
     @property

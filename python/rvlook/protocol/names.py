@@ -29,13 +29,13 @@ CAUSES = {
 
 class Call(IntEnum):
     """The calls of the monitor, by a6."""
-    create = 1
-    destroy = 2
-    run = 3
-    resume = 4
-    measure = 5
-    stop = 6
-    exit = 7
+    create = 1  # creates an enclave
+    destroy = 2  # ends an enclave and clears its region
+    run = 3  # enters an enclave for the first time
+    resume = 4  # enters a stopped enclave again
+    measure = 5  # stores the measurement of an enclave
+    stop = 6  # of an enclave, which can be resumed
+    exit = 7  # of an enclave, which has ended
 
 
 NUMBERED = {call.value: call for call in Call}

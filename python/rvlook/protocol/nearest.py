@@ -12,7 +12,7 @@ LONGEST_NAME = 120  # characters of an unknown name; a longer one has no suggest
 
 
 def meant(name: str, known: Iterable[str], otherwise: str = "") -> str:
-    """Returns the end of a message about an unknown name: whether the most similar known name is meant, or another remedy if there is none."""
+    """Returns the end of a message about an unknown name: the most similar known name, or another remedy if no name is similar."""
     near = nearest(name, known)
     return "; did you mean '%s'?" % near if near else otherwise and "; " + otherwise
 

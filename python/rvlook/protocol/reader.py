@@ -36,18 +36,17 @@ def step_command(count: int) -> bytes:
 
 
 class Probe(NamedTuple):
-    """The questions about an instruction, after `is_after` steps, and the number of their registers. The first one is the base of its store, if it is
-    one. `skipped` registers are read only for that. `item` is what the reader makes of the instruction, None if it needs nothing."""
-    questions: bytes
-    registers: int
-    is_after: bool
-    store: Optional[MemoryOperand]
-    skipped: int
-    item: Any
+    """The questions about an instruction."""
+    questions: bytes  # the commands
+    registers: int  # number of the replies
+    is_after: bool  # whether the commands come after the step
+    store: Optional[MemoryOperand]  # its first reply is the base of this store; None without a store
+    skipped: int  # replies that are read only for the store, not for the item
+    item: Any  # what the reader makes of the instruction; None if it needs nothing
 
 
 def probe_of(line: bytes, need: Need[Item] | None, has_store: bool) -> Probe | None:
-    """Returns the questions about the instruction in a reply of `dis`: its need, and the base of its store; None if there are none."""
+    """Returns the questions about the instruction in a reply of `dis`: its need, and the base of its store. Returns None if there is no question."""
     code = instruction_of(line) if has_store else None
     store = code.memory if code and code.memory and code.memory.kind == "w" else None
     item, registers, is_after = need or (None, (), False)
@@ -59,35 +58,33 @@ def probe_of(line: bytes, need: Need[Item] | None, has_store: bool) -> Probe | N
 
 @dataclass(frozen=True)
 class Reads(Generic[Item]):
-    """The steps of a stretch: the reply of `dis` before each one; and of those that need something, by index, the items, and the place of their
-    registers in `values`."""
-    lines: Sequence[bytes]
-    indices: Sequence[int]
-    items: Sequence[Item]
-    starts: Sequence[int]
-    values: Sequence[int]
+    """The steps of a stretch as a reader needs them."""
+    lines: Sequence[bytes]  # the reply of `dis` before each step
+    indices: Sequence[int]  # of the steps that need something
+    items: Sequence[Item]  # what the reader makes of each of them
+    starts: Sequence[int]  # index of the first register of each of them in `values`
+    values: Sequence[int]  # of all registers
 
 
 @dataclass(frozen=True)
 class Asked(Generic[Item]):
-    """The probes of a stretch as columns: the index of the step, the number of registers before it, the store, the registers to skip, and the item.
-    `text` has the commands for all of them. `calls` are the indices of the steps after which the instructions are listed again."""
-    lines: Sequence[bytes]
-    indices: Sequence[int]
-    starts: Sequence[int]
-    stores: Sequence[Optional[MemoryOperand]]
-    skipped: Sequence[int]
-    items: Sequence[Optional[Item]]
-    calls: Sequence[int]
-    text: bytes
+    """The probes of a stretch as columns, with one element for each probe."""
+    lines: Sequence[bytes]  # the reply of `dis` before each step of the stretch
+    indices: Sequence[int]  # of the steps
+    starts: Sequence[int]  # registers that earlier probes read
+    stores: Sequence[Optional[MemoryOperand]]  # None without a store
+    skipped: Sequence[int]  # registers to skip
+    items: Sequence[Optional[Item]]  # None if the reader needs nothing
+    calls: Sequence[int]  # indices of the steps after which the instructions are listed again
+    text: bytes  # the commands for all probes
 
 
 class Reader(Closing, Generic[Item]):
     """A bench that follows a run, stretch after stretch. `needs` returns what is needed of the instruction in a reply of `dis`, or None."""
 
     def __init__(self, run: Run, needs: Callable[[bytes], Optional[Need[Item]]]) -> None:
-        self.run, self.replay, self.needs = run, run.replay(), needs
-        self.probes: Dict[Tuple[bytes, bool], Optional[Probe]] = {}
+        self.run, self.replay, self.needs = run, run.replay(), needs  # `replay` follows the run
+        self.probes: Dict[Tuple[bytes, bool], Optional[Probe]] = {}  # by the reply of `dis`, and whether stores are read
 
     def close(self) -> None:
         """Ends the bench."""
@@ -120,7 +117,7 @@ class Reader(Closing, Generic[Item]):
         return reads_of(asked, values_of(replay.bench.block(asked.text, asked.text.count(b"\n"))))
 
     def probe(self, line: bytes, has_store: bool) -> Probe | None:
-        """Returns the questions about the instruction in a reply of `dis`; None if there are none."""
+        """Returns the questions about the instruction in a reply of `dis`, or None if there is no question."""
         if (line, has_store) not in self.probes:
             self.probes[line, has_store] = probe_of(line, self.needs(line), has_store)
         return self.probes[line, has_store]

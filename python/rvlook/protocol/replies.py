@@ -14,41 +14,41 @@ RanFields = Tuple[bytes, bytes, bytes, bytes]  # of RAN_FIELDS: pc, mode, world 
 
 
 class Location(NamedTuple):
-    """The position of a hart: pc in eight hexadecimal digits, mode and world."""
-    pc: str
-    mode: str
-    world: str
+    """The position of a hart."""
+    pc: str  # eight hexadecimal digits
+    mode: str  # M, S or U
+    world: str  # bare, host, or an enclave such as `e0`
 
 
 @dataclass(frozen=True)
 class RanTrap:
-    """A trap, by its cause and value."""
-    cause: str
-    value: str
+    """A trap of a step."""
+    cause: str  # mcause, eight hexadecimal digits
+    value: str  # mtval, eight hexadecimal digits
 
 
 @dataclass(frozen=True)
 class Ran:
     """The reply of `step` and `run`."""
-    steps: int
-    pc: str
-    mode: str
-    world: str
-    why: str
-    trap: Optional[RanTrap]
+    steps: int  # that were done
+    pc: str  # after them, eight hexadecimal digits
+    mode: str  # after them
+    world: str  # after them
+    why: str  # why they ended
+    trap: Optional[RanTrap]  # of the last step; None without a trap
 
 
 @dataclass(frozen=True)
 class Enclave:
     """A line of `enclaves`."""
-    slot: int
-    state: str
-    base: int
-    size: int
-    window: int
-    window_size: int
-    entry: int
-    measurement: str
+    slot: int  # its number
+    state: str  # Fresh, Running, Stopped or Exited
+    base: int  # first address of the region
+    size: int  # of the region, bytes
+    window: int  # first address of the window
+    window_size: int  # bytes
+    entry: int  # address of its first instruction
+    measurement: str  # in hexadecimal digits
 
     @property
     def world(self) -> str:
@@ -67,8 +67,8 @@ class Enclave:
 @dataclass(frozen=True)
 class PmpEntry:
     """A line of `pmp`."""
-    cfg: int
-    addr: int
+    cfg: int  # the byte of pmpcfg
+    addr: int  # pmpaddr, in units of 4 bytes
 
 
 @lru_cache(maxsize=4096)

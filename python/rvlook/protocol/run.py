@@ -28,16 +28,16 @@ OUTSIDE = "rvbench: image 9"
 
 @dataclass(frozen=True)
 class Setup:
-    """The configuration of a run: the image, the lines of the script, and the options of the bench."""
-    image: Image
+    """The configuration of a run."""
+    image: Image  # that is loaded
     lines: tuple[ScriptLine, ...] = ()  # of the script
-    monitor: bool = False
-    ram: int = 1 << 20
-    kind: str = "auto"
-    harts: int = 1
+    monitor: bool = False  # whether the security monitor runs
+    ram: int = 1 << 20  # bytes
+    kind: str = "auto"  # of the image, see --kind
+    harts: int = 1  # their number, 1 or 2
     limit: int = 1000000  # the most steps after the script
     schedule: str = ""  # of the harts after the script: digits that repeat; empty for the chosen hart alone
-    symbols: Symbols = field(default_factory=Symbols, compare=False)
+    symbols: Symbols = field(default_factory=Symbols, compare=False)  # name addresses
 
     @property
     def script(self) -> tuple[str, ...]:
@@ -72,27 +72,26 @@ class Setup:
 @dataclass(frozen=True)
 class End:
     """The end of a run."""
-    steps: int
-    why: str
-    pc: str
-    mode: str
-    world: str
+    steps: int  # of the run
+    why: str  # halted or limit
+    pc: str  # eight hexadecimal digits
+    mode: str  # of the hart
+    world: str  # of the hart
 
 
 class Run:
-    """A configuration with the plan of its script. `hart` is the chosen hart after the script, `errors` the lines that rvbench rejected, each
-    with its reply."""
+    """A configuration with the plan of its script."""
 
     def __init__(self, setup: Setup) -> None:
-        self.setup, self.hart, self.length = setup, 0, 0
-        self.plan: list[Line | ScheduledSteps] = []
-        self.errors: list[tuple[ScriptLine, str]] = []
-        self.mode, self.world = ("S", "host") if setup.monitor else ("M", "bare")
+        self.setup, self.hart, self.length = setup, 0, 0  # `hart`: chosen after the script; `length`: steps of the script
+        self.plan: list[Line | ScheduledSteps] = []  # what the script does, and the steps by a schedule after it
+        self.errors: list[tuple[ScriptLine, str]] = []  # lines that rvbench rejected, with its replies
+        self.mode, self.world = ("S", "host") if setup.monitor else ("M", "bare")  # at reset, as `world` and `pc`
         self.kept: list[Line | Stretch | End] = []  # what `stretches` has yielded
-        self.is_known = False  # all of it
+        self.is_known = False  # whether `kept` has the whole run
         self.ended: str | None = None  # why the run ended, if the plan has its steps after the script
         with setup.bench() as bench:
-            self.pc = bench.ask("regs")[0][32][3:]
+            self.pc = bench.ask("regs")[0][32][3:]  # at reset, eight hexadecimal digits
             for line in setup.lines:
                 self.play(bench, line)
             if setup.schedule:
@@ -228,7 +227,7 @@ class Run:
 
 
 def equal_at_end(lines: Sequence[AnyStr]) -> int:
-    """Returns how many lines at the end are the same."""
+    """Returns how many lines at the end are equal."""
     count = 1
     while count < len(lines) and lines[-1 - count] == lines[-1]:
         count += 1
@@ -236,7 +235,7 @@ def equal_at_end(lines: Sequence[AnyStr]) -> int:
 
 
 def equal_lines_at_end(data: bytes) -> int:
-    """Returns the same for replies to single steps as one text. No such reply is the end of another one."""
+    """Returns how many lines at the end of the replies to single steps, given as one text, are equal. No such reply is the end of another one."""
     at = begin_of_last(1, data)
     line, count = data[at:], 1
     while at and data.endswith(line, 0, at):

@@ -13,37 +13,36 @@ SHARED = 16  # stretches whose columns are kept
 
 @dataclass(frozen=True)
 class Columns:
-    """The steps of a stretch, as the bytes of the replies: the pc, the mode and the world before each step, its trap, and the world after it."""
-    pcs: Sequence[bytes]
-    modes: Sequence[bytes]
-    worlds: Sequence[bytes]
-    traps: Sequence[bytes]
-    after: Sequence[bytes]
+    """The steps of a stretch, as the bytes of the replies. Each column has one element for each step."""
+    pcs: Sequence[bytes]  # before the step
+    modes: Sequence[bytes]  # before the step
+    worlds: Sequence[bytes]  # before the step
+    traps: Sequence[bytes]  # of the step, a hyphen without a trap
+    after: Sequence[bytes]  # world after the step
 
 
 @dataclass
 class Stretch:
-    """`count` single steps of one hart with their replies; the first has the number `first`. `before` is where the hart is before it, and `lines`
-    has the reply of `dis` before each step, once a reader has decoded them."""
-    first: int
-    hart: int
-    data: bytes
-    count: int
-    before: RanFields = (b"", b"", b"", NO_TRAP)
-    lines: Sequence[bytes] = ()
+    """Single steps of one hart with their replies."""
+    first: int  # number of the first step in the run
+    hart: int  # that steps
+    data: bytes  # the replies, a line for each step
+    count: int  # number of steps
+    before: RanFields = (b"", b"", b"", NO_TRAP)  # where the hart is before the first step
+    lines: Sequence[bytes] = ()  # the reply of `dis` before each step; empty until a reader has decoded them
 
     @property
     def last(self) -> RanFields:
-        """Returns the fields of the reply to its last step."""
+        """Returns the fields of the reply to the last step."""
         return fields_of(self.data[self.data.rfind(b"\n", 0, -1) + 1:-1])
 
     @property
     def columns(self) -> Columns:
-        """Returns its steps as columns."""
+        """Returns the steps as columns."""
         return columns_of(self.data, self.before)
 
     def by_world(self) -> Iterator[Stretch]:
-        """Yields its steps in parts, each in one world."""
+        """Yields the steps in parts, each in one world."""
         worlds, at, before = self.columns.worlds, 0, self.before
         if worlds.count(worlds[0]) == self.count:
             yield self

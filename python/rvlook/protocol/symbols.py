@@ -22,10 +22,10 @@ UNSIZED = 4096  # bytes that a symbol without a size has at most
 
 @dataclass
 class Unit:
-    """A compilation unit: its address ranges, each without its end, and functions that read its line table and its inlined calls."""
-    ranges: Sequence[tuple[int, int]]
-    read_rows: Callable[[], Iterable[Row]] = tuple
-    read_inlined: Callable[[], Iterable[Inlined]] = tuple
+    """A compilation unit."""
+    ranges: Sequence[tuple[int, int]]  # of its addresses, each without its end
+    read_rows: Callable[[], Iterable[Row]] = tuple  # reads the line table
+    read_inlined: Callable[[], Iterable[Inlined]] = tuple  # reads the inlined calls
 
     def overlaps(self, first: int, end: int) -> bool:
         """Returns whether the unit has addresses from `first` up to before `end`."""
@@ -49,23 +49,23 @@ class Unit:
 
 @dataclass(frozen=True)
 class Symbol:
-    """A name at an address; size 0 if it is not known."""
-    address: int
-    size: int
-    name: str
-    is_function: bool
+    """A name at an address."""
+    address: int  # the address
+    size: int  # bytes; 0 if unknown
+    name: str  # the name
+    is_function: bool  # whether a symbol table says so
     rank: int = 0  # the lower one names the address where there are more
 
 
 class Symbols:
-    """`symbols` are in any order; `units` are the compilation units, which have the source lines."""
+    """The symbols and the source lines of a program. `symbols` are in any order; `units` have the source lines."""
 
     def __init__(self, symbols: Sequence[Symbol] = (), units: Iterable[Unit] = ()) -> None:
-        self.units = list(units)
+        self.units = list(units)  # have the source lines
         best = {it.address: it for it in sorted(symbols, key=lambda it: (it.rank, it.name), reverse=True)}
-        self.ordered = [best[address] for address in sorted(best) if address >= RAM_BASE]
-        self.addresses = [symbol.address for symbol in self.ordered]
-        self.by_name = {it.name: it for it in reversed(symbols)}
+        self.ordered = [best[address] for address in sorted(best) if address >= RAM_BASE]  # one for each address in RAM, in the order of addresses
+        self.addresses = [symbol.address for symbol in self.ordered]  # of `ordered`
+        self.by_name = {it.name: it for it in reversed(symbols)}  # the first one of each name
         self.addresses_by_name = defaultdict(set)  # of each name
         for symbol in symbols:
             self.addresses_by_name[symbol.name].add(symbol.address)
@@ -145,8 +145,8 @@ class Symbols:
         return "%s, in %s" % (caller, source) if caller and source else source
 
     def address(self, text: str) -> int | None:
-        """Returns the address of a name, a name+offset or hexadecimal digits, or None. For an ambiguous name, name@place is the first at or
-        after a place. Raises SymbolError."""
+        """Returns the address of a name, a name+offset or hexadecimal digits, or None. For an ambiguous name, name@place is the first at or after
+        a place. Raises SymbolError if the name is ambiguous, or if no symbol of this name is at or after the place."""
         named, plus, offset = text.partition("+")
         name, at, start = named.partition("@")
         try:
@@ -157,7 +157,8 @@ class Symbols:
             return None
 
     def address_of(self, name: str, first: int | None) -> int:
-        """Returns the address of a name: the only one, or the first from an address on. Raises SymbolError."""
+        """Returns the address of a name: the only one, or the first from an address on. Raises SymbolError if there is no such address or more
+        than one."""
         addresses = sorted(self.addresses_by_name[name])
         if first is not None:
             addresses = [it for it in addresses if it >= first][:1]

@@ -1,5 +1,5 @@
-"""A bench and its history since reset. The same commands give the same run each time, so an earlier step is reached by repeating them on
-another bench. Steps are counted over all harts."""
+"""A bench and its history since reset. Equal commands give equal runs, so an earlier step is reached by repeating the commands on another bench.
+Steps are counted over all harts."""
 from __future__ import annotations
 
 import re
@@ -23,9 +23,9 @@ MOST_STEPS = 1000000  # of one command
 
 @dataclass(frozen=True)
 class ScheduledSteps:
-    """`count` steps by the schedule `turns`, whose digits name harts and repeat."""
-    turns: str
-    count: int
+    """Steps by a schedule."""
+    turns: str  # digits that name the hart of each step, and repeat
+    count: int  # number of steps
 
     @property
     def chosen(self) -> list[str]:
@@ -59,13 +59,12 @@ class ScheduledSteps:
 
 @dataclass(frozen=True)
 class Line:
-    """A line of a script that does no step, in the syntax of the bench, with the hart that is chosen after it. `replies` are the replies to it, and
-    `given` is the line as in the script. A hidden line is a part of another line."""
-    text: str
-    hart: int
-    replies: tuple[str, ...] = field(default=(), compare=False)
-    hidden: bool = field(default=False, compare=False)
-    given: str = field(default="", compare=False)
+    """A line of a script that does no step."""
+    text: str  # in the syntax of the bench
+    hart: int  # that is chosen after the line
+    replies: tuple[str, ...] = field(default=(), compare=False)  # to the line
+    hidden: bool = field(default=False, compare=False)  # whether it is a part of another line
+    given: str = field(default="", compare=False)  # as in the script
 
     @property
     def is_refused(self) -> bool:
@@ -139,21 +138,20 @@ def agree(one: str, other: str, count: int) -> bool:
 
 
 class Timeline(Closing):
-    """A bench after the actions in `past`. `future` has the actions that follow: those of a run, or those that were done before the user went back,
-    as long as the same ones are repeated. The caller sends what `lines_to` and `lines_up_to_next` return.
-    `modes` and `worlds` are those of each hart, and `stops` the breakpoints and watchpoints. `changes` counts the actions that may have changed a
-    register or a byte, and `moved`, for each hart, those that may have changed its world."""
+    """A bench after the actions in `past`. `future` has the actions that follow: those of a run, or those that were done before the user went
+    back. It stays as long as the user repeats its actions. The caller sends what `lines_to` and `lines_up_to_next` return."""
 
     def __init__(self, setup: Setup, past: Iterable[Action] = (), hart: int = 0, future: Iterable[Action] = ()) -> None:
-        self.setup = setup
-        self.past: list[Action] = []
-        self.future: deque[Action] = deque(future)
-        self.stops: dict[str, None] = {}
-        self.position = self.hart = self.changes = 0
+        self.setup = setup  # of the bench
+        self.past: list[Action] = []  # the actions so far
+        self.future: deque[Action] = deque(future)  # the actions that follow
+        self.stops: dict[str, None] = {}  # the commands that set breakpoints and watchpoints
+        self.position = self.hart = self.changes = 0  # `position`: steps so far; `changes`: actions that may have changed a register or a byte
         mode, world = ("S", "host") if setup.monitor else ("M", "bare")
+        # of each hart; `moved` counts actions that may have changed its world
         self.modes, self.worlds, self.moved = [mode] * setup.harts, [world] * setup.harts, [0] * setup.harts
-        self.bench = setup.bench()
-        self.given: list[tuple[str, int]] = []
+        self.bench = setup.bench()  # after all actions
+        self.given: list[tuple[str, int]] = []  # commands whose replies are not read yet, and their harts
         self.follow(past, hart)
 
     @staticmethod
@@ -254,7 +252,7 @@ class Timeline(Closing):
                 self.reach(number, mode, world, trap != "-")
 
     def reach(self, hart: int, mode: str, world: str, trapped: object) -> None:
-        """Sets mode and world of a hart. If it trapped on the way, it may have been in other worlds."""
+        """Sets mode and world of a hart. If the hart trapped on the way, it may have been in other worlds."""
         self.moved[hart] += bool(trapped or world != self.worlds[hart])
         self.modes[hart], self.worlds[hart] = mode, world
 
@@ -302,7 +300,7 @@ class Timeline(Closing):
     # the way forward
 
     def lines_to(self, step: int) -> list[str]:
-        """Returns the commands of the future up to a step, without those right after it. After the future the chosen hart continues."""
+        """Returns the commands of the future up to a step, without the commands right after the step. After the future the chosen hart continues."""
         lines: list[str] = []
         while self.position < step:
             head = self.future[0] if self.future else ScheduledSteps(str(self.hart), step - self.position)
@@ -395,7 +393,7 @@ class Timeline(Closing):
         return schedule
 
     def step_before(self, hart: int) -> int | None:
-        """Returns the step before the last one of a hart, or None if it did none."""
+        """Returns the step before the last one of a hart, or None if the hart did no step."""
         at = self.position
         for action in reversed(self.past):
             if isinstance(action, ScheduledSteps):

@@ -26,30 +26,30 @@ NONE = "00000000"  # cause and pc of a trap before the first one
 
 class Why(Enum):
     """Why a program ended."""
-    end = "ended"
-    loop = "endless loop"
-    hang = "endless loop that is no end"
-    fault = "fault"
-    limit = "limit"
+    end = "ended"  # the program has called finish(status)
+    loop = "endless loop"  # a hart jumps to itself, where a program may end
+    hang = "endless loop that is no end"  # a hart jumps to itself in an enclave or in the middle of a function
+    fault = "fault"  # a jump to 0, or an instruction that traps again and again
+    limit = "limit"  # of --steps
 
 
 @dataclass(frozen=True)
 class ProgramEnd:
-    """The end of a program: its location, its exit status, and a text with the reason."""
-    why: Why
-    at: Location
-    status: int
-    text: str
+    """The end of a program."""
+    why: Why  # the kind of the end
+    at: Location  # where the hart is
+    status: int  # the exit status
+    text: str  # the reason
 
 
 class Emulator:
-    """A program that runs. `left` counts the steps to the limit."""
+    """A program that runs."""
 
     def __init__(self, run: Run, schedule: str, printer: Printer) -> None:
-        self.run, self.schedule, self.printer, self.left = run, schedule, printer, run.setup.limit
-        self.symbols = run.setup.symbols
+        self.run, self.schedule, self.printer, self.left = run, schedule, printer, run.setup.limit  # `left`: steps to the limit
+        self.symbols = run.setup.symbols  # name addresses
         self.probed = 0  # steps that do not count for the limit
-        self.consoles = consoles_of(self.symbols)
+        self.consoles = consoles_of(self.symbols)  # that the program has
 
     @property
     def steps(self) -> int:

@@ -26,11 +26,11 @@ PRIVILEGE = {"M": 3, "S": 1, "U": 0}  # of the log of Spike
 @dataclass(frozen=True)
 class Filter:
     """The steps that are wanted."""
-    first: int = 1
-    last: Optional[int] = None
-    world: Optional[str] = None
-    function: Optional[str] = None
-    traps: bool = False
+    first: int = 1  # number of the first step
+    last: Optional[int] = None  # number of the last step; None: to the end
+    world: Optional[str] = None  # None: any
+    function: Optional[str] = None  # None: any
+    traps: bool = False  # whether only steps that trap are wanted
 
     def takes(self, step: TracedStep, symbols: Symbols) -> bool:
         """Returns whether a step is wanted. On the bare bench a mode selects a world, too."""
@@ -77,10 +77,10 @@ def lines_of(step: TracedStep, consoles: Sequence[Console]) -> Iterable[tuple[st
 @dataclass
 class ObjectTrace:
     """Writes a trace as objects."""
-    run: Run
-    symbols: Symbols
-    printer: ObjectWriter
-    sites: dict[tuple[str, Optional[Instruction]], dict[str, Optional[str]]] = field(default_factory=dict)
+    run: Run  # that is traced
+    symbols: Symbols  # name addresses
+    printer: ObjectWriter  # takes the objects
+    sites: dict[tuple[str, Optional[Instruction]], dict[str, Optional[str]]] = field(default_factory=dict)  # the constant members of a step, cached
 
     def step(self, step: TracedStep) -> None:
         """Writes a step."""
@@ -93,7 +93,7 @@ class ObjectTrace:
             next={"pc": step.next.pc, "mode": step.next.mode, "world": step.next.world})
 
     def site(self, step: TracedStep) -> dict[str, str | None]:
-        """Returns what is the same each time at a pc and an instruction."""
+        """Returns the members that depend only on the pc and the instruction."""
         key = step.at.pc, step.instruction
         if key not in self.sites:
             pc, instruction = int(step.at.pc, 16), step.instruction
@@ -140,22 +140,22 @@ class ObjectTrace:
 
 @dataclass(frozen=True)
 class Site:
-    """The constant part of a line: the text of an instruction, its function and its source line."""
-    text: str
-    function: Optional[str]
-    source: Optional[str]
+    """The constant part of a line."""
+    text: str  # of the instruction
+    function: Optional[str]  # None if unknown
+    source: Optional[str]  # source line; None if unknown
 
 
 @dataclass
 class Lines:
-    """Prints a trace as lines. A heading shows world, mode and function if they change; so does the source line."""
-    run: Run
-    symbols: Symbols
-    printer: Printer
-    is_short: bool = False
-    heading: tuple[object, ...] = ()
-    source: Optional[str] = None
-    sites: dict[tuple[str, Optional[Instruction]], Site] = field(default_factory=dict)
+    """Prints a trace as lines. A heading shows world, mode and function if they change. The source line is also shown only if it changes."""
+    run: Run  # that is traced
+    symbols: Symbols  # name addresses
+    printer: Printer  # prints the lines
+    is_short: bool = False  # whether instructions are in the manual's short form
+    heading: tuple[object, ...] = ()  # hart, world, mode and function of the last step
+    source: Optional[str] = None  # of the last step; None if unknown
+    sites: dict[tuple[str, Optional[Instruction]], Site] = field(default_factory=dict)  # cached
 
     def step(self, step: TracedStep) -> None:
         """Prints a step."""

@@ -24,33 +24,32 @@ VALUE = re.compile(r"x\d+=(.{8})")  # of a register, in a reply
 
 
 class Touch(NamedTuple):
-    """A load (`r`) or store (`w`), derived from the instruction and the registers before it. The value has two digits for each byte; there is
-    none if the step trapped, or the loaded value was discarded."""
-    kind: str
-    address: int
-    width: int
-    done: bool
-    value: Optional[str]
+    """A load or store, derived from the instruction and the registers before it."""
+    kind: str  # r for a load, w for a store
+    address: int  # of the first byte
+    width: int  # bytes
+    done: bool  # false if the step trapped
+    value: Optional[str]  # two digits for each byte; None after a trap, or if the loaded value was discarded
 
 
 class CallMade(NamedTuple):
     """A call of the monitor, derived from the registers before the ecall."""
-    call: names.Call
-    arguments: dict[str, int]
-    slot: Optional[int]
+    call: names.Call  # by a6
+    arguments: dict[str, int]  # by name
+    slot: Optional[int]  # of the enclave; None if it is unknown
 
 
 class TracedStep(NamedTuple):
-    """One step: `at` is before it and `next` after it; `changed` has the registers with another value after it."""
-    number: int
-    hart: int
-    at: Location
-    instruction: Optional[Instruction]
-    changed: dict[int, str]
-    touch: Optional[Touch]
-    call: Optional[CallMade]
-    trap: Optional[RanTrap]
-    next: Location
+    """One step."""
+    number: int  # in the run, from 1
+    hart: int  # that did it
+    at: Location  # before the step
+    instruction: Optional[Instruction]  # None if it could not be fetched
+    changed: dict[int, str]  # registers with another value after the step, in hexadecimal digits
+    touch: Optional[Touch]  # its load or store; None without one
+    call: Optional[CallMade]  # of the monitor; None for another step
+    trap: Optional[RanTrap]  # None without a trap
+    next: Location  # after the step
     written: Optional[str] = None  # what the register that it writes is after it
 
     @property
@@ -77,11 +76,11 @@ class TracedStep(NamedTuple):
 
 
 class TracedCommand(NamedTuple):
-    """A line of the script that does no step, after the step of that number."""
-    step: int
-    hart: int
-    line: str
-    replies: tuple[str, ...]
+    """A line of the script that does no step."""
+    step: int  # number of the step before it
+    hart: int  # that is chosen after it
+    line: str  # in the syntax of the bench
+    replies: tuple[str, ...]  # to the line
     given: str  # as in the script
 
 
@@ -89,25 +88,25 @@ Done = Tuple[RanFields, Optional[Instruction]]  # a step: the fields of its repl
 
 
 class Hart:
-    """A hart before its next step: where it is, and the digits of x0 to x31, none if they must be read."""
+    """A hart before its next step."""
 
     def __init__(self, location: Location) -> None:
-        self.location = location
-        self.registers: list[str] = []
+        self.location = location  # pc, mode and world
+        self.registers: list[str] = []  # x0 to x31 in hexadecimal digits; empty if they must be read
 
 
 class RunTracer:
     """The steps from `first` to `last`, with the lines of the script between them."""
 
     def __init__(self, run: Run, first: int = 1, last: int | None = None) -> None:
-        self.run, self.first, self.last = run, first, last
+        self.run, self.first, self.last = run, first, last  # `last`: None: to the end
         start = Location(run.pc, run.mode, run.world)
-        self.harts = [Hart(start) for _ in range(run.setup.harts)]
-        self.position = self.hart = 0
+        self.harts = [Hart(start) for _ in range(run.setup.harts)]  # before their next steps
+        self.position = self.hart = 0  # steps so far; the chosen hart
 
     def events(self) -> Iterator[TracedCommand | TracedStep | End]:
-        """Yields Command, Step and End in the order of the run. Two benches follow the first one, which reports each pc: one decodes the
-        instructions, the other reads the register that each writes."""
+        """Yields each TracedCommand, each TracedStep and the End in the order of the run. Two benches follow the first one, which reports each pc:
+        one decodes the instructions, the other reads the register that each instruction writes."""
         with Reader[None](self.run, lambda line: None) as decoder, self.run.replay() as reader:
             for item in self.run.stretches():
                 if isinstance(item, Line):

@@ -9,7 +9,7 @@ from typing import Tuple
 
 from rvlook.protocol.instructions import BRANCHES, Instruction, instruction_of
 
-SP, A0, A1, A6 = 2, 10, 11, 16
+SP, A0, A1, A6 = 2, 10, 11, 16  # numbers of registers
 LINKS = (1, 5)  # registers that hold a return address (Unprivileged ISA, section 2.5)
 SAVED = {1, 8, 9, *range(18, 28)}  # ra and the callee-saved registers
 SOURCES = re.compile(r"\bx(\d+)")
@@ -17,15 +17,15 @@ SOURCES = re.compile(r"\bx(\d+)")
 
 class Kind(Enum):
     """The kind of an instruction, as far as a trace distinguishes it."""
-    LOAD = "r"
-    STORE = "w"
-    BRANCH = "branch"
+    LOAD = "r"  # any load
+    STORE = "w"  # any store
+    BRANCH = "branch"  # conditional
     CALL = "call"  # with its target in the instruction
     INDIRECT = "indirect"  # a call or jump to the address in a register
-    RETURN = "return"
-    TRAP_RETURN = "trap return"
-    ECALL = "ecall"
-    OTHER = "other"
+    RETURN = "return"  # to the address in ra or t0
+    TRAP_RETURN = "trap return"  # sret
+    ECALL = "ecall"  # a call of the monitor
+    OTHER = "other"  # any other instruction
 
 
 ENDS_BLOCK = (Kind.BRANCH, Kind.CALL, Kind.INDIRECT, Kind.RETURN, Kind.TRAP_RETURN, Kind.ECALL)
@@ -33,19 +33,16 @@ ENDS_BLOCK = (Kind.BRANCH, Kind.CALL, Kind.INDIRECT, Kind.RETURN, Kind.TRAP_RETU
 
 @dataclass(frozen=True, eq=False)
 class Code:
-    """A decoded instruction; equal replies of `dis` have the same one.
-
-    `probes` are the registers to read before it: of a load the base, of a store the base and the stored register, of an ecall a6 and a1. `link`
-    is the register that receives the return address, 0 if none. `writes` is the destination register, `sources` are the operands."""
-    kind: Kind
-    text: str
-    probes: Tuple[int, ...] = ()
-    width: int = 0
-    offset: int = 0
-    link: int = 0
-    writes: int = 0
-    sources: Tuple[int, ...] = ()
-    moves_sp: int = 0
+    """A decoded instruction. Equal replies of `dis` share one object. A register is given by its number; 0 means no register."""
+    kind: Kind  # the kind
+    text: str  # as `dis` writes it; empty if it cannot be fetched
+    probes: Tuple[int, ...] = ()  # registers to read before it: base and stored register, or a6 and a1
+    width: int = 0  # bytes of a load or store
+    offset: int = 0  # of a load or store, signed
+    link: int = 0  # receives the return address
+    writes: int = 0  # the destination register
+    sources: Tuple[int, ...] = ()  # the operands
+    moves_sp: int = 0  # bytes by which it moves sp, if it lowers sp by a constant; else 0
 
     @cached_property
     def is_access(self) -> bool:

@@ -11,17 +11,18 @@ DEEPEST = 200  # calls that are open at the same time; deeper ones count as one
 
 
 class Contexts:
-    """The call contexts of all traces, by number. A context is its caller's context and the call."""
+    """The call contexts of all traces, by number. A context is the context of the caller with one more call."""
 
     def __init__(self) -> None:
-        self.numbers: dict[tuple[int, int], int] = {}
+        self.numbers: dict[tuple[int, int], int] = {}  # by the context and the pc of the call
+        # by number: the caller's context, the pc of the call, the open calls, and whether a trap opened it
         self.parents, self.calls, self.depths, self.traps = [ROOT], [0], [0], [False]
         self.frames: dict[int, int] = {}  # sp of each context
         self.version = 0  # counts the changes of frames and saved registers
         self.saved: dict[int, set[int]] = {}  # the addresses at which a context saves registers of its caller
 
     def after(self, context: int, code: Code, pc: int, following: int, trap: tuple[int, int] | None) -> int:
-        """Returns the context after a step. `trap` is the cause and value of its trap, unless the enclave left."""
+        """Returns the context after a step. `trap` is the cause and the value of the trap of the step, or None."""
         if trap and trap[0] != MONITOR_CALL:
             return self.called(context, pc, is_trap=True)
         if code.kind in (Kind.CALL, Kind.INDIRECT) and code.link in LINKS:

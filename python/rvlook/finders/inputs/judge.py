@@ -1,4 +1,4 @@
-"""Compares traces with those before them: which code and which objects they reach that no earlier one did, and which of this is a finding."""
+"""Judges traces: which code and which objects a trace reaches that no earlier trace reached, and which of its steps are findings."""
 from __future__ import annotations
 
 from collections import defaultdict
@@ -12,7 +12,7 @@ from rvlook.finders.inputs.trace import LEFT, Trace
 from rvlook.finders.inputs.tracer import Tracer
 from rvlook.protocol.names import MARKS
 
-MEASURE, DIGEST = 5, 32  # the number of the call, and the bytes that it stores
+MEASURE, DIGEST = 5, 32  # the number of the monitor call `measure`, and the bytes that it stores
 NO_FAULTS = (3, 8, 9)  # causes: ebreak and ecall
 STRIDE = 64  # bytes between two accesses of a loop
 DISTINCT = 3  # addresses of an access, of which the host chooses one
@@ -23,33 +23,32 @@ Way = Tuple[int, int, int]  # a pc, a call context, and an address
 
 
 class What(Enum):
-    """The kind of a finding."""
-    LOAD = "load"
-    STORE = "store"
-    CALL = "call"
-    RETURN = "return"
-    FAULT = "fault"
-    STUCK = "no return"
-    SECRET = "secret"
-    CHECK = "check"
-    REPLAY = "replay"
+    """The kind of a finding, with its name in the report."""
+    LOAD = "load"  # from an object that the instruction usually does not reach
+    STORE = "store"  # to such an object
+    CALL = "call"  # a call or jump to an address that the host chooses
+    RETURN = "return"  # to another address than that of the call
+    FAULT = "fault"  # a trap that the run itself does not have
+    STUCK = "no return"  # the enclave does not return
+    SECRET = "secret"  # the secret comes out at an input
+    CHECK = "check"  # the secret comes out although a check failed, or without the check
+    REPLAY = "replay"  # an older state is accepted again
 
 
 @dataclass
 class InputFinding:
-    """A finding: its trace, the index of the step, the address of the access, the object there, and those that the access reaches in other runs.
-    `is_walk` says that the access moves over the end of one of these. `note` is a further text."""
-    what: What
-    trace: Trace
-    index: int
-    pc: int
-    place: ObjectPlace = ObjectPlace("")
-    address: int = 0
-    usual: tuple[str, ...] = ()
-    is_walk: bool = False
-    note: str = ""
-    is_sure: bool = True
-    context: int = 0
+    """A finding in a trace."""
+    what: What  # its kind
+    trace: Trace  # has the changes that lead to it
+    index: int  # of the step in the trace
+    pc: int  # of the step
+    place: ObjectPlace = ObjectPlace("")  # the object at the address
+    address: int = 0  # of the access, or the target of the jump
+    usual: tuple[str, ...] = ()  # names of the objects that the instruction reaches in other runs
+    is_walk: bool = False  # whether the access moves over the end of a usual object
+    note: str = ""  # a further text for the report
+    is_sure: bool = True  # false: only a finding if the access reaches more addresses
+    context: int = 0  # the call context of the step
     after: tuple[Key, ...] = ()  # accesses before it in the trace that were no sure finding then
 
     @property
@@ -60,23 +59,23 @@ class InputFinding:
 
 @dataclass
 class Seen:
-    """Results of the traces up to now: pairs of pcs, branches, the objects and the addresses of each access, targets of jumps, and traps."""
-    pairs: set[tuple[int, int]] = field(default_factory=set)
-    objects: dict[Key, set[ObjectPlace]] = field(default_factory=dict)
-    first: dict[Key, set[ObjectPlace]] = field(default_factory=dict)
-    addresses: dict[Key, set[int]] = field(default_factory=lambda: defaultdict(set))
-    reached: set[tuple[Key, ObjectPlace]] = field(default_factory=set)
-    targets: dict[Key, set[int]] = field(default_factory=lambda: defaultdict(set))
-    traps: set[tuple[int, int]] = field(default_factory=set)
-    pcs: set[int] = field(default_factory=set)
+    """The results of the traces so far."""
+    pairs: set[tuple[int, int]] = field(default_factory=set)  # pcs before and after the end of a block
+    objects: dict[Key, set[ObjectPlace]] = field(default_factory=dict)  # that each access reaches in the run itself
+    first: dict[Key, set[ObjectPlace]] = field(default_factory=dict)  # that each other access reached when it was first seen
+    addresses: dict[Key, set[int]] = field(default_factory=lambda: defaultdict(set))  # of each access
+    reached: set[tuple[Key, ObjectPlace]] = field(default_factory=set)  # by accesses, in any trace
+    targets: dict[Key, set[int]] = field(default_factory=lambda: defaultdict(set))  # of jumps, in the run itself
+    traps: set[tuple[int, int]] = field(default_factory=set)  # pc and cause, in the run itself
+    pcs: set[int] = field(default_factory=set)  # of all steps
 
 
 class TraceJudge:
-    """Judges the traces of a search. `findings` has one for each access, object and kind."""
+    """Judges the traces of a search."""
 
     def __init__(self, tracer: Tracer, objects: Objects, base: Trace) -> None:
-        self.tracer, self.objects, self.base, self.seen = tracer, objects, base, Seen()
-        self.findings: dict[tuple[object, ...], InputFinding] = {}
+        self.tracer, self.objects, self.base, self.seen = tracer, objects, base, Seen()  # `base` is the trace of the run itself
+        self.findings: dict[tuple[object, ...], InputFinding] = {}  # the best one for each access, object and kind
         self.usual: set[Way] = set()  # steps without a trap that are no finding
         self.version = 0  # of the contexts then
         for index in range(len(base)):
@@ -98,7 +97,8 @@ class TraceJudge:
             self.seen.targets[key].add(trace.following(index))
 
     def take(self, trace: Trace) -> bool:
-        """Takes a trace; returns whether it reached something new, and found nothing after which further steps mean nothing."""
+        """Takes a trace. Returns whether the search should go on from it: it reached something new, and no finding makes its further steps
+        meaningless."""
         is_new, found = False, None
         unsure: list[Key] = []
         for index in self.unusual(trace):
@@ -126,7 +126,8 @@ class TraceJudge:
         return is_new
 
     def unusual(self, trace: Trace) -> Iterator[int]:
-        """Yields the indices of the steps that differ from those of the parent, and are neither plain nor equal to one that is no finding."""
+        """Yields the indices of the steps that differ from those of the parent. Leaves out plain steps, and steps that equal an earlier step
+        without a finding."""
         if self.version != self.tracer.contexts.version:
             self.version = self.tracer.contexts.version
             self.usual.clear()
@@ -140,7 +141,7 @@ class TraceJudge:
                 yield index
 
     def way_of(self, trace: Trace, index: int) -> Way:
-        """Returns the pc and the context of a step, and its address or the pc after it. For some kinds they decide whether it is a finding."""
+        """Returns the pc and the context of a step, and its address or the pc after it. For some kinds these decide whether the step is a finding."""
         pc = trace.pcs[index]
         return pc, trace.contexts[index], trace.following(index) if self.tracer.code[pc].kind in JUMPS else trace.addresses[index]
 
@@ -229,11 +230,12 @@ class TraceJudge:
 
     @staticmethod
     def is_inner(place: ObjectPlace, usual: set[ObjectPlace]) -> bool:
-        """Returns whether an object is a member of the same variable as a usual one, which the access may reach too: no array ends between them."""
+        """Returns whether an object is a member of a variable that has a usual object too, and no array ends between the two. The access may reach
+        it."""
         return any(it.variable and it.variable == place.variable and not it.is_array for it in usual)
 
     def previous(self, trace: Trace, index: int, key: Key) -> Optional[int]:
-        """Returns the index of the same access before a step, or None."""
+        """Returns the index of the last step before `index` with this pc and call context, or None."""
         for at in range(index - 1, max(-1, index - 400), -1):
             if trace.pcs[at] == key[1] and trace.contexts[at] == key[0]:
                 return at
@@ -256,7 +258,8 @@ class TraceJudge:
                             tuple(sorted({self.objects.at(it, *key).name for it in self.seen.targets[key] if it != LEFT})), context=key[0])
 
     def sure(self) -> Iterator[InputFinding]:
-        """Yields the findings that are sure now: an access that is not a walk has at least three addresses. Leaves out consequences of others."""
+        """Yields the findings that are sure now. An access that is not a walk is sure if it has at least DISTINCT addresses. Leaves out findings
+        that follow from another one."""
         for finding in self.findings.values():
             if (finding.is_sure or self.is_chosen((finding.context, finding.pc))) and not any(map(self.is_chosen, finding.after)):
                 yield finding

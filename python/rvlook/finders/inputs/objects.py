@@ -13,12 +13,13 @@ ENDS = ("_stack_top", "_stack_bottom", "region_base", "region_size")  # symbols 
 
 
 class ObjectPlace(NamedTuple):
-    """An object: its name, its variable if it is a member of one, and whether it is an array."""
-    name: str
-    variable: str = ""
-    is_array: bool = False
+    """An object in memory."""
+    name: str  # in the report
+    variable: str = ""  # whose member it is, or which it is; empty for no variable
+    is_array: bool = False  # whether it is an array
 
 
+# places outside all objects
 WINDOW, OUTSIDE, UNUSED, NOTHING = (ObjectPlace(it) for it in ("the window", "memory outside region and window", "the unused stack", "no object"))
 
 
@@ -26,13 +27,14 @@ class Objects:
     """The objects of an enclave: variables and their members by DWARF, else symbols; then local variables and stack frames."""
 
     def __init__(self, enclave: Enclave, symbols: Symbols, variables: Variables, contexts: Contexts) -> None:
-        self.enclave, self.symbols, self.contexts = enclave, symbols, contexts
-        self.fixed = [it for it in variables.fixed if enclave.has(it.at)]
-        self.starts = [it.at for it in self.fixed]
-        self.locals, self.parameters = variables.locals, variables.parameters
+        self.enclave, self.symbols, self.contexts = enclave, symbols, contexts  # `contexts`: have the stack frames
+        self.fixed = [it for it in variables.fixed if enclave.has(it.at)]  # variables at fixed addresses, down to their members
+        self.starts = [it.at for it in self.fixed]  # the addresses of `fixed`
+        self.locals, self.parameters = variables.locals, variables.parameters  # of functions
         own = [it for it in symbols.ordered if enclave.has(it.address) and not it.name.endswith(ENDS)]
-        self.own, self.own_starts = own, [it.address for it in own]
+        self.own, self.own_starts = own, [it.address for it in own]  # the symbols in the region, and their addresses
         bottoms = [it.address for it in symbols.ordered if it.name.endswith("_stack_bottom") and enclave.has(it.address)]
+        # the lowest address of the stacks
         self.stack = min(bottoms, default=max((it.address + max(4, it.size) for it in own), default=enclave.base + enclave.size))
 
     def at(self, address: int, context: int, pc: int) -> ObjectPlace:
@@ -83,7 +85,7 @@ class Objects:
         return ObjectPlace("the frame of " + function, "the frame of " + function)
 
     def beginnings(self, executed: set[int]) -> list[int]:
-        """Returns where the objects begin, without functions that were executed."""
+        """Returns the addresses at which objects begin. Leaves out functions that were executed."""
         fixed = [it.at for it in self.fixed]
         return list(dict.fromkeys(fixed + [it.address for it in self.own if it.address not in executed and it.address < self.stack]))
 

@@ -81,42 +81,40 @@ def texts_of(search: InputSearch, finding: InputFinding, heading: str) -> tuple[
 
 
 def write_scripts(folder: str, search: InputSearch, findings: Sequence[InputFinding], headings: Sequence[str]) -> None:
-    """Writes two files for each finding: `finding_N` replays it, `finding_N.input` ends after its last change. Raises Unfinished."""
+    """Writes two files for each finding: `finding_N` replays the finding, `finding_N.input` ends after its last change. Raises Unfinished if a
+    file cannot be written."""
     write_files(folder, ((name % number, text) for number, (finding, heading) in enumerate(zip(findings, headings), 1)
                          for name, text in zip(("finding_%d", "finding_%d.input"), texts_of(search, finding, heading))))
 
 
 @dataclass(frozen=True)
 class InputsOptions:
-    """The options of a search: the slot of the enclave, the place of its secret (none without one), and the outputs that may depend on it. With
-    `entry` the search begins at the entry. `runs` are done with a seed, for at most `seconds`. `expected` names failures of the run itself that are
-    no findings. `scripts` is the folder for the inputs of findings. `jobs` processes do the runs."""
-    slot: int = 0
-    at: Optional[str] = None
-    public: Sequence[str] = ()
-    entry: bool = False
-    runs: int = 300
-    seed: int = 0
-    seconds: Optional[float] = None
-    expected: Sequence[str] = ()
-    scripts: Optional[str] = None
-    jobs: int = 1
+    """The options of `inputs`."""
+    slot: int = 0  # of the enclave
+    at: Optional[str] = None  # the place of its secret; None for no secret
+    public: Sequence[str] = ()  # outputs that may depend on the secret
+    entry: bool = False  # whether the registers at the entry are inputs
+    runs: int = 300  # at most
+    seed: int = 0  # of the random values
+    seconds: Optional[float] = None  # at most; None: no limit
+    expected: Sequence[str] = ()  # names of failures of the run itself that are no findings
+    scripts: Optional[str] = None  # the folder for the inputs of findings; None: not written
+    jobs: int = 1  # number of processes
 
 
 @dataclass
 class Inputs:
-    """A search and its result: the failures of the run itself, the groups of findings with their headings, what ended the search early, and why
-    findings were not replayed. There is no search if the run itself was not traced."""
-    options: InputsOptions
-    limit: TimeLimit
-    models: Optional[Models]  # proposes inputs
-    failures: Sequence[Failure]
-    search: Optional[InputSearch] = None
+    """A search and its result."""
+    options: InputsOptions  # of the command
+    limit: TimeLimit  # of the time
+    models: Optional[Models]  # proposes inputs; None without a solver
+    failures: Sequence[Failure]  # of the run itself
+    search: Optional[InputSearch] = None  # None if the run itself was not traced
     states: list[InputFinding] = field(default_factory=list)  # findings about older states
-    groups: Sequence[Group] = ()
-    headings: Sequence[str] = ()
-    cut: str = ""
-    not_replayed: str = ""
+    groups: Sequence[Group] = ()  # the findings, grouped
+    headings: Sequence[str] = ()  # of the groups
+    cut: str = ""  # what ended the search early; empty if nothing did
+    not_replayed: str = ""  # why findings were not replayed; empty if they were
 
     def work(self, run: Run, symbols: Symbols, variables: Variables) -> None:
         """Searches to the end, to the limit or to Ctrl-C. Raises Unfinished if the enclave does not return in the run itself."""
@@ -143,7 +141,7 @@ class Inputs:
         search.start(search.rules.secret.at if search.rules else None, options.entry)
 
     def findings(self) -> list[InputFinding]:
-        """Returns the findings of the search, those about its secret last."""
+        """Returns the findings of the search. Findings about the secret come last."""
         search = self.search
         assert search is not None
         found = [*search.judge.sure(), *self.states]
@@ -229,7 +227,7 @@ def failures_in(run: Run, slot: int) -> list[Failure]:
 
 
 def groups_of(search: InputSearch, findings: Sequence[InputFinding]) -> list[Group]:
-    """Returns the findings in groups: those of one kind at one source line, or at one instruction without source lines."""
+    """Returns the findings in groups. A group has one kind at one source line, or at one instruction without source lines."""
     found: dict[tuple[object, ...], list[InputFinding]] = {}
     for finding in findings:
         where = search.symbols.line(finding.pc) or finding.pc
@@ -296,7 +294,8 @@ def change_text(change: Change) -> str:
 
 
 def with_old_values(run: Run, changes: Changes) -> Changes:
-    """Returns changes with the values that each of them replaces: those that a run with the earlier changes alone has at that step."""
+    """Returns changes with the values that each of them replaces. A replaced value is that of a run with only the earlier changes, at the step of
+    the change."""
     found: list[Change] = []
     for change in changes:
         with run.replay() as replay:

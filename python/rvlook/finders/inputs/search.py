@@ -1,8 +1,8 @@
 """The search of `inputs`: tries values, goes on from each trace that reaches something new, and combines changes.
 
 Several processes may trace runs. A process begins with all that the search knows: decoded instructions, call contexts and their stack frames. It
-returns each trace with all that is new to it. The search takes the traces in the order of the runs. A trace may depend on what an earlier one of them
-has found. The search then traces this run again, so that the result is that of one process."""
+returns each trace with the knowledge that it has gained. The search takes the traces in the order of the runs. If a trace depends on what an
+earlier one has found, the search traces the run again. The result is therefore that of one process."""
 from __future__ import annotations
 
 from array import array
@@ -33,20 +33,19 @@ AHEAD = 2  # runs that are started before the one that is traced is complete
 
 @dataclass(frozen=True)
 class TracerKnowledge:
-    """The knowledge of a tracer before some runs: the pcs of decoded instructions, the number of contexts, and the stack frame of each."""
-    pcs: frozenset[int]
-    contexts: int
-    frames: Mapping[int, int]
+    """The knowledge of a tracer before some runs."""
+    pcs: frozenset[int]  # of decoded instructions
+    contexts: int  # their number
+    frames: Mapping[int, int]  # sp of each context
 
 
 @dataclass(frozen=True)
 class News:
-    """The knowledge that a process has gained since then: instructions by pc, contexts, and stack frames by context. A context is that of its caller,
-    the pc of the call, and whether it is a trap. `saved` has the addresses at which contexts save registers."""
-    code: Mapping[int, Code]
-    contexts: Sequence[tuple[int, int, bool]]
-    frames: Mapping[int, int]
-    saved: Mapping[int, set[int]]
+    """The knowledge that a tracer has gained in a run."""
+    code: Mapping[int, Code]  # decoded instructions, by pc
+    contexts: Sequence[tuple[int, int, bool]]  # caller's context, pc of the call, whether a trap
+    frames: Mapping[int, int]  # new or changed sp, by context
+    saved: Mapping[int, set[int]]  # addresses at which each context saves registers
 
 
 def known_to(tracer: Tracer) -> TracerKnowledge:
@@ -62,7 +61,7 @@ def news_since(tracer: Tracer, known: TracerKnowledge) -> News:
 
 
 def new_frames(contexts: Contexts, known: TracerKnowledge) -> dict[int, int]:
-    """Returns the stack frames that differ from those that were known, by context."""
+    """Returns the stack frames that are new or differ from the known ones, by context."""
     return {it: sp for it, sp in contexts.frames.items() if known.frames.get(it) != sp}
 
 
@@ -108,35 +107,35 @@ def has_taken_over(tracer: Tracer, known: TracerKnowledge, trace: Trace, news: N
 
 @dataclass
 class Parent:
-    """A trace from which the search goes on, and its runs that are still to be tried."""
-    trace: Trace
-    details: Details
-    inputs: list[Input]
-    children: Iterator[Child]
+    """A trace from which the search goes on."""
+    trace: Trace  # the trace
+    details: Details  # its loads and branches
+    inputs: list[Input]  # that can be changed
+    children: Iterator[Child]  # the runs that are still to be tried
 
 
 class InputSearch:
     """A search over the inputs of an enclave. `jobs` processes trace its runs."""
 
     def __init__(self, run: Run, symbols: Symbols, variables: Variables, slot: int, seed: int) -> None:
-        self.run, self.symbols, self.variables = run, symbols, variables
-        self.tracer = Tracer(run, slot)
-        self.base = self.tracer.base()
+        self.run, self.symbols, self.variables = run, symbols, variables  # `variables`: of the enclave
+        self.tracer = Tracer(run, slot)  # runs the enclave
+        self.base = self.tracer.base()  # the trace of the run itself
         assert self.tracer.enclave is not None
-        self.objects = Objects(self.tracer.enclave, symbols, variables, self.tracer.contexts)
-        self.fields = WindowFields(symbols)
-        self.reader = DetailReader(self.tracer, self.objects, self.fields)
-        self.values = Values(self.tracer, self.objects, self.fields, self.reader, seed)
-        self.judge = TraceJudge(self.tracer, self.objects, self.base)
-        self.rules: Optional[SecretRules] = None
+        self.objects = Objects(self.tracer.enclave, symbols, variables, self.tracer.contexts)  # names what is at an address
+        self.fields = WindowFields(symbols)  # names offsets in the window
+        self.reader = DetailReader(self.tracer, self.objects, self.fields)  # reads loads and branches of traces
+        self.values = Values(self.tracer, self.objects, self.fields, self.reader, seed)  # finds the values to try
+        self.judge = TraceJudge(self.tracer, self.objects, self.base)  # has the findings
+        self.rules: Optional[SecretRules] = None  # of the secret; None for no secret
         self.models: Callable[[InputSearch, Trace], Iterator[Child]] = lambda *_: iter(())  # a solver proposes these inputs
-        self.base_details: Details
+        self.base_details: Details  # of the trace of the run itself
         self.root: Optional[Parent] = None  # the run itself, until all its values were tried
-        self.parents: deque[Parent] = deque()  # the others
-        self.tried: set[tuple[object, ...]] = set()
-        self.inputs: dict[tuple[object, ...], Input] = {}
-        self.kept, self.jobs = 0, 1
-        self.is_exhausted = False
+        self.parents: deque[Parent] = deque()  # the other traces from which the search goes on
+        self.tried: set[tuple[object, ...]] = set()  # the changes of all runs so far
+        self.inputs: dict[tuple[object, ...], Input] = {}  # by visit, address, width, kind and register
+        self.kept, self.jobs = 0, 1  # traces from which the search goes on, and processes
+        self.is_exhausted = False  # whether all values were tried
 
     def start(self, secret_at: int | None, has_entry: bool) -> None:
         """Prepares the search: the objects that values point to, the secret first, and the runs from the run itself."""
@@ -147,7 +146,7 @@ class InputSearch:
         self.go_on_from(self.base)
 
     def go_on_from(self, trace: Trace) -> None:
-        """Adds a trace to those that the search goes on from."""
+        """Adds a trace to the traces from which the search goes on."""
         details = self.reader.read(trace)
         inputs = self.values.inputs(trace, details)
         for input_ in inputs:

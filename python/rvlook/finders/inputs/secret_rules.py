@@ -20,14 +20,13 @@ DISTINCT = 3  # bytes that are not 0 in a state that the host has moved
 
 @dataclass(frozen=True)
 class Output:
-    """A part of the secret that comes out: its offset and its size. `at` is its address in the window, or None for a1 of the host. `index` is the
-    step that stored its last byte, or that left."""
-    offset: int
-    size: int
-    at: int | None
-    index: int
+    """A part of the secret that comes out of the enclave."""
+    offset: int  # of the part in the secret
+    size: int  # bytes
+    at: int | None  # address in the window; None for a1 of the host
+    index: int  # of the step that stored its last byte, or that leaves
     end: int  # the index of the step that leaves
-    is_public: bool
+    is_public: bool  # whether --public names it
 
 
 def steps_of(trace: Trace, visit: TraceVisit) -> range:
@@ -36,15 +35,15 @@ def steps_of(trace: Trace, visit: TraceVisit) -> range:
 
 
 class SecretRules:
-    """Compares what of a secret comes out of each trace."""
+    """Compares which parts of a secret come out of each trace."""
 
     def __init__(self, search: InputSearch, secret: Secret, public: Public) -> None:
-        self.search, self.secret, self.public = search, secret, public
-        self.known: set[int] = set()  # bytes of the secret that come out, and are not public
-        self.found: list[InputFinding] = []
-        self.open: list[tuple[Trace, list[Output]]] = []
-        self.checks: dict[int, int] = {}  # of each branch whose other direction keeps the secret inside, where it goes then
-        self.usual = list(self.outputs(search.base))
+        self.search, self.secret, self.public = search, secret, public  # `public`: the outputs that may depend on the secret
+        self.known: set[int] = set()  # offsets of bytes of the secret that come out and are not public
+        self.found: list[InputFinding] = []  # the bytes that come out
+        self.open: list[tuple[Trace, list[Output]]] = []  # traces with outputs, to be compared with the checks
+        self.checks: dict[int, int] = {}  # by the pc of a branch that is a check: where it goes if the check fails
+        self.usual = list(self.outputs(search.base))  # the outputs of the run itself
         self.report(search.base, self.usual)
 
     def take(self, trace: Trace) -> None:
@@ -111,8 +110,9 @@ class SecretRules:
     # ---- checks
 
     def refused(self, trace: Trace, visits: set[int]) -> None:
-        """Takes a trace. The branch by which it leaves the trace of the run itself is a check, if the trace then keeps the secret inside. It is one
-        too if it depends on memory of the region, and the answer of the activation changes."""
+        """Takes a trace with one change, and records a check that the trace shows. The branch by which it leaves the trace of the run itself is a
+        check if the trace then keeps the secret inside. A branch that depends on memory of the region is also a check if the answer of the
+        activation changes."""
         base, at = self.search.base, first_difference(self.search.base, trace)
         if len(trace.changes) != 1 or not 0 < at < min(len(trace), len(base)):
             return
@@ -128,7 +128,7 @@ class SecretRules:
         return any(self.search.reader.is_private(base, index, it) for it in self.search.tracer.code[base.pcs[index]].sources)
 
     def unchecked(self) -> Iterator[InputFinding]:
-        """Yields the findings that the secret came out although a check failed, or without it."""
+        """Yields the findings that the secret came out although a check failed, or without the check."""
         reported: set[int] = set()
         base = self.search.base
         usual = branches_of(self.search, base, range(len(base) - 1))
@@ -149,8 +149,8 @@ class SecretRules:
         return bool(branches_of(self.search, trace, range(first)).get(pc, set()) - {target})
 
     def segments(self, traces: Sequence[tuple[Trace, list[Output]]]) -> Iterator[tuple[Trace, Output, dict[int, set[int]]]]:
-        """Yields each output of some traces with the branches since the activation of the output before it. Leaves out those whose steps up to then
-        are the steps of the run itself, unless the trace is that of the run itself."""
+        """Yields each output of some traces with the branches since the activation of the output before it. Leaves out outputs whose steps up to
+        then are the steps of the run itself, unless the trace is that of the run itself."""
         base = self.search.base
         for trace, outputs in traces:
             same, first = 0 if trace is base else first_difference(base, trace), 0
@@ -178,17 +178,16 @@ def first_difference(one: Trace, two: Trace) -> int:
 
 @dataclass(frozen=True)
 class Older:
-    """An older state: the change that gives it, the activation that gets it, and the one that stored it, from 0; the latter is None if the host
-    gave it."""
-    change: Change
-    visit: int
-    stored_in: int | None
+    """An older state that the host gives again."""
+    change: Change  # gives the state
+    visit: int  # the activation that gets the state, from 0
+    stored_in: int | None  # the activation that stored it, from 0; None if the host gave it
 
 
 def older_states(search: InputSearch, loaded: dict[int, bytes]) -> Iterator[Older]:
     """Yields older states for each activation of the run itself. `loaded` has the bytes of each load from the window. A state is a range of bytes
-    that the enclave stored in an earlier activation and loads now, at any address: the host may have kept it. An older one is one from which the
-    enclave made the present one. Values that exist side by side, such as handles, are none."""
+    that the enclave stored in an earlier activation and loads now, at any address: the host may have kept it. A state is older if the enclave made
+    the present state from it. Values that exist side by side, such as handles, are not older states."""
     base = search.base
     stores = [dict(window_bytes(search, base, it, Kind.STORE, loaded)) for it in base.visits]
     loads = [dict(window_bytes(search, base, it, Kind.LOAD, loaded)) for it in base.visits]
@@ -204,9 +203,9 @@ def older_states(search: InputSearch, loaded: dict[int, bytes]) -> Iterator[Olde
 
 
 class Known(NamedTuple):
-    """A stored state: its offset in the loaded bytes, and the address at which it was stored."""
-    offset: int
-    at: int
+    """A stored state."""
+    offset: int  # in the loaded bytes
+    at: int  # address at which it was stored
 
 
 def known_states(first: int, data: bytes, stores: list[dict[int, int]]) -> Iterator[tuple[Known, int]]:

@@ -15,14 +15,13 @@ RESULT = b"reg 10\nreg 11\n"  # of the host, after an activation
 
 
 class Change(NamedTuple):
-    """An input of the host: bytes that are poked after a step, or the value of a register that is set then. `name` is the input, `old` the value
-    without the change."""
-    step: int
-    at: int
-    value: bytes
-    register: int = 0
-    name: str = ""
-    old: str = ""
+    """An input of the host: bytes that are poked after a step, or the value of a register that is set then."""
+    step: int  # number of the step of the run after which the host gives it
+    at: int  # address; 0 for a register
+    value: bytes  # the new bytes, little-endian in a register
+    register: int = 0  # its number; 0 for bytes in memory
+    name: str = ""  # of the input, for the report
+    old: str = ""  # the value without the change, as hexadecimal digits
 
     def lines(self) -> list[str]:
         """Returns the commands that make the change."""
@@ -36,29 +35,28 @@ Changes = Tuple[Change, ...]
 
 @dataclass(frozen=True)
 class TraceVisit:
-    """An activation in a trace: the indices of its first step and of its last one, how it ended, and a0 and a1 of the host after it. `last` is
-    None, and `ended_by` is empty, if the trace ends inside."""
-    first: int
-    last: Optional[int] = None
-    ended_by: str = ""
-    answer: Tuple[int, int] = (0, 0)
+    """An activation in a trace."""
+    first: int  # index of its first step
+    last: Optional[int] = None  # index of its last step; None if the trace ends inside
+    ended_by: str = ""  # exit, stop or timer; empty if the trace ends inside
+    answer: Tuple[int, int] = (0, 0)  # a0 and a1 of the host after it
 
 
 @dataclass
 class Trace:
-    """The steps of an enclave in a run with changed inputs, by index. The parent of a trace is the trace whose inputs were changed.
+    """The steps of an enclave in a run with changed inputs. The parent of a trace is the trace whose inputs were changed.
 
-    `end` is `halted` if the host halts, and `limit` if the trace was cut. It is `waits` if the enclave waits for the host to change the window, and
-    `stuck` if the enclave does not return for another reason."""
-    changes: Changes = ()
+    `end` is `halted` if the host halts, and `limit` if the trace was cut. It is `waits` if the enclave waits for the host to change the window,
+    and `stuck` if the enclave does not return for another reason. An index counts the steps of the trace from 0."""
+    changes: Changes = ()  # that were made to the inputs of the run
     steps: array[int] = field(default_factory=lambda: array("I"))  # the number of each step in the run
-    pcs: array[int] = field(default_factory=lambda: array("I"))
+    pcs: array[int] = field(default_factory=lambda: array("I"))  # of each step
     addresses: array[int] = field(default_factory=lambda: array("I"))  # of each load and store; a1 of a call of the monitor
     values: array[int] = field(default_factory=lambda: array("I"))  # stored to the window; a6 of a call of the monitor
     contexts: array[int] = field(default_factory=lambda: array("I"))  # the number of the call context
     traps: dict[int, tuple[int, int]] = field(default_factory=dict)  # the cause and the value of each trap, by index
     visits: list[TraceVisit] = field(default_factory=list)  # the activations
-    end: str = ""
+    end: str = ""  # how the trace ends, see above; empty while it is not known
     changed: list[int] = field(default_factory=list)  # the indices whose access differs from that of the parent
     new: list[tuple[int, int]] = field(default_factory=list)  # ranges of indices of steps that the parent does not have
     next_pc: int = 0  # after the last step
@@ -106,7 +104,7 @@ class Trace:
                 self.visits.append(TraceVisit(begin_here, last, visit.ended_by, visit.answer) if is_whole else TraceVisit(begin_here))
 
     def differences(self) -> list[int]:
-        """Returns the indices of the steps that differ from those of the parent, or that come right before such steps."""
+        """Returns the indices of the steps that differ from the steps of the parent, or that come right before such steps."""
         found = set(self.changed)
         for first, end in self.new:
             found.update(range(max(0, first - 1), end))
@@ -141,38 +139,35 @@ def runs_of(content: Mapping[int, int]) -> Iterator[tuple[int, bytes]]:
 
 @dataclass(frozen=True)
 class TraceProbe:
-    """Commands at a position of the run, which is the number of steps before it: before the step with an index, or after it if `is_end`."""
-    at: int
-    position: int
-    question: bytes = b""
-    is_end: bool = False
+    """Commands of a trace, and where they are sent."""
+    at: int  # index of a step of the trace
+    position: int  # steps of the run before the commands
+    question: bytes = b""  # commands that read registers; empty: only the pc is compared
+    is_end: bool = False  # whether the commands come after the step, not before it
 
 
 @dataclass
 class ProbeComparison:
-    """The result of a comparison, by indices of the parent. Up to `end` the steps are the same, or all are if it is None. `changed` has the registers
-    of each access that differs, and `answers` the results of each activation that do."""
-    end: Optional[int] = None
-    changed: dict[int, list[int]] = field(default_factory=dict)
-    answers: dict[int, tuple[int, int]] = field(default_factory=dict)
+    """The result of a comparison with a parent, by indices of the parent."""
+    end: Optional[int] = None  # the first step that may differ; None if all steps are the same
+    changed: dict[int, list[int]] = field(default_factory=dict)  # the registers of each access that differs
+    answers: dict[int, tuple[int, int]] = field(default_factory=dict)  # a0 and a1 after each activation whose results differ
 
 
 class Probes:
-    """The probes of a trace, in order, and the replies to them: a line for each position, and one for each register.
-
-    `indices` are those of the probes. `lines` is the number of lines before each probe, and `owners` has the probe of each line."""
+    """The probes of a trace, in order, and the replies to them. A probe has one reply to its first command, and one for each register."""
 
     def __init__(self, probes: Sequence[TraceProbe]) -> None:
-        self.probes = probes
-        self.indices = [it.at for it in probes]
-        self.texts = [b""] * len(probes)
-        self.lines, self.owners = [0], []
+        self.probes = probes  # in the order of the run
+        self.indices = [it.at for it in probes]  # of their steps
+        self.texts = [b""] * len(probes)  # the commands of each probe
+        self.lines, self.owners = [0], []  # `lines`: number of replies before each probe; `owners`: the probe of each reply
         for number, probe in enumerate(probes):
             count = probe.position - probes[number - 1].position if number else 0
             self.texts[number] = (b"step %d\n" % count if count else b"reg 0\n") + probe.question
             self.owners += [number] * (1 + probe.question.count(b"\n"))
             self.lines.append(len(self.owners))
-        self.expected: list[bytes] = []
+        self.expected: list[bytes] = []  # the replies of the trace
 
     def text_from(self, first: int, position: int) -> tuple[bytes, int]:
         """Returns the commands of the probes from one on, for a run at a position, and the number of replies."""
@@ -184,7 +179,7 @@ class Probes:
         return head + b"".join(self.texts[first + 1:]), len(self.owners) - self.lines[first]
 
     def compare(self, first: int, replies: Sequence[bytes]) -> ProbeComparison:
-        """Compares the replies to the probes from one on with those of the trace."""
+        """Compares the replies to the probes from number `first` on with the replies of the trace."""
         found = ProbeComparison()
         start = self.lines[first]
         expected = self.expected[start:]

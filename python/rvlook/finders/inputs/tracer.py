@@ -23,10 +23,10 @@ from rvlook.protocol.run import EQUAL, Run, equal_at_end
 from rvlook.protocol.stretch import SHARED
 from rvlook.protocol.timeline import Timeline
 
-FIRST_CHUNK, LAST_CHUNK = 256, 8192  # single steps in one exchange
+FIRST_CHUNK, LAST_CHUNK = 256, 8192  # single steps of the first exchange, and of an exchange at most
 MORE = 8000  # steps of a run beyond twice those up to the last one of the enclave in the run itself
 ROUND, REGISTERS = 256, 33  # the most steps of a loop that waits for the host; lines of `regs`
-PATIENCE, PART = 1000000, 50000  # steps in which an enclave must return, and after how many of them that is checked
+PATIENCE, PART = 1000000, 50000  # steps in which an enclave must return, and steps after which this is checked
 SAME, FAR, OCCURRENCES = 16, 4096, 4  # equal steps after which a path has joined another, how far that is searched, and how often a pc is considered
 MOST_FOLLOWED = 24  # times that a run follows its parent
 ENDED_BY = {0: "exit", 1: "stop", 2: "timer"}
@@ -38,19 +38,17 @@ Joined = Tuple[int, int]  # an index of the parent, and the position of the run
 
 @dataclass
 class TracePart:
-    """Single steps: the pc before each, and whether the enclave runs after it; and those of the enclave, by index, with the ends of their replies.
-    `marked` has more than the pc of some steps: the instruction, whether the step does more than an access, and whether that is relative to
-    sp. `text` reads their registers. Both are known once the instructions are decoded."""
-    lines: Sequence[bytes]
-    pcs: Sequence[int]
-    after: Sequence[bool]
-    next_pc: int
-    inside: Sequence[int]
-    own: array[int]
-    tails: Sequence[bytes]
-    starts: Set[int]
-    marked: Optional[Sequence[Tuple[int, Code, bool, bool]]] = None
-    text: bytes = b""
+    """Single steps of a run. An own step is a step of the enclave; its index counts own steps."""
+    lines: Sequence[bytes]  # the reply to each step
+    pcs: Sequence[int]  # before each step
+    after: Sequence[bool]  # whether the enclave runs after each step
+    next_pc: int  # after the last step
+    inside: Sequence[int]  # the indices of own steps in `lines`
+    own: array[int]  # the pc of each own step
+    tails: Sequence[bytes]  # the end of the reply to each own step, from the world on
+    starts: Set[int]  # indices of the own steps before which the enclave is entered
+    marked: Optional[Sequence[Tuple[int, Code, bool, bool]]] = None  # index, instruction, more than an access, relative to sp; None before decoding
+    text: bytes = b""  # the commands that read the registers of marked steps
 
 
 @lru_cache(maxsize=1 << 17)
@@ -72,32 +70,30 @@ def part_of(block: bytes, own: bytes, pc: int, is_own: bool) -> TracePart:
 
 @dataclass(frozen=True)
 class Started:
-    """A run to which the probes of its parent were sent, from an index of the parent and a position of the run on. `first` is the number of the
-    first probe, None if there are none; `before` and `count` are the numbers of lines of the replies before them and to them."""
-    run: Run
-    parent: Trace
-    joined: Joined
-    changes: Changes
-    replay: Timeline
-    first: Optional[int] = None
-    before: int = 0
-    count: int = 0
+    """A run to which the probes of its parent were sent."""
+    run: Run  # with the changed inputs
+    parent: Trace  # whose inputs were changed
+    joined: Joined  # index of the parent and position of the run, from where it is expected to follow the parent
+    changes: Changes  # of the inputs
+    replay: Timeline  # of the run
+    first: Optional[int] = None  # number of the first probe; None if there are none
+    before: int = 0  # lines of the replies before those to the probes
+    count: int = 0  # lines of the replies to the probes
 
 
 class Tracer:
-    """Traces the enclave of a slot. `limit` is the number of steps after which a run is cut. `runs`, `cut` and `waiting` count the runs, those
-    that are cut, and those that wait for the host."""
+    """Traces the enclave of a slot."""
 
     def __init__(self, run: Run, slot: int) -> None:
-        self.run, self.slot, self.own = run, slot, b"e%d " % slot
-        self.code: dict[int, Code] = {}
+        self.run, self.slot, self.own = run, slot, b"e%d " % slot  # `own` begins the world in a reply
+        self.code: dict[int, Code] = {}  # by pc
         self.part_of = lru_cache(maxsize=SHARED)(part_of)  # runs that take the same way have parts in common
-        self.questions: dict[int, bytes] = {}  # for the registers of those that need any
-        self.plain: set[int] = set()  # those that are plain
-        self.contexts = Contexts()
-        self.enclave: Enclave | None = None
-        self.limit = run.length + run.setup.limit
-        self.runs = self.cut = self.waiting = 0
+        self.questions: dict[int, bytes] = {}  # by pc: commands that read the registers of an instruction
+        self.plain: set[int] = set()  # pcs of plain instructions
+        self.contexts = Contexts()  # of all traces
+        self.enclave: Enclave | None = None  # None before the first trace
+        self.limit = run.length + run.setup.limit  # steps of the run after which it is cut
+        self.runs = self.cut = self.waiting = 0  # numbers of runs, of runs that were cut, and of runs that wait for the host
 
     def base(self) -> Trace:
         """Returns the trace of the run itself. Raises Unfinished if the enclave is never entered, or does not return."""
@@ -219,7 +215,7 @@ class Tracer:
 
     def explore(self, run: Run, trace: Trace, position: int, other: tuple[Trace, int] | None) -> Joined | None:
         """Adds the steps of a run from a position on to its trace: up to its end, to the limit, or to where it joins another trace after an index.
-        Returns the latter, or None."""
+        Returns where it joins the other trace, or None."""
         begin = at = len(trace)
         with run.replay() as leader, run.replay() as reader:
             pc, is_own = self.go(leader, position)

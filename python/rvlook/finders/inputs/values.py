@@ -19,10 +19,10 @@ from rvlook.finders.inputs.trace import Change, Changes, Trace, TraceVisit, runs
 from rvlook.finders.inputs.tracer import Tracer, advance
 from rvlook.protocol.memory_map import RAM_BASE
 
-SOURCES_BACK, DEEPEST = 64, 4  # steps and instructions that are followed back to where a register comes from
+SOURCES_BACK, DEEPEST = 64, 4  # steps that are searched, and instructions that are followed, back to where a register comes from
 WORD = 4  # bytes
 AHEAD = 400  # steps after a load in which branches and accesses are considered
-MOST_VALUES, MOST_ACCESSES, MOST_OBJECTS = 64, 6, 6
+MOST_VALUES, MOST_ACCESSES, MOST_OBJECTS = 64, 6, 6  # of an input; whose addresses an input may move; objects that values point to
 MOST_WORDS = 4  # of the words of a buffer
 MOST_CONSTANTS = 12
 PER_PART = 3
@@ -35,17 +35,17 @@ Content = Mapping[int, int]  # bytes by address
 
 @dataclass
 class Details:
-    """The bytes of each load from the window, and the operands of each branch, by index."""
-    loaded: dict[int, bytes] = field(default_factory=dict)
-    operands: dict[int, tuple[int, int]] = field(default_factory=dict)
+    """Loads and branches of a trace, by index of the step."""
+    loaded: dict[int, bytes] = field(default_factory=dict)  # the bytes of each load from the window
+    operands: dict[int, tuple[int, int]] = field(default_factory=dict)  # of each branch
 
 
 class DetailReader:
     """Reads the details of traces."""
 
     def __init__(self, tracer: Tracer, objects: Objects, fields: WindowFields) -> None:
-        self.tracer, self.objects, self.fields = tracer, objects, fields
-        self.functions: dict[int, list[tuple[int, object]]] = {}
+        self.tracer, self.objects, self.fields = tracer, objects, fields  # `fields`: names of the fields of the window
+        self.functions: dict[int, list[tuple[int, object]]] = {}  # by address: number and members of each parameter
         for parameter in objects.parameters:
             self.functions.setdefault(parameter.function, []).append((parameter.number, parameter.members))
 
@@ -105,18 +105,15 @@ class DetailReader:
 
 @dataclass(frozen=True)
 class Input:
-    """Bytes that a step loads from the window, or a register at an entry.
-
-    `start` is the index of the first step that depends on them, and `step` the number of the step after which they are changed. `is_again` says that
-    the enclave has loaded them before."""
-    visit: int
-    index: int
-    start: int
-    step: int
-    at: int
-    value: bytes
-    is_again: bool = False
-    register: int = 0
+    """Bytes that a step loads from the window, or a register at an entry."""
+    visit: int  # number of the activation, from 0
+    index: int  # of the load in the trace
+    start: int  # index of the first step that depends on the bytes
+    step: int  # number of the step of the run after which they are changed
+    at: int  # address; 0 for a register
+    value: bytes  # without a change
+    is_again: bool = False  # whether the enclave has loaded them before
+    register: int = 0  # its number; 0 for memory
     pc: int = 0  # of the load
     is_first: bool = False  # of those that the instruction loads in the activation
     is_part: bool = False  # of a buffer
@@ -134,18 +131,19 @@ class Input:
 
 @dataclass(frozen=True)
 class Child:
-    """A trace to be tried: its changes, and the index up to which it is the trace of its parent."""
-    changes: Changes
-    index: int
+    """A trace to be tried."""
+    changes: Changes  # of the inputs
+    index: int  # up to which it equals the trace of its parent
 
 
 class Values:
     """Finds the inputs of a trace and the values to try."""
 
     def __init__(self, tracer: Tracer, objects: Objects, fields: WindowFields, reader: DetailReader, seed: int) -> None:
+        # `rng` draws the random values
         self.tracer, self.objects, self.fields, self.reader, self.rng = tracer, objects, fields, reader, random.Random(seed)
-        self.targets: list[int] = []  # addresses of objects
-        self.has_entry = False
+        self.targets: list[int] = []  # addresses of objects, which values point to
+        self.has_entry = False  # whether the registers at the entry are inputs
 
     # ---- inputs
 
@@ -155,7 +153,8 @@ class Values:
         return sorted(found, key=lambda it: (it.index, it.at, it.width, it.register))
 
     def loads(self, trace: Trace, details: Details, visit: TraceVisit) -> Iterator[tuple[int, int, bytes]]:
-        """Yields the loads of an activation from the window, without those of bytes that it has stored: the index, the address and the bytes."""
+        """Yields the index, the address and the bytes of each load of an activation from the window. Leaves out loads of bytes that the activation
+        has stored."""
         own: set[int] = set()
         for index in range(visit.first, (len(trace) - 1 if visit.last is None else visit.last) + 1):
             at, code = trace.addresses[index], self.tracer.code[trace.pcs[index]]
@@ -203,7 +202,7 @@ class Values:
     # ---- values
 
     def children(self, trace: Trace, details: Details, inputs: list[Input]) -> Iterator[Child]:
-        """Yields the trace with one input changed more. Inputs that an earlier activation loads in the same way come last."""
+        """Yields the trace with one more input changed. Inputs that an earlier activation loads in the same way come last."""
         known: set[tuple[int, bytes, bool]] = set()
         parts: tuple[list[Input], list[Input]] = ([], [])
         for own in inputs:
@@ -214,8 +213,8 @@ class Values:
             yield from self.round_robin(trace, details, part)
 
     def round_robin(self, trace: Trace, details: Details, inputs: list[Input]) -> Iterator[Child]:
-        """Yields the first value of each input, then the second of each, and so on. From the third on, other inputs get PER_PART values for each
-        value of a part of a buffer: branches and addresses more often depend on them."""
+        """Yields the first value of each input, then the second of each, and so on. From the third value on, other inputs get PER_PART values for
+        each value of a part of a buffer: branches and addresses depend on other inputs more often."""
         every = [(it, list(self.values(trace, details, it))) for it in inputs]
         for turn in range(PER_PART * max((len(values) for _, values in every), default=0)):
             for own, values in every:
@@ -226,7 +225,7 @@ class Values:
                     yield from self.fills(trace, own)
 
     def child(self, trace: Trace, input_: Input, value: bytes) -> Child:
-        """Returns a trace with an input changed more."""
+        """Returns a trace with one more input changed."""
         name = "a%d" % (input_.register - A0) if input_.register else self.name(input_.at)
         change = Change(input_.step, input_.at, value, input_.register, name, input_.value.hex())
         return Child(with_change(trace.changes, change), input_.start)
@@ -327,16 +326,16 @@ def words_of(content: dict[int, int], first: dict[int, int], visit: int, entry: 
 
 
 def with_change(changes: Changes, change: Change) -> Changes:
-    """Returns changes with one more, in the order of their steps; it replaces one of the same bytes at the same step."""
+    """Returns the changes with one more, in the order of their steps. The new change replaces one of the same bytes at the same step."""
     kept = [it for it in changes if (it.step, it.at, it.register, len(it.value)) != (change.step, change.at, change.register, len(change.value))]
     return tuple(sorted([*kept, change], key=lambda it: it.step))
 
 
 class HostRequest(NamedTuple):
-    """The bytes that an activation loads, by address. `step` is the last step before the activation, and `first` is its first one in the trace."""
-    step: int
-    first: int
-    content: Content
+    """A request of the host: the bytes that an activation loads from the window."""
+    step: int  # number of the last step of the run before the activation
+    first: int  # index of its first step in the trace
+    content: Content  # the bytes by address
 
 
 def reordered(trace: Trace, requests: Sequence[HostRequest], name: Callable[[int], str]) -> Iterator[Child]:

@@ -14,35 +14,35 @@ from rvlook.finders.races.machine import CachedState, RaceMachine, Segment, Work
 from rvlook.finders.races.search import Edge, Graph, Move, ScheduleSearch, SearchNode, Vertex, schedule_of
 from rvlook.finders.races.time_limit import OutOfTime
 
+# how a hart ended; `waits` and `runs on` are endless loops without and with changes of memory
 ENDED, HALTS, WAITS, RUNS_ON, UNFINISHED, NOT_SEARCHED = "ended", "halts", "waits", "runs on", "unfinished", "not searched"
 GRACE, SLACK = 0.01, 0.3  # beyond the time limit for the analysis and the replays: a share of it, and seconds
 
 
 class HartEnd(NamedTuple):
-    """How a hart ended, and the address at which."""
-    how: str
-    pc: Optional[int]
+    """How and where a hart ended."""
+    how: str  # one of the constants ENDED to NOT_SEARCHED
+    pc: Optional[int]  # None unless the hart ended or halts
 
 
 class Found(NamedTuple):
-    """A vertex, a state after it, and the schedule from the vertex to the state."""
-    vertex: Vertex
-    state: CachedState
-    tail: Tuple[Segment, ...] = ()
+    """A state with a set of values, and the schedule that leads to it."""
+    vertex: Vertex  # of the component
+    state: CachedState  # the state, at the vertex or after it
+    tail: Tuple[Segment, ...] = ()  # the schedule from the vertex to the state
 
 
 @dataclass
 class FinalState:
-    """A final state: how and where each hart ended, the values, and the number of schedules that lead to it. `node` has the simplest schedule, and
-    `tail` the schedule from there to `state` if a hart runs on alone. `round` is the schedule of an endless loop from the state."""
-    harts: tuple[HartEnd, ...]
-    values: tuple[Value, ...]
-    node: SearchNode
-    round: tuple[Segment, ...]
-    orders: int
-    state: CachedState
-    tail: tuple[Segment, ...] = ()
-    number: int = 0
+    """A final state: a report of the harts and the outcome, with a schedule that leads to it."""
+    harts: tuple[HartEnd, ...]  # how and where each hart ended
+    values: tuple[Value, ...]  # of the outcome, in its order
+    node: SearchNode  # has the simplest schedule
+    round: tuple[Segment, ...]  # the schedule of an endless loop from the state; empty for no loop
+    orders: int  # number of schedules that lead to the final state
+    state: CachedState  # of the machine
+    tail: tuple[Segment, ...] = ()  # schedule from the node to the state, if a hart runs on alone
+    number: int = 0  # from 1 on; 0 before the numbering
 
     @property
     def steps(self) -> int:
@@ -55,13 +55,12 @@ class FinalState:
 
 
 class FinalStates:
-    """All final states of a search. `orders` is the number of all orders. `are_hidden` says that values may be missing, as harts run on that
-    change the outcome by independent steps; `is_cut` says that the time limit was reached."""
+    """All final states of a search."""
 
     def __init__(self, search: ScheduleSearch, outcome: Sequence[Observed]) -> None:
-        self.search, self.machine, self.outcome, self.orders = search, search.machine, outcome, 0
-        self.found: dict[tuple[tuple[HartEnd, ...], tuple[Value, ...]], FinalState] = {}
-        self.are_hidden = self.is_cut = False
+        self.search, self.machine, self.outcome, self.orders = search, search.machine, outcome, 0  # `orders`: number of schedules
+        self.found: dict[tuple[tuple[HartEnd, ...], tuple[Value, ...]], FinalState] = {}  # by their reports
+        self.are_hidden = self.is_cut = False  # values may be missing; the time limit was reached
         try:
             with search.limit.until(1 + GRACE, SLACK):
                 for graph in search.graphs():
@@ -70,7 +69,7 @@ class FinalStates:
                         self.add(end)
         except OutOfTime:
             self.is_cut = True
-        self.ends = sorted(self.found.values(), key=lambda it: (it.node.cost, it.steps))
+        self.ends = sorted(self.found.values(), key=lambda it: (it.node.cost, it.steps))  # the simplest first
         self.renumber()
 
     def renumber(self) -> None:
@@ -79,13 +78,13 @@ class FinalStates:
             end.number = number
 
     def keep(self, wanted: Sequence[FinalState]) -> None:
-        """Leaves out all but these, as the time was over before they were replayed."""
+        """Leaves out all final states but `wanted`, because the time was over before the others were replayed."""
         self.is_cut = self.is_cut or len(wanted) < len(self.ends)
         self.ends = [it for it in self.ends if it in wanted]
         self.renumber()
 
     def add(self, end: FinalState) -> None:
-        """Adds a final state. Joins those with the same report, and keeps the simplest schedule."""
+        """Adds a final state. Joins final states with equal reports, and keeps the simplest schedule."""
         key = end.harts, end.values
         old = self.found.setdefault(key, end)
         if old is not end:
@@ -121,14 +120,14 @@ class FinalStates:
 
 
 class Component:
-    """A strongly connected component of the graph of orders, its vertices by cost."""
+    """A strongly connected component of the graph of orders."""
 
     def __init__(self, search: ScheduleSearch, graph: Graph, vertices: Iterable[Vertex], component_of: Mapping[Vertex, int]) -> None:
-        self.search, self.machine, self.graph = search, search.machine, graph
-        self.vertices = sorted((it for it in vertices if it in graph.nodes), key=lambda it: graph.nodes[it].cost)
-        self.all = set(vertices)
-        self.moves = moves_inside(graph, vertices, component_of) if self.vertices else {}
-        self.state = graph.nodes[self.vertices[0]].point.state if self.vertices else search.machine.start
+        self.search, self.machine, self.graph = search, search.machine, graph  # the vertices and edges are those of `graph`
+        self.vertices = sorted((it for it in vertices if it in graph.nodes), key=lambda it: graph.nodes[it].cost)  # by cost
+        self.all = set(vertices)  # also vertices that were not visited
+        self.moves = moves_inside(graph, vertices, component_of) if self.vertices else {}  # of each hart, within the component
+        self.state = graph.nodes[self.vertices[0]].point.state if self.vertices else search.machine.start  # of the first vertex
 
     def loop(self, hart: int) -> Loop | None:
         """Returns the endless loop of a hart that no other hart can affect, or None."""
@@ -147,7 +146,7 @@ class Component:
         return known if len(known) == len(harts) else None
 
     def how(self, hart: int, is_still: bool, is_given_up: bool) -> str | None:
-        """Returns how a hart ended in this component, or None."""
+        """Returns how a hart ended in this component, or None if the hart would continue to another component."""
         state, graph, going = self.state, self.graph, WAITS if is_still else RUNS_ON
         if hart in self.moves:
             return going if any(move.dependent.look and move.dependent.look.kind for move in self.moves[hart]) else ENDED
@@ -161,7 +160,7 @@ class Component:
         return NOT_SEARCHED if is_given_up else None
 
     def over(self, hart: int) -> HartEnd:
-        """Returns how and where a hart ended. It HALTS if it was expected to end elsewhere."""
+        """Returns how and where a hart ended. The hart HALTS if it was expected to end elsewhere."""
         machine, nodes = self.machine, self.graph.nodes
         pc = min(machine.pc(nodes[it].point.state, hart) for it in self.vertices)
         if hart in self.moves:
@@ -169,7 +168,8 @@ class Component:
         return HartEnd(HALTS if machine.ends and not machine.limit and pc not in machine.ends else ENDED, pc)
 
     def alone(self, hart: int) -> Iterator[Work]:
-        """Runs a hart alone from the first state of the component until it returns there; yields it after each step."""
+        """Runs a hart alone from the first state of the component until the hart returns to this state; yields it after each step. Raises
+        RvlookError if the hart does not return."""
         work, loop = Work(self.machine, self.state, hart), self.loop(hart)
         start = full_state(work)
         most = loop.length if loop and hart not in self.moves else sum(move.steps for move in self.moves[hart])
@@ -231,8 +231,8 @@ def full_state(work: Work) -> tuple[Any, ...]:
 
 
 def find_final_states(search: ScheduleSearch, outcome_of: Callable[[ScheduleSearch], Sequence[Observed]]) -> FinalStates:
-    """Searches, and returns the final states; `outcome_of` gives the outcome after a search. If two harts go on, and change the outcome by
-    independent steps, these steps become dependent ones, and it is searched again."""
+    """Searches all orders, and returns the final states. `outcome_of` returns the outcome after a search. If two harts run on and change the
+    outcome by independent steps, makes these steps dependent and repeats the search."""
     search.run()
     found = FinalStates(search, outcome_of(search))
     if found.are_hidden and not search.why_cut:
@@ -281,7 +281,7 @@ def round_of(graph: Graph, vertex: Vertex, moving: Sequence[int], part: Set[Vert
 
 
 def path_to(graph: Graph, here: Vertex, part: Set[Vertex], is_wanted: Callable[[Edge], bool]) -> tuple[Vertex, tuple[tuple[int, Move], ...]]:
-    """Finds the shortest path within a component whose last edge is wanted; returns its end and its moves."""
+    """Finds the shortest path within a component whose last edge is wanted; returns the end and the moves of the path."""
     waiting: deque[tuple[Vertex, tuple[tuple[int, Move], ...]]] = deque([(here, ())])
     seen = {here}
     while True:
@@ -296,17 +296,16 @@ def path_to(graph: Graph, here: Vertex, part: Set[Vertex], is_wanted: Callable[[
 
 
 class Components:
-    """The strongly connected components of the graph, each after those that it leads to (Tarjan), and for each vertex the index of its
-    component."""
+    """The strongly connected components of the graph (Tarjan). Each component comes after those that it leads to."""
 
     def __init__(self, graph: Graph) -> None:
-        self.graph = graph
-        self.number: dict[Vertex, int] = {}
-        self.low: dict[Vertex, int] = {}
-        self.stack: list[Vertex] = []
-        self.on_stack: set[Vertex] = set()
-        self.parts: list[list[Vertex]] = []
-        self.component_of: dict[Vertex, int] = {}
+        self.graph = graph  # whose components are found
+        self.number: dict[Vertex, int] = {}  # by vertex: its number in the order of visits
+        self.low: dict[Vertex, int] = {}  # the least number that is reachable through open vertices
+        self.stack: list[Vertex] = []  # the vertices whose component is not complete
+        self.on_stack: set[Vertex] = set()  # the same vertices
+        self.parts: list[list[Vertex]] = []  # the vertices of each component
+        self.component_of: dict[Vertex, int] = {}  # the index of its component in `parts`
         for root in list(graph.nodes):
             if root not in self.number:
                 self.walk(root)

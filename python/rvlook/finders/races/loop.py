@@ -8,21 +8,21 @@ from rvlook.finders.races.machine import CachedState, Look, RaceMachine, Schedul
 
 
 class Loop(NamedTuple):
-    """An endless loop of a hart: whether it accesses memory, whether it changes memory, and its number of steps."""
-    accesses: bool
-    changes: bool
-    length: int
+    """An endless loop of a hart that no other hart can affect."""
+    accesses: bool  # whether the hart loads or stores in it
+    changes: bool  # whether memory changes
+    length: int  # steps of one round
 
 
 class LoopDetector:
-    """Detects that a hart returns to an earlier state; compares with single states at ever larger distances (Brent's algorithm)."""
+    """Detects that a hart returns to an earlier state. Compares with single states at ever larger distances (Brent's algorithm)."""
 
     def __init__(self) -> None:
-        self.marked, self.count, self.next = 0, 0, 1
-        self.mark: tuple[int, int, int, tuple[int, ...]] | None = None
+        self.marked, self.count, self.next = 0, 0, 1  # calls of `length`: at the mark, so far, and at the next mark
+        self.mark: tuple[int, int, int, tuple[int, ...]] | None = None  # the state to compare with; None before the first
 
     def length(self, work: Work) -> int:
-        """Returns the steps of the loop, or 0 while none is detected; to be called before each step."""
+        """Returns the number of steps of the loop, or 0 while no loop is detected. Must be called before each step."""
         if self.mark and work.pc == self.mark[0] and state_of(work) == self.mark:
             return self.count + 1 - self.marked
         self.count += 1
@@ -37,7 +37,7 @@ def state_of(work: Work) -> tuple[int, int, int, tuple[int, ...]]:
 
 
 def do_steps(machine: RaceMachine, work: Work, count: int, schedule: Schedule) -> Iterator[Look]:
-    """Does so many steps of a hart; yields the access of each after it."""
+    """Does `count` steps of a hart; yields the access of each step after the step."""
     for _ in range(count):
         look = machine.look(work)
         machine.step(work, look, schedule)

@@ -25,52 +25,51 @@ MOST_MOVES = 20000  # of a task; its result is sent through a pipe
 
 @dataclass(frozen=True, eq=False)
 class Touched:
-    """The bytes that an agent accessed in a move. Moves share an object."""
-    agent: Agent
-    read: FrozenSet[int]
-    written: FrozenSet[int]
-    executed: FrozenSet[int]
+    """The bytes that an agent accessed in a move. Moves with equal accesses share an object."""
+    agent: Agent  # the hart, or the hart in a world
+    read: FrozenSet[int]  # addresses of loaded bytes
+    written: FrozenSet[int]  # addresses of stored bytes
+    executed: FrozenSet[int]  # addresses of instructions
 
 
 class AheadMove(NamedTuple):
-    """A move with all that the search records for it: the bytes, the endless loop with the state that represents it, and whether the hart was given
-    up."""
-    move: Optional[Move]
-    touched: Sequence[Touched]
-    loop: Optional[Tuple[CachedState, Loop]]
-    is_unended: bool
+    """A move with all that the search records for it."""
+    move: Optional[Move]  # None: the hart stops
+    touched: Sequence[Touched]  # the accessed bytes, by agent
+    loop: Optional[Tuple[CachedState, Loop]]  # the endless loop in which the move ends, after its state; None for no loop
+    is_unended: bool  # whether the hart was given up
 
 
 class MemoryChange(NamedTuple):
-    """A memory: its hash, that of the memory before it, the bytes that differ, and those that are again as after the script."""
-    digest: int
-    before: int
-    changed: Memory
-    restored: Set[int]
+    """A memory, as a change of the memory before a move."""
+    digest: int  # its hash
+    before: int  # the hash of the memory before
+    changed: Memory  # the new values of bytes that differ
+    restored: Set[int]  # addresses of bytes that are again as after the script
 
 
 @dataclass
 class MoveNews:
-    """The moves of a task, with what is new in their states: the values of harts by number, and memories. `written` has all addresses that are ever
-    written."""
-    moves: List[Tuple[MoveKey, AheadMove]]
-    memories: List[MemoryChange]
-    harts: Dict[int, Tuple[int, int, Tuple[int, ...]]]
-    written: Set[int]
+    """The moves of a task, with what is new in their states."""
+    moves: List[Tuple[MoveKey, AheadMove]]  # the results, by state, hart and timer
+    memories: List[MemoryChange]  # the memories that are new
+    harts: Dict[int, Tuple[int, int, Tuple[int, ...]]]  # context, pc and registers of each new number
+    written: Set[int]  # addresses of all words that are ever written
 
 
 class MoveRecorder:
-    """Computes moves in another process, and records them. `search` is the copy that the process has inherited."""
+    """Computes moves in another process, and records them. `search` is the copy that this process has inherited."""
 
     def __init__(self, search: ScheduleSearch) -> None:
+        # `inherited`: states of harts that the search knew
         self.search, self.machine, self.inherited = search, search.machine, len(search.machine.harts)
-        self.memories = set(search.machine.memories)
-        self.touched: dict[tuple[Agent, FrozenSet[int], FrozenSet[int], FrozenSet[int]], Touched] = {}
-        self.steps: dict[DependentStep, DependentStep] = {}
-        self.news = MoveNews(moves=[], memories=[], harts={}, written=set())
+        self.memories = set(search.machine.memories)  # hashes of the memories that are known
+        self.touched: dict[tuple[Agent, FrozenSet[int], FrozenSet[int], FrozenSet[int]], Touched] = {}  # so that equal objects are sent once
+        self.steps: dict[DependentStep, DependentStep] = {}  # likewise
+        self.news = MoveNews(moves=[], memories=[], harts={}, written=set())  # the result of the current task
 
     def follow(self, nodes: Sequence[SearchNode]) -> MoveNews:
-        """Follows nodes of one level to all nodes of this level, and returns the moves. Leaves out what needs rvbench."""
+        """Follows nodes of one level to all nodes of this level, and returns the moves. Leaves out the moves that need rvbench."""
         search, waiting, level = self.search, list(nodes), nodes[0].cost.level
         self.machine.go_offline()
         search.new_move = self.new_move
@@ -117,15 +116,15 @@ class MoveRecorder:
 
 
 class MovesAhead:
-    """The moves that other processes have computed for a search. They hold for one round, as long as no region is new."""
+    """The moves that other processes have computed for a search. They are valid in one round, until a new region is created."""
 
     def __init__(self, search: ScheduleSearch, jobs: int) -> None:
-        self.search, self.machine, self.jobs = search, search.machine, jobs
-        self.moves: dict[MoveKey, AheadMove] = {}
-        self.merged: set[Touched] = set()
+        self.search, self.machine, self.jobs = search, search.machine, jobs  # `jobs`: number of processes
+        self.moves: dict[MoveKey, AheadMove] = {}  # computed by other processes and not yet used
+        self.merged: set[Touched] = set()  # accesses that the search has recorded
         self.valid_for = (0, 0)  # the round, and the number of regions
-        self.taken = self.computed = 0
-        self.seconds, self.pause = 0.0, PAUSE
+        self.taken = self.computed = 0  # moves of other processes, since the start, and moves of this process, since the last exchange
+        self.seconds, self.pause = 0.0, PAUSE  # spent on the moves of this process since the last exchange; the least before the next exchange
         search.prepare, search.new_move = self.prepare, self.new_move
 
     def prepare(self, heap: Heap) -> None:
@@ -191,7 +190,7 @@ class MovesAhead:
         return move
 
     def new_move(self, key: MoveKey, schedule: Schedule) -> Move | None:
-        """Returns a move that another process has computed, and records what belongs to it; computes it if there is none."""
+        """Returns a move that another process has computed, and records what the search records for it. Computes the move if no process has."""
         found = self.moves.pop(key, None)
         if found is None or self.valid_for != (self.search.rounds, len(self.machine.regions)):
             return self.compute(key, schedule)

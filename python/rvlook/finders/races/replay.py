@@ -21,12 +21,12 @@ LONGEST_COMMENT = 118  # characters after `# `
 
 
 class Replays:
-    """Replays schedules, and compares their states. `rows` are the replies of `mem` for all RAM after the script."""
+    """Replays schedules, and compares their states."""
 
     def __init__(self, machine: RaceMachine) -> None:
-        self.machine, self.process = machine, os.getpid()
-        self.rows: list[str] = []
-        self.commands = memory_commands(RAM_BASE, machine.setup.ram)
+        self.machine, self.process = machine, os.getpid()  # `process`: the id of the process that owns the benches
+        self.rows: list[str] = []  # the replies of `mem` for all RAM after the script; empty before they are read
+        self.commands = memory_commands(RAM_BASE, machine.setup.ram)  # read all RAM
 
     def ram(self, bench: Bench) -> list[str]:
         """Reads all rows of RAM."""

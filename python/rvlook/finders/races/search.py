@@ -22,31 +22,28 @@ SEARCH_SHARE = 0.85  # of the time limit; the rest is for the analysis of the gr
 
 
 class DependentStep(NamedTuple):
-    """A dependent step: the number of steps before it in its move, its pc, its access, its world, and whether it took the timer interrupt."""
-    before: int
-    pc: Optional[int]
-    look: Optional[Look]
-    world: str
-    timed: bool
+    """The dependent step of a move. In a move of independent steps only, `pc` and `look` are None."""
+    before: int  # number of steps of the move before this one
+    pc: Optional[int]  # None if the move has no dependent step
+    look: Optional[Look]  # its access; None if the move has no dependent step
+    world: str  # in which the step begins
+    timed: bool  # whether the step took the timer interrupt
 
 
 class Move(NamedTuple):
-    """A dependent step with the independent steps around it, or only independent steps if its `pc` is None.
-
-    Has the state after it, the number of steps, and whether memory or the table changed."""
-    state: CachedState
-    steps: int
-    dependent: DependentStep
-    changes: bool
+    """A dependent step with the independent steps before and after it, or only independent steps."""
+    state: CachedState  # after the move
+    steps: int  # number of all its steps
+    dependent: DependentStep  # has the pc None if all steps are independent
+    changes: bool  # whether memory or the enclave table changed
 
 
 class SearchPoint(NamedTuple):
-    """A state of the search: the state of the machine, the last hart, the number of timer interrupts, and whether a switch or an interrupt
-    has occurred."""
-    state: CachedState
-    last: Optional[int]
-    timers: int
-    begun: bool
+    """A state of the search."""
+    state: CachedState  # the state of the machine
+    last: Optional[int]  # the hart that moved last; None at the start
+    timers: int  # timer interrupts so far
+    begun: bool  # whether a switch or an interrupt has occurred; always true if all orders are searched
 
 
 Vertex = Tuple[Any, ...]  # a point, or a part of one
@@ -56,11 +53,11 @@ Heap = List[Tuple["Cost", int, "SearchNode"]]  # the nodes that wait, by their c
 
 
 class Cost(NamedTuple):
-    """The cost of a schedule, the most important part first: its preemptions, timer interrupts, switches and steps."""
-    preemptions: int = 0
-    timers: int = 0
-    switches: int = 0
-    steps: int = 0
+    """The cost of a schedule. Costs are compared by the first part that differs."""
+    preemptions: int = 0  # switches from a hart that could make progress
+    timers: int = 0  # timer interrupts
+    switches: int = 0  # all changes of the hart
+    steps: int = 0  # of all harts
 
     @property
     def level(self) -> tuple[int, int]:
@@ -69,33 +66,32 @@ class Cost(NamedTuple):
 
 
 class Edge(NamedTuple):
-    """A move of a hart in the graph of orders: the vertex to which it leads, and 1 for a preemption."""
-    target: Vertex
-    hart: int
-    move: Move
-    preemptions: int
+    """A move of a hart in the graph of orders."""
+    target: Vertex  # the vertex after the move
+    hart: int  # the hart that moves
+    move: Move  # the move
+    preemptions: int  # 1 if the move begins with a preemption, else 0
 
 
 class SearchNode(NamedTuple):
-    """A point with the simplest schedule that leads to it, whose cost is `cost`. It was reached from a node by a move, perhaps after the timer; the
-    start has neither. `alone` counts the moves of its hart in succession; `low` is the first step that the next switch may be attributed to."""
-    point: SearchPoint
-    cost: Cost = Cost()
-    parent: Optional[SearchNode] = None
-    move: Optional[Move] = None
-    is_timer: bool = False
-    alone: int = 0
-    low: int = 0
+    """A point with the simplest schedule that leads to it."""
+    point: SearchPoint  # the point
+    cost: Cost = Cost()  # of the schedule
+    parent: Optional[SearchNode] = None  # the node before; None at the start
+    move: Optional[Move] = None  # from the parent; None at the start
+    is_timer: bool = False  # whether the timer interrupt came before the move
+    alone: int = 0  # moves of the hart in succession
+    low: int = 0  # the first step of the run to which the next switch may be attributed
 
     @property
     def hart(self) -> int:
-        """The hart of the last move; the start has none."""
+        """Returns the hart of the last move. The start has no last move."""
         assert self.point.last is not None
         return self.point.last
 
     @property
     def last_move(self) -> Move:
-        """The last move; the start has none."""
+        """Returns the last move. The start has no last move."""
         assert self.move is not None
         return self.move
 
@@ -130,12 +126,12 @@ def schedule_of(moves: Iterable[tuple[int, Move, bool]]) -> list[Segment]:
 
 
 class TouchedBytes:
-    """Bytes that each agent read, wrote and executed."""
+    """The bytes that each agent loaded, stored and executed."""
 
     def __init__(self) -> None:
-        self.read: dict[Agent, set[int]] = defaultdict(set)
-        self.written: dict[Agent, set[int]] = defaultdict(set)
-        self.executed: dict[Agent, set[int]] = defaultdict(set)
+        self.read: dict[Agent, set[int]] = defaultdict(set)  # addresses of loaded bytes
+        self.written: dict[Agent, set[int]] = defaultdict(set)  # addresses of stored bytes
+        self.executed: dict[Agent, set[int]] = defaultdict(set)  # addresses of instructions
 
     def shared(self) -> set[int]:
         """Returns the bytes that two agents accessed, at least one of them by a store."""
@@ -148,27 +144,23 @@ class TouchedBytes:
 
 @dataclass
 class Graph:
-    """The orders of a round.
+    """The orders that one round of the search has found."""
 
-    Has the first node of each vertex, its edges, and the moves of each state. `loops` has the endless loops in which no other hart can affect a hart.
-    `unended` and `alone` have the states in which a hart was given up: within a move, or after many moves alone."""
-
-    nodes: dict[Vertex, SearchNode] = field(default_factory=dict)
-    edges: dict[Vertex, list[Edge]] = field(default_factory=dict)
-    moves: dict[MoveKey, Move | None] = field(default_factory=dict)
-    loops: dict[tuple[CachedState, int], Loop] = field(default_factory=dict)
-    unended: set[tuple[CachedState, int]] = field(default_factory=set)
-    alone: set[tuple[CachedState, int]] = field(default_factory=set)
+    nodes: dict[Vertex, SearchNode] = field(default_factory=dict)  # the first node of each vertex
+    edges: dict[Vertex, list[Edge]] = field(default_factory=dict)  # the moves from each vertex
+    moves: dict[MoveKey, Move | None] = field(default_factory=dict)  # None: the hart stops
+    loops: dict[tuple[CachedState, int], Loop] = field(default_factory=dict)  # by state and hart: endless loops that no other hart can affect
+    unended: set[tuple[CachedState, int]] = field(default_factory=set)  # states in which a hart was given up within a move
+    alone: set[tuple[CachedState, int]] = field(default_factory=set)  # states in which a hart was given up after MOST_ALONE moves
 
 
 class SearchBounds(NamedTuple):
-    """The bounds of a search: preemptions (None: any number), timer interrupts, independent steps in succession, and the steps between which
-    the first switch or timer interrupt comes."""
-    preemptions: Optional[int] = None
-    timers: int = 0
-    steps: int = 1000000
-    first: int = 0
-    last: Optional[int] = None
+    """The bounds of a search."""
+    preemptions: Optional[int] = None  # at most; None: any number
+    timers: int = 0  # timer interrupts, at most
+    steps: int = 1000000  # of one move; a hart that exceeds them is given up
+    first: int = 0  # the first switch or timer interrupt comes right after this step of the run, or later,
+    last: Optional[int] = None  # and at the latest right after this one; None: no limit
 
     @property
     def is_part(self) -> bool:
@@ -177,22 +169,21 @@ class SearchBounds(NamedTuple):
 
 
 class ScheduleSearch:
-    """All orders within bounds. `plain` switches harts before each step; `outcome` is what distinguishes final states.
-
-    These may be set: `progress` is called with the search at each point, `prepare` with the nodes that wait; `new_move` returns a move."""
+    """The search of all orders within bounds. `plain` switches harts before each step, without reduction."""
 
     def __init__(self, machine: RaceMachine, bounds: SearchBounds = SearchBounds(), plain: bool = False, outcome: Watched = Watched(),
                  limit: TimeLimit = TimeLimit()) -> None:
-        self.machine, self.bounds, self.outcome, self.limit = machine, bounds, outcome, limit
-        self.progress: Callable[[ScheduleSearch], None] = lambda _: None
-        self.prepare: Callable[[Heap], None] = lambda _: None
-        self.new_move: Callable[[MoveKey, Schedule], Move | None] = self.compute_move
+        self.machine, self.bounds, self.outcome, self.limit = machine, bounds, outcome, limit  # `outcome` distinguishes final states
+        self.progress: Callable[[ScheduleSearch], None] = lambda _: None  # a caller may set it; is called at each point
+        self.prepare: Callable[[Heap], None] = lambda _: None  # a caller may set it; receives the nodes that wait
+        self.new_move: Callable[[MoveKey, Schedule], Move | None] = self.compute_move  # a caller may replace it
+        # steps of enclaves that store to one of these are dependent
         self.watched = frozenset((*outcome.addresses, -1)) if bounds.timers else frozenset()
         self.plain = plain or not machine.monitor  # a handler of the bare bench shares its registers with what it stops
-        self.is_outcome_visible = self.plain
-        self.shared: frozenset[int] = frozenset()
-        self.touches, self.rounds, self.regions = TouchedBytes(), 0, 0
-        self.why_cut: str | None = None
+        self.is_outcome_visible = self.plain  # whether steps that may change the outcome are dependent
+        self.shared: frozenset[int] = frozenset()  # the shared bytes of this round
+        self.touches, self.rounds, self.regions = TouchedBytes(), 0, 0  # the accesses so far, the round from 1, and the regions known at its start
+        self.why_cut: str | None = None  # what ended the search early; None: nothing did
         self.whole: tuple[int, int] | None = None  # the last level, of preemptions and timers, of which all was searched
         self.graph = Graph()  # of this round
         self.earlier: Graph | None = None  # of the round that came to that level
@@ -201,10 +192,10 @@ class ScheduleSearch:
 
     def reset(self) -> None:
         """Begins a new round."""
-        self.cycles: dict[tuple[CachedState, int], int] = {}
-        self.done: set[SearchPoint] = set()
+        self.cycles: dict[tuple[CachedState, int], int] = {}  # steps in which a hart returns to a state; 0: never
+        self.done: set[SearchPoint] = set()  # the points that were visited
         self.graph = Graph()
-        self.count, self.level, self.waiting = 0, (0, 0), 0
+        self.count, self.level, self.waiting = 0, (0, 0), 0  # transitions, the level of the current node, queued nodes
 
     def run(self) -> ScheduleSearch:
         """Repeats the search until a round finds no new shared bytes, or until the time limit."""
@@ -222,7 +213,7 @@ class ScheduleSearch:
         return self
 
     def show_outcome(self) -> None:
-        """Makes each step that may change the outcome a dependent one in the rounds that follow, so that each value of it has a node."""
+        """Makes each step that may change the outcome dependent in the following rounds. Each value of the outcome then has a node."""
         self.is_outcome_visible, self.reduced, self.whole, self.earlier = True, self.graph, None, None
 
     def graphs(self) -> list[Graph]:
@@ -332,7 +323,7 @@ class ScheduleSearch:
     # ---- moves
 
     def move(self, state: CachedState, hart: int, schedule: Schedule, is_timer: bool = False) -> Move | None:
-        """Returns the move of a hart, or None if it stops. `schedule` gives the schedule that leads here."""
+        """Returns the move of a hart, or None if the hart stops. `schedule` returns the schedule that leads to the state."""
         key = (state, hart, is_timer)
         moves = self.graph.moves
         if key not in moves:

@@ -31,6 +31,7 @@ class Story:
 
     def __init__(self, end: FinalState, outcome: Sequence[Observed], search: ScheduleSearch, symbols: Symbols,
                  end_pcs: Sequence[Set[int | None]]) -> None:
+        # `end_pcs`: for each hart the pcs of all final states
         self.end, self.outcome, self.search, self.symbols, self.end_pcs = end, outcome, search, symbols, end_pcs
 
     def heading(self) -> str:
@@ -54,7 +55,7 @@ class Story:
         return "%d transitions alone" % MOST_ALONE if is_alone else counted(search.bounds.steps, "step")
 
     def location(self, pc: int | None) -> str:
-        """Returns the source line of a pc, its symbol or its address; the pc must be known."""
+        """Returns the source line of a pc, its symbol or its address. The pc must not be None."""
         assert pc is not None
         return self.symbols.place(pc)
 
@@ -192,23 +193,20 @@ def level_text(search: ScheduleSearch) -> str:
 
 @dataclass(frozen=True)
 class RacesOptions:
-    """The options of a search: the forbidden final states, what distinguishes them, and the places at which a hart may end. It has at most so many
-    preemptions, timer interrupts and seconds. The first switch comes after step `first`, and not after `last`. `limit` is that of a hart that runs
-    alone, `plain` switches before each step, `symbols` is the file of variables, and `scripts` the folder for the inputs of final states. `jobs`
-    processes search and replay."""
-    forbid: Sequence[str] = ()
-    outcome: Sequence[str] = ()
-    end: Sequence[str] = ()
-    preemptions: Optional[int] = None
-    timers: int = 0
-    first: int = 0
-    last: Optional[int] = None
-    limit: int = 0
-    plain: bool = False
-    seconds: Optional[float] = None
-    symbols: Optional[str] = None
-    scripts: Optional[str] = None
-    jobs: int = 1
+    """The options of `races`."""
+    forbid: Sequence[str] = ()  # conditions that no final state may meet
+    outcome: Sequence[str] = ()  # what distinguishes final states; empty: all shared memory
+    end: Sequence[str] = ()  # the places at which a hart may end; empty: any
+    preemptions: Optional[int] = None  # at most; None: any number
+    timers: int = 0  # timer interrupts, at most
+    first: int = 0  # the first switch or timer interrupt comes right after this step, or later,
+    last: Optional[int] = None  # and at the latest right after this one; None: no limit
+    limit: int = 0  # steps after which each hart ends; 0: no limit
+    plain: bool = False  # whether harts switch before each step, without reduction
+    seconds: Optional[float] = None  # of search and replay, at most; None: no limit
+    symbols: Optional[str] = None  # the file of variables; None: the image
+    scripts: Optional[str] = None  # the folder for inputs that replay the final states; None: not written
+    jobs: int = 1  # processes that search and replay
 
 
 def find_races(run: Run, options: RacesOptions) -> RacesReport:
@@ -247,7 +245,7 @@ def show_races(run: Run, printer: Printer, options: RacesOptions, findings: Repo
 
 
 def address_of(text: str, symbols: Symbols) -> int:
-    """Returns the address of a place; raises RvlookError."""
+    """Returns the address of a place. Raises RvlookError if the text is neither an address nor a symbol."""
     at = symbols.address(text)
     if at is None:
         raise RvlookError("'%s' is neither a hexadecimal address nor a symbol" % text)
@@ -256,23 +254,22 @@ def address_of(text: str, symbols: Symbols) -> int:
 
 @dataclass
 class RacesReport:
-    """A search and its final states. After the replay, `stories` describes them, `bad` has those that are forbidden with their conditions, and
-    `scripts` the input of the bench for each number."""
-    run: Run
-    symbols: Symbols
-    search: ScheduleSearch
-    found: FinalStates
-    conditions: List[Forbidden]
-    stories: List[Story] = field(default_factory=list)
-    bad: List[Tuple[Forbidden, FinalState]] = field(default_factory=list)
-    scripts: Dict[int, bytes] = field(default_factory=dict)
+    """A search and its final states."""
+    run: Run  # the run with its script
+    symbols: Symbols  # name addresses
+    search: ScheduleSearch  # has searched all orders
+    found: FinalStates  # the final states
+    conditions: List[Forbidden]  # of --forbid
+    stories: List[Story] = field(default_factory=list)  # describe the final states; empty before the replay
+    bad: List[Tuple[Forbidden, FinalState]] = field(default_factory=list)  # each condition that holds, with a final state that meets it
+    scripts: Dict[int, bytes] = field(default_factory=dict)  # the input of the bench for each number
 
     def title(self, end: FinalState) -> str:
         """Returns a final state as a line with its number."""
         return "final state %d: %s" % (end.number, self.stories[end.number - 1].heading())
 
     def is_finding(self, story: Story) -> bool:
-        """Returns whether a final state counts as found if none is forbidden."""
+        """Returns whether a final state counts as a finding if there is no --forbid."""
         return story.end.number > 1 or not {how for how, _ in story.end.harts} <= {ENDED, UNFINISHED, NOT_SEARCHED}
 
     def cut_text(self) -> str:
@@ -310,7 +307,7 @@ def note(findings: ReportedCases, report: RacesReport) -> None:
 
 
 def replay(search: ScheduleSearch, found: FinalStates, conditions: Sequence[Forbidden], jobs: int) -> None:
-    """Replays the final states on the bench in `jobs` processes, forbidden ones first. Leaves out those for which no time is left."""
+    """Replays the final states on the bench in `jobs` processes, forbidden ones first. Leaves out the final states for which no time is left."""
     replayed: list[FinalState] = []
     is_forbidden = {id(end) for _, end in forbidden(conditions, found)}
     try:

@@ -16,14 +16,14 @@ class OutOfTime(Exception):
 
 
 class TimeLimit:
-    """A limit of so many seconds from now on; None is no limit."""
+    """A time limit, in seconds from now on. None is no limit."""
 
     def __init__(self, seconds: float | None = None) -> None:
-        self.start, self.seconds = time.monotonic(), seconds
+        self.start, self.seconds = time.monotonic(), seconds  # `start` is of the monotonic clock
 
     @contextmanager
     def until(self, share: float, more: float = 0.0) -> Iterator[None]:
-        """Raises OutOfTime in the body when this share of the time, and so many seconds more, have passed."""
+        """Raises OutOfTime in the body when this share of the limit, and `more` seconds, have passed."""
         if self.seconds is None:
             yield
             return
@@ -38,5 +38,5 @@ class TimeLimit:
 
 
 def stop(*_: object) -> NoReturn:
-    """Raises OutOfTime."""
+    """Raises OutOfTime. Handles the alarm."""
     raise OutOfTime
