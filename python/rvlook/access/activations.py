@@ -34,11 +34,11 @@ class Operation(NamedTuple):
 
 @dataclass
 class Activation:
-    """An activation: an enclave on a hart, from the step that enters it to the one that leaves it. An index counts the steps of the enclave from
+    """An activation: an enclave on a hart, from its first step to the one that leaves it. An index counts the steps of the enclave from
     0."""
     world: str  # the enclave, such as `e0`; `bare` on the bare bench
     hart: int  # on which it runs
-    first: int  # number of the step that enters
+    first: int  # number of its first step
     number: int  # of the activation in its slot
     enclave: Enclave  # its entry in the enclave table
     last: int = 0  # number of the step that leaves; 0 while it runs

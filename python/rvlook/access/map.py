@@ -25,7 +25,7 @@ ENTRY_WRITTEN = re.compile(rb" csrr\w+ x\d+, 0x3[ab][0-9a-f],")  # pmpcfg0 to pm
 class Column:
     """A world whose access rights are shown."""
     name: str  # of the column
-    world: str  # its world
+    world: str
     hart: Optional[int]  # on which the world runs; None: on no hart, so the rights are derived
 
     @property
@@ -37,7 +37,7 @@ class Column:
 @dataclass(frozen=True)
 class Row:
     """A range of RAM with the access rights to it."""
-    range: Range  # the range
+    range: Range
     what: str  # its meaning; empty on the bare bench
     may: dict[str, dict[str, str]]  # rights by column and mode
 

@@ -24,7 +24,7 @@ class Range:
 @dataclass(frozen=True)
 class Verdicts:
     """The access rights to a range."""
-    range: Range  # the range
+    range: Range
     may: dict[str, str]  # by mode, such as `rw-`
     replies: tuple[str, ...]  # of `access`, which name the entry that decides
 

@@ -22,7 +22,7 @@ from rvlook.protocol.symbols import Symbols
 class Transient:
     """A range that S may access only while M runs."""
     event: Event  # opened it
-    range: Range  # the range
+    range: Range
     may: str  # the rights that S has neither before nor after
 
 

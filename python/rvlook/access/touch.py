@@ -106,7 +106,7 @@ class Touched:
 class Permitted:
     """A range that a world may access, and which part it accessed."""
     what: str  # its meaning
-    range: Range  # the range
+    range: Range
     kinds: str  # of permitted accesses
     touched: dict[str, int]  # number of accessed bytes by kind
     lowest: Optional[int]  # accessed address; None without an access

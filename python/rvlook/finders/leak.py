@@ -35,7 +35,7 @@ class Difference:
 @dataclass
 class Observation:
     """The observations of a host in one run."""
-    run: Run  # the run
+    run: Run
     activations: list[Activation]  # of the enclave
     last: int  # number of the last step that is observed
     is_cut: bool = False  # by --steps, before the enclave exited

@@ -75,7 +75,7 @@ class ScriptCoverage:
 @dataclass(frozen=True)
 class PairStep:
     """An item that was done."""
-    item: Item  # the item
+    item: Item
     world: str  # that did it
     result: str  # in words; empty without a trap
 

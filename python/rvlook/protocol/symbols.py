@@ -50,9 +50,9 @@ class Unit:
 @dataclass(frozen=True)
 class Symbol:
     """A name at an address."""
-    address: int  # the address
+    address: int
     size: int  # bytes; 0 if unknown
-    name: str  # the name
+    name: str
     is_function: bool  # whether a symbol table says so
     rank: int = 0  # the lower one names the address where there are more
 

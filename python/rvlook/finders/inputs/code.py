@@ -31,10 +31,10 @@ class Kind(Enum):
 ENDS_BLOCK = (Kind.BRANCH, Kind.CALL, Kind.INDIRECT, Kind.RETURN, Kind.TRAP_RETURN, Kind.ECALL)
 
 
-@dataclass(frozen=True, eq=False)
+@dataclass(frozen=True)
 class Code:
-    """A decoded instruction. Equal replies of `dis` share one object. A register is given by its number; 0 means no register."""
-    kind: Kind  # the kind
+    """A decoded instruction. A register is given by its number; 0 means no register."""
+    kind: Kind
     text: str  # as `dis` writes it; empty if it cannot be fetched
     probes: Tuple[int, ...] = ()  # registers to read before it: base and stored register, or a6 and a1
     width: int = 0  # bytes of a load or store

@@ -108,7 +108,7 @@ def has_taken_over(tracer: Tracer, known: TracerKnowledge, trace: Trace, news: N
 @dataclass
 class Parent:
     """A trace from which the search goes on."""
-    trace: Trace  # the trace
+    trace: Trace
     details: Details  # its loads and branches
     inputs: list[Input]  # that can be changed
     children: Iterator[Child]  # the runs that are still to be tried

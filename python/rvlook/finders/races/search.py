@@ -69,13 +69,13 @@ class Edge(NamedTuple):
     """A move of a hart in the graph of orders."""
     target: Vertex  # the vertex after the move
     hart: int  # the hart that moves
-    move: Move  # the move
+    move: Move
     preemptions: int  # 1 if the move begins with a preemption, else 0
 
 
 class SearchNode(NamedTuple):
     """A point with the simplest schedule that leads to it."""
-    point: SearchPoint  # the point
+    point: SearchPoint
     cost: Cost = Cost()  # of the schedule
     parent: Optional[SearchNode] = None  # the node before; None at the start
     move: Optional[Move] = None  # from the parent; None at the start
