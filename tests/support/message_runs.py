@@ -60,12 +60,12 @@ with_old_values = inputs_report.with_old_values
 inputs_report.with_old_values = lambda *more: (signal.setitimer(signal.ITIMER_REAL, 0.1), time.sleep(30), with_old_values(*more))[2]
 """
 REGISTERS = """
-step = trace.RunTracer.step
-def changing(self, number, hart_number, hart, *more):
-    done = step(self, number, hart_number, hart, *more)
+traced = trace.traced
+def changing(number, hart_number, hart, *more):
+    done = traced(number, hart_number, hart, *more)
     hart.registers = [*hart.registers[:31], "changed"]
     return done
-trace.RunTracer.step = changing
+trace.traced = changing
 """
 
 
