@@ -22,7 +22,7 @@ module _ {S : Type 0} (g : SourceGhosts S) where
     pub back : left ≡ new.source
 
 module _ {S W : Type 0} (g : SourceGhosts S) (h : SinkGhosts W) (source left : S) (before after : W) where
-  -- each result of a job has a meaning
+  -- the meaning of each result of a job
   abbrev pub DoesJob : Job → Outcome → Type 0
   DoesJob (Run setup) outcome =
       (old : Lines S g) × (new : Lines S g) × ReadsByLines g source left old new × RunsStream h setup old new before after outcome

@@ -68,7 +68,7 @@ module _ {S W : Type 0} {g : SourceGhosts S} (h : SinkGhosts W) {A : Type 0} (by
     pub emptied : held new ≡ []
     pub stopped : RespondsToEnd ⊎ RespondsUntilOver
 
-  -- each result of responding to a script has a meaning
+  -- the meaning of each result of responding to a script
   abbrev pub RespondsToScript : Outcome → Type 0
   RespondsToScript (Ok _) = RespondsToAll
   RespondsToScript (Err fault) = FailsIn h by end start old new before after fault

@@ -113,7 +113,7 @@ module _ {S W : Type 0} {g : SourceGhosts S} (h : SinkGhosts W) where
     pub read : GoesToEnd NeverEntered old new after ⊎ ((g.follows_input new.source → Over) × ReportsEnd h after)
     pub written : g.follows_input new.source → IsOkAnd output (λ text. h.taken after ≡ h.taken before ++ text)
 
-  -- Each result of the second part has a meaning, for the pair after the scramble.
+  -- The meaning of each result of the second part, for the pair after the scramble.
   abbrev pub RunsSecond : ℕ → Option Pair → Lines S g → Lines S g → W → W → Outcome → Type 0
   RunsSecond slot pair old new before after (Ok _) =
       TellsTwin (Ok (second_text slot pair (unread old))) (IsNeverEntered slot pair (unread old)) (IsOver slot pair (unread old) (unread new) new.is_at_end)

@@ -14,7 +14,7 @@ use Rattle.rv_streams.specs.Device.{HasRisen}
 use Rattle.rv_streams.specs.Faults.{Outcome}
 use Rattle.rv_streams.specs.Transfer.{ReadsAtMost, ReadsMoreThan, WritesPrefix}
 
--- each result of appending a part to a text has a meaning
+-- the meaning of each result of appending a part to a text
 abbrev pub AddsPart : List ℕ → List ℕ → List ℕ → Outcome → Type 0
 AddsPart part old new (Ok _) = (new ≡ old ++ part) × (length new ≤ 4194304)
 AddsPart part old new (Err TooLong) = (4194304 < length old + length part) × (new ≡ old)
@@ -52,7 +52,7 @@ module _ {S : Type 0} (g : SourceGhosts S) where
     pub some : g.follows_input new → length (g.remaining new) < length (g.remaining old)
     pub reads : g.follows_input new → ReadsAtMost 4194304 (g.remaining old) (g.remaining new)
 
-  -- each result of reading a text has a meaning
+  -- the meaning of each result of reading a text
   abbrev pub ReadsText : {Z : Type 0} → S → S → Result (Vec ℕ Z) BenchFault → Type 0
   ReadsText old new (Ok text) = ReadsWholeText old new × (length text.items ≤ 4194304) × (g.follows_input new → text.items ≡ g.remaining old)
   ReadsText old new (Err Read) = FailsInText old new

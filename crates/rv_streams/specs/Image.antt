@@ -73,7 +73,7 @@ pub record StopsAtFault (unread left : List ℕ) (fault : BenchFault) : Type 0 w
   pub image : image_of sound ≡ Ok (bytes_of_lines sound)
   pub fails : image_of (sound ++ line ∷ []) ≡ Err fault
 
--- each result of appending the bytes of a word to an image has a meaning
+-- the meaning of each result of appending the bytes of a word to an image
 abbrev pub AddsBytes : List ℕ → List ℕ → List ℕ → Result (Unit {0}) BenchFault → Type 0
 AddsBytes word old new (Ok _) = IsSomeAnd (bytes_of_digits word) (λ bytes. new ≡ old ++ bytes)
 AddsBytes word old new (Err Hex) = (bytes_of_digits word ≡ None) × (new ≡ old)

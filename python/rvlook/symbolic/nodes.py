@@ -1,11 +1,13 @@
 """Expressions over the inputs of the host and the bytes of secrets: a graph without duplicates.
 
 A word of 32 bits, a byte and a condition are each a number if they are constant, else a Node. A condition is a bool if it is constant. The *mask* of
-a node is the set of its variables: bit n is set for the variable with number n. These are the operations of nodes:
+a node is the set of its variables: bit n is set for the variable with number n.
+
+Each node has one of these operations.
 
 - "var": a variable, which is a byte; the operand is its name.
 
-- The names of NUMBERS: an instruction on two words.
+- The names in NUMBERS: an instruction on two words.
 
 - "word": the word of four bytes, the lowest first; "byte": byte n of a word; "sx8", "sx16": one or two bytes as a word with their sign.
 
