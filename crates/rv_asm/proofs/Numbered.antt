@@ -9,38 +9,38 @@ use Rattle.rv_asm.specs.RegisterNames.{registers}
 use Rattle.rv_asm.specs.CsrNames.{csrs}
 use Rattle.rv_state.specs.CsrTable.{csr_listing}
 
--- an and that holds has both parts
-both : (a b : Bool) → a && b ≡ true → (a ≡ true) × (b ≡ true)
-both true true is = (refl, refl)
-both true false is = cc
-both false b is = cc
+-- if an and holds, both its parts hold
+and_both : (first second : Bool) → first && second ≡ true → (first ≡ true) × (second ≡ true)
+and_both true true both_hold = (refl, refl)
+and_both true false both_hold = cc
+and_both false second both_hold = cc
 
--- a number is below a limit by the test
-below : (n limit : ℕ) → nat_lt n limit ≡ true → n < limit
-below n limit is = grind (arith, nat_tests)
+-- a number that passes the test `nat_lt` of a limit is below the limit
+lt_of_test : (n limit : ℕ) → nat_lt n limit ≡ true → n < limit
+lt_of_test n limit test_holds = grind (arith, nat_tests)
 
--- a number in the first row, or in a later one, is below the limit
-first_in_range : (limit n : ℕ) (b : Bool) (o : Option (List ℕ × ℕ)) (name : List ℕ) → n < limit
-    → IfSome (option_map (λ (row : List ℕ × ℕ). row.1) o) (λ m. m < limit)
-    → IfSome (option_map (λ (row : List ℕ × ℕ). row.1) (cond b (Some (name, n)) o)) (λ m. m < limit)
-first_in_range limit n true o name here others = here
-first_in_range limit n false o name here others = others
+-- the number of the row that is found, the first or a later one, is below the limit, if the numbers of both are
+first_in_range : (limit n : ℕ) (is_first_row : Bool) (later_row : Option (List ℕ × ℕ)) (name : List ℕ) → n < limit
+    → IfSome (option_map (λ (row : List ℕ × ℕ). row.1) later_row) (λ m. m < limit)
+    → IfSome (option_map (λ (row : List ℕ × ℕ). row.1) (cond is_first_row (Some (name, n)) later_row)) (λ m. m < limit)
+first_in_range limit n true later_row name first_below later_below = first_below
+first_in_range limit n false later_row name first_below later_below = later_below
 
--- each number in a table with numbers below a limit is below it
+-- a number that is looked up in a table is below the limit, if all numbers of the table are
 looked_up-in_range : (limit : ℕ) (rows : List (List ℕ × ℕ)) (name : List ℕ) → list_all (λ row. nat_lt row.1 limit) rows ≡ true
     → IfSome (looked_up rows name) (λ m. m < limit)
-looked_up-in_range limit [] name all = tt
-looked_up-in_range limit ((known, n) ∷ rows) name all =
-    let parts = both _ _ all in
-    first_in_range limit n (bytes_eq name known) (find (λ row. bytes_eq name row.0) rows) known (below n limit parts.0)
-    (looked_up-in_range limit rows name parts.1)
+looked_up-in_range limit [] name all_below = tt
+looked_up-in_range limit ((known, n) ∷ rows) name all_below =
+    let first_and_rest = and_both _ _ all_below in
+    first_in_range limit n (bytes_eq name known) (find (λ row. bytes_eq name row.0) rows) known (lt_of_test n limit first_and_rest.0)
+    (looked_up-in_range limit rows name first_and_rest.1)
 
 -- a register that is found by its name has a number up to 31
 pub registers_in_range : (name : List ℕ) (n : ℕ) → looked_up registers name ≡ Some n → n ≤ 31
 unfolding registers
 registers_in_range name n looked_up_is =
-    let small : n < 32 = rw looked_up_is at (looked_up-in_range 32 registers name refl) in
-    omega (arith, small)
+    let below_32 : n < 32 = rw looked_up_is at (looked_up-in_range 32 registers name refl) in
+    omega (arith, below_32)
 
 -- a CSR that is found by its name has a 12-bit number
 pub csrs_in_range : (name : List ℕ) (n : ℕ) → looked_up csrs name ≡ Some n → n < 4096

@@ -1,6 +1,7 @@
 -- This file proves lemmas about the pieces of a line that the disassembler writes. No byte of a piece is a blank, a comma, the start of a comment,
 -- the end of a label or the end of a line.
-use Rattle.std.proofs.Common.{◌≡◌, ℕ, zero, suc, ◌<◌, ◌≤◌, Bool, true, false, List, [], ◌∷◌, ◌++◌, length, reverse, map, All, refl, ap, ◌∙◌, arith, append-nil}
+use Rattle.std.proofs.Common.{◌≡◌, ℕ, zero, suc, ◌<◌, ◌≤◌, Bool, true, false, List, [], ◌∷◌, ◌++◌, length, reverse, map, All, refl, ap, ◌∙◌}
+use Rattle.std.proofs.Common.{arith, append-nil}
 use Rattle.std.specs.Prelude.{◌==◌, ◌&&◌, ◌||◌, not, slice_index_or, nat_lt, nat_le, codes, if◌then◌else◌}
 use Rattle.std.specs.List.{list_all, flat_map, slice_split}
 use Rattle.std.proofs.lemmas.Bool.{and_parts, and_from}
@@ -10,18 +11,19 @@ use Rattle.std.proofs.lemmas.List.{reverse-reverse, length-reverse}
 use Rattle.std.proofs.lemmas.List.Folds.{list_all-append}
 use Rattle.std.proofs.lemmas.List.Splits.{slice_split_none, slice_split_at}
 use Rattle.std.proofs.lemmas.List.Sums.{AllPass-from_list_all}
+use Rattle.rv_text.specs.Characters.{comma, left_parenthesis, space}
 use Rattle.rv_text.specs.GoodLines.{is_blank}
 use Rattle.rv_asm.specs.Cuts.{after_blanks, before_blanks, trimmed, comma_fields, operands_in}
 
--- a lower-case letter, a digit, a parenthesis, or one of `*`, `+`, `-`, `.` and `/`
+-- `is_plain` is the test of a plain byte: `(` to `9` except the comma, and `a` to `z`
 abbrev pub is_plain : ℕ → Bool
-is_plain b = nat_le 40 b && nat_le b 57 && not (b == 44) || nat_le 97 b && nat_le b 122
+is_plain byte = nat_le left_parenthesis byte && nat_le byte 57 && not (byte == comma) || nat_le 97 byte && nat_le byte 122
 
--- a piece has 1 to 20 plain bytes
+-- `is_piece` is the test of a piece: 1 to 20 plain bytes
 abbrev pub is_piece : List ℕ → Bool
 is_piece text = nat_lt 0 (length text) && nat_le (length text) 20 && list_all is_plain text
 
--- a piece has 1 to 20 plain bytes, which are neither blank nor comma
+-- a piece of a line is a text of 1 to 20 plain bytes
 pub record IsPiece (text : List ℕ) : Type 0 where
   pub some : 0 < length text
   pub short : length text ≤ 20
@@ -39,105 +41,111 @@ ArePieces (text ∷ texts) = IsPiece text × ArePieces texts
 
 -- ---- bytes that are not plain
 
--- no plain byte is a comma
-pub is_plain-comma : (b : ℕ) → is_plain b ≡ true → (b == 44) ≡ false
-is_plain-comma b plain = grind (arith, nat_tests)
+-- a plain byte is no comma (44)
+pub is_plain-comma : (byte : ℕ) → is_plain byte ≡ true → (byte == comma) ≡ false
+is_plain-comma byte is_plain_byte = grind (arith, nat_tests)
 
--- no plain byte is blank
-pub is_plain-blank : (b : ℕ) → is_plain b ≡ true → is_blank b ≡ false
-is_plain-blank b plain = grind (arith, nat_tests)
+-- a plain byte is no blank
+pub is_plain-blank : (byte : ℕ) → is_plain byte ≡ true → is_blank byte ≡ false
+is_plain-blank byte is_plain_byte = grind (arith, nat_tests)
 
--- a condition that no plain byte meets is met by no byte of a plain text
-pub meets_none : (q : ℕ → Bool) (text : List ℕ) → ((b : ℕ) → is_plain b ≡ true → q b ≡ false) → list_all is_plain text ≡ true → All (λ b. q b ≡ false) text
-meets_none q text other plain = λ k d below. other _ (AllPass-from_list_all is_plain text plain k d below)
+-- if no plain byte passes a test, then no byte of a plain text passes it
+pub meets_none : (test : ℕ → Bool) (text : List ℕ) → ((byte : ℕ) → is_plain byte ≡ true → test byte ≡ false) → list_all is_plain text ≡ true
+    → All (λ byte. test byte ≡ false) text
+meets_none test text plain_fails are_plain = λ k d k_in_text. plain_fails _ (AllPass-from_list_all is_plain text are_plain k d k_in_text)
 
 -- ---- blanks
 
 -- the reverse of a plain text is plain
 list_all-reverse : (text : List ℕ) → list_all is_plain text ≡ true → list_all is_plain (reverse text) ≡ true
-list_all-reverse [] plain = refl
-list_all-reverse (b ∷ text) plain =
-    let parts = and_parts (is_plain b) (list_all is_plain text) plain in
-    ap (list_all is_plain) (reverse_onto text b []) ∙ list_all-append is_plain (reverse text) (b ∷ [])
+list_all-reverse [] are_plain = refl
+list_all-reverse (byte ∷ text) are_plain =
+    let parts = and_parts (is_plain byte) (list_all is_plain text) are_plain in
+    ap (list_all is_plain) (reverse_onto text byte []) ∙ list_all-append is_plain (reverse text) (byte ∷ [])
     ∙ and_from _ _ (list_all-reverse text parts.1) (and_from _ _ parts.0 refl)
 
--- no byte at the start of a plain text is removed as a blank
+-- a plain text has no leading blanks to remove
 after_blanks-plain : (text : List ℕ) → list_all is_plain text ≡ true → after_blanks text ≡ text
-after_blanks-plain [] plain = refl
-after_blanks-plain (b ∷ text) plain =
-    let first = is_plain-blank b (and_parts (is_plain b) (list_all is_plain text) plain).0 in
-    rw first refl
+after_blanks-plain [] are_plain = refl
+after_blanks-plain (byte ∷ text) are_plain =
+    let not_blank = is_plain-blank byte (and_parts (is_plain byte) (list_all is_plain text) are_plain).0 in
+    rw not_blank refl
 
--- a plain byte at the start is not removed as a blank
-pub after_blanks-start : (b : ℕ) (text : List ℕ) → is_plain b ≡ true → after_blanks (b ∷ text) ≡ b ∷ text
-after_blanks-start b text plain = let first = is_plain-blank b plain in rw first refl
+-- a text that begins with a plain byte has no leading blanks to remove
+pub after_blanks-start : (byte : ℕ) (text : List ℕ) → is_plain byte ≡ true → after_blanks (byte ∷ text) ≡ byte ∷ text
+after_blanks-start byte text is_plain_byte = let not_blank = is_plain-blank byte is_plain_byte in rw not_blank refl
 
--- no byte at the end of a plain text is removed as a blank
+-- a plain text has no trailing blanks to remove
 before_blanks-plain : (text : List ℕ) → list_all is_plain text ≡ true → before_blanks text ≡ text
-before_blanks-plain text plain =
-    ap reverse (after_blanks-plain (reverse text) (list_all-reverse text plain)) ∙ reverse-reverse text
+before_blanks-plain text are_plain =
+    ap reverse (after_blanks-plain (reverse text) (list_all-reverse text are_plain)) ∙ reverse-reverse text
 
--- a space before a plain text is removed
-trimmed-padded : (text : List ℕ) → list_all is_plain text ≡ true → trimmed (32 ∷ text) ≡ text
+-- a plain text with a space (32) before it is trimmed to the plain text
+trimmed-padded : (text : List ℕ) → list_all is_plain text ≡ true → trimmed (space ∷ text) ≡ text
 unfolding trimmed
-trimmed-padded text plain = ap before_blanks (after_blanks-plain text plain) ∙ before_blanks-plain text plain
+trimmed-padded text are_plain = ap before_blanks (after_blanks-plain text are_plain) ∙ before_blanks-plain text are_plain
 
--- a text that ends in a plain byte is not empty after its leading blanks are removed
-after_blanks-end : (prefix : List ℕ) (b : ℕ) → is_plain b ≡ true → 0 < length (after_blanks (prefix ++ b ∷ []))
-after_blanks-end [] b plain = let first = is_plain-blank b plain in rw first (omega arith)
-after_blanks-end (c ∷ prefix) b plain = either (is_blank c) (after_blanks-end prefix b plain)
+-- a text that ends in a plain byte is not empty after its leading blanks were removed
+after_blanks-end : (prefix : List ℕ) (byte : ℕ) → is_plain byte ≡ true → 0 < length (after_blanks (prefix ++ byte ∷ []))
+after_blanks-end [] byte is_plain_byte = let not_blank = is_plain-blank byte is_plain_byte in rw not_blank (omega arith)
+after_blanks-end (first ∷ prefix) byte is_plain_byte = by_first (is_blank first) (after_blanks-end prefix byte is_plain_byte)
   where
-    -- a text that ends with a plain byte has it after the blanks are removed
-    either : (t : Bool) → 0 < length (after_blanks (prefix ++ b ∷ [])) → 0 < length (if t then after_blanks (prefix ++ b ∷ []) else c ∷ (prefix ++ b ∷ []))
-    either true more = more
-    either false more = omega arith
+    -- the text is not empty, whether its first byte is removed as a blank or not
+    by_first : (is_blank_first : Bool) → 0 < length (after_blanks (prefix ++ byte ∷ []))
+        → 0 < length (if is_blank_first then after_blanks (prefix ++ byte ∷ []) else first ∷ (prefix ++ byte ∷ []))
+    by_first true rest_not_empty = rest_not_empty
+    by_first false rest_not_empty = omega arith
 
--- a text with a plain byte is not empty without its blanks
-trimmed-some : (b : ℕ) (text : List ℕ) → is_plain b ≡ true → 0 < length (trimmed (32 ∷ b ∷ text))
+-- a text with a plain byte after a space is not empty after it was trimmed
+trimmed-some : (byte : ℕ) (text : List ℕ) → is_plain byte ≡ true → 0 < length (trimmed (space ∷ byte ∷ text))
 unfolding trimmed
-trimmed-some b text plain =
-    let kept : length (trimmed (32 ∷ b ∷ text)) ≡ length (after_blanks (reverse text ++ b ∷ [])) =
-    ap (λ t. length (before_blanks t)) (after_blanks-start b text plain) ∙ length-reverse (after_blanks (reverse (b ∷ text)))
-    ∙ ap (λ t. length (after_blanks t)) (reverse_onto text b []) in
-    rw kept (after_blanks-end (reverse text) b plain)
+trimmed-some byte text is_plain_byte =
+    let same_length : length (trimmed (space ∷ byte ∷ text)) ≡ length (after_blanks (reverse text ++ byte ∷ [])) =
+    ap (λ t. length (before_blanks t)) (after_blanks-start byte text is_plain_byte) ∙ length-reverse (after_blanks (reverse (byte ∷ text)))
+    ∙ ap (λ t. length (after_blanks t)) (reverse_onto text byte []) in
+    rw same_length (after_blanks-end (reverse text) byte is_plain_byte)
 
 -- ---- the operands, in the text after a mnemonic
 
--- the disassembler writes a space before the first operand, and a comma and a space before each other
+-- `spaced` is the text of operands: a space before the first, and a comma and a space before each other
 abbrev pub spaced : List ℕ → List (List ℕ) → List ℕ
-spaced first more = 32 ∷ (first ++ flat_map (λ operand. codes ", " ++ operand) more)
+spaced first more = space ∷ (first ++ flat_map (λ operand. codes ", " ++ operand) more)
 
--- a blank and a piece have no comma
-no_comma : (text : List ℕ) → list_all is_plain text ≡ true → (k d : ℕ) → k < length (32 ∷ text) → (slice_index_or (32 ∷ text) k d == 44) ≡ false
-no_comma text plain zero d below = refl
-no_comma text plain (suc k) d below = meets_none (λ b. b == 44) text is_plain-comma plain k d (omega (arith, below))
+-- a space (32) and a plain text have no comma (44)
+no_comma : (text : List ℕ) → list_all is_plain text ≡ true → (k d : ℕ) → k < length (space ∷ text)
+    → (slice_index_or (space ∷ text) k d == comma) ≡ false
+no_comma text are_plain zero d k_in_text = refl
+no_comma text are_plain (suc k) d k_in_text = meets_none (λ byte. byte == comma) text is_plain-comma are_plain k d (omega (arith, k_in_text))
 
--- a text with commas between pieces is cut into the pieces
+-- the operands of `spaced` are split at the commas into the operands, each with the space before it
 split-spaced : (first : List ℕ) (more : List (List ℕ)) → IsPiece first → ArePieces more
-    → slice_split (λ b. b == 44) (spaced first more) ≡ map (λ t. 32 ∷ t) (first ∷ more)
-split-spaced first [] piece pieces =
-    ap (λ t. slice_split (λ b. b == 44) (32 ∷ t)) (append-nil first) ∙ slice_split_none (λ b. b == 44) (32 ∷ first) (no_comma first piece.plain)
-split-spaced first (next ∷ more) piece pieces =
-    slice_split_at (λ b. b == 44) (32 ∷ first) 44 (spaced next more) (no_comma first piece.plain) refl
-    ∙ ap (λ parts. (32 ∷ first) ∷ parts) (split-spaced next more pieces.0 pieces.1)
+    → slice_split (λ byte. byte == comma) (spaced first more) ≡ map (λ t. space ∷ t) (first ∷ more)
+split-spaced first [] first_is_piece are_pieces =
+    ap (λ t. slice_split (λ byte. byte == comma) (space ∷ t)) (append-nil first) ∙ slice_split_none (λ byte. byte == comma) (space ∷ first)
+    (no_comma first first_is_piece.plain)
+split-spaced first (next ∷ more) first_is_piece are_pieces =
+    slice_split_at (λ byte. byte == comma) (space ∷ first) comma (spaced next more) (no_comma first first_is_piece.plain) refl
+    ∙ ap (λ parts. (space ∷ first) ∷ parts) (split-spaced next more are_pieces.0 are_pieces.1)
 
--- pieces with a space before each are the pieces without it
-trimmed-all : (texts : List (List ℕ)) → ArePieces texts → map trimmed (map (λ t. 32 ∷ t) texts) ≡ texts
-trimmed-all [] pieces = refl
-trimmed-all (text ∷ texts) pieces = rw (trimmed-padded text pieces.0.plain, trimmed-all texts pieces.1) refl
+-- pieces with a space before each are trimmed to the pieces
+trimmed-all : (texts : List (List ℕ)) → ArePieces texts → map trimmed (map (λ t. space ∷ t) texts) ≡ texts
+trimmed-all [] are_pieces = refl
+trimmed-all (text ∷ texts) are_pieces = rw (trimmed-padded text are_pieces.0.plain, trimmed-all texts are_pieces.1) refl
 
--- the operands between commas are the pieces
+-- the fields between the commas of `spaced`, without blanks, are the operands
 fields_of-spaced : (first : List ℕ) (more : List (List ℕ)) → IsPiece first → ArePieces more → comma_fields (spaced first more) ≡ first ∷ more
 unfolding comma_fields
-fields_of-spaced first more piece pieces = ap (map trimmed) (split-spaced first more piece pieces) ∙ trimmed-all (first ∷ more) (piece, pieces)
+fields_of-spaced first more first_is_piece are_pieces = ap (map trimmed) (split-spaced first more first_is_piece are_pieces) ∙ trimmed-all
+    (first ∷ more) (first_is_piece, are_pieces)
 
--- the operands of a text written so are the pieces again
+-- the operands that are read from the text `spaced` are the operands from which it was written
 pub operands_of-spaced : (first : List ℕ) (more : List (List ℕ)) → IsPiece first → ArePieces more → operands_in (spaced first more) ≡ first ∷ more
-operands_of-spaced [] more piece pieces = absurd (omega (arith, piece.some))
-operands_of-spaced (b ∷ first) more piece pieces =
-    let some = trimmed-some b (first ++ flat_map (λ operand. codes ", " ++ operand) more) (and_parts (is_plain b) (list_all is_plain first) piece.plain).0 in
-    taken (length (trimmed (spaced (b ∷ first) more))) some ∙ fields_of-spaced (b ∷ first) more piece pieces
+operands_of-spaced [] more first_is_piece are_pieces = absurd (omega (arith, first_is_piece.some))
+operands_of-spaced (byte ∷ first) more first_is_piece are_pieces =
+    let not_empty = trimmed-some byte (first ++ flat_map (λ operand. codes ", " ++ operand) more)
+    (and_parts (is_plain byte) (list_all is_plain first) first_is_piece.plain).0 in
+    all_fields (length (trimmed (spaced (byte ∷ first) more))) not_empty ∙ fields_of-spaced (byte ∷ first) more first_is_piece are_pieces
   where
-    -- a text with at least one field has all its comma fields
-    taken : (n : ℕ) → 0 < n → (if n == 0 then [] else comma_fields (spaced (b ∷ first) more)) ≡ comma_fields (spaced (b ∷ first) more)
-    taken n some = let not_none : (n == 0) ≡ false = grind (arith, nat_tests) in rw not_none refl
+    -- a text that is not empty without its blanks has all its comma fields as operands
+    all_fields : (n : ℕ) → 0 < n → (if n == 0 then [] else comma_fields (spaced (byte ∷ first) more)) ≡ comma_fields (spaced (byte ∷ first) more)
+    all_fields n not_empty = let not_none : (n == 0) ≡ false = grind (arith, nat_tests) in rw not_none refl

@@ -13,153 +13,163 @@ use Rattle.rv_asm.specs.declared.number.Number.{Number}
 use Rattle.rv_text.specs.Digits.{hex_digits}
 use Rattle.rv_asm.specs.Numbers.{plus, minus, decimal_digits, written_number}
 use Rattle.rv_text.specs.Numbers.{number_of_digits}
-use Rattle.rv_asm.specs.OperandRanges.{immediate_of, upper_immediate_of, five_bits_of, csr_number_field, branch_offset_of, jump_offset_of, word_of_number}
+use Rattle.rv_asm.specs.OperandRanges.{immediate_of, upper_immediate_of, five_bits_of, csr_number_field, branch_offset_of, jump_offset_of}
+use Rattle.rv_asm.specs.OperandRanges.{word_of_number}
 use Rattle.rv_disassembler.specs.Spelling.{signed_text, hex_text}
 use Rattle.rv_text.proofs.HexDigits.{length-hex_digits, AllDigits-hex_digits, digits_value-hex_digits}
 use Rattle.rv_disassembler.proofs.HexTexts.{one_digit, two_digits, three_digits, four_digits, five_digits}
 
 -- ---- digits
 
--- digits of a base pass the test
+-- the digits of a base pass the test `is_digit`
 list_all-digits : (base : ℕ) (text : List ℕ) → AllDigits base text → list_all (λ c. is_digit c base) text ≡ true
-list_all-digits base [] digits = refl
-list_all-digits base (c ∷ text) digits = and_from _ _ (below digits.0) (list_all-digits base text digits.1)
+list_all-digits base [] are_digits = refl
+list_all-digits base (c ∷ text) are_digits = and_from _ _ (digit_passes are_digits.0) (list_all-digits base text are_digits.1)
   where
     -- a digit whose value is below the base passes the test of a digit
-    below : digit_value c < base → is_digit c base ≡ true
-    below small = grind (arith, nat_tests)
+    digit_passes : digit_value c < base → is_digit c base ≡ true
+    digit_passes value_below_base = grind (arith, nat_tests)
 
--- the character of a digit of base 10 is one of `0` to `9`
+-- a decimal digit is one of the characters `0` (48) to `9` (57)
 pub digit_between : (c : ℕ) → digit_value c < 10 → (48 ≤ c) × (c ≤ 57)
-digit_between c small = (grind (arith, nat_tests), grind (arith, nat_tests))
+digit_between c value_below_10 = (grind (arith, nat_tests), grind (arith, nat_tests))
 
--- decimal digits do not begin with `0x` or `-`
+-- an and whose second part is false is false
 and_false : (t : Bool) → (t && false) ≡ false
 and_false true = refl
 and_false false = refl
 
--- decimal digits do not begin with `0x`
+-- decimal digits do not begin with `0x`, because no digit is an `x` (120)
 digits-no_hex : (text : List ℕ) → AllDigits 10 text → starts_with nat_eq text (codes "0x") ≡ false
-digits-no_hex [] each = refl
-digits-no_hex (c ∷ []) each = and_false (nat_eq 48 c)
-digits-no_hex (c ∷ d ∷ text) each =
-    let between = digit_between d each.1.0 in
-    let other : nat_eq 120 d ≡ false = grind (arith, nat_tests, between) in
-    rw other (and_false (nat_eq 48 c))
+digits-no_hex [] are_digits = refl
+digits-no_hex (c ∷ []) are_digits = and_false (nat_eq 48 c)
+digits-no_hex (c ∷ d ∷ text) are_digits =
+    let is_decimal = digit_between d are_digits.1.0 in
+    let no_x : nat_eq 120 d ≡ false = grind (arith, nat_tests, is_decimal) in
+    rw no_x (and_false (nat_eq 48 c))
 
--- decimal digits do not begin with a minus
+-- decimal digits do not begin with a minus, because no digit is a minus (45)
 digits-no_minus : (text : List ℕ) → AllDigits 10 text → starts_with nat_eq text (codes "-") ≡ false
-digits-no_minus [] each = refl
-digits-no_minus (c ∷ text) each =
-    let between = digit_between c each.0 in
-    let other : nat_eq 45 c ≡ false = grind (arith, nat_tests, between) in
-    rw other refl
+digits-no_minus [] are_digits = refl
+digits-no_minus (c ∷ text) are_digits =
+    let is_decimal = digit_between c are_digits.0 in
+    let no_minus_sign : nat_eq 45 c ≡ false = grind (arith, nat_tests, is_decimal) in
+    rw no_minus_sign refl
 
 -- ---- decimal numbers
 
--- the decimal digits of a number have its value
+-- `decimal_digits` reads the decimal text of a number as the number
 decimal_digits-decimal : (n : ℕ) → n < 2 ^ 64 → decimal_digits (decimal n) ≡ Some n
 unfolding decimal_digits
-decimal_digits-decimal n fits =
-    let numeral = decimal_is_IsNumeral n fits in
-    let all = list_all-digits 10 (decimal n) numeral.0.1 in
-    let some : nat_lt 0 (length (decimal n)) ≡ true = grind (arith, nat_tests, numeral.0.0) in
-    rw (some, all, numeral.1) (ap Some (omega (arith, fits)))
+decimal_digits-decimal n fits_64_bits =
+    let numeral = decimal_is_IsNumeral n fits_64_bits in
+    let all_digits = list_all-digits 10 (decimal n) numeral.0.1 in
+    let not_empty : nat_lt 0 (length (decimal n)) ≡ true = grind (arith, nat_tests, numeral.0.0) in
+    rw (not_empty, all_digits, numeral.1) (ap Some (omega (arith, fits_64_bits)))
 
--- the decimal digits of a number are read as the number
+-- the decimal text of a number is read as the number
 pub written-decimal : (n : ℕ) → n < 2 ^ 64 → written_number (decimal n) ≡ Some (plus n)
 unfolding written_number
-written-decimal n fits =
-    let digits = (decimal_is_IsNumeral n fits).0.1 in
-    let no_hex = digits-no_hex (decimal n) digits in
-    let no_minus = digits-no_minus (decimal n) digits in
-    let value = decimal_digits-decimal n fits in
-    rw (no_hex, no_minus, value) refl
+written-decimal n fits_64_bits =
+    let are_digits = (decimal_is_IsNumeral n fits_64_bits).0.1 in
+    let no_hex = digits-no_hex (decimal n) are_digits in
+    let no_minus = digits-no_minus (decimal n) are_digits in
+    let value_is = decimal_digits-decimal n fits_64_bits in
+    rw (no_hex, no_minus, value_is) refl
 
--- a minus and the decimal digits of a number are read as its negative
+-- a minus (45) and the decimal text of a number are read as its negative
 pub written-minus : (n : ℕ) → n < 2 ^ 64 → written_number (45 ∷ decimal n) ≡ Some (minus n)
 unfolding written_number
-written-minus n fits = let value = decimal_digits-decimal n fits in rw value refl
+written-minus n fits_64_bits = let value_is = decimal_digits-decimal n fits_64_bits in rw value_is refl
 
 -- ---- signed numbers
 
--- the number that a field of this width has as a signed number
+-- `signed_number` is the number that a field of this width has as a signed number
 abbrev pub signed_number : ℕ → ℕ → Number
 signed_number width field = if nat_lt field (2 ^ (width - 1)) then plus field else minus (2 ^ width - field)
 
 -- the signed text of a field is read as the signed number of the field
-pub written-signed : (width field : ℕ) → field < 2 ^ 64 → 2 ^ width < 2 ^ 64 → written_number (signed_text width field) ≡ Some (signed_number width field)
-written-signed width field small wide = either (nat_lt field (2 ^ (width - 1))) (2 ^ width - field) (omega (arith, wide))
+pub written-signed : (width field : ℕ) → field < 2 ^ 64 → 2 ^ width < 2 ^ 64
+    → written_number (signed_text width field) ≡ Some (signed_number width field)
+written-signed width field field_fits width_fits = by_sign (nat_lt field (2 ^ (width - 1))) (2 ^ width - field) (omega (arith, width_fits))
   where
-    -- the text is read as the number that it has, whether the field is a nonnegative number (t) or a negative one
-    either : (t : Bool) (left : ℕ) → left < 2 ^ 64
-        → written_number (if t then decimal field else codes "-" ++ decimal left) ≡ Some (if t then plus field else minus left)
-    either true left fits = written-decimal field small
-    either false left fits = written-minus left fits
+    -- the text is read as its number, whether the field is a nonnegative number or a negative one
+    by_sign : (is_nonnegative : Bool) (magnitude : ℕ) → magnitude < 2 ^ 64
+        → written_number (if is_nonnegative then decimal field else codes "-" ++ decimal magnitude) ≡ Some
+        (if is_nonnegative then plus field else minus magnitude)
+    by_sign true magnitude magnitude_fits = written-decimal field field_fits
+    by_sign false magnitude magnitude_fits = written-minus magnitude magnitude_fits
 
 -- the signed number of a 12-bit field is read back as the field
 pub immediate-signed : (field : ℕ) → field < 2 ^ 12 → immediate_of (signed_number 12 field) ≡ Ok field
-immediate-signed field small = grind (arith, nat_tests)
+immediate-signed field field_fits = grind (arith, nat_tests)
 
 -- the signed number of a branch offset is read back as the offset
 pub branch_offset-signed : (field : ℕ) → field < 2 ^ 13 → field % 2 ≡ 0 → branch_offset_of (signed_number 13 field) ≡ Ok field
-branch_offset-signed field small even = grind (arith, nat_tests)
+branch_offset-signed field field_fits is_even = grind (arith, nat_tests)
 
 -- the signed number of a jump offset is read back as the offset
 pub jump_offset-signed : (field : ℕ) → field < 2 ^ 21 → field % 2 ≡ 0 → jump_offset_of (signed_number 21 field) ≡ Ok field
-jump_offset-signed field small even = grind (arith, nat_tests)
+jump_offset-signed field field_fits is_even = grind (arith, nat_tests)
 
--- a number below 32 is a 5-bit field
+-- a number below 32 is accepted as a field of 5 bits
 pub five_bits-plus : (n : ℕ) → n < 32 → five_bits_of (plus n) ≡ Ok n
-five_bits-plus n small = grind (arith, nat_tests)
+five_bits-plus n fits_field = grind (arith, nat_tests)
 
--- a number below 4096 is the number of a CSR
+-- a number below 4096 is accepted as the number of a CSR
 pub csr_number-plus : (n : ℕ) → n < 2 ^ 12 → csr_number_field (plus n) ≡ Ok n
-csr_number-plus n small = grind (arith, nat_tests)
+csr_number-plus n fits_field = grind (arith, nat_tests)
 
--- a number below 2 ^ 32 is a word
+-- a number below 2 ^ 32 is accepted as a word
 pub word_of-plus : (n : ℕ) → n < 2 ^ 32 → word_of_number (plus n) ≡ Ok n
-word_of-plus n small = grind (arith, nat_tests)
+word_of-plus n fits_field = grind (arith, nat_tests)
 
 -- the upper 20 bits of an upper immediate are read back as the immediate
 pub upper-plus : (imm : ℕ) → imm < 2 ^ 32 → imm % 2 ^ 12 ≡ 0 → upper_immediate_of (plus (imm / 2 ^ 12)) ≡ Ok imm
-upper-plus imm small whole = grind (arith, nat_tests)
+upper-plus imm fits_field low_bits_are_0 = grind (arith, nat_tests)
 
 -- ---- hexadecimal numbers
 
--- `0x` and 1 to 8 hexadecimal digits (some, few) of a number are read as the number
+-- `0x` (the bytes 48 and 120) and 1 to 8 hexadecimal digits of a number are read as the number
 pub written-hex : (places n : ℕ) → 0 < places → places ≤ 8 → n < 16 ^ places → written_number (48 ∷ 120 ∷ hex_digits places n) ≡ Some (plus n)
 unfolding written_number number_of_digits
-written-hex places n some few small =
-    let all = list_all-digits 16 (hex_digits places n) (AllDigits-hex_digits places n) in
-    let value = digits_value-hex_digits places n small in
-    let few_digits = length-hex_digits places n in
-    let not_none : nat_lt 0 places ≡ true = grind (arith, nat_tests) in
-    let not_many : nat_le places 8 ≡ true = grind (arith, nat_tests) in
-    rw (few_digits, not_none, not_many, all, value) refl
+written-hex places n at_least_1 at_most_8 digits_suffice =
+    let all_digits = list_all-digits 16 (hex_digits places n) (AllDigits-hex_digits places n) in
+    let value_is = digits_value-hex_digits places n digits_suffice in
+    let digit_count = length-hex_digits places n in
+    let not_empty : nat_lt 0 places ≡ true = grind (arith, nat_tests) in
+    let at_most_8_digits : nat_le places 8 ≡ true = grind (arith, nat_tests) in
+    rw (digit_count, not_empty, at_most_8_digits, all_digits, value_is) refl
 
--- a hexadecimal number of at most 20 bits, without leading zeros, is read back
+-- a hexadecimal number of at most 20 bits, without leading zeros, is read as the number: the cases are the numbers of digits
 pub written-hex_text : (n : ℕ) → n < 2 ^ 20 → written_number (hex_text n) ≡ Some (plus n)
-written-hex_text n small = by_size (nat_lt n 0x10) (nat_lt n 0x100) (nat_lt n 0x1000) (nat_lt n 0x10000) refl refl refl refl
+written-hex_text n fits_20_bits = by_size (nat_lt n 0x10) (nat_lt n 0x100) (nat_lt n 0x1000) (nat_lt n 0x10000) refl refl refl refl
   where
     -- a hexadecimal number without leading zeros is read back, if `places` digits are all of its digits
-    of : (places : ℕ) → 0 < places → places ≤ 8 → n < 16 ^ places → hex_digits places n ≡ digits 16 false n → written_number (hex_text n) ≡ Some (plus n)
-    of places some few fits same = ap (λ t. written_number (48 ∷ 120 ∷ t)) (sym same) ∙ written-hex places n some few fits
+    by_places : (places : ℕ) → 0 < places → places ≤ 8 → n < 16 ^ places → hex_digits places n ≡ digits 16 false n
+        → written_number (hex_text n) ≡ Some (plus n)
+    by_places places at_least_1 at_most_8 digits_suffice digits_agree = ap (λ t. written_number (48 ∷ 120 ∷ t)) (sym digits_agree)
+        ∙ written-hex places n at_least_1 at_most_8 digits_suffice
 
     -- the number is read back whatever its size is: below 2^4, 2^8, 2^12, 2^16 or 2^20
-    by_size : (a b c d : Bool) → nat_lt n 0x10 ≡ a → nat_lt n 0x100 ≡ b → nat_lt n 0x1000 ≡ c → nat_lt n 0x10000 ≡ d
-        → written_number (hex_text n) ≡ Some (plus n)
-    by_size true b c d one two three four =
-        let below : n < 0x10 = grind (arith, nat_tests) in of 1 (omega arith) (omega arith) (omega (arith, below)) (one_digit n below)
-    by_size false true c d one two three four =
-        let above : 0x10 ≤ n = grind (arith, nat_tests) in let below : n < 0x100 = grind (arith, nat_tests) in
-        of 2 (omega arith) (omega arith) (omega (arith, below)) (two_digits n above below)
-    by_size false false true d one two three four =
-        let above : 0x100 ≤ n = grind (arith, nat_tests) in let below : n < 0x1000 = grind (arith, nat_tests) in
-        of 3 (omega arith) (omega arith) (omega (arith, below)) (three_digits n above below)
-    by_size false false false true one two three four =
-        let above : 0x1000 ≤ n = grind (arith, nat_tests) in let below : n < 0x10000 = grind (arith, nat_tests) in
-        of 4 (omega arith) (omega arith) (omega (arith, below)) (four_digits n above below)
-    by_size false false false false one two three four =
-        let above : 0x10000 ≤ n = grind (arith, nat_tests) in
-        of 5 (omega arith) (omega arith) (omega (arith, small)) (five_digits n above (omega (arith, small)))
+    by_size : (fits_1 fits_2 fits_3 fits_4 : Bool) → nat_lt n 0x10 ≡ fits_1 → nat_lt n 0x100 ≡ fits_2 → nat_lt n 0x1000 ≡ fits_3
+        → nat_lt n 0x10000 ≡ fits_4 → written_number (hex_text n) ≡ Some (plus n)
+    -- below 2^4, with one digit
+    by_size true fits_2 fits_3 fits_4 test_1 test_2 test_3 test_4 =
+        let is_below : n < 0x10 = grind (arith, nat_tests) in by_places 1 (omega arith) (omega arith) (omega (arith, is_below)) (one_digit n is_below)
+    -- below 2^8, with two digits
+    by_size false true fits_3 fits_4 test_1 test_2 test_3 test_4 =
+        let is_above : 0x10 ≤ n = grind (arith, nat_tests) in let is_below : n < 0x100 = grind (arith, nat_tests) in
+        by_places 2 (omega arith) (omega arith) (omega (arith, is_below)) (two_digits n is_above is_below)
+    -- below 2^12, with three digits
+    by_size false false true fits_4 test_1 test_2 test_3 test_4 =
+        let is_above : 0x100 ≤ n = grind (arith, nat_tests) in let is_below : n < 0x1000 = grind (arith, nat_tests) in
+        by_places 3 (omega arith) (omega arith) (omega (arith, is_below)) (three_digits n is_above is_below)
+    -- below 2^16, with four digits
+    by_size false false false true test_1 test_2 test_3 test_4 =
+        let is_above : 0x1000 ≤ n = grind (arith, nat_tests) in let is_below : n < 0x10000 = grind (arith, nat_tests) in
+        by_places 4 (omega arith) (omega arith) (omega (arith, is_below)) (four_digits n is_above is_below)
+    -- below 2^20, with five digits
+    by_size false false false false test_1 test_2 test_3 test_4 =
+        let is_above : 0x10000 ≤ n = grind (arith, nat_tests) in
+        by_places 5 (omega arith) (omega arith) (omega (arith, fits_20_bits)) (five_digits n is_above (omega (arith, fits_20_bits)))

@@ -11,13 +11,15 @@ use Rattle.std.proofs.lemmas.Bool.{and_parts, and_from}
 use Rattle.std.proofs.lemmas.Bool.Decides.{nat_tests}
 use Rattle.std.proofs.lemmas.Fmt.{decimal_is_IsNumeral, length-decimal-le}
 use Rattle.std.proofs.lemmas.List.Folds.{list_all-append}
+use Rattle.rv_text.specs.Characters.{full_stop, left_parenthesis, low_line}
 use Rattle.rv_text.specs.Digits.{hex_digits}
 use Rattle.rv_asm.specs.CsrNames.{csrs}
 use Rattle.rv_state.specs.CsrTable.{csr_listing}
 use Rattle.rv_asm.specs.Cuts.{is_name}
 use Rattle.rv_asm.specs.FenceSets.{fence_sets}
 use Rattle.rv_asm.specs.RegisterNames.{registers}
-use Rattle.rv_asm.specs.Operands.{register_at, number_operand, csr_operand, base_of, offset_and_base, address_operand, target_at, fence_set_at, opening}
+use Rattle.rv_asm.specs.Operands.{register_at, number_operand, csr_operand, base_of, offset_and_base, address_operand, target_at, fence_set_at}
+use Rattle.rv_asm.specs.Operands.{opening}
 use Rattle.rv_asm.specs.declared.operand.Target.TheVariants.{Offset}
 use Rattle.rv_asm.specs.Numbers.{plus, written_number}
 use Rattle.rv_disassembler.specs.Spelling.{register_operand_text, hex_text, csr_operand_text, signed_text, address_text, accesses_text}
@@ -28,58 +30,59 @@ use Rattle.rv_asm.proofs.ReadNumbers.{digit_between, signed_number, written-sign
 
 -- ---- properties of each number below a bound, by computation
 
--- two functions with equal lists of values are equal on the range
+-- if two functions have the same values on the numbers from `start` on, they agree on each of these numbers
 maps_agree : {A : Type 0} (f g : ℕ → A) (count start n : ℕ) → n < count → map f (range_with_len start count) ≡ map g (range_with_len start count)
     → f (start + n) ≡ g (start + n)
-maps_agree f g zero start n below same = absurd (omega (arith, below))
-maps_agree f g (suc count) start zero below same =
-    let heads : f start ≡ g start = cc in
-    let here : start + 0 ≡ start = omega arith in
-    rw here heads
-maps_agree f g (suc count) start (suc n) below same =
-    let tails : map f (range_with_len (start + 1) count) ≡ map g (range_with_len (start + 1) count) = cc in
-    let next : start + suc n ≡ (start + 1) + n = omega arith in
-    rw next (maps_agree f g count (start + 1) n (omega (arith, below)) tails)
+maps_agree f g zero start n n_below_count same_values = absurd (omega (arith, n_below_count))
+maps_agree f g (suc count) start zero n_below_count same_values =
+    let same_head : f start ≡ g start = cc in
+    let sum_is : start + 0 ≡ start = omega arith in
+    rw sum_is same_head
+maps_agree f g (suc count) start (suc n) n_below_count same_values =
+    let same_tail : map f (range_with_len (start + 1) count) ≡ map g (range_with_len (start + 1) count) = cc in
+    let sum_is : start + suc n ≡ (start + 1) + n = omega arith in
+    rw sum_is (maps_agree f g count (start + 1) n (omega (arith, n_below_count)) same_tail)
 
--- two functions with equal lists of values from 0 are equal below the count
-below_is : {A : Type 0} (f g : ℕ → A) (count n : ℕ) → n < count → map f (range_with_len 0 count) ≡ map g (range_with_len 0 count) → f n ≡ g n
-below_is f g count n below same = let here : 0 + n ≡ n = omega arith in rw here at (maps_agree f g count 0 n below same)
+-- if two functions have the same list of values on the numbers below `count`, which is computed, they agree on each of these numbers
+agree_below : {A : Type 0} (f g : ℕ → A) (count n : ℕ) → n < count → map f (range_with_len 0 count) ≡ map g (range_with_len 0 count) → f n ≡ g n
+agree_below f g count n n_below_count same_values = let sum_is : 0 + n ≡ n = omega arith in
+    rw sum_is at (maps_agree f g count 0 n n_below_count same_values)
 
 -- ---- registers, small numbers, and the access sets of fences
 
 -- the name of a register is a piece
 pub piece-register : (n : ℕ) → n < 32 → IsPiece (register_operand_text n)
 unfolding digits
-piece-register n small = IsPiece-from_test _ (below_is (λ n. is_piece (register_operand_text n)) (λ n. true) 32 n small refl)
+piece-register n n_below_limit = IsPiece-from_test _ (agree_below (λ n. is_piece (register_operand_text n)) (λ n. true) 32 n n_below_limit refl)
 
 -- the name of a register is read as its number
 pub read-register : (n : ℕ) → n < 32 → register_at (register_operand_text n) ≡ Ok n
 unfolding digits registers
-read-register n small = below_is (λ n. register_at (register_operand_text n)) (λ n. Ok n) 32 n small refl
+read-register n n_below_limit = agree_below (λ n. register_at (register_operand_text n)) (λ n. Ok n) 32 n n_below_limit refl
 
 -- a decimal number below 32 is a piece
 pub piece-small : (n : ℕ) → n < 32 → IsPiece (decimal n)
 unfolding digits
-piece-small n small = IsPiece-from_test _ (below_is (λ n. is_piece (decimal n)) (λ n. true) 32 n small refl)
+piece-small n n_below_limit = IsPiece-from_test _ (agree_below (λ n. is_piece (decimal n)) (λ n. true) 32 n n_below_limit refl)
 
 -- a decimal number below 32 is read as the number
 pub read-small : (n : ℕ) → n < 32 → number_operand (decimal n) ≡ Ok (plus n)
-read-small n small = let written = written-decimal n (omega (arith, small)) in rw written refl
+read-small n n_below_limit = let number_is = written-decimal n (omega (arith, n_below_limit)) in rw number_is refl
 
 -- the name of a set of accesses is a piece
 pub piece-accesses : (n : ℕ) → n < 16 → IsPiece (accesses_text n)
-piece-accesses n small = IsPiece-from_test _ (below_is (λ n. is_piece (accesses_text n)) (λ n. true) 16 n small refl)
+piece-accesses n n_below_limit = IsPiece-from_test _ (agree_below (λ n. is_piece (accesses_text n)) (λ n. true) 16 n n_below_limit refl)
 
 -- the name of a set of accesses is read as its bits
 pub read-accesses : (n : ℕ) → n < 16 → fence_set_at (accesses_text n) ≡ Ok n
 unfolding fence_sets
-read-accesses n small = below_is (λ n. fence_set_at (accesses_text n)) (λ n. Ok n) 16 n small refl
+read-accesses n n_below_limit = agree_below (λ n. fence_set_at (accesses_text n)) (λ n. Ok n) 16 n n_below_limit refl
 
 -- ---- hexadecimal numbers
 
 -- a hexadecimal digit is plain
 digit_char-plain : (d : ℕ) → d < 16 → is_plain (digit_char d) ≡ true
-digit_char-plain d small = below_is (λ d. is_plain (digit_char d)) (λ d. true) 16 d small refl
+digit_char-plain d below_16 = agree_below (λ d. is_plain (digit_char d)) (λ d. true) 16 d below_16 refl
 
 -- hexadecimal digits are plain
 plain-hex : (places n : ℕ) → list_all is_plain (hex_digits places n) ≡ true
@@ -89,189 +92,205 @@ plain-hex (suc places) n =
     list_all-append is_plain (hex_digits places (n / 16)) (digit_char (n % 16) ∷ [])
     ∙ and_from _ _ (plain-hex places (n / 16)) (and_from _ _ (digit_char-plain (n % 16) (omega arith)) refl)
 
--- `0x` and up to 8 hexadecimal digits (few) are a piece
+-- `0x` (the bytes 48 and 120) and up to 8 hexadecimal digits are a piece
 pub piece-hex : (places n : ℕ) → places ≤ 8 → IsPiece (48 ∷ 120 ∷ hex_digits places n)
-piece-hex places n few =
-    record { some = omega arith; short = omega (arith, few, length-hex_digits places n); plain = plain-hex places n }
+piece-hex places n at_most_8_digits =
+    record { some = omega arith; short = omega (arith, at_most_8_digits, length-hex_digits places n); plain = plain-hex places n }
 
--- a hexadecimal number of 20 bits is a piece
+-- the text of a hexadecimal number of at most 20 bits is a piece: the cases are the numbers of digits
 pub piece-hex_text : (n : ℕ) → n < 2 ^ 20 → IsPiece (hex_text n)
-piece-hex_text n small = by_size (nat_lt n 0x10) (nat_lt n 0x100) (nat_lt n 0x1000) (nat_lt n 0x10000) refl refl refl refl
+piece-hex_text n fits_20_bits = by_size (nat_lt n 0x10) (nat_lt n 0x100) (nat_lt n 0x1000) (nat_lt n 0x10000) refl refl refl refl
   where
     -- the text of a number is a piece, if `places` digits are all of its digits
-    of : (places : ℕ) → places ≤ 8 → hex_digits places n ≡ digits 16 false n → IsPiece (hex_text n)
-    of places few same = subst (λ t. IsPiece (48 ∷ 120 ∷ t)) same (piece-hex places n few)
+    by_places : (places : ℕ) → places ≤ 8 → hex_digits places n ≡ digits 16 false n → IsPiece (hex_text n)
+    by_places places at_most_8 digits_agree = subst (λ t. IsPiece (48 ∷ 120 ∷ t)) digits_agree (piece-hex places n at_most_8)
 
     -- the text of a number is a piece whatever its size is: below 2^4, 2^8, 2^12, 2^16 or 2^20
-    by_size : (a b c d : Bool) → nat_lt n 0x10 ≡ a → nat_lt n 0x100 ≡ b → nat_lt n 0x1000 ≡ c → nat_lt n 0x10000 ≡ d → IsPiece (hex_text n)
-    by_size true b c d one two three four = of 1 (omega arith) (one_digit n (grind (arith, nat_tests)))
-    by_size false true c d one two three four = of 2 (omega arith) (two_digits n (grind (arith, nat_tests)) (grind (arith, nat_tests)))
-    by_size false false true d one two three four = of 3 (omega arith) (three_digits n (grind (arith, nat_tests)) (grind (arith, nat_tests)))
-    by_size false false false true one two three four = of 4 (omega arith) (four_digits n (grind (arith, nat_tests)) (grind (arith, nat_tests)))
-    by_size false false false false one two three four = of 5 (omega arith) (five_digits n (grind (arith, nat_tests)) (omega (arith, small)))
+    by_size : (fits_1 fits_2 fits_3 fits_4 : Bool) → nat_lt n 0x10 ≡ fits_1 → nat_lt n 0x100 ≡ fits_2 → nat_lt n 0x1000 ≡ fits_3
+        → nat_lt n 0x10000 ≡ fits_4 → IsPiece (hex_text n)
+    -- below 2^4, with one digit
+    by_size true fits_2 fits_3 fits_4 test_1 test_2 test_3 test_4 = by_places 1 (omega arith) (one_digit n (grind (arith, nat_tests)))
+    -- below 2^8, with two digits
+    by_size false true fits_3 fits_4 test_1 test_2 test_3 test_4 =
+        by_places 2 (omega arith) (two_digits n (grind (arith, nat_tests)) (grind (arith, nat_tests)))
+    -- below 2^12, with three digits
+    by_size false false true fits_4 test_1 test_2 test_3 test_4 =
+        by_places 3 (omega arith) (three_digits n (grind (arith, nat_tests)) (grind (arith, nat_tests)))
+    -- below 2^16, with four digits
+    by_size false false false true test_1 test_2 test_3 test_4 =
+        by_places 4 (omega arith) (four_digits n (grind (arith, nat_tests)) (grind (arith, nat_tests)))
+    -- below 2^20, with five digits
+    by_size false false false false test_1 test_2 test_3 test_4 =
+        by_places 5 (omega arith) (five_digits n (grind (arith, nat_tests)) (omega (arith, fits_20_bits)))
 
 -- a hexadecimal number of 20 bits is read as the number
 pub read-hex_text : (n : ℕ) → n < 2 ^ 20 → number_operand (hex_text n) ≡ Ok (plus n)
-read-hex_text n small = let written = written-hex_text n small in rw written refl
+read-hex_text n fits_20_bits = let number_is = written-hex_text n fits_20_bits in rw number_is refl
 
--- `0x` and 1 to 8 hexadecimal digits (some, few) of a number are read as the number operand
+-- `0x` and 1 to 8 hexadecimal digits of a number are read as the number
 pub read-hex : (places n : ℕ) → 0 < places → places ≤ 8 → n < 16 ^ places → number_operand (48 ∷ 120 ∷ hex_digits places n) ≡ Ok (plus n)
-read-hex places n some few small = let written = written-hex places n some few small in rw written refl
+read-hex places n at_least_1 at_most_8 digits_suffice = let number_is = written-hex places n at_least_1 at_most_8 digits_suffice in rw number_is refl
 
--- the text of a CSR number is read as the number, since no register's name begins with a digit
+-- the text of a CSR number is read as the number, since no name of a CSR begins with a digit
 pub read-csr : (n : ℕ) → n < 2 ^ 12 → csr_operand (csr_operand_text n) ≡ Ok (plus n)
 unfolding csrs csr_listing
-read-csr n small = let written = written-hex 3 n (omega arith) (omega arith) (omega (arith, small)) in rw written refl
+read-csr n fits_12_bits = let number_is = written-hex 3 n (omega arith) (omega arith) (omega (arith, fits_12_bits)) in rw number_is refl
 
 -- ---- signed numbers
 
--- a byte of a signed number is `-`, a digit, or one of `.` and `/` (a test by range that is wide enough here)
+-- `is_signed` is a test by range that each byte of a signed number passes: `-` (45), `.`, `/`, and the digits (48 to 57)
 abbrev is_signed : ℕ → Bool
-is_signed b = nat_le 45 b && nat_le b 57
+is_signed byte = nat_le 45 byte && nat_le byte 57
 
--- decimal digits are bytes of a signed number
+-- decimal digits pass the test `is_signed`
 are_signed : (text : List ℕ) → AllDigits 10 text → list_all is_signed text ≡ true
-are_signed [] each = refl
-are_signed (c ∷ text) each =
-    let between = digit_between c each.0 in
-    and_from _ _ (grind (arith, nat_tests, between)) (are_signed text each.1)
+are_signed [] are_digits = refl
+are_signed (c ∷ text) are_digits =
+    let is_decimal = digit_between c are_digits.0 in
+    and_from _ _ (grind (arith, nat_tests, is_decimal)) (are_signed text are_digits.1)
 
--- bytes of a signed number are plain
+-- bytes that pass the test `is_signed` are plain
 signed-plain : (text : List ℕ) → list_all is_signed text ≡ true → list_all is_plain text ≡ true
-signed-plain [] signed = refl
-signed-plain (c ∷ text) signed =
-    let parts = and_parts (is_signed c) (list_all is_signed text) signed in
-    and_from _ _ (one parts.0) (signed-plain text parts.1)
+signed-plain [] are_signed_bytes = refl
+signed-plain (c ∷ text) are_signed_bytes =
+    let parts = and_parts (is_signed c) (list_all is_signed text) are_signed_bytes in
+    and_from _ _ (signed_is_plain parts.0) (signed-plain text parts.1)
   where
     -- a byte of a signed number is plain
-    one : is_signed c ≡ true → is_plain c ≡ true
-    one here = grind (arith, nat_tests)
+    signed_is_plain : is_signed c ≡ true → is_plain c ≡ true
+    signed_is_plain is_one = grind (arith, nat_tests)
 
--- a signed number has up to 9 digits, with a minus or without
+-- the text of a signed number: it has 1 to 9 bytes (a minus and 8 digits) that pass the test `is_signed`, and is no name of a label
 pub record IsSignedText (text : List ℕ) : Type 0 where
-  pub some : 0 < length text
+  pub not_empty : 0 < length text
   pub short : length text ≤ 9
   pub signed : list_all is_signed text ≡ true
   pub no_name : is_name text ≡ false
 
--- decimal digits are no name
+-- decimal digits are no name, since a name begins with a letter (from 97 or 65 on), `_` (95) or `.` (46)
 digits-no_name : (text : List ℕ) → AllDigits 10 text → is_name text ≡ false
 unfolding is_name
-digits-no_name [] each = refl
-digits-no_name (c ∷ text) each =
-    let between = digit_between c each.0 in
-    let a : nat_le 97 c ≡ false = grind (arith, nat_tests, between) in
-    let b : nat_le 65 c ≡ false = grind (arith, nat_tests, between) in
-    let d : (c == 95) ≡ false = grind (arith, nat_tests, between) in
-    let e : (c == 46) ≡ false = grind (arith, nat_tests, between) in
-    rw (a, b, d, e) refl
+digits-no_name [] are_digits = refl
+digits-no_name (c ∷ text) are_digits =
+    let is_decimal = digit_between c are_digits.0 in
+    let no_lower_case : nat_le 97 c ≡ false = grind (arith, nat_tests, is_decimal) in
+    let no_upper_case : nat_le 65 c ≡ false = grind (arith, nat_tests, is_decimal) in
+    let no_underscore : (c == low_line) ≡ false = grind (arith, nat_tests, is_decimal) in
+    let no_dot : (c == full_stop) ≡ false = grind (arith, nat_tests, is_decimal) in
+    rw (no_lower_case, no_upper_case, no_underscore, no_dot) refl
 
--- decimal digits of a small number are the text of a signed number
+-- the decimal text of a number below 10 ^ 8 is the text of a signed number
 signed-decimal : (n : ℕ) → n < 10 ^ 8 → IsSignedText (decimal n)
-signed-decimal n small =
-    let numeral = (decimal_is_IsNumeral n (omega (arith, small))).0 in
-    let few_digits = length-decimal-le 8 n (omega arith) small (omega (arith, small)) in
-    record { some = numeral.0; short = omega (arith, few_digits); signed = are_signed (decimal n) numeral.1; no_name = digits-no_name (decimal n) numeral.1 }
+signed-decimal n has_8_digits =
+    let (not_empty, digits) = (decimal_is_IsNumeral n (omega (arith, has_8_digits))).0 in
+    let length_is = length-decimal-le 8 n (omega arith) has_8_digits (omega (arith, has_8_digits)) in
+    let no_name = digits-no_name (decimal n) digits in
+    record { not_empty = not_empty; short = omega (arith, length_is); signed = are_signed (decimal n) digits; no_name = no_name }
 
--- a minus and decimal digits of a small number are the text of a signed number
+-- a minus (45) and the decimal text of a number below 10 ^ 8 are the text of a signed number
 signed-minus : (n : ℕ) → n < 10 ^ 8 → IsSignedText (45 ∷ decimal n)
 unfolding is_name
-signed-minus n small =
-    let numeral = (decimal_is_IsNumeral n (omega (arith, small))).0 in
-    let few_digits = length-decimal-le 8 n (omega arith) small (omega (arith, small)) in
-    record { some = omega arith; short = omega (arith, few_digits); signed = are_signed (decimal n) numeral.1; no_name = refl }
+signed-minus n has_8_digits =
+    let numeral = (decimal_is_IsNumeral n (omega (arith, has_8_digits))).0 in
+    let length_is = length-decimal-le 8 n (omega arith) has_8_digits (omega (arith, has_8_digits)) in
+    record { not_empty = omega arith; short = omega (arith, length_is); signed = are_signed (decimal n) numeral.1; no_name = refl }
 
 -- the text of a signed field is the text of a signed number
-signed-signed : (width field : ℕ) → field < 10 ^ 8 → 2 ^ width < 10 ^ 8 → IsSignedText (signed_text width field)
-signed-signed width field small wide = either (nat_lt field (2 ^ (width - 1))) (2 ^ width - field) (omega (arith, wide))
+signed_text-signed : (width field : ℕ) → field < 10 ^ 8 → 2 ^ width < 10 ^ 8 → IsSignedText (signed_text width field)
+signed_text-signed width field field_has_8_digits width_has_8_digits = by_sign (nat_lt field (2 ^ (width - 1))) (2 ^ width - field)
+    (omega (arith, width_has_8_digits))
   where
-    -- the text is that of a signed number, whether the field is a nonnegative number (t) or a negative one
-    either : (t : Bool) (left : ℕ) → left < 10 ^ 8 → IsSignedText (if t then decimal field else codes "-" ++ decimal left)
-    either true left fits = signed-decimal field small
-    either false left fits = signed-minus left fits
+    -- the text is that of a signed number, whether the field is a nonnegative number or a negative one
+    by_sign : (is_nonnegative : Bool) (magnitude : ℕ) → magnitude < 10 ^ 8
+        → IsSignedText (if is_nonnegative then decimal field else codes "-" ++ decimal magnitude)
+    by_sign true magnitude magnitude_has_8_digits = signed-decimal field field_has_8_digits
+    by_sign false magnitude magnitude_has_8_digits = signed-minus magnitude magnitude_has_8_digits
 
 -- the text of a signed field is a piece
 pub piece-signed : (width field : ℕ) → field < 10 ^ 8 → 2 ^ width < 10 ^ 8 → IsPiece (signed_text width field)
-piece-signed width field small wide =
-    let signed_is = signed-signed width field small wide in
-    record { some = signed_is.some; short = omega (arith, signed_is.short); plain = signed-plain (signed_text width field) signed_is.signed }
+piece-signed width field field_has_8_digits width_has_8_digits =
+    let signed_is = signed_text-signed width field field_has_8_digits width_has_8_digits in
+    record { some = signed_is.not_empty; short = omega (arith, signed_is.short); plain = signed-plain (signed_text width field) signed_is.signed }
 
 -- the text of a signed field is read as its number
 pub read-signed : (width field : ℕ) → field < 10 ^ 8 → 2 ^ width < 10 ^ 8 → number_operand (signed_text width field) ≡ Ok (signed_number width field)
-read-signed width field small wide =
-    let written = written-signed width field (omega (arith, small)) (omega (arith, wide)) in rw written refl
+read-signed width field field_has_8_digits width_has_8_digits =
+    let number_is = written-signed width field (omega (arith, field_has_8_digits)) (omega (arith, width_has_8_digits)) in rw number_is refl
 
 -- the text of a signed field is read as the offset of a target
-pub read-target : (width field : ℕ) → field < 10 ^ 8 → 2 ^ width < 10 ^ 8 → target_at (signed_text width field) ≡ Ok (Offset (signed_number width field))
+pub read-target : (width field : ℕ) → field < 10 ^ 8 → 2 ^ width < 10 ^ 8
+    → target_at (signed_text width field) ≡ Ok (Offset (signed_number width field))
 unfolding target_at
-read-target width field small wide =
-    let no_name = (signed-signed width field small wide).no_name in
-    let written = written-signed width field (omega (arith, small)) (omega (arith, wide)) in
-    rw (no_name, written) refl
+read-target width field field_has_8_digits width_has_8_digits =
+    let no_name = (signed_text-signed width field field_has_8_digits width_has_8_digits).no_name in
+    let number_is = written-signed width field (omega (arith, field_has_8_digits)) (omega (arith, width_has_8_digits)) in
+    rw (no_name, number_is) refl
 
 -- ---- addresses
 
--- `base_text` is the text of a base register in parentheses
+-- `base_text` is the text of a base register in parentheses (40 is the opening one)
 abbrev base_text : ℕ → List ℕ
-base_text base = 40 ∷ (register_operand_text base ++ codes ")")
+base_text base = left_parenthesis ∷ (register_operand_text base ++ codes ")")
 
 -- the text of an address is the offset and then the base register
 address-parts : (offset base : ℕ) → address_text offset base ≡ signed_text 12 offset ++ base_text base
 address-parts offset base = simp append_assoc
 
--- the text of a base register is plain, short, and read as its number
+-- the text of a base register is plain, has at most 5 bytes, and is read as its number
 piece-base : (n : ℕ) → n < 32 → (list_all is_plain (base_text n) ≡ true) × (nat_le (length (base_text n)) 5 ≡ true) × (base_of (base_text n) ≡ Some n)
 unfolding digits base_of registers
-piece-base n small = (
-  below_is (λ n. list_all is_plain (base_text n)) (λ n. true) 32 n small refl,
-  below_is (λ n. nat_le (length (base_text n)) 5) (λ n. true) 32 n small refl,
-  below_is (λ n. base_of (base_text n)) (λ n. Some n) 32 n small refl,
+piece-base n below_32 = (
+  agree_below (λ n. list_all is_plain (base_text n)) (λ n. true) 32 n below_32 refl,
+  agree_below (λ n. nat_le (length (base_text n)) 5) (λ n. true) 32 n below_32 refl,
+  agree_below (λ n. base_of (base_text n)) (λ n. Some n) 32 n below_32 refl,
 )
 
--- an offset with a base register in parentheses is a piece
+-- the text of an address, which is an offset with a base register in parentheses, is a piece
 pub piece-address : (offset base : ℕ) → offset < 2 ^ 12 → base < 32 → IsPiece (address_text offset base)
-piece-address offset base small small_base =
-    let prefix = signed-signed 12 offset (omega (arith, small)) (omega arith) in
-    let back = piece-base base small_base in
-    let short_base : length (base_text base) ≤ 5 = grind (arith, nat_tests, back.1) in
+piece-address offset base offset_fits base_below_32 =
+    let offset_is = signed_text-signed 12 offset (omega (arith, offset_fits)) (omega arith) in
+    let base_is = piece-base base base_below_32 in
+    let base_is_short : length (base_text base) ≤ 5 = grind (arith, nat_tests, base_is.1) in
     let piece : IsPiece (signed_text 12 offset ++ base_text base) = record {
-      some = omega (arith, prefix.some, length-append (signed_text 12 offset) (base_text base));
-      short = omega (arith, prefix.short, short_base, length-append (signed_text 12 offset) (base_text base));
-      plain = list_all-append is_plain (signed_text 12 offset) (base_text base) ∙ and_from _ _ (signed-plain (signed_text 12 offset) prefix.signed) back.0;
+      some = omega (arith, offset_is.not_empty, length-append (signed_text 12 offset) (base_text base));
+      short = omega (arith, offset_is.short, base_is_short, length-append (signed_text 12 offset) (base_text base));
+      plain =
+          list_all-append is_plain (signed_text 12 offset) (base_text base)
+          ∙ and_from _ _ (signed-plain (signed_text 12 offset) offset_is.signed) base_is.0;
     } in
     subst IsPiece (sym (address-parts offset base)) piece
 
--- the first parenthesis follows the offset
-opening-signed : (prefix back : List ℕ) → list_all is_signed prefix ≡ true → opening (prefix ++ 40 ∷ back) ≡ length prefix
-opening-signed [] back signed = refl
-opening-signed (c ∷ prefix) back signed =
-    let parts = and_parts (is_signed c) (list_all is_signed prefix) signed in
-    let other : (c == 40) ≡ false = one parts.0 in
-    rw other (omega (arith, opening-signed prefix back parts.1))
+-- the position of the first opening parenthesis is the length of the offset before it, since no byte of the offset is a parenthesis
+opening-signed : (prefix back : List ℕ) → list_all is_signed prefix ≡ true → opening (prefix ++ left_parenthesis ∷ back) ≡ length prefix
+opening-signed [] back is_signed_prefix = refl
+opening-signed (c ∷ prefix) back is_signed_prefix =
+    let parts = and_parts (is_signed c) (list_all is_signed prefix) is_signed_prefix in
+    let no_parenthesis : (c == left_parenthesis) ≡ false = signed_differs parts.0 in
+    rw no_parenthesis (omega (arith, opening-signed prefix back parts.1))
   where
-    -- a byte of a signed number is not the parenthesis `(` (40)
-    one : is_signed c ≡ true → (c == 40) ≡ false
-    one here = grind (arith, nat_tests)
+    -- a byte that passes the test `is_signed` is not an opening parenthesis (40)
+    signed_differs : is_signed c ≡ true → (c == left_parenthesis) ≡ false
+    signed_differs is_one = grind (arith, nat_tests)
 
--- an address is read as its offset and its base register
+-- an address is read as its offset and its base register, if these are read from the parts before and after the parenthesis
 address_of-parts : (prefix back : List ℕ) (offset : _) (base : ℕ) → list_all is_signed prefix ≡ true → written_number prefix ≡ Some offset
-    → base_of (40 ∷ back) ≡ Some base → offset_and_base (prefix ++ 40 ∷ back) ≡ Some (offset, base)
+    → base_of (left_parenthesis ∷ back) ≡ Some base → offset_and_base (prefix ++ left_parenthesis ∷ back) ≡ Some (offset, base)
 unfolding offset_and_base
-address_of-parts prefix back offset base signed written behind =
-    let at_prefix = opening-signed prefix back signed in
-    rw (at_prefix, take-append_seam prefix (40 ∷ back), drop-append_seam prefix (40 ∷ back), written, behind) refl
+address_of-parts prefix back offset base are_signed_bytes offset_is base_is =
+    let at_prefix = opening-signed prefix back are_signed_bytes in
+    rw (at_prefix, take-append_seam prefix (left_parenthesis ∷ back), drop-append_seam prefix (left_parenthesis ∷ back), offset_is, base_is) refl
 
--- an offset with a base register in parentheses is read as both
+-- the text of an address is read as the offset and the base register
 pub read-address : (offset base : ℕ) → offset < 2 ^ 12 → base < 32 → address_operand (address_text offset base) ≡ Ok (signed_number 12 offset, base)
-read-address offset base small small_base =
-    let prefix = signed-signed 12 offset (omega (arith, small)) (omega arith) in
-    let written = written-signed 12 offset (omega (arith, small)) (omega arith) in
-    let found =
-    address_of-parts (signed_text 12 offset) (register_operand_text base ++ codes ")") (signed_number 12 offset) base prefix.signed written
-    (piece-base base small_base).2 in
-    ap address_operand (address-parts offset base) ∙ again found
+read-address offset base offset_fits base_below_32 =
+    let offset_is = signed_text-signed 12 offset (omega (arith, offset_fits)) (omega arith) in
+    let number_is = written-signed 12 offset (omega (arith, offset_fits)) (omega arith) in
+    let parts_found =
+    address_of-parts (signed_text 12 offset) (register_operand_text base ++ codes ")") (signed_number 12 offset) base offset_is.signed number_is
+    (piece-base base base_below_32).2 in
+    ap address_operand (address-parts offset base) ∙ by_parts parts_found
   where
-    -- an operand whose offset and base register are found is read as both
-    again : offset_and_base (signed_text 12 offset ++ base_text base) ≡ Some (signed_number 12 offset, base)
+    -- an operand whose parts are read as an offset and a base register is read as both
+    by_parts : offset_and_base (signed_text 12 offset ++ base_text base) ≡ Some (signed_number 12 offset, base)
         → address_operand (signed_text 12 offset ++ base_text base) ≡ Ok (signed_number 12 offset, base)
-    again found = rw found refl
+    by_parts parts_found = rw parts_found refl

@@ -14,6 +14,7 @@ use Rattle.rv_encoding.specs.declared.instr.Instr.{Instr}
 use Rattle.rv_encoding.specs.declared.instr.Instr.TheVariants.{Lui, Auipc, Jal, Jalr, Branch, Load, Store, OpImm, ShiftImm, Op, Fence}
 use Rattle.rv_encoding.specs.declared.instr.Instr.TheVariants.{Csr, CsrImm, Ecall, Ebreak, Sret, Mret, Wfi, SfenceVma}
 use Rattle.rv_asm.specs.Cuts.{is_name, is_name_byte, label_text, statement_text, trimmed, operands_in}
+use Rattle.rv_text.specs.Characters.{comma, space}
 use Rattle.rv_text.specs.Digits.{hex_digits}
 use Rattle.rv_text.specs.Lines.{lines_of}
 use Rattle.rv_asm.specs.LineReading.{line_read}
@@ -28,8 +29,9 @@ use Rattle.rv_asm.specs.declared.statement.Statement.{Statement}
 use Rattle.rv_asm.specs.declared.statement.Statement.TheVariants.{Instruction, Word}
 use Rattle.rv_asm.proofs.Plain.{is_plain, IsPiece, IsPiece-from_test, ArePieces, spaced, operands_of-spaced}
 use Rattle.rv_asm.proofs.PlainLines.{is_line_byte, one_line, line_at-plain, assembled-instruction, assembled-word}
-use Rattle.rv_asm.proofs.ReadMnemonics.{mnemonic_of, piece-name, read-name}
-use Rattle.rv_asm.proofs.ReadNumbers.{immediate-signed, branch_offset-signed, jump_offset-signed, five_bits-plus, csr_number-plus, word_of-plus, upper-plus}
+use Rattle.rv_asm.proofs.ReadMnemonics.{mnemonic_of, piece-name, mnemonic-read-back}
+use Rattle.rv_asm.proofs.ReadNumbers.{immediate-signed, branch_offset-signed, jump_offset-signed, five_bits-plus, csr_number-plus, word_of-plus}
+use Rattle.rv_asm.proofs.ReadNumbers.{upper-plus}
 use Rattle.rv_asm.proofs.ReadOperands.{piece-register, read-register, piece-small, read-small, piece-accesses, read-accesses, piece-hex, read-hex}
 use Rattle.rv_asm.proofs.ReadOperands.{piece-hex_text, read-hex_text, read-csr, piece-signed, read-signed, read-target, piece-address, read-address}
 
@@ -37,230 +39,274 @@ use Rattle.rv_asm.proofs.ReadOperands.{piece-hex_text, read-hex_text, read-csr, 
 
 -- plain bytes are bytes of a line
 line-plain : (text : List ℕ) → list_all is_plain text ≡ true → list_all is_line_byte text ≡ true
-line-plain [] plain = refl
-line-plain (b ∷ text) plain =
-    let parts = and_parts (is_plain b) (list_all is_plain text) plain in
-    and_from _ _ (one (is_plain b) parts.0) (line-plain text parts.1)
+line-plain [] are_plain = refl
+line-plain (byte ∷ text) are_plain =
+    let parts = and_parts (is_plain byte) (list_all is_plain text) are_plain in
+    and_from _ _ (plain_in_line (is_plain byte) parts.0) (line-plain text parts.1)
   where
-    -- a plain byte (t) is a byte of a line
-    one : (t : Bool) → t ≡ true → (t || b == 44 || b == 32) ≡ true
-    one true is = refl
-    one false is = grind (arith, nat_tests, is)
+    -- a byte is a byte of a line if it is plain, which the test `is_plain_byte` states (44 is a comma, and 32 a space)
+    plain_in_line : (is_plain_byte : Bool) → is_plain_byte ≡ true → (is_plain_byte || byte == comma || byte == space) ≡ true
+    plain_in_line true is_true = refl
+    plain_in_line false is_true = grind (arith, nat_tests, is_true)
 
--- commas and pieces are bytes of a line
+-- the commas, spaces and pieces after the first operand are bytes of a line
 line-commas : (more : List (List ℕ)) → ArePieces more → list_all is_line_byte (flat_map (λ operand. codes ", " ++ operand) more) ≡ true
-line-commas [] pieces = refl
-line-commas (first ∷ more) pieces =
+line-commas [] are_pieces = refl
+line-commas (first ∷ more) are_pieces =
     list_all-append is_line_byte first (flat_map (λ operand. codes ", " ++ operand) more)
-    ∙ and_from _ _ (line-plain first pieces.0.plain) (line-commas more pieces.1)
+    ∙ and_from _ _ (line-plain first are_pieces.0.plain) (line-commas more are_pieces.1)
 
--- each comma with its space and piece has at most 22 bytes
+-- each comma with its space and its piece has at most 22 bytes
 length-commas : (more : List (List ℕ)) → ArePieces more → length (flat_map (λ operand. codes ", " ++ operand) more) ≤ 22 * length more
-length-commas [] pieces = omega arith
-length-commas (first ∷ more) pieces =
-    omega (arith, pieces.0.short, length-commas more pieces.1, length-append first (flat_map (λ operand. codes ", " ++ operand) more))
+length-commas [] are_pieces = omega arith
+length-commas (first ∷ more) are_pieces =
+    omega (arith, are_pieces.0.short, length-commas more are_pieces.1, length-append first (flat_map (λ operand. codes ", " ++ operand) more))
 
--- a name and operands are bytes of a line
+-- a name and its operands are bytes of a line
 line-spaced : (name first : List ℕ) (more : List (List ℕ)) → IsPiece name → IsPiece first → ArePieces more
     → list_all is_line_byte (name ++ spaced first more) ≡ true
-line-spaced name first more of_name of_first of_more =
+line-spaced name first more name_is_piece first_is_piece are_pieces =
     list_all-append is_line_byte name (spaced first more)
-    ∙ and_from _ _ (line-plain name of_name.plain)
+    ∙ and_from _ _ (line-plain name name_is_piece.plain)
     (list_all-append is_line_byte first (flat_map (λ operand. codes ", " ++ operand) more)
-    ∙ and_from _ _ (line-plain first of_first.plain) (line-commas more of_more))
+    ∙ and_from _ _ (line-plain first first_is_piece.plain) (line-commas more are_pieces))
 
--- a name and one to three operands (few) have at most `max_line` bytes
+-- a name and one to three operands have at most `max_line` bytes
 length-spaced : (name first : List ℕ) (more : List (List ℕ)) → IsPiece name → IsPiece first → ArePieces more → length more ≤ 2
     → length (name ++ spaced first more) ≤ max_line
-length-spaced name first more of_name of_first of_more few =
+length-spaced name first more name_is_piece first_is_piece are_pieces at_most_3 =
     omega (
       arith,
-      of_name.short,
-      of_first.short,
-      few,
-      length-commas more of_more,
+      name_is_piece.short,
+      first_is_piece.short,
+      at_most_3,
+      length-commas more are_pieces,
       length-append name (spaced first more),
       length-append first (flat_map (λ operand. codes ", " ++ operand) more),
     )
 
--- a text has one line, and the line has the statement s
-record Says (text : List ℕ) (s : Statement) : Type 0 where
-  one : lines_of text ≡ text ∷ []
-  says : line_read text ≡ Ok (record { label = None; statement = Some s })
+-- a text has one line, and this line is read as a statement
+record Says (text : List ℕ) (statement : Statement) : Type 0 where
+  is_one_line : lines_of text ≡ text ∷ []
+  is_read : line_read text ≡ Ok (record { label = None; statement = Some statement })
 
--- a line of a name and one to three operands (few) has the statement of the line
-says_line : (name first : List ℕ) (more : List (List ℕ)) (s : Statement) → IsPiece name → IsPiece first → ArePieces more → length more ≤ 2
-    → statement_at (name ++ spaced first more) ≡ Ok s → Says (name ++ spaced first more) s
-says_line [] first more s of_name of_first of_more few statement_at_is = absurd (omega (arith, of_name.some))
-says_line (b ∷ name) first more s of_name of_first of_more few statement_at_is =
-    let of_line = line-spaced (b ∷ name) first more of_name of_first of_more in
-    let short = length-spaced (b ∷ name) first more of_name of_first of_more few in
-    let plain = (and_parts (is_plain b) (list_all is_plain name) of_name.plain).0 in
-    record { one = one_line b (name ++ spaced first more) of_line; says = line_at-plain b (name ++ spaced first more) s plain of_line short statement_at_is }
+-- a line with a name and one to three operands is read as a statement, if `statement_at` reads this statement from it
+line_is_read : (name first : List ℕ) (more : List (List ℕ)) (statement : Statement) → IsPiece name → IsPiece first → ArePieces more → length more ≤ 2
+    → statement_at (name ++ spaced first more) ≡ Ok statement → Says (name ++ spaced first more) statement
+line_is_read [] first more statement name_is_piece first_is_piece are_pieces at_most_3 statement_at_is = absurd (omega (arith, name_is_piece.some))
+line_is_read (byte ∷ name) first more statement name_is_piece first_is_piece are_pieces at_most_3 statement_at_is =
+    let are_line_bytes = line-spaced (byte ∷ name) first more name_is_piece first_is_piece are_pieces in
+    let short = length-spaced (byte ∷ name) first more name_is_piece first_is_piece are_pieces at_most_3 in
+    let first_is_plain = (and_parts (is_plain byte) (list_all is_plain name) name_is_piece.plain).0 in
+    record {
+      is_one_line = one_line byte (name ++ spaced first more) are_line_bytes;
+      is_read = line_at-plain byte (name ++ spaced first more) statement first_is_plain are_line_bytes short statement_at_is;
+    }
 
 -- the text of an instruction is its name and its operands
 line_text-is : (name first : List ℕ) (more : List (List ℕ)) → line_text name (first ∷ more) ≡ name ++ spaced first more
 unfolding line_text
-line_text-is name first more = append_assoc name (32 ∷ []) (first ++ flat_map (λ operand. codes ", " ++ operand) more)
+line_text-is name first more = append_assoc name (space ∷ []) (first ++ flat_map (λ operand. codes ", " ++ operand) more)
 
--- an instruction with one to three operands (few) assembles to its word
-assembled-line : (i : Instr) (first : List ℕ) (more : List (List ℕ)) → IsPiece first → ArePieces more → length more ≤ 2
-    → statement_of (mnemonic_of i) (first ∷ more) ≡ Ok (Instruction i) → assembled (line_text (name_of i) (first ∷ more)) ≡ Ok (word_of i ∷ [])
-assembled-line i first more of_first of_more few read =
-    let named = read-name i (first ++ flat_map (λ operand. codes ", " ++ operand) more) in
-    let cut = ap (statement_of (mnemonic_of i)) (operands_of-spaced first more of_first of_more) in
-    let line = says_line (name_of i) first more (Instruction i) (piece-name i) of_first of_more few (named ∙ cut ∙ read) in
-    ap assembled (line_text-is (name_of i) first more) ∙ assembled-instruction (name_of i ++ spaced first more) i line.one line.says
+-- an instruction with one to three operands assembles to its word, if its statement is read from these operands
+assembled-line : (instr : Instr) {first : List ℕ} (more : List (List ℕ)) → IsPiece first → ArePieces more → length more ≤ 2
+    → statement_of (mnemonic_of instr) (first ∷ more) ≡ Ok (Instruction instr)
+    → assembled (line_text (name_of instr) (first ∷ more)) ≡ Ok (word_of instr ∷ [])
+assembled-line instr {first} more first_is_piece are_pieces at_most_3 operands_read =
+    let name_read = mnemonic-read-back instr (first ++ flat_map (λ operand. codes ", " ++ operand) more) in
+    let operands_cut = ap (statement_of (mnemonic_of instr)) (operands_of-spaced first more first_is_piece are_pieces) in
+    let line = line_is_read (name_of instr) first more (Instruction instr) (piece-name instr) first_is_piece are_pieces at_most_3
+    (name_read ∙ operands_cut ∙ operands_read) in
+    ap assembled (line_text-is (name_of instr) first more) ∙ assembled-instruction (name_of instr ++ spaced first more) instr line.is_one_line
+    line.is_read
 
 -- an instruction without operands assembles to its word
-assembled-alone : (i : Instr) → lines_of (name_of i) ≡ name_of i ∷ []
-    → line_read (name_of i) ≡ Ok (record { label = None; statement = Some (Instruction i) }) → assembled (line_text (name_of i) []) ≡ Ok (word_of i ∷ [])
+assembled-alone : (instr : Instr) → lines_of (name_of instr) ≡ name_of instr ∷ []
+    → line_read (name_of instr) ≡ Ok (record { label = None; statement = Some (Instruction instr) })
+    → assembled (line_text (name_of instr) []) ≡ Ok (word_of instr ∷ [])
 unfolding line_text
-assembled-alone i one says = assembled-instruction (name_of i) i one says
+assembled-alone instr is_one_line is_read = assembled-instruction (name_of instr) instr is_one_line is_read
 
 -- ---- instructions, and words as numbers
 
--- a fence that the operands describe has fm, rd and rs1 of 0
-fence-told : (fm rd rs1 : ℕ) → ((fm == 0) && (rd == 0) && (rs1 == 0)) ≡ true → (fm ≡ 0) × (rd ≡ 0) × (rs1 ≡ 0)
-fence-told fm rd rs1 told = (grind (arith, nat_tests, told), grind (arith, nat_tests, told), grind (arith, nat_tests, told))
+-- if the operands of a fence determine it, its fields fm, rd and rs1 are 0
+fence-fields-are-0 : (fm rd rs1 : ℕ) → ((fm == 0) && (rd == 0) && (rs1 == 0)) ≡ true → (fm ≡ 0) × (rd ≡ 0) × (rs1 ≡ 0)
+fence-fields-are-0 fm rd rs1 fields_are_0 =
+    (grind (arith, nat_tests, fields_are_0), grind (arith, nat_tests, fields_are_0), grind (arith, nat_tests, fields_are_0))
 
--- the operands of each format (`operand_texts`) are read back
-pub assembled-instr_text : (i : Instr) → IsInstr i → is_told_by_operands i ≡ true → assembled (instr_text i) ≡ Ok (word_of i ∷ [])
+-- The disassembly of an instruction assembles to its word, if the operands determine the instruction. There is a case for each format: each
+-- operand is a piece of the line, and is read back as the field that it was written from.
+pub assembled-instr_text : (instr : Instr) → IsInstr instr → is_told_by_operands instr ≡ true → assembled (instr_text instr) ≡ Ok (word_of instr ∷ [])
 unfolding instr_text line_read is_text label_text statement_text statement_at mnemonics is_name is_name_byte trimmed
-assembled-instr_text (Lui rd imm) fields told =
-    let small : imm / 2 ^ 12 < 2 ^ 20 = omega (arith, fields.1.0) in
-    let r = read-register rd fields.0 in
-    let n = read-hex_text (imm / 2 ^ 12) small in
-    let u = upper-plus imm fields.1.0 fields.1.1 in
-    assembled-line (Lui rd imm) _ _ (piece-register rd fields.0) (piece-hex_text (imm / 2 ^ 12) small, tt) (omega arith) (rw (r, n, u) refl)
-assembled-instr_text (Auipc rd imm) fields told =
-    let small : imm / 2 ^ 12 < 2 ^ 20 = omega (arith, fields.1.0) in
-    let r = read-register rd fields.0 in
-    let n = read-hex_text (imm / 2 ^ 12) small in
-    let u = upper-plus imm fields.1.0 fields.1.1 in
-    assembled-line (Auipc rd imm) _ _ (piece-register rd fields.0) (piece-hex_text (imm / 2 ^ 12) small, tt) (omega arith) (rw (r, n, u) refl)
-assembled-instr_text (Jal rd offset) fields told =
-    let small : offset < 10 ^ 8 = omega (arith, fields.1.0) in
-    let r = read-register rd fields.0 in
-    let t = read-target 21 offset small (omega arith) in
-    let n = jump_offset-signed offset fields.1.0 fields.1.1 in
-    assembled-line (Jal rd offset) _ _ (piece-register rd fields.0) (piece-signed 21 offset small (omega arith), tt) (omega arith) (rw (r, t, n) refl)
-assembled-instr_text (Jalr rd rs1 offset) fields told =
-    let r = read-register rd fields.0 in
-    let a = read-address offset rs1 fields.2 fields.1 in
-    let n = immediate-signed offset fields.2 in
-    assembled-line (Jalr rd rs1 offset) _ _ (piece-register rd fields.0) (piece-address offset rs1 fields.2 fields.1, tt) (omega arith) (rw (r, a, n) refl)
-assembled-instr_text (Branch kind rs1 rs2 offset) fields told =
-    let small : offset < 10 ^ 8 = omega (arith, fields.2.0) in
-    let a = read-register rs1 fields.0 in
-    let b = read-register rs2 fields.1 in
-    let t = read-target 13 offset small (omega arith) in
-    let n = branch_offset-signed offset fields.2.0 fields.2.1 in
-    assembled-line (Branch kind rs1 rs2 offset) _ _ (piece-register rs1 fields.0)
-    (piece-register rs2 fields.1, (piece-signed 13 offset small (omega arith), tt)) (omega arith) (rw (a, b, t, n) refl)
-assembled-instr_text (Load kind rd rs1 offset) fields told =
-    let r = read-register rd fields.0 in
-    let a = read-address offset rs1 fields.2 fields.1 in
-    let n = immediate-signed offset fields.2 in
-    assembled-line (Load kind rd rs1 offset) _ _ (piece-register rd fields.0) (piece-address offset rs1 fields.2 fields.1, tt) (omega arith)
-    (rw (r, a, n) refl)
-assembled-instr_text (Store kind rs1 rs2 offset) fields told =
-    let r = read-register rs2 fields.1 in
-    let a = read-address offset rs1 fields.2 fields.0 in
-    let n = immediate-signed offset fields.2 in
-    assembled-line (Store kind rs1 rs2 offset) _ _ (piece-register rs2 fields.1) (piece-address offset rs1 fields.2 fields.0, tt) (omega arith)
-    (rw (r, a, n) refl)
-assembled-instr_text (OpImm kind rd rs1 imm) fields told =
-    let small : imm < 10 ^ 8 = omega (arith, fields.2) in
-    let a = read-register rd fields.0 in
-    let b = read-register rs1 fields.1 in
-    let t = read-signed 12 imm small (omega arith) in
-    let n = immediate-signed imm fields.2 in
-    assembled-line (OpImm kind rd rs1 imm) _ _ (piece-register rd fields.0)
-    (piece-register rs1 fields.1, (piece-signed 12 imm small (omega arith), tt)) (omega arith) (rw (a, b, t, n) refl)
-assembled-instr_text (ShiftImm kind rd rs1 shamt) fields told =
-    let a = read-register rd fields.0 in
-    let b = read-register rs1 fields.1 in
-    let t = read-small shamt fields.2 in
-    let n = five_bits-plus shamt fields.2 in
-    assembled-line (ShiftImm kind rd rs1 shamt) _ _ (piece-register rd fields.0)
-    (piece-register rs1 fields.1, (piece-small shamt fields.2, tt)) (omega arith) (rw (a, b, t, n) refl)
-assembled-instr_text (Op kind rd rs1 rs2) fields told =
-    let a = read-register rd fields.0 in
-    let b = read-register rs1 fields.1 in
-    let c = read-register rs2 fields.2 in
-    assembled-line (Op kind rd rs1 rs2) _ _ (piece-register rd fields.0)
-    (piece-register rs1 fields.1, (piece-register rs2 fields.2, tt)) (omega arith) (rw (a, b, c) refl)
--- the operands of a fence determine it only if its other fields are 0
-assembled-instr_text (Fence fm pred succ rd rs1) fields told =
-    let zeros = fence-told fm rd rs1 told in
-    let m = zeros.0 in
-    let d = zeros.1 in
-    let s = zeros.2 in
-    let a = read-accesses pred fields.1 in
-    let b = read-accesses succ fields.2 in
-    rw (m, d, s) (assembled-line (Fence 0 pred succ 0 0) (accesses_text pred) (accesses_text succ ∷ []) (piece-accesses pred fields.1)
-    (piece-accesses succ fields.2, tt) (omega arith) (rw (a, b) refl))
-assembled-instr_text (Csr kind rd rs1 csr) fields told =
-    let a = read-register rd fields.0 in
-    let c = read-csr csr fields.2 in
-    let b = read-register rs1 fields.1 in
-    let n = csr_number-plus csr fields.2 in
-    assembled-line (Csr kind rd rs1 csr) _ _ (piece-register rd fields.0)
-    (piece-hex 3 csr (omega arith), (piece-register rs1 fields.1, tt)) (omega arith) (rw (a, c, b, n) refl)
-assembled-instr_text (CsrImm kind rd uimm csr) fields told =
-    let a = read-register rd fields.0 in
-    let c = read-csr csr fields.2 in
-    let b = read-small uimm fields.1 in
-    let n = csr_number-plus csr fields.2 in
-    let u = five_bits-plus uimm fields.1 in
-    assembled-line (CsrImm kind rd uimm csr) _ _ (piece-register rd fields.0)
-    (piece-hex 3 csr (omega arith), (piece-small uimm fields.1, tt)) (omega arith) (rw (a, c, b, n, u) refl)
-assembled-instr_text (SfenceVma rs1 rs2) fields told =
-    let a = read-register rs1 fields.0 in
-    let b = read-register rs2 fields.1 in
-    assembled-line (SfenceVma rs1 rs2) _ _ (piece-register rs1 fields.0) (piece-register rs2 fields.1, tt) (omega arith) (rw (a, b) refl)
-assembled-instr_text Ecall fields told = assembled-alone Ecall refl refl
-assembled-instr_text Ebreak fields told = assembled-alone Ebreak refl refl
-assembled-instr_text Sret fields told = assembled-alone Sret refl refl
-assembled-instr_text Mret fields told = assembled-alone Mret refl refl
-assembled-instr_text Wfi fields told = assembled-alone Wfi refl refl
+-- `lui rd, n`: n is the hexadecimal text of the upper 20 bits of the immediate
+assembled-instr_text (Lui rd imm) fields is_determined =
+    let (rd_fits, imm_is) = fields in
+    let imm_fits : imm / 2 ^ 12 < 2 ^ 20 = omega (arith, imm_is.0) in
+    let rd_read = read-register rd rd_fits in
+    let number_read = read-hex_text (imm / 2 ^ 12) imm_fits in
+    let imm_read = upper-plus imm imm_is.0 imm_is.1 in
+    assembled-line (Lui rd imm) _ (piece-register rd rd_fits) (piece-hex_text (imm / 2 ^ 12) imm_fits, tt) (omega arith)
+    (rw (rd_read, number_read, imm_read) refl)
+-- `auipc rd, n`, in the same form
+assembled-instr_text (Auipc rd imm) fields is_determined =
+    let (rd_fits, imm_is) = fields in
+    let imm_fits : imm / 2 ^ 12 < 2 ^ 20 = omega (arith, imm_is.0) in
+    let rd_read = read-register rd rd_fits in
+    let number_read = read-hex_text (imm / 2 ^ 12) imm_fits in
+    let imm_read = upper-plus imm imm_is.0 imm_is.1 in
+    assembled-line (Auipc rd imm) _ (piece-register rd rd_fits) (piece-hex_text (imm / 2 ^ 12) imm_fits, tt) (omega arith)
+    (rw (rd_read, number_read, imm_read) refl)
+-- `jal rd, offset`: the offset has 21 bits and is even
+assembled-instr_text (Jal rd offset) fields is_determined =
+    let (rd_fits, offset_is) = fields in
+    let offset_has_8_digits : offset < 10 ^ 8 = omega (arith, offset_is.0) in
+    let rd_read = read-register rd rd_fits in
+    let target_read = read-target 21 offset offset_has_8_digits (omega arith) in
+    let offset_read = jump_offset-signed offset offset_is.0 offset_is.1 in
+    assembled-line (Jal rd offset) _ (piece-register rd rd_fits) (piece-signed 21 offset offset_has_8_digits (omega arith), tt) (omega arith)
+    (rw (rd_read, target_read, offset_read) refl)
+-- `jalr rd, offset(rs1)`
+assembled-instr_text (Jalr rd rs1 offset) fields is_determined =
+    let (rd_fits, rs1_fits, offset_fits) = fields in
+    let rd_read = read-register rd rd_fits in
+    let address_read = read-address offset rs1 offset_fits rs1_fits in
+    let offset_read = immediate-signed offset offset_fits in
+    assembled-line (Jalr rd rs1 offset) _ (piece-register rd rd_fits) (piece-address offset rs1 offset_fits rs1_fits, tt) (omega arith)
+    (rw (rd_read, address_read, offset_read) refl)
+-- `beq rs1, rs2, offset` and the other branches: the offset has 13 bits and is even
+assembled-instr_text (Branch kind rs1 rs2 offset) fields is_determined =
+    let (rs1_fits, rs2_fits, offset_is) = fields in
+    let offset_has_8_digits : offset < 10 ^ 8 = omega (arith, offset_is.0) in
+    let rs1_read = read-register rs1 rs1_fits in
+    let rs2_read = read-register rs2 rs2_fits in
+    let target_read = read-target 13 offset offset_has_8_digits (omega arith) in
+    let offset_read = branch_offset-signed offset offset_is.0 offset_is.1 in
+    assembled-line (Branch kind rs1 rs2 offset) _ (piece-register rs1 rs1_fits)
+    (piece-register rs2 rs2_fits, (piece-signed 13 offset offset_has_8_digits (omega arith), tt)) (omega arith)
+    (rw (rs1_read, rs2_read, target_read, offset_read) refl)
+-- `lw rd, offset(rs1)` and the other loads
+assembled-instr_text (Load kind rd rs1 offset) fields is_determined =
+    let (rd_fits, rs1_fits, offset_fits) = fields in
+    let rd_read = read-register rd rd_fits in
+    let address_read = read-address offset rs1 offset_fits rs1_fits in
+    let offset_read = immediate-signed offset offset_fits in
+    assembled-line (Load kind rd rs1 offset) _ (piece-register rd rd_fits) (piece-address offset rs1 offset_fits rs1_fits, tt) (omega arith)
+    (rw (rd_read, address_read, offset_read) refl)
+-- `sw rs2, offset(rs1)` and the other stores
+assembled-instr_text (Store kind rs1 rs2 offset) fields is_determined =
+    let (rs1_fits, rs2_fits, offset_fits) = fields in
+    let rs2_read = read-register rs2 rs2_fits in
+    let address_read = read-address offset rs1 offset_fits rs1_fits in
+    let offset_read = immediate-signed offset offset_fits in
+    assembled-line (Store kind rs1 rs2 offset) _ (piece-register rs2 rs2_fits) (piece-address offset rs1 offset_fits rs1_fits, tt) (omega arith)
+    (rw (rs2_read, address_read, offset_read) refl)
+-- `addi rd, rs1, imm` and the other instructions with a register and an immediate
+assembled-instr_text (OpImm kind rd rs1 imm) fields is_determined =
+    let (rd_fits, rs1_fits, imm_fits) = fields in
+    let imm_has_8_digits : imm < 10 ^ 8 = omega (arith, imm_fits) in
+    let rd_read = read-register rd rd_fits in
+    let rs1_read = read-register rs1 rs1_fits in
+    let number_read = read-signed 12 imm imm_has_8_digits (omega arith) in
+    let imm_read = immediate-signed imm imm_fits in
+    assembled-line (OpImm kind rd rs1 imm) _ (piece-register rd rd_fits)
+    (piece-register rs1 rs1_fits, (piece-signed 12 imm imm_has_8_digits (omega arith), tt)) (omega arith)
+    (rw (rd_read, rs1_read, number_read, imm_read) refl)
+-- `slli rd, rs1, shamt` and the other shifts by an immediate
+assembled-instr_text (ShiftImm kind rd rs1 shamt) fields is_determined =
+    let (rd_fits, rs1_fits, shamt_fits) = fields in
+    let rd_read = read-register rd rd_fits in
+    let rs1_read = read-register rs1 rs1_fits in
+    let number_read = read-small shamt shamt_fits in
+    let shamt_read = five_bits-plus shamt shamt_fits in
+    assembled-line (ShiftImm kind rd rs1 shamt) _ (piece-register rd rd_fits)
+    (piece-register rs1 rs1_fits, (piece-small shamt shamt_fits, tt)) (omega arith) (rw (rd_read, rs1_read, number_read, shamt_read) refl)
+-- `add rd, rs1, rs2` and the other instructions with two registers
+assembled-instr_text (Op kind rd rs1 rs2) fields is_determined =
+    let (rd_fits, rs1_fits, rs2_fits) = fields in
+    let rd_read = read-register rd rd_fits in
+    let rs1_read = read-register rs1 rs1_fits in
+    let rs2_read = read-register rs2 rs2_fits in
+    assembled-line (Op kind rd rs1 rs2) _ (piece-register rd rd_fits)
+    (piece-register rs1 rs1_fits, (piece-register rs2 rs2_fits, tt)) (omega arith) (rw (rd_read, rs1_read, rs2_read) refl)
+-- `fence pred, succ`: the operands determine it, since its other fields are 0
+assembled-instr_text (Fence fm pred succ rd rs1) fields is_determined =
+    let (fm_fits, pred_fits, succ_fits, rd_fits, rs1_fits) = fields in
+    let (fm_is_0, rd_is_0, rs1_is_0) = fence-fields-are-0 fm rd rs1 is_determined in
+    let pred_read = read-accesses pred pred_fits in
+    let succ_read = read-accesses succ succ_fits in
+    rw (fm_is_0, rd_is_0, rs1_is_0) (assembled-line (Fence 0 pred succ 0 0) (accesses_text succ ∷ []) (piece-accesses pred pred_fits)
+    (piece-accesses succ succ_fits, tt) (omega arith) (rw (pred_read, succ_read) refl))
+-- `csrrw rd, csr, rs1` and the other CSR instructions with a register; the CSR is a number of 3 digits
+assembled-instr_text (Csr kind rd rs1 csr) fields is_determined =
+    let (rd_fits, rs1_fits, csr_fits) = fields in
+    let rd_read = read-register rd rd_fits in
+    let csr_read = read-csr csr csr_fits in
+    let rs1_read = read-register rs1 rs1_fits in
+    let number_read = csr_number-plus csr csr_fits in
+    assembled-line (Csr kind rd rs1 csr) _ (piece-register rd rd_fits)
+    (piece-hex 3 csr (omega arith), (piece-register rs1 rs1_fits, tt)) (omega arith) (rw (rd_read, csr_read, rs1_read, number_read) refl)
+-- `csrrwi rd, csr, uimm` and the other CSR instructions with an immediate
+assembled-instr_text (CsrImm kind rd uimm csr) fields is_determined =
+    let (rd_fits, uimm_fits, csr_fits) = fields in
+    let rd_read = read-register rd rd_fits in
+    let csr_read = read-csr csr csr_fits in
+    let number_read = read-small uimm uimm_fits in
+    let csr_number_read = csr_number-plus csr csr_fits in
+    let uimm_read = five_bits-plus uimm uimm_fits in
+    assembled-line (CsrImm kind rd uimm csr) _ (piece-register rd rd_fits)
+    (piece-hex 3 csr (omega arith), (piece-small uimm uimm_fits, tt)) (omega arith)
+    (rw (rd_read, csr_read, number_read, csr_number_read, uimm_read) refl)
+-- `sfence.vma rs1, rs2`
+assembled-instr_text (SfenceVma rs1 rs2) fields is_determined =
+    let (rs1_fits, rs2_fits) = fields in
+    let rs1_read = read-register rs1 rs1_fits in
+    let rs2_read = read-register rs2 rs2_fits in
+    assembled-line (SfenceVma rs1 rs2) _ (piece-register rs1 rs1_fits) (piece-register rs2 rs2_fits, tt) (omega arith)
+    (rw (rs1_read, rs2_read) refl)
+-- the instructions without operands, whose lines are computed
+assembled-instr_text Ecall fields is_determined = assembled-alone Ecall refl refl
+assembled-instr_text Ebreak fields is_determined = assembled-alone Ebreak refl refl
+assembled-instr_text Sret fields is_determined = assembled-alone Sret refl refl
+assembled-instr_text Mret fields is_determined = assembled-alone Mret refl refl
+assembled-instr_text Wfi fields is_determined = assembled-alone Wfi refl refl
 
--- `.word` is read as the statement of a word
-word-statement : (rest : List ℕ) → statement_at (codes ".word" ++ 32 ∷ rest) ≡ statement_of mnemonic.Word (operands_in (32 ∷ rest))
+-- a line with `.word` is read as the statement of a word
+word-statement : (rest : List ℕ) → statement_at (codes ".word" ++ space ∷ rest) ≡ statement_of mnemonic.Word (operands_in (space ∷ rest))
 unfolding statement_at mnemonics is_name is_name_byte
 word-statement rest = refl
 
 -- the `.word` text of a word assembles to the word
 pub assembled-word_text : (word : ℕ) → word < 2 ^ 32 → assembled (word_text word) ≡ Ok (word ∷ [])
 unfolding word_text
-assembled-word_text word small =
-    let piece = piece-hex 8 word (omega arith) in
-    let n = read-hex 8 word (omega arith) (omega arith) (omega (arith, small)) in
-    let w = word_of-plus word small in
-    let read : statement_of mnemonic.Word ((codes "0x" ++ hex_digits 8 word) ∷ []) ≡ Ok (Word word) = rw (n, w) refl in
-    let cut = ap (statement_of mnemonic.Word) (operands_of-spaced (codes "0x" ++ hex_digits 8 word) [] piece tt) in
+assembled-word_text word fits_32_bits =
+    let is_piece = piece-hex 8 word (omega arith) in
+    let number_read = read-hex 8 word (omega arith) (omega arith) (omega (arith, fits_32_bits)) in
+    let word_read = word_of-plus word fits_32_bits in
+    let operand_read : statement_of mnemonic.Word ((codes "0x" ++ hex_digits 8 word) ∷ []) ≡ Ok (Word word) = rw (number_read, word_read) refl in
+    let operand_cut = ap (statement_of mnemonic.Word) (operands_of-spaced (codes "0x" ++ hex_digits 8 word) [] is_piece tt) in
     let line =
-    says_line (codes ".word") (codes "0x" ++ hex_digits 8 word) [] (Word word) (IsPiece-from_test (codes ".word") refl) piece tt (omega arith)
-    (word-statement ((codes "0x" ++ hex_digits 8 word) ++ []) ∙ cut ∙ read) in
+    line_is_read (codes ".word") (codes "0x" ++ hex_digits 8 word) [] (Word word) (IsPiece-from_test (codes ".word") refl) is_piece tt (omega arith)
+    (word-statement ((codes "0x" ++ hex_digits 8 word) ++ []) ∙ operand_cut ∙ operand_read) in
     ap assembled (line_text-is (codes ".word") (codes "0x" ++ hex_digits 8 word) [])
-    ∙ assembled-word (codes ".word" ++ spaced (codes "0x" ++ hex_digits 8 word) []) word line.one line.says
+    ∙ assembled-word (codes ".word" ++ spaced (codes "0x" ++ hex_digits 8 word) []) word line.is_one_line line.is_read
 
 -- ---- any disassembly of a word
 
--- the text of an instruction, or of its word, assembles to the word
-assembled-told : (word : ℕ) (i : Instr) (told : Bool) → is_told_by_operands i ≡ told → word < 2 ^ 32 → Encodes word i
-    → assembled (if told then instr_text i else word_text word) ≡ Ok (word ∷ [])
-assembled-told word i true test_is small encodes = assembled-instr_text i encodes.0 test_is ∙ ap (λ w. Ok (w ∷ [])) encodes.1
-assembled-told word i false test_is small encodes = assembled-word_text word small
+-- the disassembly of a word that encodes an instruction assembles to the word: it is the text of the instruction, or else `.word`
+assembled-encoding : (word : ℕ) (instr : Instr) (is_determined : Bool) → is_told_by_operands instr ≡ is_determined → word < 2 ^ 32
+    → Encodes word instr → assembled (if is_determined then instr_text instr else word_text word) ≡ Ok (word ∷ [])
+assembled-encoding word instr true test_is fits_32_bits is_encoding = assembled-instr_text instr is_encoding.0 test_is
+    ∙ ap (λ encoded. Ok (encoded ∷ [])) is_encoding.1
+assembled-encoding word instr false test_is fits_32_bits is_encoding = assembled-word_text word fits_32_bits
 
--- the disassembly of a word assembles to the word, whether or not the word encodes an instruction (found)
-assembled-found : (word : ℕ) (found : Option Instr) → word < 2 ^ 32 → IfSome found (Encodes word)
-    → assembled (option_case found (word_text word) (λ i. if is_told_by_operands i then instr_text i else word_text word)) ≡ Ok (word ∷ [])
-assembled-found word None small encodes = assembled-word_text word small
-assembled-found word (Some i) small encodes = assembled-told word i (is_told_by_operands i) refl small encodes
+-- the disassembly of a word assembles to the word, whether or not the word encodes an instruction
+assembled-any : (word : ℕ) (found : Option Instr) → word < 2 ^ 32 → IfSome found (Encodes word)
+    → assembled (option_case found (word_text word) (λ instr. if is_told_by_operands instr then instr_text instr else word_text word)) ≡ Ok
+    (word ∷ [])
+assembled-any word None fits_32_bits is_encoding = assembled-word_text word fits_32_bits
+assembled-any word (Some instr) fits_32_bits is_encoding = assembled-encoding word instr (is_told_by_operands instr) refl fits_32_bits is_encoding
 
 -- the disassembly of a word assembles to the word
 pub assembled_spelling : (word : ℕ) → word < 2 ^ 32 → IfSome (decoded word) (Encodes word) → assembled (spelling word) ≡ Ok (word ∷ [])
 unfolding spelling
-assembled_spelling word small encodes = assembled-found word (decoded word) small encodes
+assembled_spelling word fits_32_bits is_encoding = assembled-any word (decoded word) fits_32_bits is_encoding

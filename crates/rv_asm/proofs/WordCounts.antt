@@ -1,5 +1,6 @@
 -- The number of words of a line is its size.
-use Rattle.std.proofs.Common.{◌≡◌, ◌<◌, ◌∙◌, sym, ap, arith, lit<, ℕ, Bool, true, false, if◌then◌else◌, List, [], ◌∷◌, length, Option, Some, None, Result, Ok, Err}
+use Rattle.std.proofs.Common.{◌≡◌, ◌<◌, ◌∙◌, sym, ap, arith, lit<, ℕ, Bool, true, false, if◌then◌else◌, List, [], ◌∷◌, length, Option, Some}
+use Rattle.std.proofs.Common.{None, Result, Ok, Err}
 use Rattle.std.specs.Option.{ok_or}
 use Rattle.std.proofs.lemmas.List.{length-map}
 use Rattle.rv_word.specs.Cases.{option_case}
@@ -14,18 +15,18 @@ use Rattle.rv_asm.specs.declared.statement.Statement.TheVariants.{Instruction, J
 use Rattle.rv_asm.specs.declared.fault.AsmFaultKind.{AsmFaultKind}
 use Rattle.rv_asm.specs.declared.fault.AsmFaultKind.TheVariants.{UnknownLabel}
 
--- two equal results that are Ok have equal values
+-- two values are equal if the results that are Ok with them are equal
 ok_same : {A E : Type 0} (x y : A) → (let r : Result A E = Ok x in r ≡ Ok y) → x ≡ y
-ok_same x y Result_is = cc
+ok_same x y same_result = cc
 
--- a statement of one word gives one word
+-- a statement that makes one word of a number has one word
 one_word : (r : Result ℕ AsmFaultKind) (word : ℕ → ℕ) (words : List ℕ) → (r >>= (λ n. Ok (word n ∷ []))) ≡ Ok words → length words ≡ 1
 one_word (Ok n) word words words_are = sym (ap length (ok_same _ _ words_are))
 one_word (Err kind) word words words_are = cc
 
--- a jump gives one word
-jump_word : (there : Result ℕ AsmFaultKind) (offset : ℕ → Result ℕ AsmFaultKind) (word : ℕ → ℕ) (words : List ℕ)
-    → (there >>= (λ place. offset place >>= (λ n. Ok (word n ∷ [])))) ≡ Ok words → length words ≡ 1
+-- a jump or a branch to a label has one word
+jump_word : (target : Result ℕ AsmFaultKind) (offset : ℕ → Result ℕ AsmFaultKind) (word : ℕ → ℕ) (words : List ℕ)
+    → (target >>= (λ place. offset place >>= (λ n. Ok (word n ∷ [])))) ≡ Ok words → length words ≡ 1
 jump_word (Ok place) offset word words words_are = one_word (offset place) word words words_are
 jump_word (Err kind) offset word words words_are = cc
 
@@ -40,10 +41,11 @@ length-statement_words labels place (JumpTo rd name) words statement_words_is =
 length-statement_words labels place (BranchTo kind rs1 rs2 name) words statement_words_is =
     jump_word (ok_or (labels name) UnknownLabel) (λ target. branch_offset_of (distance place target))
     (λ offset. word_of (Branch kind rs1 rs2 offset)) words statement_words_is
-length-statement_words labels place (Li rd value) words statement_words_is = sym (ap length (ok_same _ _ statement_words_is)) ∙ length-map (li_code rd value) word_of
+length-statement_words labels place (Li rd value) words statement_words_is = sym (ap length (ok_same _ _ statement_words_is))
+    ∙ length-map (li_code rd value) word_of
 length-statement_words labels place (Word word) words statement_words_is = sym (ap length (ok_same _ _ statement_words_is))
 
--- a line without a statement has no word
+-- a line without a statement has no word, and a line with one has as many as its size says
 length-optional : (labels : List ℕ → Option ℕ) (place : ℕ) (s : Option Statement) (words : List ℕ)
     → option_case s (Ok []) (statement_words labels place) ≡ Ok words → length words ≡ option_case s 0 statement_size
 length-optional labels place None words choice_is = sym (ap length (ok_same _ _ choice_is))
@@ -55,8 +57,8 @@ pub length-line_words : (labels : List ℕ → Option ℕ) (place : ℕ) (line :
 length-line_words labels place (Ok line) words line_words_is = length-optional labels place line.statement words line_words_is
 length-line_words labels place (Err kind) words line_words_is = cc
 
--- each `li` has at least one instruction
-some_code : (b : Bool) (one two : Instr) (others : List Instr) → 0 < length (if b then one ∷ [] else two ∷ others)
+-- the code of `li` has at least one instruction, whether the value is short or not
+some_code : (is_short_value : Bool) (one two : Instr) (others : List Instr) → 0 < length (if is_short_value then one ∷ [] else two ∷ others)
 some_code true one two others = lit< tt
 some_code false one two others = omega (arith, length others)
 

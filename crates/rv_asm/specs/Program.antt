@@ -25,8 +25,7 @@ use Rattle.rv_asm.specs.declared.fault.AsmFaultKind.TheVariants.{UnknownLabel, L
 
 -- ---- the words of a statement
 
--- The instructions that load a word. If its signed value is from -2048 to 2047, there is one addi. Otherwise a lui loads the word minus its low
--- part, the sign-extended low twelve bits, and an addi adds the low part unless it is 0.
+-- `is_short` states whether the signed value of a word is from -2048 to 2047, so that one addi loads the word
 abbrev pub is_short : ℕ → Bool
 is_short value = nat_lt value 2048 || nat_le (2 ^ 32 - 2048) value
 
@@ -34,7 +33,8 @@ is_short value = nat_lt value 2048 || nat_le (2 ^ 32 - 2048) value
 abbrev pub without_low_part : ℕ → ℕ
 without_low_part value = (value + 2 ^ 32 - sign_extended value 12) % 2 ^ 32
 
--- `li_code` has the instructions of `li`: addi alone for a short value, otherwise lui, and addi unless the low 12 bits are 0
+-- The instructions of `li`. A short value has one addi. Otherwise a lui loads the word minus its low part, the sign-extended low twelve bits, and an
+-- addi adds the low part unless it is 0.
 unfoldable pub li_code : ℕ → ℕ → List Instr
 li_code rd value =
     if is_short value then OpImm Addi rd 0 (value % 2 ^ 12) ∷ []

@@ -8,10 +8,11 @@ use Rattle.rv_text.specs.GoodLines.{is_blank}
 use Rattle.rv_text.proofs.Positions.{unwrap_or-position}
 use Rattle.rv_asm.proofs.cuts.blank_position.Goals as goal
 
--- `blank_position` meets clause `value` of its contract
+-- the position is that of the first blank, since the iterator yields the bytes of the text in order
 pub returns-clause-value : goal.returns-clause-value
 returns-clause-value c =
     let text = c.args.text.now in
     c.unwrap_or.ensures ∙ unwrap_or-position (position_or_len is_blank text) (length text) c.position.result
-    (position_from_yields_List is_blank _ _ c.position.result c.position.ensures.ran (YieldsList-from_slice text c.iter.ensures.rest) (λ x b q k. search rules))
+    (position_from_yields_List is_blank _ _ c.position.result c.position.ensures.ran (YieldsList-from_slice text c.iter.ensures.rest)
+    (λ x b q k. search rules))
     (prefix_len-le-length _ text)

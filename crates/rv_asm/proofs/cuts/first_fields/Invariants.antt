@@ -5,4 +5,4 @@ use Rattle.rv_asm.proofs.cuts.first_fields.Given as goal
 
 -- the fields so far are those that the iterator has yielded, at most four
 abbrev pub invariant-loop-field : goal.invariant-loop-field
-invariant-loop-field l = record { kept : l.fields.items ≡ l.yielded; few : length l.fields.items ≤ 4 }
+invariant-loop-field l = record { so_far : l.fields.items ≡ l.yielded; at_most_4 : length l.fields.items ≤ 4 }

@@ -5,7 +5,7 @@ use Rattle.std.specs.Char.{is_digit}
 use Rattle.std.specs.Str.Parse.{digits_value}
 use Rattle.rv_asm.proofs.number.decimal_digits.Given as goal
 
--- the bytes so far are digits, and the value is theirs, at most the largest u64
+-- The bytes so far are digits, and the value is their value, or the largest u64 if theirs is larger.
 abbrev pub invariant-loop-byte : goal.invariant-loop-byte
 invariant-loop-byte l = record {
   digits : list_all (λ c. is_digit c 10) (take l.byte-index l.text) ≡ true;

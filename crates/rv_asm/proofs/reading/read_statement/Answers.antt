@@ -4,7 +4,7 @@ use Rattle.rv_asm.specs.Statements.{statement_at}
 use Rattle.rv_asm.proofs.ManyOperands.{statement_of-take}
 use Rattle.rv_asm.proofs.reading.read_statement.Goals as goal
 
--- `read_statement` meets its contract
+-- the statement is read from the mnemonic before the first blank, and from the first four operands after it
 pub returns : goal.returns
 unfolding statement_at
 returns c =

@@ -4,7 +4,7 @@ use Rattle.rv_asm.specs.RegisterNames.{registers}
 use Rattle.rv_asm.proofs.Numbered.{registers_in_range}
 use Rattle.rv_asm.proofs.register_name.register_named.Goals as goal
 
--- the call of `new` meets its `requires`
+-- the number of a register that is found by its name is at most 31, as `new` requires
 pub new-requires : goal.new-requires
 unfolding registers
 new-requires c = registers_in_range c.args.name.now c.in_ok-number.number (sym c.looked_up.ensures ∙ c.in_ok-number.was)

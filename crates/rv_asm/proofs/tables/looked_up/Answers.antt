@@ -6,7 +6,7 @@ use Rattle.std.proofs.lemmas.Iterator.Search.{find_from_yields_List}
 use Rattle.rv_asm.proofs.Found.{looked_up-found}
 use Rattle.rv_asm.proofs.tables.looked_up.Goals as goal
 
--- `looked_up` meets its contract where `?` returns the error of `row`
+-- if the search finds no row, the definition looks up no value
 pub returns-in_err-row : goal.returns-in_err-row
 returns-in_err-row g c =
     let found =
@@ -14,7 +14,7 @@ returns-in_err-row g c =
     (YieldsList-from_slice c.args.rows.now c.iter.ensures.rest) (λ x b q k. search (rules, tests)) in
     c.from_residual.ensures ∙ rw (c.in_err-row.was) at (looked_up-found c.args.name.now c.args.rows.now c.find.result found)
 
--- `looked_up` meets its contract
+-- if the search finds a row, the definition looks up the value of this row
 pub returns : goal.returns
 returns g c =
     let found =

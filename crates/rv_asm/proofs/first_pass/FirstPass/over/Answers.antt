@@ -4,19 +4,19 @@ use Rattle.rv_asm.specs.LineReading.{line_read}
 use Rattle.rv_asm.proofs.PassLemmas.{reads_on}
 use Rattle.rv_asm.proofs.first_pass.FirstPass.over.Goals as goal
 
--- an iteration of the loop over `line` preserves the invariant
+-- after an iteration, the pass has read one more line, which has no error of its own
 pub loop-line-preserved : goal.loop-line-preserved
 loop-line-preserved c =
     let has_read = c.loop-line.invariant.read in
-    let more = c.in_ok-add_line.ensures.ok has_read.before has_read.read in
+    let with_line = c.in_ok-add_line.ensures.ok has_read.before has_read.read in
     record {
       read =
           reads_on c.loop-line.pass c.add_line.new.self c.args.text.now c.loop-line.rest.now c.in-Some.after.now c.in-Some.line.now has_read
-          c.in-Some.ensures.lines more.0 more.1;
+          c.in-Some.ensures.lines with_line.0 with_line.1;
       count =
           omega (
             arith,
-            more.0.count,
+            with_line.0.count,
             has_read.read.count,
             length-append has_read.before (line_read c.in-Some.line.now ∷ []),
             c.in-Some.ensures.shorter,
