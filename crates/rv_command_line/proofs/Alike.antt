@@ -1,6 +1,7 @@
 -- The reading of a command line does not depend on where in memory the names of an option are. If the arguments are accepted, each given value
--- of an option of the subcommand is readable. Both are proved for a rule, and then for the reading of all arguments with such rules.
-use Rattle.std.proofs.Common.{◌∷◌, ◌≡◌, ◌&&◌, ◌||◌, [], ap, Bool, cond, drop, false, length, List, map, None, not, ℕ, Option, option_map, refl}
+-- of an option of the subcommand is readable. `Alike` states both for a step of the reading, which is a function of the names n. It is proved for
+-- the use of a rule, and then for the reading of all arguments with such rules.
+use Rattle.std.proofs.Common.{◌∷◌, ◌≡◌, ◌&&◌, ◌||◌, [], ap, Bool, codes, cond, drop, false, length, List, map, None, not, ℕ, Option, option_map, refl}
 use Rattle.std.proofs.Common.{Some, suc, sym, true, zero}
 use Rattle.std.specs.List.{AllByRecursion}
 use Rattle.std.specs.Option.{option_map_or}
@@ -38,7 +39,7 @@ with_names names p = p
 
 -- `rule_at` is the rule with the names of its parser at another address
 abbrev pub rule_at : Names → Rule → Rule
-rule_at names a = record a { parser = option_map (with_names names) a.parser }
+rule_at names rule = record rule { parser = option_map (with_names names) rule.parser }
 
 -- `shape_at` is the shape with the names of its rules at another address
 abbrev pub shape_at : Names → Shape → Shape
@@ -47,86 +48,96 @@ shape_at names s = record s { rules = map (rule_at names) s.rules }
 -- The result of a step of the reading is the same with the names at this address and at the address of the definition. If the step has no error,
 -- rows with readable values stay readable.
 pub record Alike (here : Names) {X : Type 0} (rows : X → List Row) (before : List Row) (fault : Names → Kinds) (met : Names → X) : Type 0 where
-  pub faults : fault here ≡ fault first
-  pub same : met here ≡ met first
-  pub kept : fault first ≡ [] → Good before → Good (rows (met first))
+  pub same_faults : fault here ≡ fault first
+  pub same_result : met here ≡ met first
+  pub keeps_good : fault first ≡ [] → Good before → Good (rows (met first))
 
--- `itself` has the rows themselves, for a step whose result is rows
+-- `itself` has the rows of a step whose result is rows
 abbrev pub itself : List Row → List Row
 itself rows = rows
 
 -- `of_held` has the rows that are held
 abbrev of_held : Held → List Row
-of_held h = h.rows
+of_held held = held.rows
 
 -- `of_walk` has the rows of a walk over the arguments
 abbrev of_walk : Walk → List Row
-of_walk w = w.held.rows
+of_walk walk = walk.held.rows
 
 -- the use of a rule does not depend on the address of the names
-pub record Fits (here : Names) (a : Rule) : Type 0 where
+pub record Fits (here : Names) (rule : Rule) : Type 0 where
   pub uses : (again : Bool) (values : List Text) (rows : List Row)
-      → Alike here itself rows (λ n. use_fault again (rule_at n a) values rows) (λ n. used (rule_at n a) values rows)
-  pub default : (rows : List Row) → Alike here itself rows (λ n. default_fault rows (rule_at n a)) (λ n. with_default rows (rule_at n a))
+      → Alike here itself rows (λ n. use_fault again (rule_at n rule) values rows) (λ n. used (rule_at n rule) values rows)
+  pub default : (rows : List Row) → Alike here itself rows (λ n. default_fault rows (rule_at n rule)) (λ n. with_default rows (rule_at n rule))
 
--- if a sequence of two parts has no error, neither part has an error
-pub parts : (a b : Kinds) → or_else a b ≡ [] → (a ≡ []) × (b ≡ [])
-parts [] b or_else_is = (refl, or_else_is)
-parts (k ∷ ks) b or_else_is = cc
+-- if two parts of the reading, one after the other, have no error, neither part has an error
+pub no_fault_in_parts : (first second : Kinds) → or_else first second ≡ [] → (first ≡ []) × (second ≡ [])
+no_fault_in_parts [] second no_fault = (refl, no_fault)
+no_fault_in_parts (fault ∷ faults) second no_fault = cc
 
-module _ {here : Names} {X Y : Type 0} {rows : X → List Row} {rows' : Y → List Row} {before : List Row} {f : Names → Kinds} {m : Names → X} where
+module _ {here : Names} {X Y : Type 0} {rows : X → List Row} {next_rows : Y → List Row} {before : List Row}
+    {fault : Names → Kinds} {met : Names → X} where
   -- two steps that are alike, one after the other, are alike
-  then : {g : Names → X → Kinds} {m' : Names → X → Y} → Alike here rows before f m
-      → ((x : X) → Alike here rows' (rows x) (λ n. g n x) (λ n. m' n x)) → Alike here rows' before (λ n. or_else (f n) (g n (m n))) (λ n. m' n (m n))
-  then {g = g} one two = record {
-    faults = rw (one.same, one.faults, (two (m first)).faults) refl;
-    same = rw (one.same, (two (m first)).same) refl;
-    kept = λ e good. let and_parts = parts (f first) (g first (m first)) e in (two (m first)).kept and_parts.1 (one.kept and_parts.0 good);
+  sequence : {next_fault : Names → X → Kinds} {next_met : Names → X → Y} → Alike here rows before fault met
+      → ((x : X) → Alike here next_rows (rows x) (λ n. next_fault n x) (λ n. next_met n x))
+      → Alike here next_rows before (λ n. or_else (fault n) (next_fault n (met n))) (λ n. next_met n (met n))
+  sequence {next_fault = next_fault} first_step second_step = record {
+    same_faults = rw (first_step.same_result, first_step.same_faults, (second_step (met first)).same_faults) refl;
+    same_result = rw (first_step.same_result, (second_step (met first)).same_result) refl;
+    keeps_good = λ no_fault good.
+        let (none_in_first, none_in_second) = no_fault_in_parts (fault first) (next_fault first (met first)) no_fault in
+        (second_step (met first)).keeps_good none_in_second (first_step.keeps_good none_in_first good);
   }
 
-  -- a step without an error of its own, followed by another step, is alike if the other step is alike
-  thence : {m' : Names → X → Y} → Alike here rows before f m → ((x : X) → Alike here rows' (rows x) (λ _. []) (λ n. m' n x))
-      → Alike here rows' before f (λ n. m' n (m n))
-  thence one two = record {
-    faults = one.faults;
-    same = rw (one.same, (two (m first)).same) refl;
-    kept = λ e good. (two (m first)).kept refl (one.kept e good);
+  -- the same for a second step that has no error of its own
+  sequence_without_fault : {next_met : Names → X → Y} → Alike here rows before fault met
+      → ((x : X) → Alike here next_rows (rows x) (λ _. []) (λ n. next_met n x)) → Alike here next_rows before fault (λ n. next_met n (met n))
+  sequence_without_fault first_step second_step = record {
+    same_faults = first_step.same_faults;
+    same_result = rw (first_step.same_result, (second_step (met first)).same_result) refl;
+    keeps_good = λ no_fault good. (second_step (met first)).keeps_good refl (first_step.keeps_good no_fault good);
   }
 
-  -- a step is alike with a function of its result
-  lift : (of : X → Y) → ((x : X) → rows' (of x) ≡ rows x) → Alike here rows before f m → Alike here rows' before f (λ n. of (m n))
-  lift of same one = record { faults = one.faults; same = ap of one.same; kept = λ e good. rw (same (m first)) (one.kept e good) }
+  -- a step is alike if its result is mapped by a function that does not depend on the names
+  alike_mapped : (convert : X → Y) → ((x : X) → next_rows (convert x) ≡ rows x) → Alike here rows before fault met
+      → Alike here next_rows before fault (λ n. convert (met n))
+  alike_mapped convert same_rows step = record {
+    same_faults = step.same_faults;
+    same_result = ap convert step.same_result;
+    keeps_good = λ no_fault good. rw (same_rows (met first)) (step.keeps_good no_fault good);
+  }
 
 module _ {here : Names} {X : Type 0} {rows : X → List Row} where
-  -- the choice of two steps that are alike is alike
-  either : (b : Bool) {before : List Row} {f g : Names → Kinds} {m other : Names → X} → Alike here rows before f m → Alike here rows before g other
-      → Alike here rows before (λ n. cond b (f n) (g n)) (λ n. cond b (m n) (other n))
-  either true one two = one
-  either false one two = two
+  -- a choice of two steps that are alike, by a test that does not depend on the names, is alike
+  choice : (test : Bool) {before : List Row} {f g : Names → Kinds} {m other : Names → X}
+      → Alike here rows before f m → Alike here rows before g other
+      → Alike here rows before (λ n. cond test (f n) (g n)) (λ n. cond test (m n) (other n))
+  choice true first_step second_step = first_step
+  choice false first_step second_step = second_step
 
   -- a step that does not depend on the names is alike
-  stays : {fault : Kinds} {x : X} → Alike here rows (rows x) (λ _. fault) (λ _. x)
-  stays = record { faults = refl; same = refl; kept = λ e good. good }
+  names_unused : {fault : Kinds} {x : X} → Alike here rows (rows x) (λ _. fault) (λ _. x)
+  names_unused = record { same_faults = refl; same_result = refl; keeps_good = λ no_fault good. good }
 
--- an operation on the element that is found does not depend on the address, if this holds for each element and for none
-found : {X : Type 0} (at : Names → X → X) (Is : X → Type 0) (P : (Names → Option X) → Type 0) (test : X → Bool)
+-- a claim P about the element that a search finds holds if it holds for each element and for none, since the test does not depend on the names
+find_alike : {X : Type 0} (at : Names → X → X) (Is : X → Type 0) (P : (Names → Option X) → Type 0) (test : X → Bool)
     → ((n : Names) (x : X) → test (at n x) ≡ test x) → P (λ _. None) → ((x : X) → Is x → P (λ n. Some (at n x)))
     → (xs : List X) → AllByRecursion Is xs → P (λ n. find test (map (at n) xs))
-found at Is P test same none some [] all = none
-found at Is P test same none some (x ∷ xs) all = go (test x) (λ n. same n x) (found at Is P test same none some xs all.1)
-  where
-    -- the claim holds for a list with first element x, where `b` states whether x passes the test at every address
-    go : (b : Bool) → ((n : Names) → test (at n x) ≡ b) → P (λ n. find test (map (at n) xs))
-        → P (λ n. cond (test (at n x)) (Some (at n x)) (find test (map (at n) xs)))
-    go true e rest = simp e (some x all.0)
-    go false e rest = simp e rest
+find_alike at Is P test same_test if_none if_some [] all_are = if_none
+find_alike at Is P test same_test if_none if_some (x ∷ xs) all_are =
+    by_first (test x) (λ n. same_test n x) (find_alike at Is P test same_test if_none if_some xs all_are.1) where
+      -- the same claim by cases on the test of the first element x, with the claim for the other elements as a premise
+      by_first : (passes : Bool) → ((n : Names) → test (at n x) ≡ passes) → P (λ n. find test (map (at n) xs))
+          → P (λ n. cond (test (at n x)) (Some (at n x)) (find test (map (at n) xs)))
+      by_first true test_is hypothesis = simp test_is (if_some x all_are.0)
+      by_first false test_is hypothesis = simp test_is hypothesis
 
 -- ---- reading the arguments of a subcommand
 
-module _ (here : Names) (s : Shape) (fits : AllByRecursion (Fits here) s.rules) where
+module _ (here : Names) (base : Shape) (fits : AllByRecursion (Fits here) base.rules) where
   -- `shape` is the shape with the names at an address
   abbrev shape : Names → Shape
-  shape n = shape_at n s
+  shape n = shape_at n base
 
   -- `rules` has the rules with the names at an address
   abbrev rules : Names → List Rule
@@ -134,167 +145,184 @@ module _ (here : Names) (s : Shape) (fits : AllByRecursion (Fits here) s.rules) 
 
   -- a later use of an option replaces an earlier one
   abbrev again : Bool
-  again = s.args_override_self
+  again = base.args_override_self
 
-  -- the meeting of a word is alike
+  -- `Met` states that a step on a word of the arguments is alike, where its result holds rows and an outcome
   abbrev Met : {X : Type 0} → Held → (Names → Kinds) → (Names → Held × X) → Type 0
-  Met h = Alike here (λ m. m.0.rows) h.rows
+  Met held = Alike here (λ m. m.0.rows) held.rows
 
-  -- the claim P holds for a rule that is found, if it holds for each rule and for none
-  by : (P : (Names → Option Rule) → Type 0) (test : Rule → Bool) → ((n : Names) (a : Rule) → test (rule_at n a) ≡ test a) → P (λ _. None)
-      → ((a : Rule) → Fits here a → P (λ n. Some (rule_at n a))) → P (λ n. find test (rules n))
-  by P test same none some = found rule_at (Fits here) P test same none some s.rules fits
+  -- a claim P about the rule that a search finds holds, if it holds for each rule and for none
+  by_rule : (P : (Names → Option Rule) → Type 0) (test : Rule → Bool) → ((n : Names) (rule : Rule) → test (rule_at n rule) ≡ test rule)
+      → P (λ _. None) → ((rule : Rule) → Fits here rule → P (λ n. Some (rule_at n rule))) → P (λ n. find test (rules n))
+  by_rule P test same_test if_none if_some = find_alike rule_at (Fits here) P test same_test if_none if_some base.rules fits
 
-  -- the end of a waiting option is alike
-  settles : (h : Held) → Alike here of_held h.rows (λ n. settle_fault (rules n) again h) (λ n. settled (rules n) h)
-  settles h = lift (λ rows. record h { rows = rows; pending = None }) (λ _. refl) (go h.pending)
-    where
-      -- the end of the option p that waits for its values, or of none, is alike
-      go : (p : Option (Text × List Text)) → Alike here itself h.rows
-          (λ n. option_map_or (λ x. option_map_or (λ a. use_fault again a x.1 h.rows) (arg_by_id (rules n) x.0) []) p [])
-          (λ n. settled_rows (rules n) p h.rows)
-      go None = stays
-      go (Some x) = by
-          (λ o. Alike here itself h.rows (λ n. option_map_or (λ a. use_fault again a x.1 h.rows) (o n) []) (λ n. used_by_id (o n) x.1 h.rows))
-          (λ a. bytes_eq a.id x.0) (λ n a. refl) stays (λ a fit. fit.uses again x.1 h.rows)
+  -- ending an option that waits for its values does not depend on where the names are
+  settle_alike : (held : Held) → Alike here of_held held.rows (λ n. settle_fault (rules n) again held) (λ n. settled (rules n) held)
+  settle_alike held = alike_mapped (λ rows. record held { rows = rows; pending = None }) (λ _. refl) (by_pending held.pending) where
+    -- the same claim by cases on the option that waits for its values, which may be none
+    by_pending : (waiting_option : Option (Text × List Text)) → Alike here itself held.rows
+        (λ n. option_map_or (λ pending.
+        option_map_or (λ rule. use_fault again rule pending.1 held.rows) (arg_by_id (rules n) pending.0) []) waiting_option [])
+        (λ n. settled_rows (rules n) waiting_option held.rows)
+    by_pending None = names_unused
+    by_pending (Some pending) = by_rule
+        (λ found. Alike here itself held.rows (λ n. option_map_or (λ rule. use_fault again rule pending.1 held.rows) (found n) [])
+        (λ n. used_by_id (found n) pending.1 held.rows))
+        (λ rule. bytes_eq rule.id pending.0) (λ n rule. refl) names_unused (λ rule fit. fit.uses again pending.1 held.rows)
 
-  module _ (a : Rule) (fit : Fits here a) where
-    -- the use of a rule is alike
-    reacts : (values : List Text) (h : Held)
-        → Alike here of_held h.rows (λ n. react_fault (rules n) again (rule_at n a) values h) (λ n. reacted (rules n) (rule_at n a) values h)
-    reacts values h = then (settles h) (λ s. lift (λ rows. record s { rows = rows }) (λ _. refl) (fit.uses again values s.rows))
+  module _ (rule : Rule) (fit : Fits here rule) where
+    -- using a rule, after the end of a waiting option, does not depend on where the names are
+    react_alike : (values : List Text) (held : Held)
+        → Alike here of_held held.rows (λ n. react_fault (rules n) again (rule_at n rule) values held)
+        (λ n. reacted (rules n) (rule_at n rule) values held)
+    react_alike values held =
+        sequence (settle_alike held)
+        (λ settled. alike_mapped (λ rows. record settled { rows = rows }) (λ _. refl) (fit.uses again values settled.rows))
 
-    -- an option with a value is alike
-    opts : (v : Option Text) (h : Held) → Met h (λ n. option_fault (rules n) again (rule_at n a) v h) (λ n. option_met (rules n) (rule_at n a) v h)
-    opts (Some v) h = lift (λ s. (s, done)) (λ _. refl) (reacts (v ∷ []) h)
-    opts None h = lift (λ s. (record s { pending = Some (a.id, []) }, waits a.id)) (λ _. refl) (settles h)
+    -- reading an option with an attached value, or one that waits for its value, does not depend on where the names are
+    option_alike : (v : Option Text) (held : Held)
+        → Met held (λ n. option_fault (rules n) again (rule_at n rule) v held) (λ n. option_met (rules n) (rule_at n rule) v held)
+    option_alike (Some v) held = alike_mapped (λ s. (s, done)) (λ _. refl) (react_alike (v ∷ []) held)
+    option_alike None held = alike_mapped (λ s. (record s { pending = Some (rule.id, []) }, waits rule.id)) (λ _. refl) (settle_alike held)
 
-    -- a flag is alike
-    flags : (v : Option Text) (h : Held)
-        → Met h (λ n. cond (is_some v) (kind.TooManyValues ∷ []) (react_fault (rules n) again (rule_at n a) [] h)) (λ n. flag_met (rules n) (rule_at n a) v h)
-    flags (Some v) h = stays
-    flags None h = lift (λ s. (s, done)) (λ _. refl) (reacts [] h)
+    -- reading a flag does not depend on where the names are; a value for it is an error
+    flag_alike : (v : Option Text) (held : Held)
+        → Met held (λ n. cond (is_some v) (kind.TooManyValues ∷ []) (react_fault (rules n) again (rule_at n rule) [] held))
+        (λ n. flag_met (rules n) (rule_at n rule) v held)
+    flag_alike (Some v) held = names_unused
+    flag_alike None held = alike_mapped (λ s. (s, done)) (λ _. refl) (react_alike [] held)
 
-  -- an option by its long name is alike
-  longs : (name : Text) (v : Option Text) (h : Held)
-      → Met h (λ n. long_fault (rules n) again (arg_by_long (rules n) name) v h) (λ n. long_met (rules n) (arg_by_long (rules n) name) v h)
-  longs name v h = by (λ o. Met h (λ n. long_fault (rules n) again (o n) v h) (λ n. long_met (rules n) (o n) v h))
-      (λ a. not (is_some a.index) && clap.has_long a name) (λ n a. refl) stays (λ a fit. either (takes_values a) (opts a fit v h) (flags a fit v h))
+  -- reading an option that is given by its long name does not depend on where the names are
+  long_option_alike : (name : Text) (v : Option Text) (held : Held)
+      → Met held (λ n. long_fault (rules n) again (arg_by_long (rules n) name) v held) (λ n. long_met (rules n) (arg_by_long (rules n) name) v held)
+  long_option_alike name v held =
+      by_rule (λ found. Met held (λ n. long_fault (rules n) again (found n) v held) (λ n. long_met (rules n) (found n) v held))
+      (λ rule. not (is_some rule.index) && clap.has_long rule name) (λ n rule. refl) names_unused
+      (λ rule fit. choice (takes_values rule) (option_alike rule fit v held) (flag_alike rule fit v held))
 
-  -- a bundle of short options is alike
-  abbrev Bundle : (k : ℕ) (flags : Text) (skip : ℕ) (so_far : Outcome) (h : Held) → Type 0
-  Bundle k flags skip so_far h = Met h (λ n. flags_fault (rules n) again k flags skip h) (λ n. bundle_met (rules n) k flags skip so_far h)
+  -- `Bundle` states that a bundle of at most k short options in one word is alike
+  abbrev Bundle : (k : ℕ) (flags : Text) (skip : ℕ) (so_far : Outcome) (held : Held) → Type 0
+  Bundle k flags skip so_far held =
+      Met held (λ n. flags_fault (rules n) again k flags skip held) (λ n. bundle_met (rules n) k flags skip so_far held)
 
-  -- each bundle of short options is alike
-  bundles : (k : ℕ) (flags : Text) (skip : ℕ) (so_far : Outcome) (h : Held) → Bundle k flags skip so_far h
+  -- reading a bundle of short options does not depend on where the names are, by induction over its characters
+  bundles_alike : (k : ℕ) (flags : Text) (skip : ℕ) (so_far : Outcome) (held : Held) → Bundle k flags skip so_far held
   unfolding flags_fault bundle_met
-  bundles zero flags skip so_far h = stays
-  bundles (suc k) flags skip so_far h = go (slice_get (chars flags) 0) skip (bundles k)
-    where
-      -- a bundle that continues with the character x, or ends, is alike, if each later bundle is alike
-      go : (x : Option ℕ) (skip : ℕ) → ((flags : Text) (skip : ℕ) (so_far : Outcome) (h : Held) → Bundle k flags skip so_far h)
-          → Met h (λ n. bundle_step_fault (rules n) again x flags skip h (flags_fault (rules n) again k))
-          (λ n. bundle_step (rules n) x flags skip so_far h (bundle_met (rules n) k))
-      go None skip later = stays
-      go (Some x) zero later =
-          let rest = drop (length (encode_utf8 x)) flags in
-          by (λ o. Met h (λ n. short_fault (rules n) again (o n) rest h (flags_fault (rules n) again k rest 0))
-          (λ n. short_met (rules n) (o n) rest h (bundle_met (rules n) k rest 0 done)))
-          (λ a. not (is_some a.index) && clap.has_short a x) (λ n a. refl) stays
-          (λ a fit. either (takes_values a) (opts a fit (clap.attached_value rest) h) (then (reacts a fit [] h) (later rest 0 done)))
-      go (Some x) (suc i) later = later _ i so_far h
+  bundles_alike zero flags skip so_far held = names_unused
+  bundles_alike (suc k) flags skip so_far held = by_character (slice_get (chars flags) 0) skip (bundles_alike k) where
+    -- the same claim by cases on the next character of the bundle, with the claim for each later bundle as a premise
+    by_character : (x : Option ℕ) (skip : ℕ) → ((flags : Text) (skip : ℕ) (so_far : Outcome) (held : Held) → Bundle k flags skip so_far held)
+        → Met held (λ n. bundle_step_fault (rules n) again x flags skip held (flags_fault (rules n) again k))
+        (λ n. bundle_step (rules n) x flags skip so_far held (bundle_met (rules n) k))
+    by_character None skip later_bundles = names_unused
+    by_character (Some x) zero later_bundles =
+        let rest = drop (length (encode_utf8 x)) flags in
+        by_rule (λ found. Met held (λ n. short_fault (rules n) again (found n) rest held (flags_fault (rules n) again k rest 0))
+        (λ n. short_met (rules n) (found n) rest held (bundle_met (rules n) k rest 0 done)))
+        (λ rule. not (is_some rule.index) && clap.has_short rule x) (λ n rule. refl) names_unused
+        (λ rule fit. choice (takes_values rule) (option_alike rule fit (clap.attached_value rest) held)
+        (sequence (react_alike rule fit [] held) (later_bundles rest 0 done)))
+    by_character (Some x) (suc i) later_bundles = later_bundles _ i so_far held
 
   module _ (waiting : Waiting) (word : Text) where
-    -- a plain word is alike
-    plains : (w : Waiting) (h : Held) → Met h (λ _. []) (λ n. plain_word (rules n) w word h)
-    plains (option id) h = by (λ o. Met h (λ _. []) (λ n. ((clap.option_word (o n) id word h).0, next (clap.option_word (o n) id word h).1)))
-        (λ a. bytes_eq a.id id) (λ n a. refl) stays (λ a fit. stays)
-    plains idle h = stays
-    plains positional h = stays
+    -- reading a word that is no option does not depend on where the names are
+    plain_word_alike : (state : Waiting) (held : Held) → Met held (λ _. []) (λ n. plain_word (rules n) state word held)
+    plain_word_alike (option id) held = by_rule
+        (λ found. Met held (λ _. []) (λ n. ((clap.option_word (found n) id word held).0, next (clap.option_word (found n) id word held).1)))
+        (λ rule. bytes_eq rule.id id) (λ n rule. refl) names_unused (λ rule fit. names_unused)
+    plain_word_alike idle held = names_unused
+    plain_word_alike positional held = names_unused
 
-    -- what follows a flag is alike
-    after : (m : Held × Outcome) → Met m.0 (λ _. []) (λ n. clap.after_flag (rules n) waiting word m.0 m.1)
-    after (h, done) = stays
-    after (h, waits id) = stays
-    after (h, plain) = plains waiting h
-    after (h, refused) = plains waiting h
+    -- reading what follows an option in its word does not depend on where the names are
+    after_flag_alike : (m : Held × Outcome) → Met m.0 (λ _. []) (λ n. clap.after_flag (rules n) waiting word m.0 m.1)
+    after_flag_alike (held, done) = names_unused
+    after_flag_alike (held, waits id) = names_unused
+    after_flag_alike (held, plain) = plain_word_alike waiting held
+    after_flag_alike (held, refused) = plain_word_alike waiting held
 
-    -- a word of short options is alike
-    short_words : (flags : Option Text) (h : Held)
-        → Met h (λ n. option_map_or (λ flags. bundle_fault (rules n) again flags h) flags []) (λ n. short_or_plain (rules n) waiting word flags h)
-    short_words (Some flags) h = thence (bundles (length flags) flags h.skip plain (record h { skip = 0 })) after
-    short_words None h = plains waiting h
+    -- reading a word of short options does not depend on where the names are
+    short_word_alike : (flags : Option Text) (held : Held)
+        → Met held (λ n. option_map_or (λ flags. bundle_fault (rules n) again flags held) flags [])
+        (λ n. short_or_plain (rules n) waiting word flags held)
+    short_word_alike (Some flags) held =
+        sequence_without_fault (bundles_alike (length flags) flags held.skip plain (record held { skip = 0 })) after_flag_alike
+    short_word_alike None held = plain_word_alike waiting held
 
-    -- a word of a long option is alike
-    flag_words : (name : Option (Text × Option Text)) (h : Held)
-        → Met h (λ n. flag_word_fault (rules n) again name word h) (λ n. clap.long_or_other (rules n) waiting word name h)
-    flag_words (Some x) h = thence (longs x.0 x.1 h) after
-    flag_words None h = short_words (short_of word) h
+    -- reading a word with a long option does not depend on where the names are
+    long_word_alike : (name : Option (Text × Option Text)) (held : Held)
+        → Met held (λ n. flag_word_fault (rules n) again name word held) (λ n. clap.long_or_other (rules n) waiting word name held)
+    long_word_alike (Some x) held = sequence_without_fault (long_option_alike x.0 x.1 held) after_flag_alike
+    long_word_alike None held = short_word_alike (short_of word) held
 
-    -- another word is alike
-    others : (name : Option Text) (position : ℕ) (h : Held)
-        → Met h (λ n. other_fault (shape n) name word h) (λ n. clap.subcommand_or_other (rules n) name waiting position word h)
-    others (Some name) position h = stays
-    others None position h = either (bytes_eq word (45 ∷ 45 ∷ [])) stays (flag_words (long_of word) h)
+    -- reading a word that names no subcommand does not depend on where the names are
+    other_word_alike : (name : Option Text) (position : ℕ) (held : Held)
+        → Met held (λ n. other_fault (shape n) name word held) (λ n. clap.subcommand_or_other (rules n) name waiting position word held)
+    other_word_alike (Some name) position held = names_unused
+    other_word_alike None position held = choice (bytes_eq word (codes "--")) names_unused (long_word_alike (long_of word) held)
 
-    -- each word is alike
-    words : (names : clap.Names) (is_trailing : Bool) (position : ℕ) (h : Held)
-        → Met h (λ n. word_fault (shape n) names is_trailing waiting word h) (λ n. word_met (rules n) names is_trailing waiting position word h)
-    words names true position h = stays
-    words names false position h = others (clap.subcommand_met names waiting word) position h
+    -- reading a word of the arguments does not depend on where the names are
+    word_alike : (names : clap.Names) (is_trailing : Bool) (position : ℕ) (held : Held)
+        → Met held (λ n. word_fault (shape n) names is_trailing waiting word held)
+        (λ n. word_met (rules n) names is_trailing waiting position word held)
+    word_alike names true position held = names_unused
+    word_alike names false position held = other_word_alike (clap.subcommand_met names waiting word) position held
 
-  -- a step after a word is alike
-  steps : (word : Text) (w : Walk) (m : Held × Step)
-      → Alike here of_walk m.0.rows (λ n. step_fault (shape n) w.position m.0 m.1) (λ n. after_step (rules n) word w m.0 m.1)
-  steps word w (h, next waiting) = stays
-  steps word w (h, trailing position) = stays
-  steps word w (h, subcommand name) = stays
-  steps word w (h, value) =
-      let placed = λ (a : Rule) (g : Held). record w {
-        held = clap.pushed a.id word g;
-        waiting = cond (clap.is_multiple a) positional idle;
-        position = clap.next_position a w.position;
-        is_trailing = w.is_trailing || a.trailing_var_arg;
+  -- the step of the walk after a word of the arguments does not depend on where the names are
+  step_alike : (word : Text) (walk : Walk) (m : Held × Step)
+      → Alike here of_walk m.0.rows (λ n. step_fault (shape n) walk.position m.0 m.1) (λ n. after_step (rules n) word walk m.0 m.1)
+  step_alike word walk (held, next waiting) = names_unused
+  step_alike word walk (held, trailing position) = names_unused
+  step_alike word walk (held, subcommand name) = names_unused
+  step_alike word walk (held, value) =
+      let placed = λ (rule : Rule) (g : Held). record walk {
+        held = clap.pushed rule.id word g;
+        waiting = cond (clap.is_multiple rule) positional idle;
+        position = clap.next_position rule walk.position;
+        is_trailing = walk.is_trailing || rule.trailing_var_arg;
         stopped = None;
       } in
-      by (λ o. Alike here of_walk h.rows (λ n. option_map_or (λ a. positional_fault (rules n) again a h) (o n) (stray_fault s))
-      (λ n. to_positional (rules n) (o n) word w h)) (λ a. option_map_or (λ k. nat_eq k w.position) a.index false) (λ n a. refl) stays
-      (λ a fit. lift (placed a) (λ _. refl) (either (clap.is_pending a h.pending && clap.takes_several a) stays (settles h)))
+      by_rule (λ found. Alike here of_walk held.rows
+      (λ n. option_map_or (λ rule. positional_fault (rules n) again rule held) (found n) (stray_fault base))
+      (λ n. to_positional (rules n) (found n) word walk held))
+      (λ rule. option_map_or (λ k. nat_eq k walk.position) rule.index false) (λ n rule. refl) names_unused
+      (λ rule fit. alike_mapped (placed rule) (λ _. refl)
+      (choice (clap.is_pending rule held.pending && clap.takes_several rule) names_unused (settle_alike held)))
 
   module _ (names : clap.Names) where
-    -- a word of the walk is alike
-    turns : (stopped : Option (Text × List Text)) (w : Walk) (word : Text) → Alike here of_walk w.held.rows
-        (λ n. let met = word_met (rules n) names w.is_trailing w.waiting w.position word w.held in cond (is_some stopped) []
-        (or_else (word_fault (shape n) names w.is_trailing w.waiting word w.held) (step_fault (shape n) w.position met.0 met.1)))
-        (λ n. walked_from (rules n) names stopped w word)
-    turns (Some x) w word = stays
-    turns None w word = then (words w.waiting word names w.is_trailing w.position w.held) (steps word w)
+    -- a word and the step after it do not depend on where the names are; after a subcommand, the walk has stopped
+    walked_word_alike : (stopped : Option (Text × List Text)) (walk : Walk) (word : Text) → Alike here of_walk walk.held.rows
+        (λ n. let met = word_met (rules n) names walk.is_trailing walk.waiting walk.position word walk.held in cond (is_some stopped) []
+        (or_else (word_fault (shape n) names walk.is_trailing walk.waiting word walk.held) (step_fault (shape n) walk.position met.0 met.1)))
+        (λ n. walked_from (rules n) names stopped walk word)
+    walked_word_alike (Some x) walk word = names_unused
+    walked_word_alike None walk word =
+        sequence (word_alike walk.waiting word names walk.is_trailing walk.position walk.held) (step_alike word walk)
 
-    -- the walk over the words is alike
-    walks : (w : Walk) (words : List Text)
-        → Alike here of_walk w.held.rows (λ n. walk_fault (shape n) names w words) (λ n. fold (walked (rules n) names) w words)
+    -- the walk over all words does not depend on where the names are, by induction over the words
+    walk_alike : (walk : Walk) (words : List Text)
+        → Alike here of_walk walk.held.rows (λ n. walk_fault (shape n) names walk words) (λ n. fold (walked (rules n) names) walk words)
     unfolding walk_fault walked
-    walks w [] = stays
-    walks w (word ∷ words) = then (turns w.stopped w word) (λ x. walks x words)
+    walk_alike walk [] = names_unused
+    walk_alike walk (word ∷ words) = sequence (walked_word_alike walk.stopped walk word) (λ x. walk_alike x words)
 
-  -- the default values are alike
-  defaults : (rest : List Rule) → AllByRecursion (Fits here) rest → (rows : List Row)
-      → Alike here itself rows (λ n. defaults_fault rows (map (rule_at n) rest)) (λ n. fold with_default rows (map (rule_at n) rest))
+  -- setting the default values does not depend on where the names are, by induction over the rules
+  defaults_alike : (others : List Rule) → AllByRecursion (Fits here) others → (rows : List Row)
+      → Alike here itself rows (λ n. defaults_fault rows (map (rule_at n) others)) (λ n. fold with_default rows (map (rule_at n) others))
   unfolding defaults_fault
-  defaults [] all rows = stays
-  defaults (a ∷ rest) all rows = then (all.0.default rows) (defaults rest all.1)
+  defaults_alike [] all_fit rows = names_unused
+  defaults_alike (rule ∷ others) all_fit rows = sequence (all_fit.0.default rows) (defaults_alike others all_fit.1)
 
-  -- the check for required options is alike
-  checks : (has_subcommand : Bool) (rows : List Row) → Alike here itself rows (λ n. check_fault (shape n) rows has_subcommand) (λ _. rows)
-  checks has_subcommand rows =
-      let none = λ (n : Names). sym (list_any-map (λ (a : Rule). a.required && not (is_given a.id rows)) (rule_at n) s.rules) in
-      record { faults = rw (none here, none first) refl; same = refl; kept = λ e good. good }
+  -- the check for required options does not depend on where the names are
+  check_alike : (has_subcommand : Bool) (rows : List Row) → Alike here itself rows (λ n. check_fault (shape n) rows has_subcommand) (λ _. rows)
+  check_alike has_subcommand rows =
+      let none_missing = λ (n : Names). sym (list_any-map (λ (rule : Rule). rule.required && not (is_given rule.id rows)) (rule_at n) base.rules) in
+      record { same_faults = rw (none_missing here, none_missing first) refl; same_result = refl; keeps_good = λ no_fault good. good }
 
-  -- the reading of one level of the arguments is alike
-  level : (names : clap.Names) (words : List Text) (has_subcommand : Bool)
+  -- reading one level of the arguments does not depend on where the names are: the words, then the default values and the check
+  level_alike : (names : clap.Names) (words : List Text) (has_subcommand : Bool)
       → Alike here itself [] (λ n. level_fault (shape n) names nothing_held words has_subcommand []) (λ n. rows_after (rules n) names words)
-  level names words has_subcommand = then (walks names (walk_from nothing_held) words)
-      (λ w. then (settles w.held) (λ h. then (defaults s.rules fits h.rows) (checks has_subcommand)))
+  level_alike names words has_subcommand = sequence (walk_alike names (walk_from nothing_held) words)
+      (λ walk. sequence (settle_alike walk.held) (λ held. sequence (defaults_alike base.rules fits held.rows) (check_alike has_subcommand)))
 
 -- ---- the subcommand that is entered
 
@@ -308,8 +336,8 @@ pub entered_alike : (here : Names) (subs : List Shape) → AllByRecursion (λ s.
     (λ n. option_map_or (λ x. option_map_or (λ s. level_fault s [] nothing_held x.1 false [])
     (find (λ s. answers_to x.0 (label_of s)) (map (shape_at n) subs)) []) stop [])
     (λ n. option_and_then (λ x. option_map (λ s. rows_at s x.1) (find (λ s. answers_to x.0 (label_of s)) (map (shape_at n) subs))) stop)
-entered_alike here subs fits None = stays
-entered_alike here subs fits (Some x) = found shape_at (λ s. AllByRecursion (Fits here) s.rules)
+entered_alike here subs fits None = names_unused
+entered_alike here subs fits (Some x) = find_alike shape_at (λ s. AllByRecursion (Fits here) s.rules)
     (λ o. Alike here entered_rows [] (λ n. option_map_or (λ s. level_fault s [] nothing_held x.1 false []) (o n) [])
-    (λ n. option_map (λ s. rows_at s x.1) (o n))) (λ s. answers_to x.0 (label_of s)) (λ n s. refl) stays
-    (λ s fit. lift (λ rows. Some (s.name, rows)) (λ _. refl) (level here s fit [] x.1 false)) subs fits
+    (λ n. option_map (λ s. rows_at s x.1) (o n))) (λ s. answers_to x.0 (label_of s)) (λ n s. refl) names_unused
+    (λ s fit. alike_mapped (λ rows. Some (s.name, rows)) (λ _. refl) (level_alike here s fit [] x.1 false)) subs fits

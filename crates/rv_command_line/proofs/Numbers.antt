@@ -1,4 +1,4 @@
--- This file is about the value that a typed getter of `clap` returns for an option's text.
+-- The value that a typed getter of `clap` returns for the text of an option is the value that the definition reads from this text.
 use Rattle.std.proofs.Common.{◌≡◌, ◌∙◌, ◌&&◌, ◌∷◌, ◌^◌, ◌<◌, [], ap, Bool, cond, Err, false, length, List, None, ℕ, Ok, Option, refl, Result, Some, true}
 use Rattle.std.proofs.Common.{sym, true≢false}
 use Rattle.std.proofs.lemmas.Bool.Decides.{Decides-and, Decides-ltb}
@@ -14,19 +14,18 @@ use Rattle.clap.specs.declared.parser.matches.Found.{Found}
 use Rattle.rv_command_line.specs.Job.{number_in_text}
 
 -- the value that a getter returns for the option's text, if the option is given
-pub got : {X : Type 0} (read : Text → Option X) (f : Found) (id : Text) (r : Option X) → (one_text f id ≡ None → r ≡ None)
-    → ((text : Text) → one_text f id ≡ Some text → r ≡ read text) → r ≡ option_and_then read (one_of id (rows_of f))
-got read f id r none some = rw (sym (one_text-rows f id)) (go (one_text f id) refl)
-  where
-    -- the value of a getter is the value that is read from the option's text o, or none if the option is not given
-    go : (o : Option Text) → one_text f id ≡ o → r ≡ option_and_then read o
-    go None e = none e
-    go (Some text) e = some text e
+pub getter_value : {X : Type 0} (read : Text → Option X) (found : Found) (id : Text) (result : Option X) → (one_text found id ≡ None → result ≡ None)
+    → ((text : Text) → one_text found id ≡ Some text → result ≡ read text) → result ≡ option_and_then read (one_of id (rows_of found))
+getter_value read found id result if_not_given if_given = rw (sym (one_text-rows found id)) (by_text (one_text found id) refl) where
+  -- the same claim by cases on the text of the option, which may not be given
+  by_text : (given : Option Text) → one_text found id ≡ given → result ≡ option_and_then read given
+  by_text None is_given = if_not_given is_given
+  by_text (Some text) is_given = if_given text is_given
 
 -- digits pass the test of a decimal number
-digits : (ds : List ℕ) → Decides (list_all (λ d. nat_lt (digit_value d) 10) ds) (AllDigits 10 ds)
-digits [] = ((λ e. tt), (λ h. refl))
-digits (d ∷ ds) = Decides-and _ _ (Decides-ltb (digit_value d) 10) (digits ds)
+digits_decided : (ds : List ℕ) → Decides (list_all (λ d. nat_lt (digit_value d) 10) ds) (AllDigits 10 ds)
+digits_decided [] = ((λ all_digits. tt), (λ all_digits. refl))
+digits_decided (d ∷ ds) = Decides-and _ _ (Decides-ltb (digit_value d) 10) (digits_decided ds)
 
 module _ (bits : ℕ) (text : Text) where
   -- `value` is the value of the digits
@@ -38,26 +37,25 @@ module _ (bits : ℕ) (text : Text) where
   is_word = is_numeral (without_leading_plus text) && nat_lt value (2 ^ bits)
 
   -- the test decides whether the text is a number of so many bits
-  word : Decides is_word (IsNumeral 10 (without_leading_plus text) × (value < 2 ^ bits))
-  word = Decides-and _ _ (Decides-and _ _ (Decides-ltb 0 (length (without_leading_plus text))) (digits (without_leading_plus text)))
+  word_decided : Decides is_word (IsNumeral 10 (without_leading_plus text) × (value < 2 ^ bits))
+  word_decided = Decides-and _ _ (Decides-and _ _ (Decides-ltb 0 (length (without_leading_plus text))) (digits_decided (without_leading_plus text)))
       (Decides-ltb value (2 ^ bits))
 
   -- the value that `get_one` returns for a text is the number of `bits` bits in the text
-  pub reads_number : {E : Type 0} (G : Text → Result ℕ E → Type 0) (r : Option ℕ) → ReadsOne G text r
-      → ((x : Result ℕ E) → G text x → ParsesUnsigned bits 10 text x) → r ≡ number_in_text bits text
-  reads_number G (Some n) read only = let only_one = only (Ok n) read in rw (word.1 only_one.0) (ap Some only_one.1)
-  reads_number G None read only = go is_word refl
-    where
-      -- a getter returns no value only if the text is no number in range, where `b` states whether it is one
-      go : (b : Bool) → is_word ≡ b → None ≡ cond b (Some value) None
-      go true e = absurd (only (Err read.0) read.1 (word.0 e))
-      go false e = refl
+  pub reads_number : {E : Type 0} (G : Text → Result ℕ E → Type 0) (result : Option ℕ) → ReadsOne G text result
+      → ((x : Result ℕ E) → G text x → ParsesUnsigned bits 10 text x) → result ≡ number_in_text bits text
+  reads_number G (Some n) read parses = let only_one = parses (Ok n) read in rw (word_decided.1 only_one.0) (ap Some only_one.1)
+  reads_number G None read parses = by_test is_word refl where
+    -- the same claim by cases on the test: a getter returns no value only if the text is no number in range
+    by_test : (test : Bool) → is_word ≡ test → None ≡ cond test (Some value) None
+    by_test true test_is = absurd (parses (Err read.0) read.1 (word_decided.0 test_is))
+    by_test false test_is = refl
 
   -- for every text, the number in the text is a value that `get_one` may return, where `bits` is the width of the number
-  pub number_reads : ReadsOne {E = Bool} (λ u x. ParsesUnsigned bits 10 u x) text (number_in_text bits text)
-  number_reads = go is_word refl
-    where
-      -- the number in the text is a value that `get_one` may return, where `b` states whether the text is a number in range
-      go : (b : Bool) → is_word ≡ b → ReadsOne {E = Bool} (λ u x. ParsesUnsigned bits 10 u x) text (cond b (Some value) None)
-      go true e = (word.0 e, refl)
-      go false e = (true, λ h. true≢false (sym (word.1 h) ∙ e))
+  pub number_reads : ReadsOne {E = Bool} (λ text result. ParsesUnsigned bits 10 text result) text (number_in_text bits text)
+  number_reads = by_test is_word refl where
+    -- the same claim by cases on the test, which states whether the text is a number in range
+    by_test : (test : Bool) → is_word ≡ test
+        → ReadsOne {E = Bool} (λ text result. ParsesUnsigned bits 10 text result) text (cond test (Some value) None)
+    by_test true test_is = (word_decided.0 test_is, refl)
+    by_test false test_is = (true, λ is_number. true≢false (sym (word_decided.1 is_number) ∙ test_is))

@@ -1,4 +1,4 @@
--- The rows of options whose values are readable.
+-- Rows of options whose values are readable (`Good`): they stay so when values are set, and the value of an option in them is readable.
 use Rattle.std.proofs.Common.{◌∷◌, ◌≡◌, ◌||◌, ◌++◌, [], Bool, codes, cond, false, List, Option, option_map, refl, Some, sym, true}
 use Rattle.std.proofs.lemmas.List.Folds.{list_all-append}
 use Rattle.std.proofs.lemmas.Slice.Eq.{bytes_eq-Decides}
@@ -39,62 +39,60 @@ GoodRow r = (r.reading ≡ how r.id) × (are_values r.id r.values ≡ true)
 abbrev pub Good : List Row → Type 0
 Good = AllByRecursion GoodRow
 
--- the chosen rows are good if the rows of both branches are good
-pub either_good : (b : Bool) (rows others : List Row) → Good rows → Good others → Good (cond b rows others)
-either_good true rows others good other = good
-either_good false rows others good other = other
+-- the chosen rows are good if the rows of both choices are good
+pub either_good : (test : Bool) (rows others : List Row) → Good rows → Good others → Good (cond test rows others)
+either_good true rows others rows_good others_good = rows_good
+either_good false rows others rows_good others_good = others_good
 
--- the rows stay good without the rows of one option
+-- rows stay good if the rows of one option are removed
 pub without_good : (id : Text) (rows : List Row) → Good rows → Good (without id rows)
 without_good id [] good = tt
-without_good id (r ∷ rs) good = go (bytes_eq r.id id) (without_good id rs good.1)
-  where
-    -- the rows without those of one option stay good, where `b` states whether the first row r is one of that option
-    go : (b : Bool) → Good (without id rs) → Good (cond b rs (r ∷ without id rs))
-    go true rest = good.1
-    go false rest = (good.0, rest)
+without_good id (r ∷ rs) good = by_id (bytes_eq r.id id) (without_good id rs good.1) where
+  -- the same claim by cases on whether the first row r is one of that option
+  by_id : (same_id : Bool) → Good (without id rs) → Good (cond same_id rs (r ∷ without id rs))
+  by_id true others_good = good.1
+  by_id false others_good = (good.0, others_good)
 
--- the rows with readable values of one option stay good
-pub values_good : (id : Text) (s : ValueSource) (values : List Text) (rows : List Row) → are_values id values ≡ true → Good rows
-    → Good (with_values id (how id) s values rows)
-values_good id s values [] new good = ((refl, new), tt)
-values_good id s values (r ∷ rs) new good = go (bytes_eq r.id id) refl (values_good id s values rs new good.1)
+-- rows stay good if readable values of one option are added
+pub values_good : (id : Text) (source : ValueSource) (values : List Text) (rows : List Row) → are_values id values ≡ true → Good rows
+    → Good (with_values id (how id) source values rows)
+values_good id source values [] values_readable good = ((refl, values_readable), tt)
+values_good id source values (r ∷ rs) values_readable good = by_id (bytes_eq r.id id) refl (values_good id source values rs values_readable good.1)
   where
-    -- the rows with new values stay good, where `b` states whether the first row r is one of the option
-    go : (b : Bool) → bytes_eq r.id id ≡ b → Good (with_values id (how id) s values rs)
-        → Good (cond b (more_values s values r ++ rs) (r ∷ with_values id (how id) s values rs))
-    go true e rest =
-        let same = (bytes_eq-Decides r.id id).0 e in
-        ((good.0.0, rw (list_all-append (λ v. is_read r.id (read_as (how r.id) v)) r.values values, good.0.1, same) new), good.1)
-    go false e rest = (good.0, rest)
+    -- the same claim by cases on whether the first row r is one of the option
+    by_id : (same_id : Bool) → bytes_eq r.id id ≡ same_id → Good (with_values id (how id) source values rs)
+        → Good (cond same_id (more_values source values r ++ rs) (r ∷ with_values id (how id) source values rs))
+    by_id true id_is others_good =
+        let ids_are_equal = (bytes_eq-Decides r.id id).0 id_is in
+        ((good.0.0, rw (list_all-append (λ v. is_read r.id (read_as (how r.id) v)) r.values values, good.0.1, ids_are_equal) values_readable), good.1)
+    by_id false id_is others_good = (good.0, others_good)
 
--- a property of each good row with an id holds of the row that is found
+-- if a text is readable in each good row with this id, it is readable in the row that a search for the id finds
 row_read : (id : Text) (text : Row → Option Text) → ((r : Row) → r.id ≡ id → GoodRow r → option_map_or (is_read id) (text r) true ≡ true)
     → (rows : List Row) → Good rows → option_map_or (is_read id) (option_and_then text (find (λ r. bytes_eq r.id id) rows)) true ≡ true
-row_read id text each [] good = refl
-row_read id text each (r ∷ rs) good = go (bytes_eq r.id id) refl (row_read id text each rs good.1)
-  where
-    -- the property holds of the row that is found, where `b` states whether the first row r has the id
-    go : (b : Bool) → bytes_eq r.id id ≡ b → option_map_or (is_read id) (option_and_then text (find (λ r. bytes_eq r.id id) rs)) true ≡ true
-        → option_map_or (is_read id) (option_and_then text (cond b (Some r) (find (λ r. bytes_eq r.id id) rs))) true ≡ true
-    go true e rest = each r ((bytes_eq-Decides r.id id).0 e) good.0
-    go false e rest = rest
+row_read id text each_read [] good = refl
+row_read id text each_read (r ∷ rs) good = by_id (bytes_eq r.id id) refl (row_read id text each_read rs good.1) where
+  -- the same claim by cases on whether the first row r has the id
+  by_id : (same_id : Bool) → bytes_eq r.id id ≡ same_id
+      → option_map_or (is_read id) (option_and_then text (find (λ r. bytes_eq r.id id) rs)) true ≡ true
+      → option_map_or (is_read id) (option_and_then text (cond same_id (Some r) (find (λ r. bytes_eq r.id id) rs))) true ≡ true
+  by_id true id_is others_read = each_read r ((bytes_eq-Decides r.id id).0 id_is) good.0
+  by_id false id_is others_read = others_read
 
 -- the first of several readable values is readable
 first_read : (id : Text) (vs : List Text) → are_values id vs ≡ true
     → option_map_or (is_read id) (option_map (read_as (how id)) (slice_get vs 0)) true ≡ true
-first_read id [] values = refl
-first_read id (v ∷ vs) values = (both (is_read id (read_as (how id) v)) (are_values id vs) values).0
+first_read id [] all_read = refl
+first_read id (v ∷ vs) all_read = (both (is_read id (read_as (how id) v)) (are_values id vs) all_read).0
 
 -- in good rows, the value of an option is readable, if the option has a value
 pub one_read : (id : Text) (rows : List Row) → Good rows → option_map_or (is_read id) (one_of id rows) true ≡ true
-one_read id = row_read id row_text (λ r same good. rw (good.0, sym same) (first_read r.id r.values good.1))
+one_read id = row_read id row_text (λ r same_id good. rw (good.0, sym same_id) (first_read r.id r.values good.1))
 
 -- in good rows, the value of `--kind` is readable, if the option has a value
 pub kind_read : (rows : List Row) → Good rows → option_map_or (is_read (codes "kind")) (first_of (codes "kind") rows) true ≡ true
-kind_read = row_read (codes "kind") (λ r. slice_get r.values 0) (λ r same good. first r.values (rw same at good.1))
-  where
-    -- the first of readable values of `--kind` is readable, if there is one
-    first : (vs : List Text) → are_values (codes "kind") vs ≡ true → option_map_or (is_read (codes "kind")) (slice_get vs 0) true ≡ true
-    first [] e = refl
-    first (v ∷ vs) e = (both (is_read (codes "kind") v) (are_values (codes "kind") vs) e).0
+kind_read = row_read (codes "kind") (λ r. slice_get r.values 0) (λ r same_id good. first_value_read r.values (rw same_id at good.1)) where
+  -- the first of readable values of `--kind` is readable, if there is one
+  first_value_read : (vs : List Text) → are_values (codes "kind") vs ≡ true → option_map_or (is_read (codes "kind")) (slice_get vs 0) true ≡ true
+  first_value_read [] all_read = refl
+  first_value_read (v ∷ vs) all_read = (both (is_read (codes "kind") v) (are_values (codes "kind") vs) all_read).0

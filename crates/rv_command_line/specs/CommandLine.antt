@@ -21,7 +21,7 @@ kind_names = map (λ row. row.0) kinds
 abbrev pub Names : Type 0
 Names = Bor (List (Bor Text))
 
--- `--NAME VALUE`, with a value that this parser accepts, and the flag `--NAME`
+-- `valued` is the rule of an option `--NAME VALUE`, with a value that this parser accepts
 abbrev pub valued : Text → ValueParser → Rule
 valued name parser = record (new_rule name) { long = Some name; value_names = 1; parser = Some parser }
 
@@ -29,11 +29,11 @@ valued name parser = record (new_rule name) { long = Some name; value_names = 1;
 abbrev pub flag_rule : Text → Rule
 flag_rule name = record (new_rule name) { long = Some name; action = Some action.SetTrue }
 
--- `--kind NAME`: one of the names
+-- the value of `--kind NAME` is one of the names of the image kinds
 abbrev pub kind : Names → Rule
 kind names = valued (codes "kind") (parser.Names names)
 
--- the value of `--ram BYTES` is a number of 32 bits
+-- the value of `--ram BYTES` is a number of 32 bits, from 0 to 4294967295
 abbrev pub ram : Rule
 ram = valued (codes "ram") (parser.Signed (pos 0) (pos 4294967295))
 
@@ -62,7 +62,7 @@ program names = fold with_subcommand (new_app (codes "rvbench"))
     ∷ (command (codes "dis") []).top
     ∷ [])
 
--- a value at the first address; the reading of a command line does not depend on the address of names
+-- `lent` is a value borrowed at address 0; the reading of a command line does not depend on the address of names
 abbrev pub lent : {X : Type 0} → X → Bor X
 lent x = record { ref_ptr = (0, 0); now = x }
 

@@ -20,7 +20,7 @@ abbrev pub unreadable : IoErrorKind → WordsFault
 unreadable io.OutOfMemory = fault.NoMemory
 unreadable _ = fault.Refused
 
--- an error is the request for help
+-- `is_help` states whether an error is the request for help
 abbrev pub is_help : ErrorKind → Bool
 is_help kind.DisplayHelp = true
 is_help _ = false

@@ -36,7 +36,7 @@ truth_in_text text =
     if bytes_eq text (codes "true") then Some true
     else (if bytes_eq text (codes "false") then Some false else None)
 
--- `setup_of` is the setup from `--kind`, `--ram` and `--harts`, with or without the monitor
+-- `setup_of` is the setup from `--kind`, `--ram` and `--harts`, with or without the monitor; the default RAM has 1 MiB (1048576 bytes)
 abbrev pub setup_of : Bool → List Row → Setup
 setup_of monitored options = record {
   kind = unwrap_or (option_and_then kind_of (first_of (codes "kind") options)) image.Auto;
@@ -69,8 +69,8 @@ job_of words = named_job (subcommand_of rvbench words)
 abbrev pub options_of : Text → List Text → List Row
 options_of name words = option_map_or (λ met. if bytes_eq met.0 name then met.1 else []) (subcommand_of rvbench words) []
 
--- Each given value of `--kind` and `--ram`, of `--harts`, of `--monitor` and of `--slot` is readable, so a default is used only for an option
--- that is not given.
+-- The values of `--kind` and `--ram`, if they are given, are readable. With the tests below for the other options, a default is used only for an
+-- option that is not given.
 abbrev pub is_image_read : List Row → Bool
 is_image_read options = option_map_or (λ text. is_some (kind_of text)) (first_of (codes "kind") options) true
     && option_map_or (λ text. is_some (number_in_text 32 text)) (one_of (codes "ram") options) true

@@ -8,23 +8,25 @@ use Rattle.clap.specs.declared.error.kind.ErrorKind.TheVariants as kind
 use Rattle.rv_command_line.specs.Faults.{is_help}
 use Rattle.rv_command_line.proofs.reading.fault.Goals as goal
 
--- some fault passes the test if the kind k passes it and is among the faults
-among : (test : ErrorKind → Bool) (k : ErrorKind) (faults : Kinds) → test k ≡ true → IsAmong k faults → list_any test faults ≡ true
-among test k [] holds h = absurd h
-among test k (x ∷ xs) holds (inl e) = rw (sym e, holds) refl
-among test k (x ∷ xs) holds (inr h) = rw (among test k xs holds h) (or-true (test x))
+-- some fault passes a test, if the kind k passes it and is among the faults, by induction over the faults
+one_passes : (test : ErrorKind → Bool) (k : ErrorKind) (faults : Kinds) → test k ≡ true → IsAmong k faults → list_any test faults ≡ true
+one_passes test k [] passes is_among = absurd is_among
+one_passes test k (x ∷ xs) passes (inl is_first) = rw (sym is_first, passes) refl
+one_passes test k (x ∷ xs) passes (inr is_among) = rw (one_passes test k xs passes is_among) (or-true (test x))
 
 -- any kind except the request for help is a mistake
-no_help : (k : ErrorKind) → (k ≡ kind.DisplayHelp → ⊥) → not (is_help k) ≡ true
-no_help kind.DisplayHelp other = absurd (other refl)
-no_help _ other = refl
+mistake_if_not_help : (k : ErrorKind) → (k ≡ kind.DisplayHelp → ⊥) → not (is_help k) ≡ true
+mistake_if_not_help kind.DisplayHelp not_help = absurd (not_help refl)
+mistake_if_not_help _ not_help = refl
 
--- `fault` meets its contract in the arm `Ok`
+-- if `clap` asks for help to be shown, the arguments request help
 pub returns-in-Ok : goal.returns-in-Ok
-returns-in-Ok c faults (inl memory) = let asked = sym c.kind.ensures ∙ c.in-DisplayHelp.is in cc
-returns-in-Ok c faults (inr h) = among is_help _ faults (rw (sym c.kind.ensures ∙ c.in-DisplayHelp.is) refl) h
+returns-in-Ok c faults (inl no_memory) = let help_asked = sym c.kind.ensures ∙ c.in-DisplayHelp.is in cc
+returns-in-Ok c faults (inr is_among) = one_passes is_help _ faults (rw (sym c.kind.ensures ∙ c.in-DisplayHelp.is) refl) is_among
 
--- `fault` meets its contract in the default arm
+-- any other error of `clap` that is not of memory is a mistake in the arguments
 pub returns-in_default : goal.returns-in_default
-returns-in_default c faults (inl memory) = absurd (c.in_default.not-OutOfMemory (c.kind.ensures ∙ memory))
-returns-in_default c faults (inr h) = among (λ k. not (is_help k)) _ faults (no_help _ (λ e. c.in_default.not-DisplayHelp (c.kind.ensures ∙ e))) h
+returns-in_default c faults (inl no_memory) = absurd (c.in_default.not-OutOfMemory (c.kind.ensures ∙ no_memory))
+returns-in_default c faults (inr is_among) =
+    let is_mistake = mistake_if_not_help _ (λ is_help_kind. c.in_default.not-DisplayHelp (c.kind.ensures ∙ is_help_kind)) in
+    one_passes (λ k. not (is_help k)) _ faults is_mistake is_among
