@@ -1,202 +1,234 @@
 -- Noninterference of a command. Two benches that are equivalent except for an enclave have equal replies to a command that shows no private byte
 -- of the enclave and avoids its hart. If the command does not enter the enclave, they stay equivalent.
-use Rattle.std.proofs.Common.{◌≡◌, ℕ, zero, suc, ◌==◌, ◌+◌, ◌-◌, ◌<◌, ◌≤◌, Bool, true, false, List, [], ◌∷◌, Option, refl, sym, ◌∙◌, ap}
-use Rattle.std.proofs.Common.{ap₂, subst, inl, inr, arith}
+use Rattle.std.proofs.Common.{◌≡◌, ℕ, zero, suc, ◌==◌, ◌+◌, ◌-◌, ◌<◌, ◌≤◌, Bool, true, false, List, [], ◌∷◌, length, Option, refl, sym, ◌∙◌, ap, ap₂}
+use Rattle.std.proofs.Common.{subst, inl, inr, arith}
 use Rattle.std.specs.Prelude.{nat_lt, ◌++◌, if◌then◌else◌}
 use Rattle.std.proofs.lemmas.Bool.{not-true}
 use Rattle.rv_pmp.specs.declared.access.Access.{Access as AccessKind}
 use Rattle.rv_enclaves.specs.Layout.{layout}
 use Rattle.rv_enclaves.specs.declared.shared.Shared.{Shared}
 use Rattle.rv_enclaves.specs.declared.world.World.{World}
-use Rattle.rv_enclaves.proofs.EqualMemory.{same_read, read-none, write-none, same_write}
-use Rattle.rv_enclaves.proofs.EqualMemory.{write-some}
-use Rattle.rv_enclaves.specs.SharedEquivExcept.{EqualOutside}
-use Rattle.rv_enclaves.specs.SharedEquivExcept.{is_private}
-use Rattle.rv_debug.specs.Prelude.{Access, EquivExcept, Bare, Block, Command, Csr, Dis, Enclaves, Entries, Hart, HartRan, Invariant, M, MonitoredMachine}
-use Rattle.rv_debug.specs.Prelude.{Mem, Mode, Monitored, Pmp, Poke, Ran, Reg, Regs, Run, RunsOnNone, Sched, Scheduled, HartState, SetReg, Slots}
-use Rattle.rv_debug.specs.Prelude.{Machine, Step, Target, Timer, Width, bytes_in, count_of, harts_in, has_all, is_inside, is_world_of, meets}
-use Rattle.rv_debug.specs.Prelude.{number_of_bytes, option_case, ram_base, read, read_result, reg_set, region, register, result_case}
-use Rattle.rv_debug.specs.Prelude.{runs_on, hart_state_of, timer_line_set, write, write_bytes}
+use Rattle.rv_enclaves.proofs.EqualMemory.{same_read, read-none, write-none, same_write, write-some}
+use Rattle.rv_enclaves.specs.SharedEquivExcept.{EqualOutside, is_private}
+use Rattle.rv_debug.specs.Prelude.{Access, EquivExcept, Bare, Block, Command, Csr, Dis, Enclaves, Entries, Hart, HartRan, Invariant, M}
+use Rattle.rv_debug.specs.Prelude.{MonitoredMachine, Mem, Mode, Monitored, Pmp, Poke, Ran, Reg, Regs, Run, RunsOnNone, Sched, Scheduled, HartState}
+use Rattle.rv_debug.specs.Prelude.{SetReg, Slots, Machine, Step, Target, Timer, Width, bytes_in, count_of, harts_in, has_all, is_inside, is_world_of}
+use Rattle.rv_debug.specs.Prelude.{meets, number_of_bytes, option_case, ram_base, read, read_result, reg_set, region, register, result_case, runs_on}
+use Rattle.rv_debug.specs.Prelude.{hart_state_of, timer_line_set, write, write_bytes}
 use Rattle.rv_debug.specs.EnclaveText.{table_text}
 use Rattle.rv_debug.proofs.Prelude.{AfterRun, AfterSchedule, RemainEquiv, Executed, BenchState, BenchesEquivExcept, Selected, SelectedEquivExcept}
 use Rattle.rv_debug.proofs.Prelude.{NoninterferenceLaw, Effect, IsBare, TargetInvariant, Nothing, AvoidsHart, RunsOnNoHart, Steps, TargetsEquivExcept}
-use Rattle.rv_debug.proofs.Prelude.{access_reply, execute, cases_Bool, cases_eq, cases_lt, changed_equiv, selected_at, csr_text, effect}
-use Rattle.rv_debug.proofs.Prelude.{dis_text, done, entered_by, gone_equal, hart_text, hart_summary_text, harts_summary_text, is_blind, is_entered}
-use Rattle.rv_debug.proofs.Prelude.{memory_text, no_csr_text, no_hart_text, no_steps, schedule_start, ok_text, option_map, outside_text}
-use Rattle.rv_debug.proofs.Prelude.{over_memory, hart_view_invariant, past_hart_state, pmp_text, ran_reply, ran_text, range_with_len, register_text}
+use Rattle.rv_debug.proofs.Prelude.{access_reply, execute, cases_Bool, cases_eq, cases_lt, changed_equiv, selected_at, csr_text, effect, dis_text}
+use Rattle.rv_debug.proofs.Prelude.{done, entered_by, gone_equal, hart_text, hart_summary_text, harts_summary_text, is_blind, is_entered, memory_text}
+use Rattle.rv_debug.proofs.Prelude.{no_csr_text, no_hart_text, no_steps, schedule_start, ok_text, option_map, outside_text, over_memory}
+use Rattle.rv_debug.proofs.Prelude.{hart_view_invariant, past_hart_state, pmp_text, ran_reply, ran_text, range_with_len, register_text}
 use Rattle.rv_debug.proofs.Prelude.{registers_text, run, run_effect, seen_block, shared_equiv, steps_of, scheduled_steps, with_selected, world_name}
-use Rattle.rv_debug.proofs.EffectsInvariant.{bare_done, keeps_monitor, poke_of}
+use Rattle.rv_debug.proofs.EffectsInvariant.{effect_stays_bare, command_keeps_invariant, poke_of}
 use Rattle.rv_debug.proofs.RunSchedules.{run_done, run_entered}
-use Rattle.rv_debug.proofs.SchedAlike.{BothPast, on_none_of, scheduled_steps_alike}
+use Rattle.rv_debug.proofs.SchedAlike.{NeitherEnters, on_none_of, scheduled_steps_alike}
 use Rattle.rv_debug.proofs.StepsAlike.{RunAlike, run-alike}
 use Rattle.rv_debug.proofs.TargetRuns.{hart_pc, hart_stepped, target_of, run_monitored}
-use Rattle.rv_debug.proofs.ScheduledSteps.{after_schedule, by_bare}
+use Rattle.rv_debug.proofs.ScheduledSteps.{after_schedule, bare_target}
 
--- ---- equal replies and equivalent states, before it is proved that they are equal once the enclave has ended
+-- ---- equal replies and equivalent states; the end of the file proves that the benches are equal once the enclave has ended
 
--- two executions have equal replies and entered slots, and leave equivalent benches
-record Passes (e : ℕ) (first second : Executed) : Type 0 where
+-- two executions have equal replies and entered slots, and leave benches that are equivalent except for e
+record ExecutedAlike (e : ℕ) (first second : Executed) : Type 0 where
   pub reply : first.reply ≡ second.reply
   pub entered : first.entered ≡ second.entered
   pub state : BenchesEquivExcept e first.state second.state
 
--- two executions enter slot e both or neither; if neither, they pass alike
+-- two executions enter slot e both or neither; if neither, they have equal replies and leave equivalent benches
 record Alike (e : ℕ) (first second : Executed) : Type 0 where
   pub entered : is_entered e first.entered ≡ is_entered e second.entered
-  pub passed : is_entered e first.entered ≡ false → Passes e first second
+  pub passed : is_entered e first.entered ≡ false → ExecutedAlike e first second
 
--- `over` is the bench over a target, with the given breakpoints and watchpoints
-abbrev pub over : Target → List ℕ → List ℕ → BenchState
-over target breaks watches = record { target = target; breaks = breaks; watches = watches }
+-- `bench_of` is the bench over a target, with the given breakpoints and watchpoints
+abbrev pub bench_of : Target → List ℕ → List ℕ → BenchState
+bench_of target breaks watches = record { target = target; breaks = breaks; watches = watches }
+
+-- the number of the CSR mhartid
+abbrev pub mhartid : ℕ
+mhartid = 0xF14
 
 -- `executed_with` is the result of a command that enters no enclave
 abbrev executed_with : Target → List ℕ → List ℕ → List ℕ → Executed
-executed_with target breaks watches reply = record { state = over target breaks watches; reply = reply; entered = 0 }
+executed_with target breaks watches reply = record { state = bench_of target breaks watches; reply = reply; entered = 0 }
 
--- a command that steps no hart and has equal replies is alike
-passes : (e : ℕ) (one other : Target) (breaks watches reply reply' : List ℕ) → TargetsEquivExcept e one other → reply ≡ reply'
-    → Alike e (executed_with one breaks watches reply) (executed_with other breaks watches reply')
-passes e one other breaks watches reply reply' equiv same = record {
+-- two executions that enter no enclave, leave equivalent targets and have equal replies are alike
+equal_replies_alike : (e : ℕ) (one other : Target) (breaks watches reply other_reply : List ℕ) → TargetsEquivExcept e one other → reply ≡ other_reply
+    → Alike e (executed_with one breaks watches reply) (executed_with other breaks watches other_reply)
+equal_replies_alike e one other breaks watches reply other_reply equiv same_reply = record {
   entered = refl;
-  passed = λ none. record { reply = same; entered = refl; state = record { target = equiv; breaks = refl; watches = refl } };
+  passed = λ not_entered. record { reply = same_reply; entered = refl; state = record { target = equiv; breaks = refl; watches = refl } };
 }
 
 -- ---- steps of named harts, with the same summary for both
 
--- the summaries of a hart are equal in equivalent machines, if no hart runs the enclave
-same_line : (e hart : ℕ) (ran : HartRan) (one other : Selected) → SelectedEquivExcept e one other → RunsOnNoHart e (Monitored one)
+-- the summary of a hart is equal in equivalent machines, if the enclave runs on no hart
+same_hart_summary : (e hart : ℕ) (ran : HartRan) (one other : Selected) → SelectedEquivExcept e one other → RunsOnNoHart e (Monitored one)
     → hart_summary_text (Monitored one) hart ran ≡ hart_summary_text (Monitored other) hart ran
-same_line e hart ran one other equiv not_running =
+same_hart_summary e hart ran one other equiv on_no_hart =
     let hart_states = (let state = equiv.state in state.hart_states hart) in
     ap (λ (hart_state : HartState). hart_text hart hart_state.hart.pc hart_state.hart.mode (world_name hart_state.world) ran)
-    (hart_states.same (not_running hart))
+    (hart_states.same (on_no_hart hart))
 
--- the summaries of all harts are equal in equivalent machines, if no hart runs the enclave
-same_lines : (e : ℕ) (did : Scheduled) (one other : Selected) → SelectedEquivExcept e one other → RunsOnNoHart e (Monitored one)
-    → harts_summary_text (after_schedule (Monitored one) did) ≡ harts_summary_text (after_schedule (Monitored other) did)
-same_lines e did one other equiv not_running =
+-- the summaries of all harts are equal in equivalent machines, if the enclave runs on no hart
+same_summaries : (e : ℕ) (summary : Scheduled) (one other : Selected) → SelectedEquivExcept e one other → RunsOnNoHart e (Monitored one)
+    → harts_summary_text (after_schedule (Monitored one) summary) ≡ harts_summary_text (after_schedule (Monitored other) summary)
+same_summaries e summary one other equiv on_no_hart =
     let state = equiv.state in
-    ap₂ (λ (line lines : List ℕ). line ++ lines) (same_line e 0 did.first one other equiv not_running)
-    (ap₂ (λ (n : ℕ) (line : List ℕ). if nat_lt 1 n then line else []) state.harts (same_line e 1 did.second one other equiv not_running))
+    ap₂ (λ (line lines : List ℕ). line ++ lines) (same_hart_summary e 0 summary.first one other equiv on_no_hart)
+    (ap₂ (λ (n : ℕ) (line : List ℕ). if nat_lt 1 n then line else []) state.harts (same_hart_summary e 1 summary.second one other equiv on_no_hart))
 
 -- `schedule_executed` is the result of the command `sched`: the bench after the schedule, the summary and the entered slots
 abbrev pub schedule_executed : ℕ → List ℕ → List ℕ → AfterSchedule → Executed
 schedule_executed hart breaks watches after =
-    record { state = over (with_selected hart after.state) breaks watches; reply = harts_summary_text after; entered = after.did.entered }
+    record { state = bench_of (with_selected hart after.state) breaks watches; reply = harts_summary_text after; entered = after.did.entered }
 
--- two schedules with equal steps that do not enter the enclave are alike
-past_alike : (e hart : ℕ) (breaks watches : List ℕ) (did did' : Scheduled) (one other : Selected) → did ≡ did' → SelectedEquivExcept e one other
-    → RunsOnNoHart e (Monitored one)
-    → Alike e (schedule_executed hart breaks watches (after_schedule (Monitored one) did))
-    (schedule_executed hart breaks watches (after_schedule (Monitored other) did'))
-past_alike e hart breaks watches did did' one other same equiv not_running =
-    subst (λ (d : Scheduled). Alike e (schedule_executed hart breaks watches (after_schedule (Monitored one) did))
-    (schedule_executed hart breaks watches (after_schedule (Monitored other) d))) same
+-- the command `sched` is alike in two equivalent machines, if both schedules have equal summaries and the enclave runs on no hart
+equal_schedules_alike : (e hart : ℕ) (breaks watches : List ℕ) (summary other_summary : Scheduled) (one other : Selected)
+    → summary ≡ other_summary → SelectedEquivExcept e one other → RunsOnNoHart e (Monitored one)
+    → Alike e (schedule_executed hart breaks watches (after_schedule (Monitored one) summary))
+    (schedule_executed hart breaks watches (after_schedule (Monitored other) other_summary))
+equal_schedules_alike e hart breaks watches summary other_summary one other same_summary equiv on_no_hart =
+    subst (λ (summary_of_second : Scheduled). Alike e (schedule_executed hart breaks watches (after_schedule (Monitored one) summary))
+    (schedule_executed hart breaks watches (after_schedule (Monitored other) summary_of_second))) same_summary
     (record {
       entered = refl;
-      passed = λ none. record {
-        reply = same_lines e did one other equiv not_running;
+      passed = λ not_entered. record {
+        reply = same_summaries e summary one other equiv on_no_hart;
         entered = refl;
         state = record { target = record { hart = refl; state = equiv.state }; breaks = refl; watches = refl };
       };
     })
 
--- two schedules that are alike and do not enter the enclave are executed alike
-both_past : (e hart : ℕ) (breaks watches : List ℕ) (start : Selected) (one other : AfterSchedule) → RunsOnNoHart e (Monitored start)
-    → BothPast e start one other
-    → Alike e (schedule_executed hart breaks watches one) (schedule_executed hart breaks watches other)
-both_past e hart breaks watches start one other idle past =
-    subst (λ (target : Target). Alike e (schedule_executed hart breaks watches (after_schedule target one.did)) (schedule_executed hart breaks watches other))
-    (sym past.here_is)
-    (subst (λ (target : Target). Alike e (schedule_executed hart breaks watches (after_schedule (Monitored past.here) one.did))
-    (schedule_executed hart breaks watches (after_schedule target other.did))) (sym past.there_is)
-    (past_alike e hart breaks watches one.did other.did past.here past.there past.did past.state (past.not_running idle)))
+-- the command `sched` is alike in two benches, if neither schedule enters the enclave and the enclave runs on no hart before them
+unentered_schedules_alike : (e hart : ℕ) (breaks watches : List ℕ) (start : Selected) (one other : AfterSchedule) → RunsOnNoHart e (Monitored start)
+    → NeitherEnters e start one other → Alike e (schedule_executed hart breaks watches one) (schedule_executed hart breaks watches other)
+unentered_schedules_alike e hart breaks watches start one other on_no_hart neither_enters =
+    subst (λ (target : Target). Alike e (schedule_executed hart breaks watches (after_schedule target one.did))
+    (schedule_executed hart breaks watches other))
+    (sym neither_enters.first_is)
+    (subst (λ (target : Target). Alike e (schedule_executed hart breaks watches (after_schedule (Monitored neither_enters.first_end) one.did))
+    (schedule_executed hart breaks watches (after_schedule target other.did))) (sym neither_enters.second_is)
+    (equal_schedules_alike e hart breaks watches one.did other.did neither_enters.first_end neither_enters.second_end neither_enters.did
+    neither_enters.state (neither_enters.on_no_hart on_no_hart)))
 
 -- ---- a run
 
--- `steps_execute` is the result of a command whose run has this result
+-- `steps_execute` is the result of the command `step` or `run`, from the result of its run
 abbrev steps_execute : List ℕ → List ℕ → AfterRun Target → Executed
-steps_execute breaks watches after = record { state = over after.state breaks watches; reply = ran_reply after; entered = after.ran.entered }
+steps_execute breaks watches after = record { state = bench_of after.state breaks watches; reply = ran_reply after; entered = after.ran.entered }
 
--- `run_execute` is the result of a command that runs the target, with these breakpoints and watchpoints
+-- `run_execute` is the result of the command `step` or `run`, from the effect of the command on the target. The run stops at `at_breaks` and
+-- `at_watches`.
 abbrev run_execute : Target → List ℕ → List ℕ → List ℕ → List ℕ → ℕ → Executed
 run_execute target breaks watches at_breaks at_watches count =
-    let d = run_effect target at_breaks at_watches count in
-    record { state = over (done target d) breaks watches; reply = ran_reply (steps_of target at_breaks at_watches count); entered = entered_by target d }
+    let effect_of_run = run_effect target at_breaks at_watches count in
+    record {
+      state = bench_of (done target effect_of_run) breaks watches;
+      reply = ran_reply
+          (steps_of target at_breaks at_watches count);
+      entered = entered_by target effect_of_run;
+    }
 
--- the summary is that of the state at the end of the run
-run_told : (target : Target) (breaks watches at_breaks at_watches : List ℕ) (count : ℕ)
+-- the effect of a run leaves the target, and enters the slots, that the run itself does
+run_effect_executed : (target : Target) (breaks watches at_breaks at_watches : List ℕ) (count : ℕ)
     → run_execute target breaks watches at_breaks at_watches count ≡ steps_execute breaks watches (steps_of target at_breaks at_watches count)
-run_told target breaks watches at_breaks at_watches count =
+run_effect_executed target breaks watches at_breaks at_watches count =
     let reply = ran_reply (steps_of target at_breaks at_watches count) in
-    ap₂ (λ (after : Target) (entered : ℕ). record { state = over after breaks watches; reply = reply; entered = entered })
+    ap₂ (λ (after : Target) (entered : ℕ). record { state = bench_of after breaks watches; reply = reply; entered = entered })
     (run_done target at_breaks at_watches count) (run_entered target at_breaks at_watches count)
+
+-- ---- what two machines have in common
+
+-- a hart has equal PMP entries in two machines with the invariant, if they have the same table and number of harts and the hart has the same world
+pub equal_entries : (hart : ℕ) (one other : MonitoredMachine) → Invariant one → Invariant other → count_of one ≡ count_of other
+    → one.shared.table ≡ other.shared.table → (hart_state_of hart one).world ≡ (hart_state_of hart other).world
+    → (hart_state_of hart one).hart.csrs.pmp ≡ (hart_state_of hart other).hart.csrs.pmp
+equal_entries hart one other invariant other_invariant same_harts same_table same_world =
+    let entries : HartState → Entries = λ hart_state. hart_state.hart.csrs.pmp in
+    elim (cases_lt hart (count_of one)) [
+      | inr out_of_range ↦
+          let other_out_of_range : count_of other ≤ hart = omega (arith, same_harts, out_of_range) in
+          ap entries (past_hart_state one.hart_states hart out_of_range ∙ sym (past_hart_state other.hart_states hart other_out_of_range))
+      | inl in_range ↦
+          let entries_of : Slots → World → Entries = λ slots world. layout slots world in
+          let first_layout = (hart_view_invariant hart one invariant in_range).hart.layout.entries in
+          let second_layout = (hart_view_invariant hart other other_invariant (omega (arith, same_harts, in_range))).hart.layout.entries in
+          first_layout ∙ ap₂ entries_of same_table same_world ∙ sym second_layout
+    ]
+
+-- the reply to `access` is equal for two memories of the same size: it depends on the PMP entries and the address, not on the bytes
+pub same_access_reply : (m n : List ℕ) → length m ≡ length n → (entries : Entries) (mode : Mode) (access : AccessKind) (address : ℕ) (width : Width)
+    → access_reply m entries mode access address width ≡ access_reply n entries mode access address width
+unfolding read
+same_access_reply m n same_size entries mode access address width = elim (cases_Bool (is_inside m address (bytes_in width))) [
+  | inl in_ram ↦ rw (← same_size, in_ram) refl
+  | inr outside_ram ↦ rw (← same_size, outside_ram) refl
+]
 
 -- ---- monitored machines
 
--- the enclave runs on no hart, if it runs on none of the harts of the machine
-on_none : (e n first j : ℕ) (machine : MonitoredMachine) → RunsOnNone e (range_with_len first n) machine → first ≤ j → j < first + n
+-- an enclave that runs on none of the n harts from `first` on does not run on hart j, if j is one of them
+not_on_hart_of_range : (e n first j : ℕ) (machine : MonitoredMachine) → RunsOnNone e (range_with_len first n) machine → first ≤ j → j < first + n
     → runs_on e j machine ≡ false
-on_none e zero first j machine none low high = absurd (omega (arith, low, high))
-on_none e (suc n) first j machine none low high = elim (cases_eq j first) [
-  | inl same ↦ ap (λ (hart : ℕ). runs_on e hart machine) same ∙ none.0
-  | inr other ↦ on_none e n (first + 1) j machine none.1 (omega (arith, low, other)) (omega (arith, high))
+not_on_hart_of_range e zero first j machine runs_on_none at_or_above_first below_end = absurd (omega (arith, at_or_above_first, below_end))
+not_on_hart_of_range e (suc n) first j machine runs_on_none at_or_above_first below_end = elim (cases_eq j first) [
+  | inl is_first ↦ ap (λ (hart : ℕ). runs_on e hart machine) is_first ∙ runs_on_none.0
+  | inr is_not_first ↦
+      not_on_hart_of_range e n (first + 1) j machine runs_on_none.1 (omega (arith, at_or_above_first, is_not_first)) (omega (arith, below_end))
 ]
 
 -- an enclave that runs on none of the harts of the machine runs on no hart
-all_rest : (e : ℕ) (machine : MonitoredMachine) → RunsOnNone e (range_with_len 0 (count_of machine)) machine → (hart : ℕ) → runs_on e hart machine ≡ false
-all_rest e machine none hart = elim (cases_lt hart (count_of machine)) [
-  | inl has ↦ on_none e (count_of machine) 0 hart machine none (omega arith) (omega (arith, has))
-  | inr past ↦ ap (λ (hart_state : HartState). is_world_of e hart_state.world) (past_hart_state machine.hart_states hart past)
+on_no_hart_of_machine : (e : ℕ) (machine : MonitoredMachine) → RunsOnNone e (range_with_len 0 (count_of machine)) machine
+    → (hart : ℕ) → runs_on e hart machine ≡ false
+on_no_hart_of_machine e machine runs_on_none hart = elim (cases_lt hart (count_of machine)) [
+  | inl in_range ↦ not_on_hart_of_range e (count_of machine) 0 hart machine runs_on_none (omega arith) (omega (arith, in_range))
+  | inr out_of_range ↦ ap (λ (hart_state : HartState). is_world_of e hart_state.world) (past_hart_state machine.hart_states hart out_of_range)
 ]
 
+-- two equivalent machines `one` and `other` with hart `hart` selected, in benches with equal breakpoints and watchpoints
 module _ (e hart : ℕ) (one other : MonitoredMachine) (equiv : EquivExcept e one other) (breaks watches : List ℕ) where
-  -- `at` is the target with the given machine and an unchanged selected hart
-  abbrev at : MonitoredMachine → Target
-  at machine = selected_at hart machine
+  -- the target with the given machine, and hart `hart` selected
+  abbrev as_target : MonitoredMachine → Target
+  as_target machine = selected_at hart machine
 
-  -- `on` is the given machine with the selected hart
-  abbrev on : MonitoredMachine → Selected
-  on machine = record { hart = hart; state = machine }
+  -- the given machine, with hart `hart` selected
+  abbrev as_selected : MonitoredMachine → Selected
+  as_selected machine = record { hart = hart; state = machine }
 
-  -- `here` is the first bench
-  abbrev here : BenchState
-  here = over (at one) breaks watches
+  -- `first_bench` is the bench with the machine `one`
+  abbrev first_bench : BenchState
+  first_bench = bench_of (as_target one) breaks watches
 
-  -- `there` is the second bench
-  abbrev there : BenchState
-  there = over (at other) breaks watches
+  -- `second_bench` is the bench with the machine `other`
+  abbrev second_bench : BenchState
+  second_bench = bench_of (as_target other) breaks watches
 
-  -- the targets are equivalent
-  both : TargetsEquivExcept e (at one) (at other)
-  both = record { hart = refl; state = equiv }
+  -- the targets of the two benches are equivalent except for slot e
+  targets_equiv : TargetsEquivExcept e (as_target one) (as_target other)
+  targets_equiv = record { hart = refl; state = equiv }
 
   -- a command that leaves both benches unchanged and has equal replies is executed alike
-  shown : (reply reply' : List ℕ) → reply ≡ reply'
-      → Alike e (executed_with (at one) breaks watches reply) (executed_with (at other) breaks watches reply')
-  shown reply reply' same = passes e (at one) (at other) breaks watches reply reply' both same
+  unchanged_alike : (reply other_reply : List ℕ) → reply ≡ other_reply
+      → Alike e (executed_with (as_target one) breaks watches reply) (executed_with (as_target other) breaks watches other_reply)
+  unchanged_alike reply other_reply same_reply =
+      equal_replies_alike e (as_target one) (as_target other) breaks watches reply other_reply targets_equiv same_reply
 
   -- ---- replies about a hart that does not run the enclave
 
-  -- a command that avoids the hart of the enclave (by) and shows the selected hart shows equal hart states
-  hart_states : AvoidsHart e here Regs → hart_state_of hart one ≡ hart_state_of hart other
-  hart_states by = let own = equiv.hart_states hart in own.same by.0
+  -- if a command that shows the selected hart avoids the hart of the enclave, the state of the selected hart is equal in both machines
+  same_selected_hart : AvoidsHart e first_bench Regs → hart_state_of hart one ≡ hart_state_of hart other
+  same_selected_hart avoids_hart = let hart_equiv = equiv.hart_states hart in hart_equiv.same avoids_hart.0
 
-  -- two equivalent machines have equal PMP entries in each hart, since the entries depend only on the table and the hart's world
+  -- two equivalent machines have equal PMP entries in each hart
   same_entries : Invariant one → Invariant other → (hart_state_of hart one).hart.csrs.pmp ≡ (hart_state_of hart other).hart.csrs.pmp
-  same_entries kept kept' =
-      let own = equiv.hart_states hart in
-      let same_harts = equiv.harts in
-      let entries : HartState → Entries = λ hart_state. hart_state.hart.csrs.pmp in
-      elim (cases_lt hart (count_of one)) [
-        | inr past ↦ ap entries (past_hart_state one.hart_states hart past ∙ sym (past_hart_state other.hart_states hart (omega (arith, same_harts, past))))
-        | inl has ↦
-            let tables = (let shared = equiv.shared in shared.table) in
-            let of : Slots → World → Entries = λ slots world. layout slots world in
-            let mine = (hart_view_invariant hart one kept has).hart.layout.entries in
-            let theirs = (hart_view_invariant hart other kept' (omega (arith, same_harts, has))).hart.layout.entries in
-            mine ∙ ap₂ of tables own.world ∙ sym theirs
-      ]
+  same_entries invariant other_invariant =
+      let shared = equiv.shared in
+      let hart_equiv = equiv.hart_states hart in
+      equal_entries hart one other invariant other_invariant equiv.harts shared.table hart_equiv.world
 
   -- ---- replies about memory
 
@@ -205,28 +237,17 @@ module _ (e hart : ℕ) (one other : MonitoredMachine) (equiv : EquivExcept e on
   memory_equiv = let shared = equiv.shared in shared.memory
 
   -- a read of a block that does not meet the region is equal in both memories
-  seen-read : (block : Block) → meets block (region one.shared.table e) ≡ false
+  same_visible_read : (block : Block) → meets block (region one.shared.table e) ≡ false
       → read one.shared.memory block.base block.size ≡ read other.shared.memory block.base block.size
-  seen-read block apart =
+  same_visible_read block meets_no_private =
       let memory = memory_equiv in
       elim (cases_Bool (is_inside one.shared.memory block.base block.size)) [
-        | inl inside ↦ same_read (is_private one.shared.table e) one.shared.memory other.shared.memory block.base block.size memory inside
-            (seen_block block (region one.shared.table e) apart)
-        | inr outside ↦
-            let sizes = memory.size in
-            read-none one.shared.memory block.base block.size outside ∙ sym (read-none other.shared.memory block.base block.size (rw (← sizes) outside))
-      ]
-
-  -- the reply to `access` depends on its address and the PMP entries, not on the bytes
-  same-access : (entries : Entries) (mode : Mode) (access : AccessKind) (address : ℕ) (width : Width)
-      → access_reply one.shared.memory entries mode access address width ≡ access_reply other.shared.memory entries mode access address width
-  unfolding read
-  same-access entries mode access address width =
-      let memory = memory_equiv in
-      let sizes = memory.size in
-      elim (cases_Bool (is_inside one.shared.memory address (bytes_in width))) [
-        | inl inside ↦ rw (← sizes, inside) refl
-        | inr outside ↦ rw (← sizes, outside) refl
+        | inl in_ram ↦ same_read (is_private one.shared.table e) one.shared.memory other.shared.memory block.base block.size memory in_ram
+            (seen_block block (region one.shared.table e) meets_no_private)
+        | inr outside_ram ↦
+            let same_size = memory.size in
+            read-none one.shared.memory block.base block.size outside_ram
+            ∙ sym (read-none other.shared.memory block.base block.size (rw (← same_size) outside_ram))
       ]
 
   -- ---- a poked byte
@@ -234,230 +255,254 @@ module _ (e hart : ℕ) (one other : MonitoredMachine) (equiv : EquivExcept e on
   -- `poke_execute` is the result of a poke, where the option is the memory after the write, or `None` outside RAM
   abbrev poke_execute : MonitoredMachine → Option (List ℕ) → Executed
   poke_execute machine memory =
-      executed_with (poke_of (at machine) memory) breaks watches (option_case (option_map (over_memory (at machine)) memory) outside_text (λ after. ok_text))
+      executed_with (poke_of (as_target machine) memory) breaks watches
+      (option_case (option_map (over_memory (as_target machine)) memory) outside_text (λ after. ok_text))
 
   -- equal pokes are alike in both benches
-  poke-alike : (address byte : ℕ)
+  poke_alike : (address byte : ℕ)
       → Alike e (poke_execute one (write one.shared.memory address (byte ∷ []))) (poke_execute other (write other.shared.memory address (byte ∷ [])))
-  poke-alike address byte =
+  poke_alike address byte =
       let shared = equiv.shared in
       let memory = memory_equiv in
-      let sizes = memory.size in
+      let same_size = memory.size in
       let bytes = byte ∷ [] in
       elim (cases_Bool (is_inside one.shared.memory address 1)) [
-        | inl inside ↦
-            let first = write-some one.shared.memory address bytes inside in
-            let second = write-some other.shared.memory address bytes (rw (← sizes) inside) in
-            let written = same_write (is_private one.shared.table e) one.shared.memory other.shared.memory address bytes _ _ memory first second in
-            rw (first, second) (passes e _ _ breaks watches ok_text ok_text (record {
+        | inl in_ram ↦
+            let first_write = write-some one.shared.memory address bytes in_ram in
+            let second_write = write-some other.shared.memory address bytes (rw (← same_size) in_ram) in
+            let written_equal =
+            same_write (is_private one.shared.table e) one.shared.memory other.shared.memory address bytes _ _ memory first_write second_write in
+            rw (first_write, second_write) (equal_replies_alike e _ _ breaks watches ok_text ok_text (record {
               hart = refl;
               state = shared_equiv e one other _ _ equiv (record {
                 table = shared.table;
-                memory = written;
+                memory = written_equal;
                 contexts = shared.contexts;
-                gone = λ none. ap (λ (s : Shared). record s { memory = write_bytes s.memory (address - ram_base) bytes }) (shared.gone none);
+                gone = λ has_ended. ap (λ (s : Shared). record s { memory = write_bytes s.memory (address - ram_base) bytes })
+                    (shared.gone has_ended);
               });
             }) refl)
-        | inr outside ↦
-            let first = write-none one.shared.memory address bytes outside in
-            let second = write-none other.shared.memory address bytes (rw (← sizes) outside) in
-            rw (first, second) (shown outside_text outside_text refl)
+        | inr outside_ram ↦
+            let first_write = write-none one.shared.memory address bytes outside_ram in
+            let second_write = write-none other.shared.memory address bytes (rw (← same_size) outside_ram) in
+            rw (first_write, second_write) (unchanged_alike outside_text outside_text refl)
       ]
 
   -- ---- steps
 
-  -- two runs that are alike are executed alike
-  steps-alike : (first second : AfterRun MonitoredMachine) → RunAlike e hart first second
-      → Alike e (steps_execute breaks watches (target_of (selected_at hart) first)) (steps_execute breaks watches (target_of (selected_at hart) second))
-  steps-alike first second (inl both_in) = record {
-    entered = both_in.here ∙ sym both_in.there;
-    passed = λ none. let never : true ≡ false = sym both_in.here ∙ none in cc;
+  -- the command `step` or `run` is alike in both benches, if its two runs are alike
+  runs_executed_alike : (first second : AfterRun MonitoredMachine) → RunAlike e hart first second
+      → Alike e (steps_execute breaks watches (target_of (selected_at hart) first))
+      (steps_execute breaks watches (target_of (selected_at hart) second))
+  runs_executed_alike first second (inl both_enter) = record {
+    entered = both_enter.first ∙ sym both_enter.second;
+    passed = λ not_entered. let never : true ≡ false = sym both_enter.first ∙ not_entered in cc;
   }
-  steps-alike first second (inr past) = record {
-    entered = ap (λ (ran : Ran). is_entered e ran.entered) past.ran;
-    passed = λ none. record {
+  runs_executed_alike first second (inr neither_enters) = record {
+    entered = ap (λ (ran : Ran). is_entered e ran.entered) neither_enters.ran;
+    passed = λ not_entered. record {
       reply =
-          let own = (let state = past.state in state.hart_states hart) in
+          let hart_equiv = (let state = neither_enters.state in state.hart_states hart) in
           ap₂ (λ (hart_state : HartState) (ran : Ran). ran_text hart_state.hart.pc hart_state.hart.mode (world_name hart_state.world) ran)
-          (own.same past.not_running) past.ran;
-      entered = ap (λ (ran : Ran). ran.entered) past.ran;
-      state = record { target = record { hart = refl; state = past.state }; breaks = refl; watches = refl };
+          (hart_equiv.same neither_enters.not_on_hart) neither_enters.ran;
+      entered = ap (λ (ran : Ran). ran.entered) neither_enters.ran;
+      state = record { target = record { hart = refl; state = neither_enters.state }; breaks = refl; watches = refl };
     };
   }
 
-  -- the run of the target is the run of its machine
-  run-is : (machine : MonitoredMachine) (at_breaks at_watches : List ℕ) (count : ℕ)
+  -- the result of a run command on the target is that of the run of one hart of its machine
+  run_is_of_machine : (machine : MonitoredMachine) (at_breaks at_watches : List ℕ) (count : ℕ)
       → (let ran = run (hart_stepped hart) (hart_pc hart) at_breaks at_watches count (no_steps machine) in
-      run_execute (at machine) breaks watches at_breaks at_watches count ≡ steps_execute breaks watches (target_of (selected_at hart) ran))
-  run-is machine at_breaks at_watches count =
-      run_told (at machine) breaks watches at_breaks at_watches count
+      run_execute (as_target machine) breaks watches at_breaks at_watches count ≡ steps_execute breaks watches (target_of (selected_at hart) ran))
+  run_is_of_machine machine at_breaks at_watches count =
+      run_effect_executed (as_target machine) breaks watches at_breaks at_watches count
       ∙ ap (steps_execute breaks watches) (run_monitored hart at_breaks at_watches count (no_steps machine))
 
-  -- a run that avoids the hart of the enclave (by) is executed alike
-  run-answers : (at_breaks at_watches : List ℕ) (count : ℕ) → Invariant one → Invariant other → AvoidsHart e here Regs
-      → Alike e (run_execute (at one) breaks watches at_breaks at_watches count) (run_execute (at other) breaks watches at_breaks at_watches count)
-  run-answers at_breaks at_watches count kept kept' by =
-      subst (λ (first : Executed). Alike e first (run_execute (at other) breaks watches at_breaks at_watches count))
-      (sym (run-is one at_breaks at_watches count))
-      (subst (Alike e (steps_execute breaks watches _)) (sym (run-is other at_breaks at_watches count))
-      (steps-alike _ _ (run-alike e hart at_breaks at_watches count (no_steps one) other kept kept' equiv by.0)))
+  -- the command `step` or `run` is alike in both benches, if it avoids the hart of the enclave
+  run_alike_executed : (at_breaks at_watches : List ℕ) (count : ℕ) → Invariant one → Invariant other → AvoidsHart e first_bench Regs
+      → Alike e (run_execute (as_target one) breaks watches at_breaks at_watches count)
+      (run_execute (as_target other) breaks watches at_breaks at_watches count)
+  run_alike_executed at_breaks at_watches count invariant other_invariant avoids_hart =
+      subst (λ (first : Executed). Alike e first (run_execute (as_target other) breaks watches at_breaks at_watches count))
+      (sym (run_is_of_machine one at_breaks at_watches count))
+      (subst (Alike e (steps_execute breaks watches _)) (sym (run_is_of_machine other at_breaks at_watches count))
+      (runs_executed_alike _ _ (run-alike e hart at_breaks at_watches count (no_steps one) other invariant other_invariant equiv avoids_hart.0)))
 
   -- ---- harts
 
-  -- the selection of a hart is alike, if both have the same harts
-  hart-answers : (number : ℕ) (has has' : Bool) (reply : Bool → List ℕ) → has ≡ has'
+  -- the command `hart` is alike in both benches, where `exist` and `other_exist` state whether the hart exists in each
+  hart_selection_alike : (number : ℕ) (exist other_exist : Bool) (reply : Bool → List ℕ) → exist ≡ other_exist
       → (let answers : MonitoredMachine → Bool → Executed =
-      λ machine known.
-      let d : Effect = (if known then Steps [] number else Nothing) in
-      record { state = over (done (at machine) d) breaks watches; reply = reply known; entered = entered_by (at machine) d } in
-      Alike e (answers one has) (answers other has'))
-  unfolding scheduled_steps
-  hart-answers number true true reply same =
-      passes e _ _ breaks watches (reply true) (reply true) (record { hart = refl; state = equiv }) refl
-  hart-answers number false false reply same = shown (reply false) (reply false) refl
-  hart-answers number true false reply same = cc
-  hart-answers number false true reply same = cc
-
-  -- `sched-told` is the result of a schedule, where the test states whether its harts exist
-  abbrev sched-told : MonitoredMachine → List ℕ → Bool → Executed
-  sched-told machine harts has =
-      let d : Effect = (if has then Steps harts hart else Nothing) in
+      λ machine hart_exists.
+      let hart_effect : Effect = (if hart_exists then Steps [] number else Nothing) in
       record {
-        state = over (done (at machine) d) breaks watches;
-        reply = if has then harts_summary_text (scheduled_steps harts (schedule_start (at machine))) else no_hart_text;
-        entered = entered_by (at machine) d;
+        state = bench_of (done (as_target machine) hart_effect) breaks watches;
+        reply = reply hart_exists;
+        entered = entered_by
+            (as_target machine) hart_effect;
+      } in
+      Alike e (answers one exist) (answers other other_exist))
+  unfolding scheduled_steps
+  hart_selection_alike number true true reply same_exist =
+      equal_replies_alike e _ _ breaks watches (reply true) (reply true) (record { hart = refl; state = equiv }) refl
+  hart_selection_alike number false false reply same_exist = unchanged_alike (reply false) (reply false) refl
+  hart_selection_alike number _ _ reply same_exist = cc
+
+  -- `sched_executed` is the result of the command `sched`, where `exist` states whether its harts exist
+  abbrev sched_executed : MonitoredMachine → List ℕ → Bool → Executed
+  sched_executed machine harts exist =
+      let sched_effect : Effect = (if exist then Steps harts hart else Nothing) in
+      record {
+        state = bench_of (done (as_target machine) sched_effect) breaks watches;
+        reply = if exist then harts_summary_text (scheduled_steps harts (schedule_start (as_target machine))) else no_hart_text;
+        entered = entered_by (as_target machine) sched_effect;
       }
 
-  -- a schedule is executed alike, if the enclave runs on no hart
-  sched-answers : (harts : List ℕ) (has has' : Bool) → has ≡ has' → Invariant one → Invariant other → RunsOnNoHart e (at one)
-      → Alike e (sched-told one harts has) (sched-told other harts has')
-  sched-answers harts true true same kept kept' not_running =
-      elim (scheduled_steps_alike e harts (on one) (on other) _ kept kept' both (on_none_of e harts one not_running)) [
-        | inl both_in ↦ record {
-          entered = both_in.here ∙ sym both_in.there;
-          passed = λ none. let never : true ≡ false = sym both_in.here ∙ none in cc;
+  -- the command `sched` is alike in both benches, if the enclave runs on no hart
+  sched_executed_alike : (harts : List ℕ) (exist other_exist : Bool) → exist ≡ other_exist
+      → Invariant one → Invariant other → RunsOnNoHart e (as_target one)
+      → Alike e (sched_executed one harts exist) (sched_executed other harts other_exist)
+  sched_executed_alike harts true true same_exist invariant other_invariant on_no_hart =
+      elim (scheduled_steps_alike e harts (as_selected one) (as_selected other) _ invariant other_invariant targets_equiv
+      (on_none_of e harts one on_no_hart)) [
+        | inl both_enter ↦ record {
+          entered = both_enter.first ∙ sym both_enter.second;
+          passed = λ not_entered. let never : true ≡ false = sym both_enter.first ∙ not_entered in cc;
         }
-        | inr past ↦ both_past e hart breaks watches (on one) _ _ not_running past
+        | inr neither_enters ↦ unentered_schedules_alike e hart breaks watches (as_selected one) _ _ on_no_hart neither_enters
       ]
-  sched-answers harts false false same kept kept' not_running = shown no_hart_text no_hart_text refl
-  sched-answers harts true false same kept kept' not_running = cc
-  sched-answers harts false true same kept kept' not_running = cc
+  sched_executed_alike harts false false same_exist invariant other_invariant on_no_hart = unchanged_alike no_hart_text no_hart_text refl
+  sched_executed_alike harts _ _ same_exist invariant other_invariant on_no_hart = cc
 
   -- ---- a command
 
-  -- each command that is blind and avoids the hart of the enclave (by) is executed alike
-  alike : (command : Command) → Invariant one → Invariant other → is_blind e here command ≡ true → AvoidsHart e here command
-      → Alike e (execute here command) (execute there command)
-  unfolding execute is_blind
-  alike (Step count) kept kept' blind by = run-answers [] [] count kept kept' by
-  alike (Run count) kept kept' blind by = run-answers breaks watches count kept kept' by
-  alike (Reg number) kept kept' blind by =
-      shown _ _ (ap (λ (hart_state : HartState). register_text number (register hart_state.hart.regs number)) (hart_states by))
-  alike Regs kept kept' blind by = shown _ _ (ap (λ (hart_state : HartState). registers_text hart_state.hart.regs hart_state.hart.pc) (hart_states by))
-  alike (Csr number) kept kept' blind by =
-      shown _ _ (ap (λ (hart_state : HartState). if number == 3860 then csr_text number hart
-      else result_case (read_result hart_state.hart.csrs number M) (csr_text number) (λ _. no_csr_text)) (hart_states by))
-  alike (SetReg number value) kept kept' blind by = passes e _ _ breaks watches ok_text ok_text (record {
-    hart = refl;
-    state = changed_equiv e hart (reg_set number value) one other (λ hart_state. refl) equiv;
-  }) refl
-  alike (Timer raised) kept kept' blind by = passes e _ _ breaks watches ok_text ok_text (record {
-    hart = refl;
-    state = changed_equiv e hart (timer_line_set raised) one other (λ hart_state. refl) equiv;
-  }) refl
-  alike (Mem address count) kept kept' blind by =
-      shown _ _ (ap (λ (bytes : Option (List ℕ)). option_case bytes outside_text (memory_text address))
-      (seen-read (record { base = address; size = count }) (not-true _ blind)))
-  alike (Dis address) kept kept' blind by =
-      shown _ _ (ap (λ (bytes : Option (List ℕ)). option_case bytes outside_text (λ bytes. dis_text address (number_of_bytes bytes)))
-      (seen-read (record { base = address; size = 4 }) (not-true _ blind)))
-  alike (Poke address byte) kept kept' blind by = poke-alike address byte
-  alike (Hart number) kept kept' blind by =
-      hart-answers number (nat_lt number (count_of one)) (nat_lt number (count_of other)) (λ known. if known then ok_text else no_hart_text)
-      (ap (nat_lt number) equiv.harts)
-  alike (Sched schedule) kept kept' blind by =
-      let harts = harts_in schedule in
-      sched-answers harts (has_all (count_of one) harts) (has_all (count_of other) harts) (ap (λ (n : ℕ). has_all n harts) equiv.harts) kept kept'
-      (all_rest e one by)
-  alike (Access mode access address width) kept kept' blind by =
-      shown _ _ (same-access (hart_state_of hart one).hart.csrs.pmp mode access address width
-      ∙ ap (λ (entries : Entries). access_reply other.shared.memory entries mode access address width) (same_entries kept kept'))
-  alike Pmp kept kept' blind by = shown _ _ (ap pmp_text (same_entries kept kept'))
-  alike Enclaves kept kept' blind by = shown _ _ (ap (λ (slots : Slots). table_text slots) (let shared = equiv.shared in shared.table))
-  alike _ kept kept' blind by = passes e _ _ _ _ _ _ both refl
+  -- both machines have the invariant
+  module _ (invariant : Invariant one) (other_invariant : Invariant other) where
+    -- each command that accesses no byte of the region (blind) and avoids the hart of the enclave is alike in both benches
+    command_alike : (command : Command) → is_blind e first_bench command ≡ true → AvoidsHart e first_bench command
+        → Alike e (execute first_bench command) (execute second_bench command)
+    unfolding execute is_blind
+    command_alike (Step count) blind avoids_hart = run_alike_executed [] [] count invariant other_invariant avoids_hart
+    command_alike (Run count) blind avoids_hart = run_alike_executed breaks watches count invariant other_invariant avoids_hart
+    command_alike (Reg number) blind avoids_hart =
+        unchanged_alike _ _
+        (ap (λ (hart_state : HartState). register_text number (register hart_state.hart.regs number)) (same_selected_hart avoids_hart))
+    command_alike Regs blind avoids_hart =
+        unchanged_alike _ _ (ap (λ (hart_state : HartState). registers_text hart_state.hart.regs hart_state.hart.pc) (same_selected_hart avoids_hart))
+    command_alike (Csr number) blind avoids_hart =
+        unchanged_alike _ _ (ap (λ (hart_state : HartState). if number == mhartid then csr_text number hart
+        else result_case (read_result hart_state.hart.csrs number M) (csr_text number) (λ _. no_csr_text)) (same_selected_hart avoids_hart))
+    command_alike (SetReg number value) blind avoids_hart = equal_replies_alike e _ _ breaks watches ok_text ok_text (record {
+      hart = refl;
+      state = changed_equiv e hart (reg_set number value) one other (λ hart_state. refl) equiv;
+    }) refl
+    command_alike (Timer raised) blind avoids_hart = equal_replies_alike e _ _ breaks watches ok_text ok_text (record {
+      hart = refl;
+      state = changed_equiv e hart (timer_line_set raised) one other (λ hart_state. refl) equiv;
+    }) refl
+    command_alike (Mem address count) blind avoids_hart =
+        unchanged_alike _ _ (ap (λ (bytes : Option (List ℕ)). option_case bytes outside_text (memory_text address))
+        (same_visible_read (record { base = address; size = count }) (not-true _ blind)))
+    command_alike (Dis address) blind avoids_hart =
+        unchanged_alike _ _ (ap (λ (bytes : Option (List ℕ)). option_case bytes outside_text (λ bytes. dis_text address (number_of_bytes bytes)))
+        (same_visible_read (record { base = address; size = 4 }) (not-true _ blind)))
+    command_alike (Poke address byte) blind avoids_hart = poke_alike address byte
+    command_alike (Hart number) blind avoids_hart =
+        hart_selection_alike number (nat_lt number (count_of one)) (nat_lt number (count_of other))
+        (λ hart_exists. if hart_exists then ok_text else no_hart_text) (ap (nat_lt number) equiv.harts)
+    command_alike (Sched schedule) blind avoids_hart =
+        let harts = harts_in schedule in
+        sched_executed_alike harts (has_all (count_of one) harts) (has_all (count_of other) harts)
+        (ap (λ (n : ℕ). has_all n harts) equiv.harts) invariant other_invariant (on_no_hart_of_machine e one avoids_hart)
+    command_alike (Access mode access address width) blind avoids_hart =
+        let memory = memory_equiv in
+        let same_size = memory.size in
+        unchanged_alike _ _
+        (same_access_reply one.shared.memory other.shared.memory same_size (hart_state_of hart one).hart.csrs.pmp mode access address width
+        ∙ ap (λ (entries : Entries). access_reply other.shared.memory entries mode access address width) (same_entries invariant other_invariant))
+    command_alike Pmp blind avoids_hart = unchanged_alike _ _ (ap pmp_text (same_entries invariant other_invariant))
+    command_alike Enclaves blind avoids_hart =
+        unchanged_alike _ _ (ap (λ (slots : Slots). table_text slots) (let shared = equiv.shared in shared.table))
+    command_alike _ blind avoids_hart = equal_replies_alike e _ _ _ _ _ _ targets_equiv refl
 
 -- ---- any two benches
 
--- a blind command that avoids the hart of the enclave (by) is executed alike, for two monitored targets
+-- a command that is blind to the enclave and avoids its hart is alike in two benches with monitored targets
 monitored-alike : (e : ℕ) (one other : Selected) (breaks watches : List ℕ) (command : Command) → Invariant one.state → Invariant other.state
     → SelectedEquivExcept e one other
-    → is_blind e (over (Monitored one) breaks watches) command ≡ true → AvoidsHart e (over (Monitored one) breaks watches) command
-    → Alike e (execute (over (Monitored one) breaks watches) command) (execute (over (Monitored other) breaks watches) command)
-monitored-alike e one other breaks watches command kept kept' equiv blind by =
-    subst (λ (hart : ℕ). Alike e (execute (over (Monitored one) breaks watches) command)
-    (execute (over (selected_at hart other.state) breaks watches) command)) equiv.hart
-    (alike e one.hart one.state other.state equiv.state breaks watches command kept kept' blind by)
+    → is_blind e (bench_of (Monitored one) breaks watches) command ≡ true → AvoidsHart e (bench_of (Monitored one) breaks watches) command
+    → Alike e (execute (bench_of (Monitored one) breaks watches) command) (execute (bench_of (Monitored other) breaks watches) command)
+monitored-alike e one other breaks watches command invariant other_invariant equiv blind avoids_hart =
+    subst (λ (hart : ℕ). Alike e (execute (bench_of (Monitored one) breaks watches) command)
+    (execute (bench_of (selected_at hart other.state) breaks watches) command)) equiv.hart
+    (command_alike e one.hart one.state other.state equiv.state breaks watches invariant other_invariant command blind avoids_hart)
 
 -- a bare machine stays bare
-bare-stays : (machine : Machine) (breaks watches : List ℕ) (command : Command) → IsBare (execute (over (Bare machine) breaks watches) command).state.target
+bare-stays : (machine : Machine) (breaks watches : List ℕ) (command : Command)
+    → IsBare (execute (bench_of (Bare machine) breaks watches) command).state.target
 unfolding execute
-bare-stays machine breaks watches command = bare_done machine (effect (over (Bare machine) breaks watches) command)
+bare-stays machine breaks watches command = effect_stays_bare machine (effect (bench_of (Bare machine) breaks watches) command)
 
--- an execution is alike to itself
+-- an execution that leaves a bare machine is alike to itself
 alike-itself : (e : ℕ) (after : Executed) → IsBare after.state.target → Alike e after after
 alike-itself e after bare =
-    let same = by_bare (λ (target : Target). TargetsEquivExcept e target target) (λ alone. refl) after.state.target bare in
+    let equiv_with_itself = bare_target (λ (target : Target). TargetsEquivExcept e target target) (λ alone. refl) after.state.target bare in
     record {
       entered = refl;
-      passed = λ none. record { reply = refl; entered = refl; state = record { target = same; breaks = refl; watches = refl } };
+      passed = λ not_entered. record { reply = refl; entered = refl; state = record { target = equiv_with_itself; breaks = refl; watches = refl } };
     }
 
--- a blind command that avoids the hart is executed alike, for two targets
+-- a command that is blind to the enclave and avoids its hart is alike in two benches with equal breakpoints and watchpoints
 targets-alike : (e : ℕ) (one other : Target) (breaks watches : List ℕ) (command : Command) → TargetInvariant one → TargetInvariant other
     → TargetsEquivExcept e one other
-    → is_blind e (over one breaks watches) command ≡ true → AvoidsHart e (over one breaks watches) command
-    → Alike e (execute (over one breaks watches) command) (execute (over other breaks watches) command)
-targets-alike e (Monitored one) (Monitored other) breaks watches command kept kept' equiv blind by =
-    monitored-alike e one other breaks watches command kept kept' equiv blind by
-targets-alike e (Bare one) (Bare other) breaks watches command kept kept' equiv blind by =
-    subst (λ (machine : Machine). Alike e (execute (over (Bare one) breaks watches) command) (execute (over (Bare machine) breaks watches) command)) equiv
-    (alike-itself e (execute (over (Bare one) breaks watches) command) (bare-stays one breaks watches command))
-targets-alike e (Bare one) (Monitored other) breaks watches command kept kept' equiv blind by = absurd equiv
-targets-alike e (Monitored one) (Bare other) breaks watches command kept kept' equiv blind by = absurd equiv
+    → is_blind e (bench_of one breaks watches) command ≡ true → AvoidsHart e (bench_of one breaks watches) command
+    → Alike e (execute (bench_of one breaks watches) command) (execute (bench_of other breaks watches) command)
+targets-alike e (Monitored one) (Monitored other) breaks watches command invariant other_invariant equiv blind avoids_hart =
+    monitored-alike e one other breaks watches command invariant other_invariant equiv blind avoids_hart
+targets-alike e (Bare one) (Bare other) breaks watches command invariant other_invariant equiv blind avoids_hart =
+    subst (λ (machine : Machine). Alike e (execute (bench_of (Bare one) breaks watches) command)
+    (execute (bench_of (Bare machine) breaks watches) command)) equiv
+    (alike-itself e (execute (bench_of (Bare one) breaks watches) command) (bare-stays one breaks watches command))
+targets-alike e _ _ breaks watches command invariant other_invariant equiv blind avoids_hart = absurd equiv
 
 -- ---- the benches are equal once the enclave has ended
 
--- equivalent targets remain equivalent, with the invariant
-again : (e : ℕ) (one other : Target) (breaks watches : List ℕ) → TargetInvariant one → TargetsEquivExcept e one other
-    → RemainEquiv e (over one breaks watches) (over other breaks watches)
-again e (Bare one) (Bare other) breaks watches kept equiv = record {
+-- two benches with equivalent targets and equal breakpoints and watchpoints are equal once the enclave has ended
+targets_remain_equiv : (e : ℕ) (one other : Target) (breaks watches : List ℕ) → TargetInvariant one → TargetsEquivExcept e one other
+    → RemainEquiv e (bench_of one breaks watches) (bench_of other breaks watches)
+targets_remain_equiv e (Bare one) (Bare other) breaks watches invariant equiv = record {
   but = record { target = equiv; breaks = refl; watches = refl };
-  gone = λ none. ap (λ (machine : Machine). over (Bare machine) breaks watches) equiv;
+  gone = λ has_ended. ap (λ (machine : Machine). bench_of (Bare machine) breaks watches) equiv;
 }
-again e (Monitored one) (Monitored other) breaks watches kept equiv = record {
+targets_remain_equiv e (Monitored one) (Monitored other) breaks watches invariant equiv = record {
   but = record { target = equiv; breaks = refl; watches = refl };
-  gone = λ none. ap₂ (λ (hart : ℕ) (machine : MonitoredMachine). over (selected_at hart machine) breaks watches) equiv.hart
-      (gone_equal e one.state other.state kept equiv.state none);
+  gone = λ has_ended. ap₂ (λ (hart : ℕ) (machine : MonitoredMachine). bench_of (selected_at hart machine) breaks watches) equiv.hart
+      (gone_equal e one.state other.state invariant equiv.state has_ended);
 }
-again e (Bare one) (Monitored other) breaks watches kept equiv = absurd equiv
-again e (Monitored one) (Bare other) breaks watches kept equiv = absurd equiv
+targets_remain_equiv e _ _ breaks watches invariant equiv = absurd equiv
 
--- equivalent benches remain equivalent, with the invariant
+-- two equivalent benches are equal once the enclave has ended, if the first has the invariant
 pub equiv_again : (e : ℕ) (one other : BenchState) → TargetInvariant one.target → BenchesEquivExcept e one other → RemainEquiv e one other
-equiv_again e one other kept equiv =
-    subst (λ (breaks : List ℕ). RemainEquiv e one (over other.target breaks other.watches)) equiv.breaks
-    (subst (λ (watches : List ℕ). RemainEquiv e one (over other.target one.breaks watches)) equiv.watches
-    (again e one.target other.target one.breaks one.watches kept equiv.target))
+equiv_again e one other invariant equiv =
+    subst (λ (breaks : List ℕ). RemainEquiv e one (bench_of other.target breaks other.watches)) equiv.breaks
+    (subst (λ (watches : List ℕ). RemainEquiv e one (bench_of other.target one.breaks watches)) equiv.watches
+    (targets_remain_equiv e one.target other.target one.breaks one.watches invariant equiv.target))
 
--- the noninterference law holds for a command of each kind that is blind and avoids the hart of the enclave (by)
+-- Proves the noninterference law for a command of each kind. The second bench is rewritten to the breakpoints and watchpoints of the first.
 pub noninterference : NoninterferenceLaw
-noninterference e first second command kept kept' equiv blind by =
-    let both = subst (λ (breaks : List ℕ). Alike e (execute first command) (execute (over second.target breaks second.watches) command)) equiv.breaks
-    (subst (λ (watches : List ℕ). Alike e (execute first command) (execute (over second.target first.breaks watches) command)) equiv.watches
-    (targets-alike e first.target second.target first.breaks first.watches command kept kept' equiv.target blind by)) in
+noninterference e first second command invariant other_invariant equiv blind avoids_hart =
+    let alike_unless_entered =
+    subst (λ (breaks : List ℕ). Alike e (execute first command) (execute (bench_of second.target breaks second.watches) command)) equiv.breaks
+    (subst (λ (watches : List ℕ). Alike e (execute first command) (execute (bench_of second.target first.breaks watches) command)) equiv.watches
+    (targets-alike e first.target second.target first.breaks first.watches command invariant other_invariant equiv.target blind avoids_hart)) in
     record {
-      entered = both.entered;
-      passed = λ none.
-          let passed = both.passed none in
-          record { reply = passed.reply; entered = passed.entered; state = equiv_again e _ _ (keeps_monitor first command kept) passed.state };
+      entered = alike_unless_entered.entered;
+      passed = λ not_entered.
+          let passed = alike_unless_entered.passed not_entered in
+          record {
+            reply = passed.reply;
+            entered = passed.entered;
+            state = equiv_again e _ _
+                (command_keeps_invariant first command invariant) passed.state;
+          };
     }

@@ -13,10 +13,11 @@ execute_line-cut bench line = ap (execute_or_fault bench) (parse_of-cut line)
 -- lines that begin with the same significant bytes have the same effect and reply
 pub execute_line_prefix : (bench : BenchState) (other line : List ℕ) → take significant_bytes other ≡ take significant_bytes line
     → execute_line bench other ≡ execute_line bench line
-execute_line_prefix bench other line same = sym (execute_line-cut bench other) ∙ (ap (execute_line bench) same ∙ execute_line-cut bench line)
+execute_line_prefix bench other line same_prefix =
+    sym (execute_line-cut bench other) ∙ (ap (execute_line bench) same_prefix ∙ execute_line-cut bench line)
 
 -- lines that begin with the same significant bytes have the same effect and replies on two benches
 pub both_line-prefix : (e : ℕ) (one two : BenchState) (other line : List ℕ) → take significant_bytes other ≡ take significant_bytes line
     → both_execute_line e one two other ≡ both_execute_line e one two line
-both_line-prefix e one two other line same =
-    ap (both_line_executed e one two) (sym (parse_of-cut other) ∙ (ap parse_of same ∙ parse_of-cut line))
+both_line-prefix e one two other line same_prefix =
+    ap (both_line_executed e one two) (sym (parse_of-cut other) ∙ (ap parse_of same_prefix ∙ parse_of-cut line))

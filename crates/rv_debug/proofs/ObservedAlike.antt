@@ -1,24 +1,22 @@
 -- The observations of a command in two related benches are equal.
-use Rattle.std.proofs.Common.{◌≡◌, ℕ, ◌==◌, Bool, true, false, List, [], ◌∷◌, Option, refl, sym, ◌∙◌, ap, ap₂, subst, inl, inr, arith}
+use Rattle.std.proofs.Common.{◌≡◌, ℕ, ◌==◌, Bool, true, false, List, [], ◌∷◌, Option, refl, sym, ◌∙◌, ap, ap₂, subst, inl, inr}
 use Rattle.std.specs.Prelude.{◌&&◌, ◌||◌, ◌++◌, nat_lt, replicate, if◌then◌else◌}
-use Rattle.rv_pmp.specs.declared.access.Access.{Access as AccessKind}
-use Rattle.rv_enclaves.specs.Layout.{layout}
 use Rattle.rv_enclaves.specs.Table.{runs, window}
-use Rattle.rv_enclaves.specs.declared.world.World.{World}
 use Rattle.rv_enclaves.proofs.EqualMemory.{IsSeen, same_read, read-none}
 use Rattle.rv_monitor.specs.Declassification.{AreRelated, may_differ}
 use Rattle.rv_monitor.specs.GuestView.{guest_state}
 use Rattle.rv_monitor.proofs.GuestView.{guest_hart_state}
-use Rattle.rv_debug.specs.Prelude.{Block, Entries, HartRan, HartState, Invariant, M, Mode, Monitored, MonitoredMachine, Scheduled, Slots, Stop, Target, Trap}
-use Rattle.rv_debug.specs.Prelude.{Width, bytes_in, count_of, has, hart_state_of, is_inside, is_world_of, meets, read, read_result, region}
-use Rattle.rv_debug.specs.Prelude.{result_case, runs_on, sched, step_of}
+use Rattle.rv_debug.specs.Prelude.{Block, HartRan, HartState, Invariant, M, Monitored, MonitoredMachine, Scheduled, Slots, Stop, Target, Trap}
+use Rattle.rv_debug.specs.Prelude.{count_of, hart_state_of, is_inside, is_world_of, meets, read, read_result, region, result_case, runs_on, sched}
+use Rattle.rv_debug.specs.Prelude.{step_of}
 use Rattle.rv_debug.specs.Declassification.{StepsAreMoves}
 use Rattle.rv_debug.specs.Execute.{csr_reply}
 use Rattle.rv_debug.specs.Observed.{guest_target, observed_hart, observed_harts, observed_run, observed_steps, unless}
 use Rattle.rv_debug.specs.ScheduledSteps.{nothing_ran}
-use Rattle.rv_debug.proofs.Prelude.{AfterRun, Selected, access_reply, cases_Bool, cases_lt, csr_text, hart_text, hart_view_invariant, no_csr_text}
-use Rattle.rv_debug.proofs.Prelude.{no_steps, past_hart_state, ran_text, run, schedule_start, scheduled_steps, seen_block, selected_at, steps_of}
-use Rattle.rv_debug.proofs.Prelude.{harts_of, target_stepped, with_scheduled_step, with_selected, world_name}
+use Rattle.rv_debug.proofs.ExecuteAlike.{equal_entries, mhartid}
+use Rattle.rv_debug.proofs.Prelude.{AfterRun, Selected, cases_Bool, csr_text, hart_text, no_csr_text, no_steps, ran_text, run, schedule_start}
+use Rattle.rv_debug.proofs.Prelude.{scheduled_steps, seen_block, selected_at, steps_of, harts_of, target_stepped, with_scheduled_step, with_selected}
+use Rattle.rv_debug.proofs.Prelude.{world_name}
 use Rattle.rv_debug.proofs.ObservedRuns.{RunObserved, own_steps, run_observed, same_numbers, same_traps, schedule_did}
 use Rattle.rv_debug.proofs.RelatedMoves.{Moved, moved_by}
 use Rattle.rv_debug.proofs.ScheduledSteps.{after_schedule}
@@ -31,17 +29,18 @@ pub hart_texts : (e hart : ℕ) (one other : MonitoredMachine) → AreRelated e 
     → unless (runs_on e hart one) (text (guest_state (hart_state_of hart one)))
     ≡ unless (runs_on e hart other) (text (guest_state (hart_state_of hart other)))
 hart_texts e hart one other related text =
-    let own = related.hart_states hart in
+    let hart_related = related.hart_states hart in
     elim (cases_Bool (runs_on e hart one)) [
-      | inl runs_here ↦ let there : runs_on e hart other ≡ true = sym (ap (is_world_of e) own.world) ∙ runs_here in rw (runs_here, there) refl
-      | inr low ↦
-          let there : runs_on e hart other ≡ false = sym (ap (is_world_of e) own.world) ∙ low in
-          rw (low, there) (ap text (own.same low))
+      | inl on_hart ↦ let same_on_other : runs_on e hart other ≡ true = sym (ap (is_world_of e) hart_related.world) ∙ on_hart in
+          rw (on_hart, same_on_other) refl
+      | inr not_on_hart ↦
+          let same_on_other : runs_on e hart other ≡ false = sym (ap (is_world_of e) hart_related.world) ∙ not_on_hart in
+          rw (not_on_hart, same_on_other) (ap text (hart_related.same not_on_hart))
     ]
 
 -- ---- runs
 
--- `run_text` is the summary of a run of a machine
+-- `run_text` is what others observe of a run on a machine: its summary, or nothing if the enclave runs on the hart after it
 abbrev pub run_text : ℕ → ℕ → MonitoredMachine → AfterRun MonitoredMachine → List ℕ
 run_text e hart machine after =
     let hart_state = hart_state_of hart after.state in
@@ -53,11 +52,11 @@ run_text e hart machine after =
       entered = 0;
     }))
 
--- the observed text of a run is that of its result
-run_text_is : (e hart : ℕ) (breaks watches : List ℕ) (count : ℕ) (machine : MonitoredMachine)
+-- what others observe of a run command on a target is `run_text` of the run of its machine
+observed_run_is : (e hart : ℕ) (breaks watches : List ℕ) (count : ℕ) (machine : MonitoredMachine)
     → observed_run e (selected_at hart machine) (steps_of (selected_at hart machine) breaks watches count)
     ≡ run_text e hart machine (run (hart_stepped hart) (hart_pc hart) breaks watches count (no_steps machine))
-run_text_is e hart breaks watches count machine =
+observed_run_is e hart breaks watches count machine =
     ap (observed_run e (selected_at hart machine)) (run_monitored hart breaks watches count (no_steps machine))
 
 -- `ran_with` is the summary with the observed steps and the observed trap
@@ -66,69 +65,71 @@ ran_with hart stop ran hart_state =
     ran_text hart_state.hart.pc hart_state.hart.mode (world_name hart_state.world)
     (record { steps = ran.steps; trap = ran.trap; stop = stop; entered = 0 })
 
--- two runs whose steps are moves, and that stop alike, have the same observed text
+-- Two runs whose steps are moves, and that stop alike, have the same observed text. If the enclave runs on the hart after them, both texts are empty.
+-- Otherwise the hart, the observed steps and the last trap are equal in both.
 run_texts : (e hart : ℕ) (one other : MonitoredMachine) (a b : AfterRun MonitoredMachine) → RunObserved e hart one a → RunObserved e hart other b
     → Moved e hart (replicate a.ran.steps hart) (replicate b.ran.steps hart) one other nothing_ran nothing_ran → a.ran.stop ≡ b.ran.stop
     → run_text e hart one a ≡ run_text e hart other b
-run_texts e hart one other a b first second both_moved stop =
+run_texts e hart one other a b first_observed second_observed both_moved stop =
     let ran_a = observed_steps e hart (replicate a.ran.steps hart) one nothing_ran in
     let ran_b = observed_steps e hart (replicate b.ran.steps hart) other nothing_ran in
     let related : AreRelated e a.state b.state =
-    subst (λ (m : MonitoredMachine). AreRelated e m b.state) first.state (subst (AreRelated e _) second.state both_moved.state) in
-    let same : runs_on e hart a.state ≡ false → ran_a ≡ ran_b =
-    λ low. both_moved.ran (ap (runs_on e hart) first.state ∙ low) in
-    let own = related.hart_states hart in
+    subst (λ (m : MonitoredMachine). AreRelated e m b.state) first_observed.state (subst (AreRelated e _) second_observed.state both_moved.state) in
+    let same_ran : runs_on e hart a.state ≡ false → ran_a ≡ ran_b =
+    λ not_on_hart. both_moved.ran (ap (runs_on e hart) first_observed.state ∙ not_on_hart) in
+    let hart_related = related.hart_states hart in
     elim (cases_Bool (runs_on e hart a.state)) [
-      | inl runs_here ↦ let there : runs_on e hart b.state ≡ true = sym (ap (is_world_of e) own.world) ∙ runs_here in rw (runs_here, there) refl
-      | inr low ↦
-          let there : runs_on e hart b.state ≡ false = sym (ap (is_world_of e) own.world) ∙ low in
-          let trap : a.ran.trap ≡ b.ran.trap = sym first.trap ∙ ap (λ (r : HartRan). r.trap) (same low) ∙ second.trap in
-          let steps : ran_a.steps ≡ ran_b.steps = ap (λ (r : HartRan). r.steps) (same low) in
+      | inl on_hart ↦ let same_on_other : runs_on e hart b.state ≡ true = sym (ap (is_world_of e) hart_related.world) ∙ on_hart in
+          rw (on_hart, same_on_other) refl
+      | inr not_on_hart ↦
+          let same_on_other : runs_on e hart b.state ≡ false = sym (ap (is_world_of e) hart_related.world) ∙ not_on_hart in
+          let trap : a.ran.trap ≡ b.ran.trap = sym first_observed.trap ∙ ap (λ (r : HartRan). r.trap) (same_ran not_on_hart) ∙ second_observed.trap in
+          let steps : ran_a.steps ≡ ran_b.steps = ap (λ (r : HartRan). r.steps) (same_ran not_on_hart) in
           let text : HartState → ℕ → Option Trap → Stop → List ℕ = λ s n t w.
           ran_text s.hart.pc s.hart.mode (world_name s.world) (record { steps = n; trap = t; stop = w; entered = 0 }) in
-          rw (low, there) (ap₂ (λ (s : HartState) (n : ℕ). text s n a.ran.trap a.ran.stop) (own.same low) steps
+          rw (not_on_hart, same_on_other) (ap₂ (λ (s : HartState) (n : ℕ). text s n a.ran.trap a.ran.stop) (hart_related.same not_on_hart) steps
           ∙ ap₂ (text (guest_state (hart_state_of hart b.state)) ran_b.steps) trap stop)
     ]
 
 -- two runs of related machines whose steps are moves, and that stop alike, have equal observations
 pub runs_alike : (e hart : ℕ) (one other : MonitoredMachine) (breaks watches : List ℕ) (count : ℕ) → Invariant one → Invariant other
-    → AreRelated e one other
-    → StepsAreMoves e one other (replicate (steps_of (selected_at hart one) breaks watches count).ran.steps hart)
+    → AreRelated e one other → StepsAreMoves e one other (replicate (steps_of (selected_at hart one) breaks watches count).ran.steps hart)
     (replicate (steps_of (selected_at hart other) breaks watches count).ran.steps hart)
     → (steps_of (selected_at hart one) breaks watches count).ran.stop ≡ (steps_of (selected_at hart other) breaks watches count).ran.stop
     → observed_run e (selected_at hart one) (steps_of (selected_at hart one) breaks watches count)
     ≡ observed_run e (selected_at hart other) (steps_of (selected_at hart other) breaks watches count)
-runs_alike e hart one other breaks watches count here there related steps stop =
-    let ran : MonitoredMachine → AfterRun MonitoredMachine = λ machine. run (hart_stepped hart) (hart_pc hart) breaks watches count (no_steps machine) in
+runs_alike e hart one other breaks watches count invariant other_invariant related steps stop =
+    let ran : MonitoredMachine
+    → AfterRun MonitoredMachine = λ machine. run (hart_stepped hart) (hart_pc hart) breaks watches count (no_steps machine) in
     let one_is = run_monitored hart breaks watches count (no_steps one) in
     let other_is = run_monitored hart breaks watches count (no_steps other) in
-    let numbers : AfterRun Target → List ℕ = λ after. replicate after.ran.steps hart in
+    let harts_of_run : AfterRun Target → List ℕ = λ after. replicate after.ran.steps hart in
     let stops : AfterRun Target → Stop = λ after. after.ran.stop in
-    let steps_too : StepsAreMoves e one other (replicate (ran one).ran.steps hart) (replicate (ran other).ran.steps hart) =
-    subst (λ (xs : List ℕ). StepsAreMoves e one other xs (replicate (ran other).ran.steps hart)) (ap numbers one_is)
-    (subst (StepsAreMoves e one other _) (ap numbers other_is) steps) in
-    run_text_is e hart breaks watches count one
+    let machine_steps : StepsAreMoves e one other (replicate (ran one).ran.steps hart) (replicate (ran other).ran.steps hart) =
+    subst (λ (xs : List ℕ). StepsAreMoves e one other xs (replicate (ran other).ran.steps hart)) (ap harts_of_run one_is)
+    (subst (StepsAreMoves e one other _) (ap harts_of_run other_is) steps) in
+    observed_run_is e hart breaks watches count one
     ∙ run_texts e hart one other (ran one) (ran other) (run_observed e hart breaks watches count one) (run_observed e hart breaks watches count other)
-    (moved_by e hart _ _ one other here there related steps_too) (sym (ap stops one_is) ∙ stop ∙ ap stops other_is)
-    ∙ sym (run_text_is e hart breaks watches count other)
+    (moved_by e hart _ _ one other invariant other_invariant related machine_steps) (sym (ap stops one_is) ∙ stop ∙ ap stops other_is)
+    ∙ sym (observed_run_is e hart breaks watches count other)
 
 -- ---- schedules
 
 -- `after` is the target after a schedule, with some hart selected
 record IsScheduled (harts : List ℕ) (machine : MonitoredMachine) (after : Target) : Type 0 where
   hart : ℕ
-  is : after ≡ selected_at hart (sched harts machine).state
+  state_is : after ≡ selected_at hart (sched harts machine).state
 
 -- a schedule leaves the machine in the state after its steps
-scheduled : (harts : List ℕ) (machine : Selected) (did : Scheduled)
-    → IsScheduled harts machine.state (scheduled_steps harts (after_schedule (Monitored machine) did)).state
+schedule_state : (harts : List ℕ) (machine : Selected) (summary : Scheduled)
+    → IsScheduled harts machine.state (scheduled_steps harts (after_schedule (Monitored machine) summary)).state
 unfolding scheduled_steps
-scheduled [] machine did = record { hart = machine.hart; is = refl }
-scheduled (hart ∷ harts) machine did =
-    let before = after_schedule (Monitored machine) did in
-    let rest = scheduled harts (record { hart = hart; state = (step_of hart machine.state).state })
+schedule_state [] machine summary = record { hart = machine.hart; state_is = refl }
+schedule_state (hart ∷ harts) machine summary =
+    let before = after_schedule (Monitored machine) summary in
+    let rest = schedule_state harts (record { hart = hart; state = (step_of hart machine.state).state })
     (with_scheduled_step hart before (target_stepped (with_selected hart before.state))).did in
-    record { hart = rest.hart; is = rest.is }
+    record { hart = rest.hart; state_is = rest.state_is }
 
 -- `hart_line` is the observation of the summary of one hart
 abbrev hart_line : ℕ → MonitoredMachine → ℕ → HartRan → List ℕ
@@ -139,61 +140,62 @@ hart_line e machine hart ran =
 abbrev hart_lines : ℕ → MonitoredMachine → HartRan → HartRan → List ℕ
 hart_lines e machine first second = hart_line e machine 0 first ++ (if nat_lt 1 (count_of machine) then hart_line e machine 1 second else [])
 
--- the observed text of a schedule is that of the summaries
-harts_are : (e : ℕ) (harts : List ℕ) (machine : Selected) (did : Scheduled)
-    → observed_harts e (scheduled_steps harts (after_schedule (Monitored machine) did))
-    ≡ hart_lines e (sched harts machine.state).state (own_steps 0 harts machine.state did.first) (own_steps 1 harts machine.state did.second)
-harts_are e harts machine did =
-    let after = scheduled_steps harts (after_schedule (Monitored machine) did) in
-    let state = scheduled harts machine did in
-    let told = schedule_did harts machine did in
+-- what others observe of a schedule is `hart_lines` of its own steps on each hart
+observed_harts_are : (e : ℕ) (harts : List ℕ) (machine : Selected) (summary : Scheduled)
+    → observed_harts e (scheduled_steps harts (after_schedule (Monitored machine) summary))
+    ≡ hart_lines e (sched harts machine.state).state (own_steps 0 harts machine.state summary.first) (own_steps 1 harts machine.state summary.second)
+observed_harts_are e harts machine summary =
+    let after = scheduled_steps harts (after_schedule (Monitored machine) summary) in
+    let state_after = schedule_state harts machine summary in
+    let own_summaries = schedule_did harts machine summary in
     let lines : Target → HartRan → HartRan → List ℕ = λ target first second.
     observed_hart e target 0 first ++ (if nat_lt 1 (harts_of target) then observed_hart e target 1 second else []) in
-    ap (λ (target : Target). lines target after.did.first after.did.second) state.is
-    ∙ ap₂ (lines (selected_at state.hart (sched harts machine.state).state)) told.0 told.1
+    ap (λ (target : Target). lines target after.did.first after.did.second) state_after.state_is
+    ∙ ap₂ (lines (selected_at state_after.hart (sched harts machine.state).state)) own_summaries.0 own_summaries.1
 
+-- the steps of the harts are moves of both machines, for the observations of each hart
 module _ (e : ℕ) (harts : List ℕ) (one other : MonitoredMachine)
     (moves : (own : ℕ) → Moved e own harts harts one other nothing_ran nothing_ran) where
   -- the observed summaries of a hart are equal
-  same_line : (own : ℕ) → hart_line e (sched harts one).state own (own_steps own harts one nothing_ran)
+  same_hart_line : (own : ℕ) → hart_line e (sched harts one).state own (own_steps own harts one nothing_ran)
       ≡ hart_line e (sched harts other).state own (own_steps own harts other nothing_ran)
-  same_line own =
+  same_hart_line own =
       let moved_alike = moves own in
       let a = own_steps own harts one nothing_ran in
       let b = own_steps own harts other nothing_ran in
-      let hart_states = moved_alike.state.hart_states own in
+      let hart_related = moved_alike.state.hart_states own in
       elim (cases_Bool (runs_on e own (sched harts one).state)) [
-        | inl runs_here ↦
-            let there : runs_on e own (sched harts other).state ≡ true = sym (ap (is_world_of e) hart_states.world) ∙ runs_here in
-            rw (runs_here, there) refl
-        | inr low ↦
-            let there : runs_on e own (sched harts other).state ≡ false = sym (ap (is_world_of e) hart_states.world) ∙ low in
+        | inl on_hart ↦
+            let same_on_other : runs_on e own (sched harts other).state ≡ true = sym (ap (is_world_of e) hart_related.world) ∙ on_hart in
+            rw (on_hart, same_on_other) refl
+        | inr not_on_hart ↦
+            let same_on_other : runs_on e own (sched harts other).state ≡ false = sym (ap (is_world_of e) hart_related.world) ∙ not_on_hart in
             let steps : a.steps ≡ b.steps = same_numbers own harts one other nothing_ran nothing_ran refl in
-            let trap : a.trap ≡ b.trap = same_traps e own harts one nothing_ran nothing_ran refl ∙ ap (λ (r : HartRan). r.trap) (moved_alike.ran low)
+            let trap : a.trap ≡ b.trap = same_traps e own harts one nothing_ran nothing_ran refl
+            ∙ ap (λ (r : HartRan). r.trap) (moved_alike.ran not_on_hart)
             ∙ sym (same_traps e own harts other nothing_ran nothing_ran refl) in
             let text : HartState → ℕ → Option Trap → List ℕ = λ s n t.
             hart_text own s.hart.pc s.hart.mode (world_name s.world) (record { steps = n; trap = t }) in
-            rw (low, there) (ap (λ (s : HartState). text s a.steps a.trap) (hart_states.same low)
+            rw (not_on_hart, same_on_other) (ap (λ (s : HartState). text s a.steps a.trap) (hart_related.same not_on_hart)
             ∙ ap₂ (text (guest_state (hart_state_of own (sched harts other).state))) steps trap)
       ]
 
   -- the observed summaries of all harts are equal
-  same_lines : hart_lines e (sched harts one).state (own_steps 0 harts one nothing_ran) (own_steps 1 harts one nothing_ran)
+  same_hart_lines : hart_lines e (sched harts one).state (own_steps 0 harts one nothing_ran) (own_steps 1 harts one nothing_ran)
       ≡ hart_lines e (sched harts other).state (own_steps 0 harts other nothing_ran) (own_steps 1 harts other nothing_ran)
-  same_lines =
+  same_hart_lines =
       let moved_alike = moves 0 in
-      ap₂ (λ (line lines : List ℕ). line ++ lines) (same_line 0)
-      (ap₂ (λ (n : ℕ) (line : List ℕ). if nat_lt 1 n then line else []) moved_alike.state.harts (same_line 1))
+      ap₂ (λ (line lines : List ℕ). line ++ lines) (same_hart_line 0)
+      (ap₂ (λ (n : ℕ) (line : List ℕ). if nat_lt 1 n then line else []) moved_alike.state.harts (same_hart_line 1))
 
 -- two schedules of related machines whose steps are moves have equal observations
 pub schedules_alike : (e hart : ℕ) (harts : List ℕ) (one other : MonitoredMachine) → Invariant one → Invariant other → AreRelated e one other
-    → StepsAreMoves e one other harts harts
-    → observed_harts e (scheduled_steps harts (schedule_start (selected_at hart one)))
+    → StepsAreMoves e one other harts harts → observed_harts e (scheduled_steps harts (schedule_start (selected_at hart one)))
     ≡ observed_harts e (scheduled_steps harts (schedule_start (selected_at hart other)))
-schedules_alike e hart harts one other here there related steps =
-    harts_are e harts (record { hart = hart; state = one }) _
-    ∙ same_lines e harts one other (λ own. moved_by e own harts harts one other here there related steps)
-    ∙ sym (harts_are e harts (record { hart = hart; state = other }) _)
+schedules_alike e hart harts one other invariant other_invariant related steps =
+    observed_harts_are e harts (record { hart = hart; state = one }) _
+    ∙ same_hart_lines e harts one other (λ own. moved_by e own harts harts one other invariant other_invariant related steps)
+    ∙ sym (observed_harts_are e harts (record { hart = hart; state = other }) _)
 
 -- ---- registers
 
@@ -203,83 +205,68 @@ pub csrs_alike : (e hart : ℕ) (one other : MonitoredMachine) (number : ℕ) �
     ≡ unless (runs_on e hart other) (csr_reply (guest_target (selected_at hart other)) number)
 csrs_alike e hart one other number related =
     let text : HartState → List ℕ = λ s.
-    if number == 3860 then csr_text number hart else result_case (read_result s.hart.csrs number M) (csr_text number) (λ _. no_csr_text) in
+    if number == mhartid then csr_text number hart else result_case (read_result s.hart.csrs number M) (csr_text number) (λ _. no_csr_text) in
     ap (λ (s : HartState). unless (runs_on e hart one) (text s)) (guest_hart_state hart one)
     ∙ hart_texts e hart one other related text
     ∙ sym (ap (λ (s : HartState). unless (runs_on e hart other) (text s)) (guest_hart_state hart other))
 
--- two related machines have equal PMP entries in each hart, since the entries depend only on the enclave table and the hart's world
+-- two related machines have equal PMP entries in each hart
 pub entries_alike : (e hart : ℕ) (one other : MonitoredMachine) → Invariant one → Invariant other → AreRelated e one other
     → (hart_state_of hart one).hart.csrs.pmp ≡ (hart_state_of hart other).hart.csrs.pmp
-entries_alike e hart one other here there related =
-    let own = related.hart_states hart in
-    let same_harts = related.harts in
-    let entries : HartState → Entries = λ hart_state. hart_state.hart.csrs.pmp in
-    elim (cases_lt hart (count_of one)) [
-      | inr past ↦ ap entries (past_hart_state one.hart_states hart past ∙ sym (past_hart_state other.hart_states hart (omega (arith, same_harts, past))))
-      | inl has ↦
-          let of : Slots → World → Entries = λ slots world. layout slots world in
-          let mine = (hart_view_invariant hart one here has).hart.layout.entries in
-          let theirs = (hart_view_invariant hart other there (omega (arith, same_harts, has))).hart.layout.entries in
-          mine ∙ ap₂ of related.table own.world ∙ sym theirs
-    ]
+entries_alike e hart one other invariant other_invariant related =
+    equal_entries hart one other invariant other_invariant related.harts related.table (related.hart_states hart).world
 
 -- ---- memory
 
--- two conditions are false if neither of them is true
-neither : (a b : Bool) → (a || b) ≡ false → (a ≡ false) × (b ≡ false)
-neither false b is = (refl, is)
-neither true b is = cc
+-- if a disjunction fails, then both its parts fail
+both_parts_fail : (a b : Bool) → (a || b) ≡ false → (a ≡ false) × (b ≡ false)
+both_parts_fail false b or_fails = (refl, or_fails)
+both_parts_fail true b or_fails = cc
 
+-- two related machines
 module _ (e : ℕ) (one other : MonitoredMachine) (related : AreRelated e one other) where
   -- a block names private bytes of the enclave if it has bytes of the region, or bytes of the window while the enclave runs
-  abbrev names : MonitoredMachine → Block → Bool
-  names machine block =
+  abbrev names_private_bytes : MonitoredMachine → Block → Bool
+  names_private_bytes machine block =
       meets block (region machine.shared.table e) || (runs machine.shared.table e && meets block (window machine.shared.table e))
 
-  -- a block that names no private bytes has only bytes that are equal in both memories
-  seen : (block : Block) → names one block ≡ false → IsSeen (may_differ one.shared.table e) block.base block.size
-  seen block apart b low high =
-      let parts = neither (meets block (region one.shared.table e)) _ apart in
-      let outside = seen_block block (region one.shared.table e) parts.0 b low high in
+  -- every byte of a block that names no private bytes must be equal in related memories
+  no_private_byte : (block : Block) → names_private_bytes one block ≡ false → IsSeen (may_differ one.shared.table e) block.base block.size
+  no_private_byte block not_private b at_or_above_base below_end =
+      let outside_blocks = both_parts_fail (meets block (region one.shared.table e)) _ not_private in
+      let outside_region = seen_block block (region one.shared.table e) outside_blocks.0 b at_or_above_base below_end in
       elim (cases_Bool (runs one.shared.table e)) [
-        | inr idle ↦ rw (outside, idle) refl
+        | inr not_running ↦ rw (outside_region, not_running) refl
         | inl running ↦
-            let clear = ap (λ (r : Bool). r && meets block (window one.shared.table e)) (sym running) ∙ parts.1 in
-            let beyond = seen_block block (window one.shared.table e) clear b low high in
-            rw (outside, running, beyond) refl
+            let outside_window_block = ap (λ (r : Bool). r && meets block (window one.shared.table e)) (sym running) ∙ outside_blocks.1 in
+            let outside_window = seen_block block (window one.shared.table e) outside_window_block b at_or_above_base below_end in
+            rw (outside_region, running, outside_window) refl
       ]
 
   -- a read of a block that names no private bytes gives equal bytes in both memories
-  reads_alike : (block : Block) → names one block ≡ false → read one.shared.memory block.base block.size ≡ read other.shared.memory block.base block.size
-  reads_alike block apart =
+  reads_alike : (block : Block) → names_private_bytes one block ≡ false → read one.shared.memory block.base block.size
+      ≡ read other.shared.memory block.base block.size
+  reads_alike block not_private =
       let memory = related.memory in
       elim (cases_Bool (is_inside one.shared.memory block.base block.size)) [
-        | inl inside ↦ same_read (may_differ one.shared.table e) one.shared.memory other.shared.memory block.base block.size memory inside (seen block apart)
-        | inr outside ↦
-            let sizes = memory.size in
-            read-none one.shared.memory block.base block.size outside ∙ sym (read-none other.shared.memory block.base block.size (rw (← sizes) outside))
+        | inl in_ram ↦ same_read (may_differ one.shared.table e) one.shared.memory other.shared.memory block.base block.size memory in_ram
+            (no_private_byte block not_private)
+        | inr outside_ram ↦
+            let same_size = memory.size in
+            read-none one.shared.memory block.base block.size outside_ram
+            ∙ sym (read-none other.shared.memory block.base block.size (rw (← same_size) outside_ram))
       ]
 
   -- a text about the bytes of a block has equal observations in both machines: none if the block names private bytes
   pub memory_texts : (block : Block) (text : Option (List ℕ) → List ℕ)
-      → unless (names one block) (text (read one.shared.memory block.base block.size))
-      ≡ unless (names other block) (text (read other.shared.memory block.base block.size))
+      → unless (names_private_bytes one block) (text (read one.shared.memory block.base block.size))
+      ≡ unless (names_private_bytes other block) (text (read other.shared.memory block.base block.size))
   memory_texts block text =
-      let tables : names one block ≡ names other block = ap (λ (t : Slots). meets block (region t e) || (runs t e && meets block (window t e))) related.table in
-      elim (cases_Bool (names one block)) [
-        | inl hidden ↦ let there : names other block ≡ true = sym tables ∙ hidden in rw (hidden, there) refl
-        | inr apart ↦ let there : names other block ≡ false = sym tables ∙ apart in rw (apart, there) (ap text (reads_alike block apart))
-      ]
-
-  -- the reply to `access` depends on its address and the PMP entries, not on the bytes
-  pub accesses_alike : (entries : Entries) (mode : Mode) (access : AccessKind) (address : ℕ) (width : Width)
-      → access_reply one.shared.memory entries mode access address width ≡ access_reply other.shared.memory entries mode access address width
-  unfolding read
-  accesses_alike entries mode access address width =
-      let memory = related.memory in
-      let sizes = memory.size in
-      elim (cases_Bool (is_inside one.shared.memory address (bytes_in width))) [
-        | inl inside ↦ rw (← sizes, inside) refl
-        | inr outside ↦ rw (← sizes, outside) refl
+      let same_names : names_private_bytes one block ≡ names_private_bytes other block =
+      ap (λ (t : Slots). meets block (region t e) || (runs t e && meets block (window t e))) related.table in
+      elim (cases_Bool (names_private_bytes one block)) [
+        | inl is_private ↦ let same_in_other : names_private_bytes other block ≡ true = sym same_names ∙ is_private in
+            rw (is_private, same_in_other) refl
+        | inr not_private ↦ let same_in_other : names_private_bytes other block ≡ false = sym same_names ∙ not_private in
+            rw (not_private, same_in_other) (ap text (reads_alike block not_private))
       ]

@@ -1,4 +1,4 @@
--- This file has examples of replies.
+-- Examples of replies: the text of each kind of reply for given values, by computation.
 use Rattle.std.proofs.Common.{◌≡◌, ℕ, ◌+◌, ◌/◌, ◌%◌, List, ◌∷◌, [], ◌++◌, Some, None, true, refl, ◌<◌, ◌≤◌, arith}
 use Rattle.std.specs.Prelude.{codes, decimal, replicate, nat_lt, if◌then◌else◌}
 use Rattle.std.specs.Fmt.{digits}
@@ -17,21 +17,21 @@ use Rattle.rv_state.specs.declared.cause.Cause.TheVariants.{Exception}
 use Rattle.rv_state.specs.declared.cause.Exception.TheVariants.{IllegalInstruction}
 use Rattle.rv_debug.specs.Prelude.{Bare, Break, Done, Entries, M, S, Target, U, Watch, csr_listing, csr_numbered, csr_of, hex_digits, read}
 use Rattle.rv_debug.specs.Prelude.{read_result}
-use Rattle.rv_debug.proofs.Prelude.{access_reply, csr_reply, csr_text, denied_outside_text, dis_reply, dis_text, entry_text, full_text}
-use Rattle.rv_debug.proofs.Prelude.{memory_text, nat_tests, no_csr_text, ok_text, outside_text, pc_text, pmp_text, ran_text, register_text}
-use Rattle.rv_debug.proofs.Prelude.{registers_text, stop_text, trap_text, verdict_text}
+use Rattle.rv_debug.proofs.Prelude.{access_reply, csr_reply, csr_text, denied_outside_text, dis_reply, dis_text, entry_text, full_text, memory_text}
+use Rattle.rv_debug.proofs.Prelude.{nat_tests, no_csr_text, ok_text, outside_text, pc_text, pmp_text, ran_text, register_text, registers_text}
+use Rattle.rv_debug.proofs.Prelude.{stop_text, trap_text, verdict_text}
 
--- `shown` is a number of one or two digits, in a form that computes
+-- `shown` is the decimal text of a number, in a form that computes for numbers of one or two digits (48 is the character `0`)
 abbrev shown : ℕ → List ℕ
 shown n = if nat_lt n 10 then (48 + n) ∷ [] else (if nat_lt n 100 then (48 + n / 10) ∷ (48 + n % 10) ∷ [] else decimal n)
 
--- decimal digits are those of the definition
+-- the decimal text of a number is its form that computes
 decimal-shown : (n : ℕ) → decimal n ≡ shown n
 decimal-shown n =
-    let one : n < 10 → decimal n ≡ (48 + n) ∷ [] = decimal_digit n in
-    let two : 10 ≤ n → n < 100 → decimal n ≡ (48 + n / 10) ∷ (48 + n % 10) ∷ [] =
-    λ low high. rw (decimal_step n low (omega arith), decimal_digit (n / 10) (omega arith)) in
-    grind (arith, nat_tests, one, two)
+    let one_digit : n < 10 → decimal n ≡ (48 + n) ∷ [] = decimal_digit n in
+    let two_digits : 10 ≤ n → n < 100 → decimal n ≡ (48 + n / 10) ∷ (48 + n % 10) ∷ [] =
+    λ at_least_10 below_100. rw (decimal_step n at_least_10 (omega arith), decimal_digit (n / 10) (omega arith)) in
+    grind (arith, nat_tests, one_digit, two_digits)
 
 -- the replies of `step` and `run` show the number of steps, the pc, the mode, the reason for the end, and the last trap
 pub ran_text-examples :
@@ -107,7 +107,7 @@ pub verdict_text-examples :
 unfolding verdict_text denied_outside_text
 verdict_text-examples = simp decimal-shown
 
--- the replies to a change that was made, and to one of a full set
+-- the reply to a command that was executed and shows nothing, and the reply if a set of addresses is full
 pub ok_text-example : ok_text ++ full_text ≡ codes "ok\nerror full\n"
 unfolding ok_text full_text
 ok_text-example = refl

@@ -1,4 +1,4 @@
--- While an enclave runs on a hart, no command changes the host's saved context.
+-- The return to the host: while an enclave runs on a hart, no command changes the host's saved context, so the exit of the enclave restores it.
 use Rattle.std.proofs.Common.{◌≡◌, ℕ, false, List, [], ◌∷◌, ◌++◌, Option, Some, None, refl, sym, ◌∙◌, ap, subst}
 use Rattle.std.specs.Prelude.{IsSomeAnd}
 use Rattle.rv_monitor.specs.Switches.{saved}
@@ -7,20 +7,22 @@ use Rattle.rv_monitor.specs.Returns.{HostIsRestored}
 use Rattle.rv_monitor.proofs.Switched.{KeptStored}
 use Rattle.rv_monitor.proofs.Returned.{comes_back, entered_is, first_runs, host_on, last_runs, steps_keep}
 use Rattle.rv_enclaves.specs.declared.context.Context.{Context}
-use Rattle.rv_debug.specs.Prelude.{Bare, Command, Invariant, MonitoredMachine, Monitored, HartView, S, HartState, Target, changed, is_host, monitored_step}
-use Rattle.rv_debug.specs.Prelude.{option_case, reg_set, sched, hart_state_of, step_of, timer_line_set, write}
+use Rattle.rv_debug.specs.Prelude.{Bare, Command, Invariant, MonitoredMachine, Monitored, HartView, S, HartState, Target, changed, is_host}
+use Rattle.rv_debug.specs.Prelude.{monitored_step, option_case, reg_set, sched, hart_state_of, step_of, timer_line_set, write}
 use Rattle.rv_debug.specs.Returns.{EntersAndLeaves, LeavesLater, LeavesWithin, ReturnLaw}
-use Rattle.rv_debug.proofs.Prelude.{BenchState, Selected, Effect, TargetInvariant, Nothing, OneByte, Register, Steps, TimerLine, execute, changed_of}
+use Rattle.rv_debug.proofs.Prelude.{BenchState, Selected, Effect, TargetInvariant, Nothing, OneByte, Register, Steps, TimerLine, execute, change_preserves}
 use Rattle.rv_debug.proofs.Prelude.{selected_at, done, effect, harts_stepped, invariant_law, machine_in, sched_invariant}
-use Rattle.rv_debug.proofs.EffectsInvariant.{keeps_monitor, poke_of}
+use Rattle.rv_debug.proofs.ExecuteAlike.{bench_of}
+use Rattle.rv_debug.proofs.EffectsInvariant.{command_keeps_invariant, poke_of}
 use Rattle.rv_debug.proofs.ScheduledSteps.{schedule_is_sched}
 
 -- ---- steps of the harts in order
 
 -- the machine after two lists of steps is the machine after the second, from the machine after the first
-sched_on : (before rest : List ℕ) (machine : MonitoredMachine) → (sched (before ++ rest) machine).state ≡ (sched rest (sched before machine).state).state
-sched_on [] rest machine = refl
-sched_on (named ∷ before) rest machine = sched_on before rest (step_of named machine).state
+sched_in_turn : (before rest : List ℕ) (machine : MonitoredMachine)
+    → (sched (before ++ rest) machine).state ≡ (sched rest (sched before machine).state).state
+sched_in_turn [] rest machine = refl
+sched_in_turn (named ∷ before) rest machine = sched_in_turn before rest (step_of named machine).state
 
 -- ---- effects
 
@@ -28,61 +30,63 @@ sched_on (named ∷ before) rest machine = sched_on before rest (step_of named m
 abbrev host_in : ℕ → Target → Option Context
 host_in hart target = option_case (machine_in target) None (host_on hart)
 
--- a debugger's write is not part of the saved context
-write_host : (hart : ℕ) (machine : Selected) (change : HartState → HartState)
+-- a write of a register or of the timer line leaves the host's saved context of each hart as it is
+write_keeps_context : (hart : ℕ) (machine : Selected) (change : HartState → HartState)
     → ((hart_state : HartState) → (change hart_state).host_context ≡ hart_state.host_context)
     → host_in hart (selected_at machine.hart (changed machine.hart change machine.state)) ≡ host_on hart machine.state
-write_host hart machine change same = changed_of (λ (hart_state : HartState). hart_state.host_context) change same machine.hart hart machine.state
+write_keeps_context hart machine change keeps_context =
+    change_preserves (λ (hart_state : HartState). hart_state.host_context) change keeps_context machine.hart hart machine.state
 
--- a poke leaves the host's saved context
-poke_host : (hart : ℕ) (machine : Selected) (memory : Option (List ℕ)) → host_in hart (poke_of (Monitored machine) memory) ≡ host_on hart machine.state
-poke_host hart machine None = refl
-poke_host hart machine (Some memory) = refl
+-- a poke leaves the host's saved context of each hart as it is
+poke_keeps_context : (hart : ℕ) (machine : Selected) (memory : Option (List ℕ))
+    → host_in hart (poke_of (Monitored machine) memory) ≡ host_on hart machine.state
+poke_keeps_context hart machine None = refl
+poke_keeps_context hart machine (Some memory) = refl
 
--- an effect leaves the same saved context of the host as its steps alone
-host_after : (hart : ℕ) (machine : Selected) (d : Effect)
-    → host_in hart (done (Monitored machine) d) ≡ host_on hart (sched (harts_stepped d) machine.state).state
-host_after hart machine Nothing = refl
-host_after hart machine (Steps harts selected) = ap (host_in hart) (schedule_is_sched harts machine _ selected)
-host_after hart machine (Register number value) = write_host hart machine (reg_set number value) (λ hart_state. refl)
-host_after hart machine (TimerLine raised) = write_host hart machine (timer_line_set raised) (λ hart_state. refl)
-host_after hart machine (OneByte address byte) = poke_host hart machine (write machine.state.shared.memory address (byte ∷ []))
+-- the host's saved context after an effect is that after the steps of the effect alone
+context_after_effect : (hart : ℕ) (machine : Selected) (change : Effect)
+    → host_in hart (done (Monitored machine) change) ≡ host_on hart (sched (harts_stepped change) machine.state).state
+context_after_effect hart machine Nothing = refl
+context_after_effect hart machine (Steps harts selected) = ap (host_in hart) (schedule_is_sched harts machine _ selected)
+context_after_effect hart machine (Register number value) = write_keeps_context hart machine (reg_set number value) (λ hart_state. refl)
+context_after_effect hart machine (TimerLine raised) = write_keeps_context hart machine (timer_line_set raised) (λ hart_state. refl)
+context_after_effect hart machine (OneByte address byte) = poke_keeps_context hart machine (write machine.state.shared.memory address (byte ∷ []))
 
 -- ---- the step with which the enclave exits
 
--- `kept_at` is the host's saved context of a hart view
-abbrev kept_at : HartView → Option Context
-kept_at entry = Some (saved entry.hart_state.hart (past_ecall entry.hart_state.hart) S)
+-- `saved_at_entry` is the context of the host that the monitor saves when the host enters an enclave by its ecall
+abbrev saved_at_entry : HartView → Option Context
+saved_at_entry entry = Some (saved entry.hart_state.hart (past_ecall entry.hart_state.hart) S)
 
--- an exit among the steps of a command restores the host
-leaves_within : (hart : ℕ) (harts : List ℕ) (machine : MonitoredMachine) (entry exit : HartView) → Invariant machine
-    → host_on hart machine ≡ kept_at entry → LeavesWithin hart harts machine exit → HostIsRestored entry exit (monitored_step exit)
-leaves_within hart harts machine entry exit kept host_on_is leaves =
-    let here = (sched leaves.before machine).state in
-    let same = steps_keep hart leaves.before machine leaves.runs in
-    let host = ap (λ (m : HartView). is_host (monitored_step m).state.hart_state.world) (sym leaves.at) ∙ leaves.host in
+-- the exit restores the host, if the enclave exits among the steps of one command
+exit_in_command : (hart : ℕ) (harts : List ℕ) (machine : MonitoredMachine) (entry exit : HartView) → Invariant machine
+    → host_on hart machine ≡ saved_at_entry entry → LeavesWithin hart harts machine exit → HostIsRestored entry exit (monitored_step exit)
+exit_in_command hart harts machine entry exit invariant saved_is leaves =
+    let at_exit = (sched leaves.before machine).state in
+    let same_context = steps_keep hart leaves.before machine leaves.runs in
+    let returns_to_host = ap (λ (m : HartView). is_host (monitored_step m).state.hart_state.world) (sym leaves.at) ∙ leaves.host in
     subst (λ (m : HartView). HostIsRestored entry m (monitored_step m)) (sym leaves.at)
-    (comes_back hart entry here (sched_invariant leaves.before machine kept) (subst KeptStored (sym same) leaves.stored) (same ∙ host_on_is)
-    (last_runs hart leaves.before machine leaves.runs) host)
+    (comes_back hart entry at_exit (sched_invariant leaves.before machine invariant) (subst KeptStored (sym same_context) leaves.stored)
+    (same_context ∙ saved_is) (last_runs hart leaves.before machine leaves.runs) returns_to_host)
 
--- `bench_of` is the bench over a target, with the given breakpoints and watchpoints
-abbrev bench_of : Target → List ℕ → List ℕ → BenchState
-bench_of target breaks watches = record { target = target; breaks = breaks; watches = watches }
-
--- an exit among the steps of a later command restores the host
-leaves_later : (hart : ℕ) (harts : List ℕ) (machine : MonitoredMachine) (target : Target) (breaks watches : List ℕ) (commands : List Command)
+-- The exit restores the host, if the enclave exits in these steps or in a later command. The proof is by induction over the later commands.
+exit_in_later_command : (hart : ℕ) (harts : List ℕ) (machine : MonitoredMachine) (target : Target) (breaks watches : List ℕ) (commands : List Command)
     (entry exit : HartView) → Invariant machine → TargetInvariant target → host_in hart target ≡ host_on hart (sched harts machine).state
-    → host_on hart machine ≡ kept_at entry → LeavesLater hart harts machine (bench_of target breaks watches) commands exit
+    → host_on hart machine ≡ saved_at_entry entry → LeavesLater hart harts machine (bench_of target breaks watches) commands exit
     → HostIsRestored entry exit (monitored_step exit)
 unfolding execute
-leaves_later hart harts machine target breaks watches [] entry exit kept kept' same host_on_is leaves =
-    leaves_within hart harts machine entry exit kept host_on_is leaves
-leaves_later hart harts machine (Bare alone) breaks watches (command ∷ commands) entry exit kept kept' same host_on_is later = absurd later.1
-leaves_later hart harts machine (Monitored selected) breaks watches (command ∷ commands) entry exit kept kept' same host_on_is later =
+exit_in_later_command hart harts machine target breaks watches [] entry exit invariant target_invariant same_context saved_is leaves =
+    exit_in_command hart harts machine entry exit invariant saved_is leaves
+exit_in_later_command hart harts machine (Bare alone) breaks watches (command ∷ commands)
+    entry exit invariant target_invariant same_context saved_is later = absurd later.1
+exit_in_later_command hart harts machine (Monitored selected) breaks watches
+    (command ∷ commands) entry exit invariant target_invariant same_context saved_is later =
     let bench = bench_of (Monitored selected) breaks watches in
     let next = (execute bench command).state in
-    leaves_later hart (harts_stepped (effect bench command)) selected.state next.target next.breaks next.watches commands entry exit kept'
-    (keeps_monitor bench command kept') (host_after hart selected (effect bench command)) (same ∙ steps_keep hart harts machine later.0 ∙ host_on_is) later.1
+    exit_in_later_command hart (harts_stepped (effect bench command)) selected.state next.target next.breaks next.watches commands entry exit
+    target_invariant
+    (command_keeps_invariant bench command target_invariant) (context_after_effect hart selected (effect bench command))
+    (same_context ∙ steps_keep hart harts machine later.0 ∙ saved_is) later.1
 
 -- ---- the step that enters the enclave
 
@@ -92,28 +96,32 @@ runs_at_first : (hart : ℕ) (harts : List ℕ) (machine : MonitoredMachine) (af
 runs_at_first hart harts machine after [] exit leaves = first_runs hart leaves.before machine leaves.runs
 runs_at_first hart harts machine after (command ∷ commands) exit later = first_runs hart harts machine later.0
 
--- from the entry by the first command to the exit, the host gets its context back
-enters_and_leaves : (hart : ℕ) (target : Target) (breaks watches : List ℕ) (first : Command) (commands : List Command)
+-- The exit restores the host, if the first command enters the enclave and it exits in this command or a later one. The proof takes the state before
+-- the step that enters the enclave, and follows the saved context from there.
+exit_after_entry : (hart : ℕ) (target : Target) (breaks watches : List ℕ) (first : Command) (commands : List Command)
     (entry exit : HartView) → TargetInvariant target
     → IsSomeAnd (machine_in target) (λ machine. EntersAndLeaves hart (bench_of target breaks watches) first commands machine entry exit)
     → HostIsRestored entry exit (monitored_step exit)
 unfolding execute
-enters_and_leaves hart (Bare alone) breaks watches first commands entry exit kept goes = absurd goes
-enters_and_leaves hart (Monitored selected) breaks watches first commands entry exit kept goes =
+exit_after_entry hart (Bare alone) breaks watches first commands entry exit invariant enter_and_leave = absurd enter_and_leave
+exit_after_entry hart (Monitored selected) breaks watches first commands entry exit invariant enter_and_leave =
     let bench = bench_of (Monitored selected) breaks watches in
     let next = (execute bench first).state in
     let machine = selected.state in
-    let here = (sched goes.before machine).state in
-    let after = (step_of hart here).state in
-    let kept_here = sched_invariant goes.before machine kept in
-    let host = ap (λ (m : HartView). is_host m.hart_state.world) (sym goes.at) ∙ goes.host in
-    let runs = runs_at_first hart goes.rest after next commands exit goes.leaves in
-    let same = host_after hart selected (effect bench first) ∙ ap (λ (hs : List ℕ). host_on hart (sched hs machine).state) goes.is
-    ∙ ap (host_on hart) (sched_on goes.before (hart ∷ goes.rest) machine) in
-    leaves_later hart goes.rest after next.target next.breaks next.watches commands entry exit (invariant_law hart here kept_here)
-    (keeps_monitor bench first kept) same (entered_is hart here kept_here host runs ∙ ap kept_at (sym goes.at)) goes.leaves
+    let at_entry = (sched enter_and_leave.before machine).state in
+    let after = (step_of hart at_entry).state in
+    let invariant_at_entry = sched_invariant enter_and_leave.before machine invariant in
+    let runs_host = ap (λ (m : HartView). is_host m.hart_state.world) (sym enter_and_leave.at) ∙ enter_and_leave.host in
+    let enclave_runs = runs_at_first hart enter_and_leave.rest after next commands exit enter_and_leave.leaves in
+    let same_context = context_after_effect hart selected (effect bench first)
+    ∙ ap (λ (hs : List ℕ). host_on hart (sched hs machine).state) enter_and_leave.is
+    ∙ ap (host_on hart) (sched_in_turn enter_and_leave.before (hart ∷ enter_and_leave.rest) machine) in
+    exit_in_later_command hart enter_and_leave.rest after next.target next.breaks next.watches commands entry exit
+    (invariant_law hart at_entry invariant_at_entry)
+    (command_keeps_invariant bench first invariant) same_context (entered_is hart at_entry invariant_at_entry runs_host enclave_runs
+    ∙ ap saved_at_entry (sym enter_and_leave.at)) enter_and_leave.leaves
 
 -- proves that commands return the host's own context after its call to an enclave
 pub return_law : ReturnLaw
-return_law hart bench first later entry exit kept goes =
-    enters_and_leaves hart bench.target bench.breaks bench.watches first later entry exit kept goes
+return_law hart bench first later entry exit invariant enter_and_leave =
+    exit_after_entry hart bench.target bench.breaks bench.watches first later entry exit invariant enter_and_leave

@@ -1,4 +1,4 @@
--- A run of the debugger is a schedule with only the selected hart.
+-- A run of the debugger is a schedule of the selected hart alone, with as many steps as the run executes.
 use Rattle.std.proofs.Common.{◌≡◌, ℕ, suc, ◌+◌, List, replicate, refl, sym, ◌∙◌, ap, arith}
 use Rattle.rv_debug.specs.Prelude.{Bare, Monitored, Scheduled, Stop, Target}
 use Rattle.rv_debug.proofs.Prelude.{AfterRun, AfterSteps, AfterSchedule, selected_of, done, ended, entered_by, no_steps, schedule_start, pc_of, run}
@@ -9,78 +9,84 @@ use Rattle.rv_debug.proofs.Stepping.{run_induction}
 -- ---- the selected hart
 
 -- the selection of the selected hart has no effect
-own_scheduled_step : (target : Target) → with_selected (selected_of target) target ≡ target
-own_scheduled_step (Bare machine) = refl
-own_scheduled_step (Monitored machine) = refl
+select_selected_hart : (target : Target) → with_selected (selected_of target) target ≡ target
+select_selected_hart (Bare machine) = refl
+select_selected_hart (Monitored machine) = refl
 
 -- a step keeps the selected hart
-same_hart : (target : Target) → selected_of (target_stepped target).state ≡ selected_of target
-same_hart (Bare machine) = refl
-same_hart (Monitored machine) = refl
+step_keeps_selected : (target : Target) → selected_of (target_stepped target).state ≡ selected_of target
+step_keeps_selected (Bare machine) = refl
+step_keeps_selected (Monitored machine) = refl
 
 -- the selection of the hart that is selected has no effect
-step_scheduled_own : (hart : ℕ) (target : Target) → selected_of target ≡ hart → with_selected hart target ≡ target
-step_scheduled_own hart target selected_of_is = ap (λ (h : ℕ). with_selected h target) (sym selected_of_is) ∙ own_scheduled_step target
+select_same_hart : (hart : ℕ) (target : Target) → selected_of target ≡ hart → with_selected hart target ≡ target
+select_same_hart hart target selected_of_is = ap (λ (h : ℕ). with_selected h target) (sym selected_of_is) ∙ select_selected_hart target
 
 -- ---- its steps
 
--- from a target and its entered slots, a schedule of this many steps ends as the run does, and enters the same slots
+-- A run that continues from a target, with these entered slots and `earlier` steps so far, is a schedule of `count` more steps of the hart. The
+-- schedule ends in the state of the run and enters the same slots, whatever summary it begins with.
 record IsScheduled (hart : ℕ) (target : Target) (slots earlier : ℕ) (after : AfterRun Target) : Type 0 where
   count : ℕ
   steps : after.ran.steps ≡ earlier + count
   selected : selected_of after.state ≡ hart
-  state : (did : Scheduled) → (scheduled_steps (replicate count hart) (after_schedule target did)).state ≡ after.state
-  entered : (did : Scheduled) → did.entered ≡ slots → (scheduled_steps (replicate count hart) (after_schedule target did)).did.entered ≡ after.ran.entered
+  state : (summary : Scheduled) → (scheduled_steps (replicate count hart) (after_schedule target summary)).state ≡ after.state
+  entered : (summary : Scheduled)
+      → summary.entered ≡ slots → (scheduled_steps (replicate count hart) (after_schedule target summary)).did.entered ≡ after.ran.entered
 
 -- a run that ends is the schedule of its steps so far
-ends : (hart : ℕ) (so_far : AfterSteps Target) (stop : Stop) → selected_of so_far.state ≡ hart
+ended_is_scheduled : (hart : ℕ) (so_far : AfterSteps Target) (stop : Stop) → selected_of so_far.state ≡ hart
     → IsScheduled hart so_far.state so_far.entered so_far.steps (ended so_far stop)
 unfolding scheduled_steps
-ends hart so_far stop own = record { count = 0; steps = omega arith; selected = own; state = λ did. refl; entered = λ did entered_is. entered_is }
+ended_is_scheduled hart so_far stop is_selected =
+    record { count = 0; steps = omega arith; selected = is_selected; state = λ summary. refl; entered = λ summary entered_is. entered_is }
 
 -- a run that goes on is the schedule of one step and the remaining run
-goes : (hart : ℕ) (before : AfterSteps Target) (after : AfterRun Target) → selected_of before.state ≡ hart
+step_is_scheduled : (hart : ℕ) (before : AfterSteps Target) (after : AfterRun Target) → selected_of before.state ≡ hart
     → (let so_far = with_step before (target_stepped before.state) in IsScheduled hart so_far.state so_far.entered so_far.steps after)
     → IsScheduled hart before.state before.entered before.steps after
 unfolding scheduled_steps
-goes hart before after own more =
+step_is_scheduled hart before after is_selected rest =
     let last = target_stepped before.state in
-    let next : Target → Scheduled → AfterSchedule =
-    λ target did. scheduled_steps (replicate more.count hart) (with_scheduled_step hart (after_schedule before.state did) (target_stepped target)) in
-    let here = step_scheduled_own hart before.state own in
-    let did_of : Scheduled → Scheduled = λ did. (with_scheduled_step hart (after_schedule before.state did) last).did in
+    let next : Target → Scheduled → AfterSchedule = λ target summary. scheduled_steps (replicate rest.count hart)
+    (with_scheduled_step hart (after_schedule before.state summary) (target_stepped target)) in
+    let same_target = select_same_hart hart before.state is_selected in
+    let did_of : Scheduled → Scheduled = λ summary. (with_scheduled_step hart (after_schedule before.state summary) last).did in
     record {
-      count = suc more.count;
-      steps = more.steps ∙ omega arith;
-      selected = more.selected;
-      state = λ did. ap (λ (target : Target). (next target did).state) here ∙ more.state (did_of did);
-      entered = λ did entered_is. ap (λ (target : Target). (next target did).did.entered) here
-          ∙ more.entered (did_of did) (ap (λ (slots : ℕ). slots_with slots last.entered) entered_is);
+      count = suc rest.count;
+      steps = rest.steps ∙ omega arith;
+      selected = rest.selected;
+      state = λ summary. ap (λ (target : Target). (next target summary).state) same_target ∙ rest.state (did_of summary);
+      entered = λ summary entered_is. ap (λ (target : Target). (next target summary).did.entered) same_target
+          ∙ rest.entered (did_of summary) (ap (λ (slots : ℕ). slots_with slots last.entered) entered_is);
     }
 
--- a run is the schedule of as many steps of the hart
-is-scheduled_steps : (breaks watches : List ℕ) (hart count : ℕ) (before : AfterSteps Target) → selected_of before.state ≡ hart
+-- Every run is the schedule of as many steps of its hart, by induction over the steps of the run.
+run_is_scheduled : (breaks watches : List ℕ) (hart count : ℕ) (before : AfterSteps Target) → selected_of before.state ≡ hart
     → IsScheduled hart before.state before.entered before.steps (run target_stepped pc_of breaks watches count before)
-is-scheduled_steps breaks watches hart =
+run_is_scheduled breaks watches hart =
     run_induction target_stepped pc_of breaks watches
     (λ before end. selected_of before.state ≡ hart → IsScheduled hart before.state before.entered before.steps end)
-    (ends hart) (λ before end more own. goes hart before end own (more (same_hart before.state ∙ own)))
+    (ended_is_scheduled hart)
+    (λ before end rest is_selected. step_is_scheduled hart before end is_selected (rest (step_keeps_selected before.state ∙ is_selected)))
 
 -- the effect of a run leaves the target of the run
 pub run_done : (target : Target) (breaks watches : List ℕ) (count : ℕ)
     → done target (run_effect target breaks watches count) ≡ (steps_of target breaks watches count).state
 run_done target breaks watches count =
-    let scheduled = is-scheduled_steps breaks watches (selected_of target) count (no_steps target) refl in
+    let scheduled = run_is_scheduled breaks watches (selected_of target) count (no_steps target) refl in
     let end = steps_of target breaks watches count in
-    let all : scheduled.count ≡ end.ran.steps = omega (arith, scheduled.steps) in
-    ap (λ (n : ℕ). with_selected (selected_of target) (scheduled_steps (replicate n (selected_of target)) (schedule_start target)).state) (sym all)
-    ∙ ap (with_selected (selected_of target)) (scheduled.state _) ∙ step_scheduled_own (selected_of target) end.state scheduled.selected
+    let same_count : scheduled.count ≡ end.ran.steps = omega (arith, scheduled.steps) in
+    ap (λ (n : ℕ). with_selected (selected_of target) (scheduled_steps (replicate n (selected_of target)) (schedule_start target)).state)
+    (sym same_count)
+    ∙ ap (with_selected (selected_of target)) (scheduled.state _) ∙ select_same_hart (selected_of target) end.state scheduled.selected
 
 -- a run enters the same slots as its effect
 pub run_entered : (target : Target) (breaks watches : List ℕ) (count : ℕ)
     → entered_by target (run_effect target breaks watches count) ≡ (steps_of target breaks watches count).ran.entered
 run_entered target breaks watches count =
-    let scheduled = is-scheduled_steps breaks watches (selected_of target) count (no_steps target) refl in
+    let scheduled = run_is_scheduled breaks watches (selected_of target) count (no_steps target) refl in
     let end = steps_of target breaks watches count in
-    let all : scheduled.count ≡ end.ran.steps = omega (arith, scheduled.steps) in
-    ap (λ (n : ℕ). (scheduled_steps (replicate n (selected_of target)) (schedule_start target)).did.entered) (sym all) ∙ scheduled.entered _ refl
+    let same_count : scheduled.count ≡ end.ran.steps = omega (arith, scheduled.steps) in
+    ap (λ (n : ℕ). (scheduled_steps (replicate n (selected_of target)) (schedule_start target)).did.entered) (sym same_count)
+    ∙ scheduled.entered _ refl

@@ -5,37 +5,38 @@ use Rattle.rv_debug.proofs.Prelude.{AfterSchedule, Selected, IsBare, selected_at
 
 -- `after_schedule` is a target with the summaries of the steps so far
 abbrev pub after_schedule : Target → Scheduled → AfterSchedule
-after_schedule state did = record { state = state; did = did }
+after_schedule state summary = record { state = state; did = summary }
 
 -- the machine after a schedule is that after the steps of its harts, whichever hart is selected afterwards
-pub schedule_is_sched : (harts : List ℕ) (machine : Selected) (did : Scheduled) (selected : ℕ)
-    → with_selected selected (scheduled_steps harts (after_schedule (Monitored machine) did)).state ≡ selected_at selected (sched harts machine.state).state
+pub schedule_is_sched : (harts : List ℕ) (machine : Selected) (summary : Scheduled) (selected : ℕ)
+    → with_selected selected (scheduled_steps harts (after_schedule (Monitored machine) summary)).state
+    ≡ selected_at selected (sched harts machine.state).state
 unfolding scheduled_steps
-schedule_is_sched [] machine did selected = refl
-schedule_is_sched (hart ∷ harts) machine did selected =
-    let before = after_schedule (Monitored machine) did in
+schedule_is_sched [] machine summary selected = refl
+schedule_is_sched (hart ∷ harts) machine summary selected =
+    let before = after_schedule (Monitored machine) summary in
     schedule_is_sched harts (record { hart = hart; state = (step_of hart machine.state).state })
     (with_scheduled_step hart before (target_stepped (with_selected hart before.state))).did selected
 
 -- ---- a bare machine stays bare
 
--- a property of every bare machine holds of each bare target
-pub by_bare : (P : Target → Type 0) → ((machine : Machine) → P (Bare machine)) → (target : Target) → IsBare target → P target
-by_bare P alone (Bare machine) bare = alone machine
-by_bare P alone (Monitored machine) bare = absurd bare
+-- a property that holds of every bare machine holds of each target that is bare
+pub bare_target : (P : Target → Type 0) → ((machine : Machine) → P (Bare machine)) → (target : Target) → IsBare target → P target
+bare_target P holds_if_bare (Bare machine) is_bare = holds_if_bare machine
+bare_target P holds_if_bare (Monitored machine) is_bare = absurd is_bare
 
 -- a step leaves a bare machine bare
-pub step_bare : (hart : ℕ) (target : Target) → IsBare target → IsBare (target_stepped (with_selected hart target)).state
-step_bare hart = by_bare (λ (target : Target). IsBare (target_stepped (with_selected hart target)).state) (λ machine. tt)
+pub step_stays_bare : (hart : ℕ) (target : Target) → IsBare target → IsBare (target_stepped (with_selected hart target)).state
+step_stays_bare hart = bare_target (λ (target : Target). IsBare (target_stepped (with_selected hart target)).state) (λ machine. tt)
 
 -- the steps of a schedule leave a bare machine bare
-pub stays_bare : (harts : List ℕ) (before : AfterSchedule) → IsBare before.state → IsBare (scheduled_steps harts before).state
+pub schedule_stays_bare : (harts : List ℕ) (before : AfterSchedule) → IsBare before.state → IsBare (scheduled_steps harts before).state
 unfolding scheduled_steps
-stays_bare [] before bare = bare
-stays_bare (hart ∷ harts) before bare =
+schedule_stays_bare [] before is_bare = is_bare
+schedule_stays_bare (hart ∷ harts) before is_bare =
     let last = target_stepped (with_selected hart before.state) in
-    stays_bare harts (with_scheduled_step hart before last) (step_bare hart before.state bare)
+    schedule_stays_bare harts (with_scheduled_step hart before last) (step_stays_bare hart before.state is_bare)
 
 -- a bare machine with another selected hart is bare
-pub step_scheduled_bare : (hart : ℕ) (target : Target) → IsBare target → IsBare (with_selected hart target)
-step_scheduled_bare hart = by_bare (λ (target : Target). IsBare (with_selected hart target)) (λ machine. tt)
+pub selected_stays_bare : (hart : ℕ) (target : Target) → IsBare target → IsBare (with_selected hart target)
+selected_stays_bare hart = bare_target (λ (target : Target). IsBare (with_selected hart target)) (λ machine. tt)

@@ -1,7 +1,8 @@
--- This file computes the steps of the closed instance of the law of declassification.
-use Rattle.std.proofs.Common.{◌≡◌, ◌≢◌, ℕ, zero, suc, ◌+◌, true, false, List, [], ◌∷◌, ◌++◌, length, replicate, Some, refl, sym, ◌∙◌, ap, inl, inr, arith}
+-- The closed instance of the law of declassification, by computing its steps. The machines and moves are defined in specs/SecretRun.
+use Rattle.std.proofs.Common.{◌≡◌, ◌≢◌, ℕ, zero, suc, ◌+◌, true, false, List, [], ◌∷◌, ◌++◌, length, replicate, Some, refl, sym, ◌∙◌, ap, inl, inr}
+use Rattle.std.proofs.Common.{arith}
 use Rattle.std.specs.Prelude.{not, slice_index}
-use Rattle.rv_memory.specs.Memory.{read}
+use Rattle.rv_memory.specs.Memory.{read, ram_base}
 use Rattle.rv_word.specs.Logic.{by_bits}
 use Rattle.rv_state.specs.Bits.{kept_bits}
 use Rattle.rv_encoding.specs.Decoding.{decoded}
@@ -31,121 +32,132 @@ use Rattle.rv_monitor.proofs.InvariantLemmas.{invariant_by_size, invariant_law, 
 use Rattle.rv_monitor.proofs.RelatedChanges.{memory_related, related_itself}
 use Rattle.rv_monitor.proofs.Start.{start_invariant}
 use Rattle.rv_debug.proofs.Prelude.{both_ways, cases_eq, nat_tests}
-use Rattle.rv_debug.specs.SecretRun.{IsConcealed, secret_asking, before_secret, secret_entered, secret_interrupted, secret_moves, secret_new, secret_next, secret_raised, secret_ram, secret_reset, secret_resumed, secret_start}
+use Rattle.rv_debug.specs.SecretRun.{IsConcealed, secret_asking, before_secret, secret_entered, secret_interrupted, secret_moves, secret_new}
+use Rattle.rv_debug.specs.SecretRun.{secret_next, secret_raised, secret_ram, secret_reset, secret_resumed, secret_start}
 
 -- ---- what is computed
 
--- the enclave of slot 0 runs on no hart, and hart 0 is its only one
-pub record IsIdle (machine : MonitoredMachine) : Type 0 where
-  pub low : runs_on 0 0 machine ≡ false
-  pub idle : runs machine.shared.table 0 ≡ false
+-- the address of the secret, which is in the region
+abbrev pub secret_address : ℕ
+secret_address = 0x80018100
 
--- these facts of the example are computed, for each secret
-record Computed (secret : ℕ) : Type 0 where
+-- the offset of the secret in RAM
+abbrev secret_offset : ℕ
+secret_offset = 98560
+
+-- the address at which the host's code begins, after the monitor's range
+abbrev pub host_code : ℕ
+host_code = 0x80010000
+
+-- the number of bytes of RAM after the secret
+abbrev pub bytes_after_secret : ℕ
+bytes_after_secret = 32511
+
+-- the enclave of slot 0 does not run on hart 0, the only hart, and its state is not Running
+pub record IsIdle (machine : MonitoredMachine) : Type 0 where
+  pub not_on_hart : runs_on 0 0 machine ≡ false
+  pub not_running : runs machine.shared.table 0 ≡ false
+
+-- The facts of the example that are computed, for each secret. RAM has 131072 bytes. The first five hold after create. The other fields follow the
+-- moves. These are the call run (`first`, `second`), the load of the secret (`before_load`, `after_load`), and the exit by the timer interrupt
+-- (`running` to `exits`). Then come the call resume (`third` to `fifth`) and one more step of the enclave (`before_last`, `after_last`).
+pub record Computed (secret : ℕ) : Type 0 where
   size : length (secret_next secret_start).shared.memory ≡ length (secret_ram secret)
+  pub memory : (secret_next secret_start).shared.memory ≡ secret_ram 0
   live : is_live (secret_next secret_start).shared.table 0 ≡ true
-  own : may_differ (secret_next secret_start).shared.table 0 0x80018100 ≡ true
+  pub region_has : has (region (secret_next secret_start).shared.table 0) secret_address ≡ true
+  secret_in_region : may_differ (secret_next secret_start).shared.table 0 secret_address ≡ true
   first : IsIdle (secret_new secret)
   second : IsIdle (secret_next (secret_new secret))
-  enters : runs_on 0 0 (secret_entered secret) ≡ true
-  loads : runs_on 0 0 (secret_next (secret_entered secret)) ≡ true
+  before_load : runs_on 0 0 (secret_entered secret) ≡ true
+  after_load : runs_on 0 0 (secret_next (secret_entered secret)) ≡ true
   running : runs_on 0 0 (secret_raised secret) ≡ true
   window : window (secret_raised secret).shared.table 0 ≡ no_block
-  long : length (secret_raised secret).shared.memory ≡ 131072
+  memory_size : length (secret_raised secret).shared.memory ≡ 131072
   trap : (step_of 0 (secret_raised secret)).outcome.step.trap ≡ Some timer_trap
   exits : (hart_state_of 0 (secret_interrupted secret)).world ≡ Host
   third : IsIdle (secret_interrupted secret)
   fourth : IsIdle (secret_next (secret_interrupted secret))
   fifth : IsIdle (secret_next (secret_next (secret_interrupted secret)))
-  again : runs_on 0 0 (secret_resumed secret) ≡ true
-  last : runs_on 0 0 (secret_next (secret_resumed secret)) ≡ true
+  before_last : runs_on 0 0 (secret_resumed secret) ≡ true
+  after_last : runs_on 0 0 (secret_next (secret_resumed secret)) ≡ true
 
--- the example has the facts of `Computed`, for each secret
-computed : (secret : ℕ) → Computed secret
+-- Proves the facts of the example by computation of the steps, for each secret.
+pub computed : (secret : ℕ) → Computed secret
 unfolding at_start step_of monitored_step handled call_handled called performed created create_refusals is_valid_block is_window overlaps is_entry
-    free_slot call_requested first_context layout entry_at step request executed retired_or_trapped from_access from_decode from_fetch written_csr csr_changed
+    free_slot call_requested first_context layout entry_at step request executed retired_or_trapped from_access from_decode from_fetch
+    written_csr csr_changed
     decoded by_bits read verdict matching_entry covers ones_at_end kept_bits state_refusals entered_slot left timer_stopped
 computed secret = record {
   size = refl;
+  memory = refl;
   live = refl;
-  own = refl;
-  first = record { low = refl; idle = refl };
-  second = record { low = refl; idle = refl };
-  enters = refl;
-  loads = refl;
+  region_has = refl;
+  secret_in_region = refl;
+  first = record { not_on_hart = refl; not_running = refl };
+  second = record { not_on_hart = refl; not_running = refl };
+  before_load = refl;
+  after_load = refl;
   running = refl;
   window = refl;
-  long = refl;
+  memory_size = refl;
   trap = refl;
   exits = refl;
-  third = record { low = refl; idle = refl };
-  fourth = record { low = refl; idle = refl };
-  fifth = record { low = refl; idle = refl };
-  again = refl;
-  last = refl;
+  third = record { not_on_hart = refl; not_running = refl };
+  fourth = record { not_on_hart = refl; not_running = refl };
+  fifth = record { not_on_hart = refl; not_running = refl };
+  before_last = refl;
+  after_last = refl;
 }
 
 -- the byte of the secret is in a0 when the timer line is set
 pub is_in_a0 : slice_index (hart_state_of 0 (secret_raised 0x41)).hart.regs 10 ≡ 0x41
 unfolding at_start step_of monitored_step handled call_handled called performed created create_refusals is_valid_block is_window overlaps is_entry
-    free_slot call_requested first_context layout entry_at step request executed retired_or_trapped from_access from_decode from_fetch written_csr csr_changed
+    free_slot call_requested first_context layout entry_at step request executed retired_or_trapped from_access from_decode from_fetch
+    written_csr csr_changed
     decoded by_bits read verdict matching_entry covers ones_at_end kept_bits state_refusals entered_slot left timer_stopped
 is_in_a0 = refl
 
--- ---- create, and the byte that the secret replaces
-
--- create leaves the bytes of RAM unchanged
-pub created_memory : (secret_next secret_start).shared.memory ≡ secret_ram 0
-unfolding at_start step_of monitored_step handled call_handled called performed created create_refusals is_valid_block is_window overlaps is_entry
-    free_slot call_requested first_context layout entry_at step request executed retired_or_trapped from_access from_decode from_fetch written_csr csr_changed
-    decoded by_bits read verdict matching_entry covers ones_at_end kept_bits
-created_memory = refl
-
--- the address of the secret is in the region of slot 0
-pub region_has : has (region (secret_next secret_start).shared.table 0) 0x80018100 ≡ true
-unfolding at_start step_of monitored_step handled call_handled called performed created create_refusals is_valid_block is_window overlaps is_entry
-    free_slot call_requested first_context layout entry_at step request executed retired_or_trapped from_access from_decode from_fetch written_csr csr_changed
-    decoded by_bits read verdict matching_entry covers ones_at_end kept_bits
-region_has = refl
-
--- the enclave does not run before create
+-- the enclave of slot 0 does not run before create
 pub start_idle : IsIdle secret_start
 unfolding at_start
-start_idle = record { low = refl; idle = refl }
+start_idle = record { not_on_hart = refl; not_running = refl }
 
 -- ---- the two machines
 
 -- the machine before create has the invariant
-pub start_kept : Invariant secret_start
-start_kept = written_invariant 0 secret_asking false secret_reset (start_invariant (secret_ram 0) 0x80010000 1 refl)
+pub invariant_before_create : Invariant secret_start
+invariant_before_create = written_invariant 0 secret_asking false secret_reset (start_invariant (secret_ram 0) host_code 1 refl)
 
 -- the machine with a secret has the invariant
-kept : (secret : ℕ) → Invariant (secret_new secret)
-kept secret = invariant_by_size (secret_next secret_start) (secret_ram secret) (invariant_law 0 secret_start start_kept) (computed secret).size
+invariant_after_create : (secret : ℕ) → Invariant (secret_new secret)
+invariant_after_create secret =
+    invariant_by_size (secret_next secret_start) (secret_ram secret) (invariant_law 0 secret_start invariant_before_create) (computed secret).size
 
--- two lists that differ at one index are equal at every other
-other_byte : (xs ys : List ℕ) (a b i : ℕ) → i ≢ length xs → slice_index (xs ++ (a ∷ ys)) i ≡ slice_index (xs ++ (b ∷ ys)) i
-other_byte [] ys a b zero other = absurd (other refl)
-other_byte [] ys a b (suc i) other = refl
-other_byte (x ∷ xs) ys a b zero other = refl
-other_byte (x ∷ xs) ys a b (suc i) other = other_byte xs ys a b i (λ same. other (ap suc same))
+-- two lists that differ only in the byte after xs are equal at every other index
+pub other_byte : (xs ys : List ℕ) (a b i : ℕ) → i ≢ length xs → slice_index (xs ++ (a ∷ ys)) i ≡ slice_index (xs ++ (b ∷ ys)) i
+other_byte [] ys a b zero not_at_byte = absurd (not_at_byte refl)
+other_byte [] ys a b (suc i) not_at_byte = refl
+other_byte (x ∷ xs) ys a b zero not_at_byte = refl
+other_byte (x ∷ xs) ys a b (suc i) not_at_byte = other_byte xs ys a b i (λ same. not_at_byte (ap suc same))
 
--- the secret is at offset 98560 in RAM, which is address 80018100
-pub place : length before_secret ≡ 98560
-place = refl
+-- the secret is at `secret_offset` in RAM
+pub secret_is_at_offset : length before_secret ≡ secret_offset
+secret_is_at_offset = refl
 
 -- the machines with two secrets are related
-related : (a b : ℕ) → AreRelated 0 (secret_new a) (secret_new b)
-related a b =
-    memory_related 0 (secret_next secret_start) (secret_next secret_start) (secret_ram a) (secret_ram b) (related_itself 0 (secret_next secret_start)) (record {
+machines_related : (a b : ℕ) → AreRelated 0 (secret_new a) (secret_new b)
+machines_related a b =
+    memory_related 0 (secret_next secret_start) (secret_next secret_start) (secret_ram a) (secret_ram b)
+    (related_itself 0 (secret_next secret_start)) (record {
       size = sym (computed a).size ∙ (computed b).size;
-      bytes = λ i shown. elim (cases_eq i 98560) [
-        | inl at ↦
-            let here = ap (λ (j : ℕ). may_differ (secret_next secret_start).shared.table 0 (0x80000000 + j)) (sym at) ∙ shown in
-            absurd (both_ways _ here (computed a).own)
-        | inr other ↦ other_byte before_secret (replicate 32511 0) a b i (λ same. other (same ∙ place))
+      bytes = λ i shown. elim (cases_eq i secret_offset) [
+        | inl is_secret ↦
+            let secret_shown = ap (λ (j : ℕ). may_differ (secret_next secret_start).shared.table 0 (ram_base + j)) (sym is_secret) ∙ shown in
+            absurd (both_ways _ secret_shown (computed a).secret_in_region)
+        | inr is_other ↦ other_byte before_secret (replicate bytes_after_secret 0) a b i (λ same. is_other (same ∙ secret_is_at_offset))
       ];
-    }) (λ dead. absurd (both_ways _ dead (computed a).live))
+    }) (λ not_live. absurd (both_ways _ not_live (computed a).live))
 
 -- the empty block has no byte
 no_byte : (byte : ℕ) → has no_block byte ≡ false
@@ -154,14 +166,14 @@ no_byte byte = grind (arith, nat_tests)
 -- ---- the moves
 
 -- the interrupt exits from both machines and hands over the same
-exit : (a b : ℕ) → ExitsAlike 0 0 (secret_raised a) (secret_raised b)
-exit a b = record {
+timer_exits_alike : (a b : ℕ) → ExitsAlike 0 0 (secret_raised a) (secret_raised b)
+timer_exits_alike a b = record {
   runs = (computed a).running;
   window = record {
-    size = (computed a).long ∙ sym (computed b).long;
+    size = (computed a).memory_size ∙ sym (computed b).memory_size;
     bytes = λ i shown.
-        let none = ap not (ap (λ (w : Block). has w (0x80000000 + i)) (computed a).window ∙ no_byte (0x80000000 + i)) in
-        absurd (both_ways _ shown none);
+        let not_in_window = ap not (ap (λ (w : Block). has w (ram_base + i)) (computed a).window ∙ no_byte (ram_base + i)) in
+        absurd (both_ways _ shown not_in_window);
   };
   trap = timer_trap;
   handover = tt;
@@ -171,46 +183,37 @@ exit a b = record {
   second_exits = (computed b).exits;
 }
 
+-- the proof that the first move is permitted, followed by the proof for the other moves
+abbrev pub and_then : {A B : Type 0} → A → B → A × B
+and_then first_move others = (first_move, others)
+
 -- the moves of the example are permitted, for any two secrets
-pub are : (a b : ℕ) → AreMoves 0 secret_moves (secret_new a) (secret_new b)
-are a b =
-    let c = computed a in
-    let d = computed b in (
-      inl (record { low = c.first.low; window = λ running. absurd (both_ways _ c.first.idle running) }),
-      (
-        inl (record { low = c.second.low; window = λ running. absurd (both_ways _ c.second.idle running) }),
-        (
-          record { before = c.enters; after = c.loads },
-          (
-            record { before = d.enters; after = d.loads },
-            (
-              tt,
-              (
-                inr (exit a b),
-                (
-                  inl (record { low = c.third.low; window = λ running. absurd (both_ways _ c.third.idle running) }),
-                  (
-                    inl (record { low = c.fourth.low; window = λ running. absurd (both_ways _ c.fourth.idle running) }),
-                    (
-                      inl (record { low = c.fifth.low; window = λ running. absurd (both_ways _ c.fifth.idle running) }),
-                      (
-                        record { before = c.again; after = c.last },
-                        (
-                          record { before = d.again; after = d.last },
-                          tt,
-                        ),
-                      ),
-                    ),
-                  ),
-                ),
-              ),
-            ),
-          ),
-        ),
-      ),
-    )
+pub are_moves : (a b : ℕ) → AreMoves 0 secret_moves (secret_new a) (secret_new b)
+are_moves a b =
+    let first_facts = computed a in
+    let second_facts = computed b in
+    -- the host calls run
+    and_then (inl (record { low = first_facts.first.not_on_hart; window = λ running. absurd (both_ways _ first_facts.first.not_running running) }))
+    (and_then (inl (record { low = first_facts.second.not_on_hart; window = λ running. absurd (both_ways _ first_facts.second.not_running running) }))
+    -- the load of the secret in each machine
+    (and_then (record { before = first_facts.before_load; after = first_facts.after_load })
+    (and_then (record { before = second_facts.before_load; after = second_facts.after_load })
+    -- the timer line is set, and the timer interrupt exits from both machines
+    (and_then tt
+    (and_then (inr (timer_exits_alike a b))
+    -- the host calls resume
+    (and_then (inl (record { low = first_facts.third.not_on_hart; window = λ running. absurd (both_ways _ first_facts.third.not_running running) }))
+    (and_then (inl (record { low = first_facts.fourth.not_on_hart; window = λ running. absurd (both_ways _ first_facts.fourth.not_running running) }))
+    (and_then (inl (record { low = first_facts.fifth.not_on_hart; window = λ running. absurd (both_ways _ first_facts.fifth.not_running running) }))
+    -- the last step of the enclave in each machine
+    (and_then (record { before = first_facts.before_last; after = first_facts.after_last })
+    (and_then (record { before = second_facts.before_last; after = second_facts.after_last }) tt))))))))))
 
 -- proves that the steps of the example have equal outcomes for any two secrets
 pub steps_concealed : (a b : ℕ) → IsConcealed a b
 steps_concealed a b =
-    record { are = are a b; alike = declassification_law 0 secret_moves (secret_new a) (secret_new b) (kept a) (kept b) (related a b) (are a b) }
+    record {
+      are = are_moves a b;
+      alike = declassification_law 0 secret_moves (secret_new a) (secret_new b) (invariant_after_create a)
+          (invariant_after_create b) (machines_related a b) (are_moves a b);
+    }

@@ -1,26 +1,26 @@
--- This file is about the steps of a run, one by one.
-use Rattle.std.proofs.Common.{◌≡◌, ℕ, zero, suc, ◌+◌, ◌-◌, ◌<◌, ◌≤◌, ◌==◌, true, false, cond, List, [], Option, Some, None, refl, ◌∙◌, ap}
-use Rattle.std.proofs.Common.{arith, inl, inr, Bool}
+-- The steps of a run, one by one: case analysis and induction, and how each step of the code's loop continues or ends the run.
+use Rattle.std.proofs.Common.{◌≡◌, ℕ, zero, suc, ◌+◌, ◌-◌, ◌<◌, ◌≤◌, ◌==◌, true, false, cond, List, [], Option, Some, None, refl, ◌∙◌, ap, arith, inl}
+use Rattle.std.proofs.Common.{inr, Bool}
 use Rattle.rv_debug.specs.Prelude.{Break, Done, Stop, Trap, Watch, option_case}
-use Rattle.rv_debug.proofs.Prelude.{AfterRun, AfterSteps, Stepped, cases_eq, ended, is_among, lowest_accessed, option_or, run, slots_with}
-use Rattle.rv_debug.proofs.Prelude.{with_step}
+use Rattle.rv_debug.proofs.Prelude.{AfterRun, AfterSteps, Stepped, cases_eq, ended, is_among, lowest_accessed, option_or, run, slots_with, with_step}
 
 -- ---- case analysis of a run
 
--- how a run ends or continues after a step, from the watched byte that it accessed, whether it was the last, and whether the next instruction is
--- at a breakpoint
+-- How a run ends or continues after a step. The arguments are the steps so far, the run that continues, and the watched byte that the step accessed.
+-- The two tests are whether it was the last step, and whether the next instruction is at a breakpoint.
 abbrev pub next_of : {A : Type 0} → AfterSteps A → AfterRun A → Option ℕ → Bool → Bool → AfterRun A
-next_of after more hit last here =
-    option_case hit (cond last (ended after Done) (cond here (ended after Break) more)) (λ address. ended after (Watch address))
+next_of after continued watch_hit last at_break =
+    option_case watch_hit (cond last (ended after Done) (cond at_break (ended after Break) continued)) (λ address. ended after (Watch address))
 
--- a property that holds if the run ends, and of the rest of the run, holds of the run; for two runs side by side that stop alike
+-- Case analysis of `next_of` for two runs side by side that stop alike. A property holds after the step, if it holds for each stop and for the runs
+-- that continue.
 pub next_cases : {A B : Type 0} (P : AfterRun A → AfterRun B → Type 0) (a : AfterSteps A) (b : AfterSteps B) (one : AfterRun A)
-    (other : AfterRun B) (hit : Option ℕ) (last here : Bool) → ((stop : Stop) → P (ended a stop) (ended b stop)) → P one other
-    → P (next_of a one hit last here) (next_of b other hit last here)
-next_cases P a b one other (Some address) last here ends more = ends (Watch address)
-next_cases P a b one other None true here ends more = ends Done
-next_cases P a b one other None false true ends more = ends Break
-next_cases P a b one other None false false ends more = more
+    (other : AfterRun B) (hit : Option ℕ) (last at_break : Bool) → ((stop : Stop) → P (ended a stop) (ended b stop)) → P one other
+    → P (next_of a one hit last at_break) (next_of b other hit last at_break)
+next_cases P a b one other (Some address) last at_break at_stop at_continuation = at_stop (Watch address)
+next_cases P a b one other None true at_break at_stop at_continuation = at_stop Done
+next_cases P a b one other None false true at_stop at_continuation = at_stop Break
+next_cases P a b one other None false false at_stop at_continuation = at_continuation
 
 -- a property of a run holds if it holds at the end of the run, and before a step whenever it holds after the step
 pub run_induction : {A : Type 0} (step : A → Stepped A) (pc : A → ℕ) (breaks watches : List ℕ) (P : AfterSteps A → AfterRun A → Type 0)
@@ -28,14 +28,14 @@ pub run_induction : {A : Type 0} (step : A → Stepped A) (pc : A → ℕ) (brea
     → ((before : AfterSteps A) (end : AfterRun A) → P (with_step before (step before.state)) end → P before end)
     → (count : ℕ) (before : AfterSteps A) → P before (run step pc breaks watches count before)
 unfolding run
-run_induction step pc breaks watches P ends goes zero before = ends before Done
-run_induction {A} step pc breaks watches P ends goes (suc left) before =
+run_induction step pc breaks watches P at_end before_step zero before = at_end before Done
+run_induction {A} step pc breaks watches P at_end before_step (suc left) before =
     let last = step before.state in
     let after = with_step before last in
-    let more = run step pc breaks watches left after in
+    let continued = run step pc breaks watches left after in
     let Ends : AfterRun A → AfterRun A → Type 0 = λ end _. P after end in
-    goes before _ (next_cases Ends after after more more (lowest_accessed watches last.outcome.touched) (left == 0)
-    (is_among (pc last.state) breaks) (ends after) (run_induction step pc breaks watches P ends goes left after))
+    before_step before _ (next_cases Ends after after continued continued (lowest_accessed watches last.outcome.touched) (left == 0)
+    (is_among (pc last.state) breaks) (at_end after) (run_induction step pc breaks watches P at_end before_step left after))
 
 -- ---- one step of a run
 
@@ -45,8 +45,9 @@ pub record IsNextStep {A : Type 0} (step : A → Stepped A) (before : AfterSteps
   pub trap_is : trap ≡ option_or last.outcome.trap before.trap
   pub entered_is : entered ≡ slots_with before.entered last.entered
 
+-- runs of any machine with a step function
 module _ {A : Type 0} (step : A → Stepped A) (pc : A → ℕ) (breaks watches : List ℕ) where
-  -- one step of a run, and how the run ends or continues
+  -- `next` is a run after one step from `before`: it ends, or continues with `left` steps left
   abbrev next : ℕ → AfterSteps A → AfterRun A
   next left before =
       let last = step before.state in
@@ -54,55 +55,54 @@ module _ {A : Type 0} (step : A → Stepped A) (pc : A → ℕ) (breaks watches 
       next_of after (run step pc breaks watches left after) (lowest_accessed watches last.outcome.touched) (left == 0)
       (is_among (pc last.state) breaks)
 
-  -- a run of at least one step is its first step and what follows
+  -- a run of at least one step is its first step, and then ends or continues as `next` says
   run-suc : (left : ℕ) (before : AfterSteps A) → run step pc breaks watches (suc left) before ≡ next left before
   unfolding run
   run-suc left before = refl
 
-  -- a run of `left` + 1 steps is its first step and what follows
+  -- a run of `left` + 1 steps is its first step, and then ends or continues as `next` says
   run-next : (count left : ℕ) (before : AfterSteps A) → count ≡ left + 1 → run step pc breaks watches count before ≡ next left before
   run-next count left before count_is =
-      let e : count ≡ suc left = omega arith in ap (λ n. run step pc breaks watches n before) e ∙ run-suc left before
+      let count_is_suc : count ≡ suc left = omega arith in ap (λ n. run step pc breaks watches n before) count_is_suc ∙ run-suc left before
 
-  -- a watched byte was accessed
+  -- a run ends after a step that accesses a watched byte
   run-watch : (count left : ℕ) (before : AfterSteps A) (address : ℕ) → count ≡ left + 1
       → Some address ≡ lowest_accessed watches (step before.state).outcome.touched
       → run step pc breaks watches count before ≡ ended (with_step before (step before.state)) (Watch address)
-  run-watch count left before address count_is hit = run-next count left before count_is ∙ rw (← hit) refl
+  run-watch count left before address count_is watch_hit = run-next count left before count_is ∙ rw (← watch_hit) refl
 
   -- a run ends at a breakpoint after a step that was not the last
   run-break : (count left : ℕ) (before : AfterSteps A) → count ≡ left + 1 → 0 < left
       → None ≡ lowest_accessed watches (step before.state).outcome.touched → true ≡ is_among (pc (step before.state).state) breaks
       → run step pc breaks watches count before ≡ ended (with_step before (step before.state)) Break
-  run-break count left before count_is more none here =
-      let no : (left == 0) ≡ false = grind arith in
-      run-next count left before count_is ∙ rw (← none, no, ← here) refl
+  run-break count left before count_is steps_left no_watch_hit at_break =
+      let not_last : (left == 0) ≡ false = grind arith in
+      run-next count left before count_is ∙ rw (← no_watch_hit, not_last, ← at_break) refl
 
   -- a run of one step ends after it, if it accesses no watched byte
   run-last : (count left : ℕ) (before : AfterSteps A) → count ≡ left + 1 → left ≡ 0
       → None ≡ lowest_accessed watches (step before.state).outcome.touched
       → run step pc breaks watches count before ≡ run step pc breaks watches left (with_step before (step before.state))
   unfolding run
-  run-last count left before count_is last none = run-next count left before count_is ∙ rw (← none, last) refl
+  run-last count left before count_is is_last no_watch_hit = run-next count left before count_is ∙ rw (← no_watch_hit, is_last) refl
 
   -- the steps continue, or all are executed
-  run-more : (count left : ℕ) (before : AfterSteps A) → count ≡ left + 1
-      → None ≡ lowest_accessed watches (step before.state).outcome.touched
+  run-more : (count left : ℕ) (before : AfterSteps A) → count ≡ left + 1 → None ≡ lowest_accessed watches (step before.state).outcome.touched
       → (0 < left → is_among (pc (step before.state).state) breaks ≡ false)
       → run step pc breaks watches count before ≡ run step pc breaks watches left (with_step before (step before.state))
-  run-more count left before count_is none elsewhere = elim (cases_eq left 0) [
-    | inl last ↦ run-last count left before count_is last none
-    | inr more ↦
-        let no : (left == 0) ≡ false = grind arith in
-        let some : 0 < left = omega arith in
-        run-next count left before count_is ∙ rw (← none, no, elsewhere some) refl
+  run-more count left before count_is no_watch_hit no_break = elim (cases_eq left 0) [
+    | inl is_last ↦ run-last count left before count_is is_last no_watch_hit
+    | inr not_zero ↦
+        let not_last : (left == 0) ≡ false = grind arith in
+        let steps_left : 0 < left = omega arith in
+        run-next count left before count_is ∙ rw (← no_watch_hit, not_last, no_break steps_left) refl
   ]
 
   -- `after_step` has the steps so far and one more, with the last trap and the entered slots after it
   abbrev after_step : AfterSteps A → Stepped A → Option Trap → ℕ → AfterSteps A
   after_step before last trap entered = record { state = last.state; steps = before.steps + 1; trap = trap; entered = entered }
 
-  -- the counter of the code, `with_step`, gives `after_step` for the next step
+  -- `with_step` of the definitions is `after_step`, which has the trap and the slots that the code computes
   adds : (before : AfterSteps A) (last : Stepped A) (trap : Option Trap) (entered : ℕ) → IsNextStep step before last trap entered
       → with_step before (step before.state) ≡ after_step before last trap entered
   adds before last trap entered next =
@@ -111,42 +111,44 @@ module _ {A : Type 0} (step : A → Stepped A) (pc : A → ℕ) (breaks watches 
       let entered_is = next.entered_is in
       rw (steps, trap_is, entered_is) refl
 
-  -- the run ends at a watched byte
+  -- the run ends after the next step, if the step accesses a watched byte; `done` of the `count` steps are executed before it
   pub stops-watch : (count done : ℕ) (before : AfterSteps A) (last : Stepped A) (trap : Option Trap) (entered address : ℕ)
       → done < count → IsNextStep step before last trap entered → Some address ≡ lowest_accessed watches last.outcome.touched
       → run step pc breaks watches (count - done) before ≡ ended (after_step before last trap entered) (Watch address)
-  stops-watch count done before last trap entered address more next hit =
+  stops-watch count done before last trap entered address steps_left next watch_hit =
       let steps = next.steps in
-      run-watch (count - done) (count - (done + 1)) before address (omega arith) (rw steps hit)
+      run-watch (count - done) (count - (done + 1)) before address (omega arith) (rw steps watch_hit)
       ∙ ap (λ after. ended after (Watch address)) (adds before last trap entered next)
 
-  -- the run ends at a breakpoint, if steps are left
+  -- the run ends after the next step, if this step accesses no watched byte, leads to a breakpoint, and is not the last
   pub stops-break : (count done : ℕ) (before : AfterSteps A) (last : Stepped A) (trap : Option Trap) (entered : ℕ)
-      → done + 1 < count → IsNextStep step before last trap entered → None ≡ lowest_accessed watches last.outcome.touched → true ≡ is_among (pc last.state) breaks
+      → done + 1 < count → IsNextStep step before last trap entered → None ≡ lowest_accessed watches last.outcome.touched
+      → true ≡ is_among (pc last.state) breaks
       → run step pc breaks watches (count - done) before ≡ ended (after_step before last trap entered) Break
-  stops-break count done before last trap entered more next quiet here =
+  stops-break count done before last trap entered steps_left next no_watch_hit at_break =
       let steps = next.steps in
-      run-break (count - done) (count - (done + 1)) before (omega arith) (omega arith) (rw steps quiet) (rw steps here)
+      run-break (count - done) (count - (done + 1)) before (omega arith) (omega arith) (rw steps no_watch_hit) (rw steps at_break)
       ∙ ap (λ after. ended after Break) (adds before last trap entered next)
 
   -- the run continues after a step that is not the last, accesses no watched byte, and leads to no breakpoint
   pub goes-on : (count done : ℕ) (before : AfterSteps A) (last : Stepped A) (trap : Option Trap) (entered : ℕ)
-      → done < count → IsNextStep step before last trap entered → None ≡ lowest_accessed watches last.outcome.touched → (done + 1 < count → is_among (pc last.state) breaks ≡ false)
+      → done < count → IsNextStep step before last trap entered → None ≡ lowest_accessed watches last.outcome.touched
+      → (done + 1 < count → is_among (pc last.state) breaks ≡ false)
       → run step pc breaks watches (count - done) before ≡ run step pc breaks watches (count - (done + 1)) (after_step before last trap entered)
-  goes-on count done before last trap entered more next quiet elsewhere =
+  goes-on count done before last trap entered steps_left next no_watch_hit no_break =
       let steps = next.steps in
-      run-more (count - done) (count - (done + 1)) before (omega arith) (rw steps quiet) (λ some. rw steps (elsewhere (omega arith)))
+      run-more (count - done) (count - (done + 1)) before (omega arith) (rw steps no_watch_hit) (λ more_left. rw steps (no_break (omega arith)))
       ∙ ap (run step pc breaks watches (count - (done + 1))) (adds before last trap entered next)
 
-  -- the run continues if there is no breakpoint or watchpoint
+  -- the run continues after the next step, if there is no breakpoint and no watchpoint
   pub goes-on-free : (count done : ℕ) (before : AfterSteps A) (last : Stepped A) (trap : Option Trap) (entered : ℕ)
       → breaks ≡ [] → watches ≡ [] → done < count → IsNextStep step before last trap entered
       → run step pc breaks watches (count - done) before ≡ run step pc breaks watches (count - (done + 1)) (after_step before last trap entered)
   unfolding lowest_accessed
-  goes-on-free count done before last trap entered no_breaks no_watches more next =
-      goes-on count done before last trap entered more next (rw no_watches refl) (λ _. rw no_breaks refl)
+  goes-on-free count done before last trap entered no_breaks no_watches steps_left next =
+      goes-on count done before last trap entered steps_left next (rw no_watches refl) (λ _. rw no_breaks refl)
 
-  -- the run ends with `Done` when at least `count` steps are executed (over)
+  -- the run ends with `Done` when at least `count` steps are executed
   pub stops-done : (count done : ℕ) (so_far : AfterSteps A) → count ≤ done → run step pc breaks watches (count - done) so_far ≡ ended so_far Done
   unfolding run
-  stops-done count done so_far over = let none : count - done ≡ 0 = omega arith in rw none refl
+  stops-done count done so_far all_executed = let nothing_left : count - done ≡ 0 = omega arith in rw nothing_left refl

@@ -1,4 +1,4 @@
--- Steps of a target are those of its machine.
+-- A run of a target is the run of its machine, for a bare machine, for one hart of a monitored machine, and for the selected hart.
 use Rattle.std.proofs.Common.{◌≡◌, ℕ, zero, suc, ◌==◌, List, refl, sym, ◌∙◌, ap}
 use Rattle.rv_debug.specs.Prelude.{Bare, MonitoredMachine, Monitored, Ran, Machine, Target, hart_state_of, step_of}
 use Rattle.rv_debug.proofs.Prelude.{AfterRun, AfterSteps, Selected, Stepped, selected_at, selected_hart_state, selected_stepped, is_among}
@@ -13,17 +13,18 @@ in_target target after = record { state = target after.state; steps = after.step
 abbrev pub target_of : {A : Type 0} → (A → Target) → AfterRun A → AfterRun Target
 target_of target after = record { state = target after.state; ran = after.ran }
 
+-- a kind of machine whose step and pc are those of its target
 module _ {A : Type 0} (target : A → Target) (step : A → Stepped A) (pc : A → ℕ)
     (steps : (machine : A) → target_stepped (target machine) ≡ with_target target (step machine))
     (pcs : (machine : A) → pc_of (target machine) ≡ pc machine) (breaks watches : List ℕ) where
   -- `next_in` is the run of the target after one more step: ended, or continued
   abbrev next_in : ℕ → AfterSteps Target → Stepped Target → ℕ → AfterRun Target
-  next_in left before last here =
+  next_in left before last next_pc =
       let after = with_step before last in
       next_of after (run target_stepped pc_of breaks watches left after) (lowest_accessed watches last.outcome.touched) (left == 0)
-      (is_among here breaks)
+      (is_among next_pc breaks)
 
-  -- a run of the machine is the run of its target, with the steps so far
+  -- a run of the machine is the run of its target, with the steps so far; by induction over the number of steps left
   run-in : (count : ℕ) (before : AfterSteps A)
       → run target_stepped pc_of breaks watches count (in_target target before) ≡ target_of target (run step pc breaks watches count before)
   unfolding run
@@ -33,7 +34,8 @@ module _ {A : Type 0} (target : A → Target) (step : A → Stepped A) (pc : A �
       let after = with_step before last in
       ap (λ (seen : Stepped Target). next_in left (in_target target before) seen (pc_of seen.state)) (steps before.state)
       ∙ (ap (next_in left (in_target target before) (with_target target last)) (pcs last.state)
-      ∙ next_cases (λ (there : AfterRun Target) (here : AfterRun A). there ≡ target_of target here) (in_target target after) after _ _
+      ∙ next_cases (λ (target_run : AfterRun Target) (machine_run : AfterRun A). target_run ≡ target_of target machine_run)
+      (in_target target after) after _ _
       (lowest_accessed watches last.outcome.touched) (left == 0) (is_among (pc last.state) breaks) (λ stop. refl) (run-in left after))
 
   -- a run of the machine is a run of the target with this machine
@@ -75,7 +77,7 @@ entered-none : (breaks watches : List ℕ) (count : ℕ) (before : AfterSteps Ma
     → (run machine_stepped machine_pc breaks watches count before).ran.entered ≡ before.entered
 entered-none breaks watches =
     run_induction machine_stepped machine_pc breaks watches (λ before end. end.ran.entered ≡ before.entered) (λ after stop. refl)
-    (λ before end same. same)
+    (λ before end same_slots. same_slots)
 
 -- a run of a bare machine enters no slot
 pub enters_none : (breaks watches : List ℕ) (count : ℕ) (machine after : Machine) (ran : Ran)

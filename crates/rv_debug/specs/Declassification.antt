@@ -105,7 +105,8 @@ pub record IsSameLowCommand (e : ℕ) (first second : BenchState) (here there : 
   pub none : RunsOnNoneIn e (harts_named first.target here) first.target
   pub past : is_entered e (execute first here).entered ≡ false
 
--- Or both poke a secret into the region of the enclave, or both set a register of the hart on which it runs to a secret.
+-- Both benches execute the same command, which hands over the same or is low. Or both poke a secret into the region of the enclave, or both set a
+-- register of the hart on which it runs to a secret.
 abbrev pub CommandsAlike : ℕ → BenchState → BenchState → Command → Command → Type 0
 CommandsAlike e first second here there =
     (IsSameCommand e first second here there ⊎ IsSameLowCommand e first second here there)
@@ -167,12 +168,12 @@ ListDeclassificationLaw =
 abbrev pub DoesNotRun : ℕ → Target → Type 0
 DoesNotRun e target = IfSome (machine_in target) (λ machine. runs machine.shared.table e ≡ false)
 
--- the whole reply is observed; that of `csr` in the guest view
+-- what others observe of the command is its whole reply; for `csr` it is the reply in the guest view
 abbrev pub IsObserved : ℕ → BenchState → Command → Type 0
 IsObserved e bench (Csr number) = observed e bench (Csr number) ≡ csr_reply (guest_target bench.target) number
 IsObserved e bench command = observed e bench command ≡ (execute bench command).reply
 
--- The enclave does not run. The command does not enter it, and accesses no byte of its region.
+-- The whole reply is observed if the enclave does not run, and the command neither enters it nor accesses a byte of its region.
 abbrev pub ObservationLaw : Type 0
 ObservationLaw =
     (e : ℕ) (bench : BenchState) (command : Command) → TargetInvariant bench.target → DoesNotRun e bench.target → AvoidsEnclave e bench command
@@ -203,4 +204,5 @@ pub record EndedLaw : Type 0 where
 -- A bench is related to itself. Benches that are equivalent except for an enclave are related, if it runs on no hart.
 pub record BenchRelationLaw : Type 0 where
   pub itself : (e : ℕ) (bench : BenchState) → BenchesAreRelated e bench bench
-  pub begins : (e : ℕ) (first second : BenchState) → BenchesEquivExcept e first second → RunsOnNoHart e first.target → BenchesAreRelated e first second
+  pub begins : (e : ℕ) (first second : BenchState)
+      → BenchesEquivExcept e first second → RunsOnNoHart e first.target → BenchesAreRelated e first second

@@ -47,7 +47,8 @@ ran_reply after = ran_text (pc_of after.state) (hart_of after.state).mode (world
 abbrev pub poke_reply : Target → ℕ → ℕ → List ℕ
 poke_reply target address byte = option_case (poked target address byte) outside_text (λ after. ok_text)
 
--- mhartid shows the number of the selected hart, and every other CSR its value as mode M reads it, if there is one with the number
+-- mhartid (F14, which is 3860) shows the number of the selected hart, and every other CSR its value as mode M reads it, if there is one with the
+-- number
 abbrev pub csr_reply : Target → ℕ → List ℕ
 csr_reply target number =
     if number == 3860 then csr_text number (selected_of target)
@@ -65,7 +66,8 @@ hart_summary_text target hart ran =
 -- `harts_summary_text` has the summary of each hart
 abbrev pub harts_summary_text : AfterSchedule → List ℕ
 harts_summary_text after =
-    hart_summary_text after.state 0 after.did.first ++ (if nat_lt 1 (harts_of after.state) then hart_summary_text after.state 1 after.did.second else [])
+    hart_summary_text after.state 0 after.did.first
+    ++ (if nat_lt 1 (harts_of after.state) then hart_summary_text after.state 1 after.did.second else [])
 
 -- `sched_reply` is the reply to sched: the summary of each hart, or an error if a hart of the schedule does not exist
 abbrev pub sched_reply : Target → List ℕ → List ℕ

@@ -33,19 +33,19 @@ pub data BenchMove : Type 0 where
 abbrev pub IsBenchMove : ℕ → ℕ → BenchMove → MonitoredMachine → MonitoredMachine → Type 0
 IsBenchMove i j (InFirst action) one other = IsForeignAction i action one
 IsBenchMove i j (InSecond action) one other = IsForeignAction j action other
-IsBenchMove i j (InBoth h g) one other = IsOwnStep (at i h) (at j g) one other
+IsBenchMove i j (InBoth hart other_hart) one other = IsOwnStep (at i hart) (at j other_hart) one other
 
 -- `moved_first` is the first machine after a move
 abbrev pub moved_first : BenchMove → MonitoredMachine → MonitoredMachine
 moved_first (InFirst action) machine = after_action action machine
 moved_first (InSecond action) machine = machine
-moved_first (InBoth h g) machine = (step_of h machine).state
+moved_first (InBoth hart other_hart) machine = (step_of hart machine).state
 
 -- `moved_second` is the second machine after a move
 abbrev pub moved_second : BenchMove → MonitoredMachine → MonitoredMachine
 moved_second (InFirst action) machine = machine
 moved_second (InSecond action) machine = after_action action machine
-moved_second (InBoth h g) machine = (step_of g machine).state
+moved_second (InBoth hart other_hart) machine = (step_of other_hart machine).state
 
 -- each move in the list is permitted in the two machines that the moves before it lead to
 abbrev pub AreBenchMoves : ℕ → ℕ → List BenchMove → MonitoredMachine → MonitoredMachine → Type 0
@@ -58,22 +58,22 @@ abbrev pub first_actions : List BenchMove → List Action
 first_actions [] = []
 first_actions (InFirst action ∷ moves) = action ∷ first_actions moves
 first_actions (InSecond action ∷ moves) = first_actions moves
-first_actions (InBoth h g ∷ moves) = Occurs (StepOf h) ∷ first_actions moves
+first_actions (InBoth hart other_hart ∷ moves) = Occurs (StepOf hart) ∷ first_actions moves
 
 -- `second_actions` has the actions of the moves in the second machine
 abbrev pub second_actions : List BenchMove → List Action
 second_actions [] = []
 second_actions (InFirst action ∷ moves) = second_actions moves
 second_actions (InSecond action ∷ moves) = action ∷ second_actions moves
-second_actions (InBoth h g ∷ moves) = Occurs (StepOf g) ∷ second_actions moves
+second_actions (InBoth hart other_hart ∷ moves) = Occurs (StepOf other_hart) ∷ second_actions moves
 
 -- every step of the enclave is the same in both
 abbrev pub EnclaveStepsAreSame : ℕ → ℕ → List BenchMove → MonitoredMachine → MonitoredMachine → Type 0
 EnclaveStepsAreSame i j [] one other = Unit {0}
 EnclaveStepsAreSame i j (InFirst action ∷ moves) one other = EnclaveStepsAreSame i j moves (after_action action one) other
 EnclaveStepsAreSame i j (InSecond action ∷ moves) one other = EnclaveStepsAreSame i j moves one (after_action action other)
-EnclaveStepsAreSame i j (InBoth h g ∷ moves) one other =
-    SameOwnStep (at i h) (at j g) one other × EnclaveStepsAreSame i j moves (step_of h one).state (step_of g other).state
+EnclaveStepsAreSame i j (InBoth hart other_hart ∷ moves) one other =
+    SameOwnStep (at i hart) (at j other_hart) one other × EnclaveStepsAreSame i j moves (step_of hart one).state (step_of other_hart other).state
 
 -- ---- two lists of commands
 
@@ -97,7 +97,8 @@ IsLegalTarget target = IfSome (machine_in target) IsLegalMachine
 -- commands of other worlds influence an enclave only by its window and its entry, and legal targets stay legal
 pub record HostInfluenceLaw : Type 0 where
   pub same : (i j : ℕ) (first second : BenchState) (commands others : List Command) → TargetInvariant first.target → TargetInvariant second.target
-      → IsLegalTarget first.target → IsLegalTarget second.target → IfSome (machine_in first.target) (λ one. IfSome (machine_in second.target) (λ other.
+      → IsLegalTarget first.target → IsLegalTarget second.target
+      → IfSome (machine_in first.target) (λ one. IfSome (machine_in second.target) (λ other.
       (life : IsSameLife i j first second commands others one other)
       → HasSameLife i j life.moves one other (after_commands first commands).target (after_commands second others).target))
   pub legal : (bench : BenchState) (command : Command) → TargetInvariant bench.target → IsLegalTarget bench.target

@@ -24,7 +24,7 @@ after_byte = replicate 16367 0 ++ (hosted_enclave ++ replicate 32760 0)
 abbrev pub hosted_ram : ℕ → List ℕ
 hosted_ram byte = before_byte ++ (byte ∷ after_byte)
 
--- a create of the page at 80018000, with the window at 80014000
+-- `hosted_asking` has the registers for a call of create: the page at 80018000, with the window at 80014000
 abbrev pub hosted_asking : List ℕ
 hosted_asking =
     0 ∷ 0 ∷ 0 ∷ 0 ∷ 0 ∷ 0 ∷ 0 ∷ 0 ∷ 0 ∷ 0 ∷ 0x80018000 ∷ 0x1000 ∷ 0x80014000 ∷ 0x1000 ∷ 0x80018000 ∷ 0 ∷ 1 ∷ 0x0A454E43 ∷ replicate 14 0
@@ -37,13 +37,15 @@ hosted_reset harts = at_start (hosted_ram 0) 0x80010000 harts
 abbrev pub hosted_start : ℕ → ℕ → MonitoredMachine
 hosted_start harts hart =
     let hart_state = hart_state_of hart (hosted_reset harts) in
-    with_hart_state hart (record hart_state { hart = record hart_state.hart { regs = hosted_asking; csrs = record hart_state.hart.csrs { timer = false } } }) (hosted_reset harts)
+    with_hart_state hart
+    (record hart_state { hart = record hart_state.hart { regs = hosted_asking; csrs = record hart_state.hart.csrs { timer = false } } })
+    (hosted_reset harts)
 
 -- `hosted_next` is the machine after one step of the hart
 abbrev pub hosted_next : ℕ → MonitoredMachine → MonitoredMachine
 hosted_next hart machine = (step_of hart machine).state
 
--- after create, with the byte in the window
+-- `hosted_new` is a machine with this number of harts after create on a hart, with the byte in the window
 abbrev pub hosted_new : ℕ → ℕ → ℕ → MonitoredMachine
 hosted_new harts hart byte = with_memory (hosted_next hart (hosted_start harts hart)) (hosted_ram byte)
 
@@ -62,7 +64,8 @@ hosted_moves =
     InFirst (StepOf 0) ∷ InFirst (StepOf 0) ∷ InSecond (StepOf 1) ∷ InSecond (StepOf 1) ∷ Own 0 1 ∷ InFirst (LineOf 0 true) ∷ InFirst (StepOf 0)
     ∷ InFirst (StepOf 0) ∷ InFirst (StepOf 0) ∷ InFirst (StepOf 0) ∷ InSecond (StepOf 0) ∷ Own 0 1 ∷ []
 
--- for all bytes: these are moves, the steps of the enclave are the same, and its store hands over what it loaded
+-- For two bytes a and b: the moves of the example are permitted (`are`), and the steps of the enclave are the same (`alike`). The enclave stores 7,
+-- which it loaded, at 80014008 in both machines.
 pub record RunsUnderBoth (a b : ℕ) : Type 0 where
   pub are : AreLifeMoves 0 0 hosted_moves (first a) (second b)
   pub alike : LiveAlike 0 0 hosted_moves (first a) (second b)

@@ -24,7 +24,7 @@ pub record ReportsVerdict (machine : HartView) (mode : Mode) (access : AccessKin
   pub exact : permits (verdict_on machine.hart_state.hart.csrs.pmp mode access address width)
       ≡ is_accessible machine.shared.memory machine.shared.table machine.hart_state.world access (bytes_from address (bytes_in width))
 
--- in S and U, for bytes that are in RAM
+-- the command `access`, for a mode S or U and for bytes in RAM, reports the verdict; other commands and bare targets have no condition
 abbrev pub ReportsAccess : Target → Command → Type 0
 ReportsAccess (Monitored selected) (Access mode access address width) =
     mode ≢ M → is_inside selected.state.shared.memory address (bytes_in width) ≡ true
@@ -45,11 +45,11 @@ UndisturbedByEffect k machine _ = is_live machine.shared.table k ≡ true
 abbrev pub UndisturbedBy : ℕ → BenchState → Command → Type 0
 UndisturbedBy k bench command = IsSomeAnd (machine_in bench.target) (λ machine. UndisturbedByEffect k machine (effect bench command))
 
--- the record, the bytes of the region and the saved context are as before
+-- both targets are monitored, and the record, the bytes of the region and the saved context of slot k are as before
 abbrev pub IsPreservedIn : ℕ → Target → Target → Type 0
 IsPreservedIn k before after = IsSomeAnd (machine_in before) (λ one. IsSomeAnd (machine_in after) (λ other. IsPreserved k one.shared other.shared))
 
--- no byte of its region is poked
+-- the effect pokes no byte of the region of slot k
 abbrev pub PokesNone : ℕ → MonitoredMachine → Effect → Type 0
 PokesNone k machine (OneByte address byte) = has (region machine.shared.table k) address ≡ false
 PokesNone k machine _ = Unit {0}
@@ -87,8 +87,7 @@ LeavesHart hart target (Register number value) = hart ≢ selected_of target
 LeavesHart hart target (TimerLine raised) = hart ≢ selected_of target
 LeavesHart hart target _ = Unit {0}
 
--- the hart keeps its world, registers, pc and mode, and everything else except the PMP entries and mie, which are those of the table and its
--- world
+-- the hart keeps its world, registers, pc and mode, and everything else except the PMP entries and mie, which are those of the table and its world
 abbrev pub KeepsHart : ℕ → Target → Target → Type 0
 KeepsHart hart before after =
     MatchOption (machine_in before) (machine_in after ≡ None)

@@ -1,6 +1,5 @@
 -- Noninterference of commands: two benches that are equivalent except for an enclave execute the same commands, which avoid the hart on which it
--- runs. Until a command enters the enclave, the replies are equal and the benches stay equivalent. (Laws of this project's own debugger and
--- monitor.)
+-- runs. Until a command enters the enclave, the replies are equal and the benches stay equivalent. (Laws of this project's own debugger and monitor.)
 use Rattle.std.specs.Prelude.{ℕ, ◌≡◌, suc, true, false, List, [], ◌∷◌, take}
 use Rattle.rv_debug.specs.Prelude.{All, BothWhy, Command, Entered, NotBlind, Poke, Run, Sched, Step, Target, harts_in, has}
 use Rattle.rv_debug.specs.Execute.{Executed, execute}
@@ -65,15 +64,15 @@ pub record StaysOnNoHart (e : ℕ) (bench : BenchState) (command : Command) : Ty
 
 -- while the enclave of slot e runs on no hart, each command that does not enter it leaves it so
 abbrev pub RunsOnNoHartLaw : Type 0
-RunsOnNoHartLaw = (e : ℕ) (bench : BenchState) (command : Command) → TargetInvariant bench.target → RunsOnNoHart e bench.target → StaysOnNoHart e bench command
+RunsOnNoHartLaw = (e : ℕ) (bench : BenchState) (command : Command) → TargetInvariant bench.target
+    → RunsOnNoHart e bench.target → StaysOnNoHart e bench command
 
 -- a byte is poked into the region of slot e
 abbrev pub PokesInto : ℕ → BenchState → Command → Type 0
 PokesInto e bench (Poke address byte) = has (region_in e bench.target) address ≡ true
 PokesInto e bench _ = ⊥
 
--- Take two equivalent benches, and in each a poke of any byte to any address in the region of slot e. They are equivalent again, and reply the
--- same.
+-- Take two equivalent benches, and in each a poke of any byte to any address in the region of slot e. They are equivalent again, and reply the same.
 abbrev pub PokeLaw : Type 0
 PokeLaw =
     (e : ℕ) (first second : BenchState) (here there : Command) → TargetInvariant first.target → TargetInvariant second.target

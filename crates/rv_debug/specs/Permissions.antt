@@ -1,5 +1,5 @@
--- The bytes to which S may store, computed in numbers from the records of the enclaves. A measure succeeds only if S may store each of the 32 bytes. (A law about
--- this project's own monitor; physical memory protection: RISC-V Privileged Architecture 20211203, section 3.7.1.)
+-- The bytes to which S may store, computed in numbers from the records of the enclaves. A measure succeeds only if S may store each of the 32 bytes.
+-- (A law about this project's own monitor; physical memory protection: RISC-V Privileged Architecture 20211203, section 3.7.1.)
 use Rattle.std.specs.List.{list_any, range_with_len}
 use Rattle.std.specs.Prelude.{ℕ, ◌≡◌, ◌<◌, ◌≤◌, ◌+◌, Bool, false, not, ◌&&◌, ◌||◌, nat_le, nat_lt, length}
 use Rattle.rv_pmp.specs.Verdicts.{bytes_from, permits, verdict}
@@ -12,7 +12,7 @@ use Rattle.rv_debug.specs.Prelude.{Block, Invariant, MonitoredMachine, S, Slots,
 abbrev pub is_within : Block → ℕ → Bool
 is_within block byte = nat_le block.base byte && nat_lt byte (block.base + block.size)
 
--- the host may store above the monitor's range, and outside the region of each of the 13 slots
+-- the host may store above the monitor's range, which ends at 80010000, and outside the region of each of the 13 slots
 abbrev pub host_stores : Slots → ℕ → Bool
 host_stores slots byte =
     nat_le 0x80010000 byte

@@ -3,7 +3,8 @@
 -- project's own debugger and monitor; Keystone, EuroSys 2020, in this project's profile.)
 use Rattle.std.specs.Prelude.{ℕ, ◌≡◌, true, List, [], ◌∷◌, ◌++◌, IsSomeAnd}
 use Rattle.rv_monitor.specs.Returns.{HostIsRestored, RunsThrough}
-use Rattle.rv_debug.specs.Prelude.{Command, HostContextIsLegal, MonitoredMachine, HartView, is_host, monitored_step, sched, hart_state_of, hart_view, step_of}
+use Rattle.rv_debug.specs.Prelude.{Command, HostContextIsLegal, MonitoredMachine, HartView, is_host, monitored_step, sched, hart_state_of}
+use Rattle.rv_debug.specs.Prelude.{hart_view, step_of}
 use Rattle.rv_debug.specs.Execute.{execute}
 use Rattle.rv_debug.specs.BenchState.{BenchState}
 use Rattle.rv_debug.specs.Effects.{effect, harts_stepped}

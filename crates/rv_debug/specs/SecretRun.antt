@@ -21,7 +21,8 @@ calling_host =
 abbrev pub secret_enclave : List ℕ
 secret_enclave = 0x03 ∷ 0x25 ∷ 0x05 ∷ 0x10 ∷ 0x13 ∷ 0x05 ∷ 0 ∷ 0 ∷ []
 
--- `before_secret` has the bytes of RAM before the secret: the monitor's range, the host's code, and the enclave's code with zeros up to its data
+-- `before_secret` has the bytes of RAM before the secret. These are the 65536 bytes of the monitor's range, and the host's code at 80010000 with
+-- zeros up to 80018000. The enclave's code follows there, with zeros up to its data.
 abbrev pub before_secret : List ℕ
 before_secret = replicate 65536 0 ++ (calling_host ++ (replicate 32744 0 ++ (secret_enclave ++ replicate 248 0)))
 
@@ -29,7 +30,7 @@ before_secret = replicate 65536 0 ++ (calling_host ++ (replicate 32744 0 ++ (sec
 abbrev pub secret_ram : ℕ → List ℕ
 secret_ram secret = before_secret ++ (secret ∷ replicate 32511 0)
 
--- a create of the page at 80018000, without a window
+-- `secret_asking` has the registers for a call of create: the page at 80018000, without a window
 abbrev pub secret_asking : List ℕ
 secret_asking = 0 ∷ 0 ∷ 0 ∷ 0 ∷ 0 ∷ 0 ∷ 0 ∷ 0 ∷ 0 ∷ 0 ∷ 0x80018000 ∷ 0x1000 ∷ 0 ∷ 0 ∷ 0x80018000 ∷ 0 ∷ 1 ∷ 0x0A454E43 ∷ replicate 14 0
 
@@ -41,29 +42,31 @@ secret_reset = at_start (secret_ram 0) 0x80010000 1
 abbrev pub secret_start : MonitoredMachine
 secret_start =
     let hart_state = hart_state_of 0 secret_reset in
-    with_hart_state 0 (record hart_state { hart = record hart_state.hart { regs = secret_asking; csrs = record hart_state.hart.csrs { timer = false } } }) secret_reset
+    with_hart_state 0
+    (record hart_state { hart = record hart_state.hart { regs = secret_asking; csrs = record hart_state.hart.csrs { timer = false } } })
+    secret_reset
 
 -- `secret_next` is the machine after one step of hart 0
 abbrev pub secret_next : MonitoredMachine → MonitoredMachine
 secret_next machine = (step_of 0 machine).state
 
--- after create, with a secret in the region
+-- `secret_new` is the machine after create, with a secret in the region
 abbrev pub secret_new : ℕ → MonitoredMachine
 secret_new secret = with_memory (secret_next secret_start) (secret_ram secret)
 
--- after run, and one step later with the timer line set
+-- `secret_entered` is the machine after the host's two steps to run
 abbrev pub secret_entered : ℕ → MonitoredMachine
 secret_entered secret = secret_next (secret_next (secret_new secret))
 
--- one step after run, with the timer line set
+-- `secret_raised` is the machine one step of the enclave later, which loads the secret, with the timer line set
 abbrev pub secret_raised : ℕ → MonitoredMachine
 secret_raised secret = with_timer 0 (secret_next (secret_entered secret)) true
 
--- after the interrupt, and after resume
+-- `secret_interrupted` is the machine after the timer interrupt
 abbrev pub secret_interrupted : ℕ → MonitoredMachine
 secret_interrupted secret = secret_next (secret_raised secret)
 
--- after the interrupt, two steps of the host and resume
+-- `secret_resumed` is the machine after two more steps of the host and its call resume
 abbrev pub secret_resumed : ℕ → MonitoredMachine
 secret_resumed secret = secret_next (secret_next (secret_next (secret_interrupted secret)))
 
@@ -72,10 +75,11 @@ secret_resumed secret = secret_next (secret_next (secret_next (secret_interrupte
 -- `secret_moves` has the moves of the example; before and after the interrupt the enclave takes one step in each machine
 abbrev pub secret_moves : List Move
 secret_moves =
-    Both (StepOf 0) ∷ Both (StepOf 0) ∷ First 0 ∷ Second 0 ∷ Both (LineOf 0 true) ∷ Both (StepOf 0) ∷ Both (StepOf 0) ∷ Both (StepOf 0) ∷ Both (StepOf 0)
+    Both (StepOf 0) ∷ Both (StepOf 0) ∷ First 0 ∷ Second 0 ∷ Both (LineOf 0 true) ∷ Both (StepOf 0) ∷ Both (StepOf 0) ∷ Both (StepOf 0)
+    ∷ Both (StepOf 0)
     ∷ First 0 ∷ Second 0 ∷ []
 
--- for all secrets: these are moves, and every low step has equal outcomes
+-- for two secrets a and b: the moves of the example are permitted (`are`), and every low step has equal outcomes (`alike`)
 pub record IsConcealed (a b : ℕ) : Type 0 where
   pub are : AreMoves 0 secret_moves (secret_new a) (secret_new b)
   pub alike : MovedAlike 0 secret_moves (secret_new a) (secret_new b)
@@ -86,17 +90,17 @@ pub record IsConcealed (a b : ℕ) : Type 0 where
 abbrev pub secret_bench : BenchState
 secret_bench = monitored secret_start
 
--- create; the secret; run; the load to a0; the interrupt; the registers of the host; resume, and one step
+-- the commands of the example: create; the poke of the secret; run; the load to a0; the interrupt; the registers of the host; resume, and one step
 abbrev pub secret_commands : ℕ → List Command
 secret_commands secret =
     Step 1 ∷ Poke 0x80018100 secret ∷ Step 2 ∷ Step 1 ∷ Timer true ∷ Step 1 ∷ Regs ∷ Step 3 ∷ Step 1 ∷ []
 
--- for all secrets: the commands satisfy the premise of the law, and what others observe of the replies is equal
+-- for two secrets a and b: the commands satisfy the premise of the law (`are`), and what others observe of the replies is equal (`alike`)
 pub record AreConcealed (a b : ℕ) : Type 0 where
   pub are : AllCommandsAlike 0 secret_bench secret_bench (secret_commands a) (secret_commands b)
   pub alike : AllObservedAlike 0 secret_bench secret_bench (secret_commands a) (secret_commands b)
 
--- a secret is in a0 when the timer interrupts the enclave
+-- steps and commands conceal any two secrets, although the secret is in a0 when the timer interrupts the enclave (`in_a0`, for the secret 41)
 pub record SecretRunLaw : Type 0 where
   pub concealed : (a b : ℕ) → IsConcealed a b
   pub commands : (a b : ℕ) → AreConcealed a b

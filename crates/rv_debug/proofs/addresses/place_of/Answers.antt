@@ -2,6 +2,6 @@
 use Rattle.rv_debug.proofs.AddressLemmas.{searched-place}
 use Rattle.rv_debug.proofs.addresses.place_of.Goals as goal
 
--- `place_of` meets its contract
+-- the binary search of a sorted slice gives the index of the address, or the index at which it would be inserted
 pub returns : goal.returns
 returns c = searched-place _ _ _ c.requires c.binary_search.ensures.position

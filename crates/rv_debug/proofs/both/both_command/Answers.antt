@@ -5,7 +5,7 @@ use Rattle.rv_debug.proofs.Prelude.{BothExecuted, StayAlike}
 use Rattle.rv_debug.proofs.BothAlike.{both_alike}
 use Rattle.rv_debug.proofs.both.both_command.Goals as goal
 
--- `both_command` meets clause `alike` of its contract (`StayAlike`)
+-- clause `alike`: if the benches are equivalent and the command avoids the hart of the enclave, both executions are alike (`StayAlike`)
 pub returns-clause-alike : goal.returns-clause-alike
 returns-clause-alike c =
     subst (λ (after : BothExecuted). StayAlike c.args.slot c.args.a.now c.args.b.now c.args.command.now after) c.give_both.ensures

@@ -3,10 +3,10 @@
 use Rattle.rv_debug.proofs.Execution.{both_line-prefix}
 use Rattle.rv_debug.proofs.both.both_line.Goals as goal
 
--- `both_line` meets clause `prefix` of its contract in the arm `Ok`
+-- clause `prefix`, for a line with a command: another line with the same significant bytes has the same effect and replies
 pub returns-in-Ok-clause-prefix : goal.returns-in-Ok-clause-prefix
-returns-in-Ok-clause-prefix c = λ other same. both_line-prefix _ _ _ other _ same
+returns-in-Ok-clause-prefix c = λ other same_prefix. both_line-prefix _ _ _ other _ same_prefix
 
--- `both_line` meets clause `prefix` of its contract in the arm `Err`
+-- clause `prefix`, for a line with an error: another line with the same significant bytes has the same reply, and no effect
 pub returns-in-Err-clause-prefix : goal.returns-in-Err-clause-prefix
-returns-in-Err-clause-prefix c = λ other same. both_line-prefix _ _ _ other _ same
+returns-in-Err-clause-prefix c = λ other same_prefix. both_line-prefix _ _ _ other _ same_prefix

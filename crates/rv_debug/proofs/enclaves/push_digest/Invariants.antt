@@ -4,7 +4,7 @@ use Rattle.rv_debug.specs.Prelude.{hex2}
 use Rattle.rv_debug.proofs.Prelude.{flat_map}
 use Rattle.rv_debug.proofs.enclaves.push_digest.Given as goal
 
--- the output so far ends with two hexadecimal digits for each byte that the loop has passed
+-- `items`: the output is the old output followed by two hexadecimal digits for each byte passed; `len`: so it has two bytes more for each
 abbrev pub invariant-loop-byte : goal.invariant-loop-byte
 invariant-loop-byte l = record {
   items : l.out.items ≡ l.fn.out.items ++ flat_map hex2 (take l.byte-index l.bytes);

@@ -5,7 +5,7 @@ use Rattle.rv_debug.specs.EnclaveText.{slot_text}
 use Rattle.rv_debug.proofs.Prelude.{flat_map}
 use Rattle.rv_debug.proofs.enclaves.push_slots.Given as goal
 
--- the output so far ends with the line of each slot that the loop has passed
+-- `items`: the output is the old output followed by the line of each slot passed; `len`: a line has at most 137 bytes
 abbrev pub invariant-loop-slot : goal.invariant-loop-slot
 invariant-loop-slot l = record {
   items : l.out.items ≡ l.fn.out.items ++ flat_map (λ slot. slot_text slot (slot_at l.table slot)) (take l.slot-index l.slots);

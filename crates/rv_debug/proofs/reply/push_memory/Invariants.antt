@@ -5,7 +5,7 @@ use Rattle.rv_debug.specs.Prelude.{hex_digits}
 use Rattle.rv_debug.proofs.Prelude.{flat_map}
 use Rattle.rv_debug.proofs.reply.push_memory.Given as goal
 
--- the output so far ends with the address, and with two digits for each byte that the loop has passed
+-- `items`: the old output, the address and a colon (9 bytes), and a space and two digits (3 bytes) for each byte passed; `len`: its length
 abbrev pub invariant-loop-byte : goal.invariant-loop-byte
 invariant-loop-byte l = record {
   items : l.out.items ≡ l.fn.out.items ++ hex_digits 8 l.address ++ codes ":" ++ flat_map (λ byte. codes " " ++ hex_digits 2 byte)

@@ -5,7 +5,7 @@ use Rattle.rv_debug.proofs.Prelude.{pmp_text}
 use Rattle.rv_debug.proofs.RegisterLines.{flat_map-range_more}
 use Rattle.rv_debug.proofs.reply.push_pmp.Goals as goal
 
--- an iteration of the loop over `number` preserves the invariant
+-- after the line of PMP entry `number`, the loop invariant holds for the next entry
 pub loop-number-preserved : goal.loop-number-preserved
 loop-number-preserved c = record {
   items = rw (c.push_entry.ensures.items, c.loop-number.invariant.items, c.cfg.ensures, c.addr.ensures, c.new-index.ensures)
@@ -13,7 +13,7 @@ loop-number-preserved c = record {
   len = omega (arith, c.push_entry.ensures.len, c.loop-number.invariant.len);
 }
 
--- the bound on the steps makes the prover reject a mutant soon
+-- clause `items`: the lines of all entries follow the old output. The bound on the steps makes the prover reject a mutant soon.
 pub returns-clause-items : goal.returns-clause-items
 unfolding pmp_text
 returns-clause-items c = grind (arith, common_steps) steps 400000

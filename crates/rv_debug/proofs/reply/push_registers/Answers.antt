@@ -5,17 +5,17 @@ use Rattle.rv_debug.proofs.Prelude.{registers_text}
 use Rattle.rv_debug.proofs.RegisterLines.{flat_map-range_more, length-register_text}
 use Rattle.rv_debug.proofs.reply.push_registers.Goals as goal
 
--- an iteration of the loop over `number` preserves the invariant
+-- after the line of register `number`, the loop invariant holds for the next register
 pub loop-number-preserved : goal.loop-number-preserved
 loop-number-preserved c =
-    let line = length-register_text c.loop-number.number c.get.result (omega arith) in
+    let line_length = length-register_text c.loop-number.number c.get.result (omega arith) in
     record {
       items = rw (c.push_register.ensures.items, c.loop-number.invariant.items, c.get.ensures.value, c.new-register.ensures)
           (flat_map-range_more _ c.args.out.now.items c.loop-number.number);
-      len = rw c.push_register.ensures.items (simp length-append (rw (c.new-register.ensures) (omega (arith, line))));
+      len = rw c.push_register.ensures.items (simp length-append (rw (c.new-register.ensures) (omega (arith, line_length))));
     }
 
--- the bound on the steps makes the prover reject a mutant soon
+-- clause `items`: the lines of x0 to x31 and pc follow the old output. The bound on the steps makes the prover reject a mutant soon.
 pub returns-clause-items : goal.returns-clause-items
 unfolding registers_text
 returns-clause-items c = grind (arith, common_steps) steps 400000

@@ -4,7 +4,7 @@ use Rattle.rv_debug.specs.Prelude.{register}
 use Rattle.rv_debug.proofs.Prelude.{flat_map, range_with_len, register_text}
 use Rattle.rv_debug.proofs.reply.push_registers.Given as goal
 
--- the lines so far: 12 bytes each up to x9, and 13 from x10 on
+-- `items`: the output is the old output followed by the line of each register passed; `len`: a line has 12 bytes up to x9, and 13 from x10 on
 abbrev pub invariant-loop-number : goal.invariant-loop-number
 invariant-loop-number l = record {
   items : l.out.items ≡ l.fn.out.items ++ flat_map (λ number. register_text number (register l.regs number)) (range_with_len 0 l.number);

@@ -3,18 +3,18 @@ use Rattle.std.proofs.Common.{◌<◌, ◌+◌, ◌∙◌, ℕ, sym, ap, subst, 
 use Rattle.rv_debug.specs.Prelude.{Target, has_all}
 use Rattle.rv_debug.specs.Steps.{Stepped}
 use Rattle.rv_debug.proofs.Prelude.{AfterSchedule, harts_of, with_scheduled_step}
-use Rattle.rv_debug.proofs.ScheduleLoop.{has_next, no_more, rest, scheduled_step_more, step_harts}
+use Rattle.rv_debug.proofs.ScheduleLoop.{has_next, no_digits_left, harts_from, scheduled_step_more, step_harts}
 use Rattle.rv_debug.proofs.ScheduledSteps.{after_schedule}
 use Rattle.rv_debug.proofs.scheduled.run_digits.Goals as goal
 
--- the call of `step_hart` meets its `requires`
+-- the hart of the next digit exists, which the call of `step_hart` requires
 pub step_hart-outcome-requires : goal.step_hart-outcome-requires
 step_hart-outcome-requires g c =
     let count = harts_of (g.T.Harts.as_target c.loop-digit.target) in
-    let next = has_next count c.args.digits.now c.loop-digit.digit-index _ c.loop-digit-test.true refl c.loop-digit.invariant.has in
+    let next = has_next count c.args.digits.now c.loop-digit.digit-index _ c.loop-digit-test.true refl c.loop-digit.invariant.harts_exist in
     subst (λ (hart : ℕ). hart < count) (sym c.hart-hart.ensures.which) next.0
 
--- an iteration of the loop over `digit` preserves the invariant
+-- After the step of the hart of digit n, the loop invariant holds for the digits from n + 1 on. A step does not change the number of harts.
 pub loop-digit-preserved : goal.loop-digit-preserved
 loop-digit-preserved g c =
     let target = g.T.Harts.as_target in
@@ -24,18 +24,20 @@ loop-digit-preserved g c =
     let so_far = c.loop-digit.invariant in
     let before : AfterSchedule = after_schedule (target c.loop-digit.target) c.loop-digit.did in
     let after : AfterSchedule = after_schedule (target c.step_hart-outcome.new.self) c.add.new.self in
-    let is = ap (with_scheduled_step hart before) c.step_hart-outcome.ensures ∙ ap (after_schedule after.state) (sym c.add.ensures.step) in
-    let harts = sym (ap (λ (last : Stepped Target). harts_of last.state) c.step_hart-outcome.ensures) ∙ step_harts hart before.state in
-    let next = has_next (harts_of before.state) digits n _ c.loop-digit-test.true refl so_far.has in
+    let after_is = ap (with_scheduled_step hart before) c.step_hart-outcome.ensures ∙ ap (after_schedule after.state) (sym c.add.ensures.step) in
+    let same_count = sym (ap (λ (last : Stepped Target). harts_of last.state) c.step_hart-outcome.ensures) ∙ step_harts hart before.state in
+    let next = has_next (harts_of before.state) digits n _ c.loop-digit-test.true refl so_far.harts_exist in
     record {
-      scheduled_steps = so_far.scheduled_steps ∙ scheduled_step_more digits n _ hart before after c.loop-digit-test.true refl c.hart-hart.ensures.which is;
-      has = ap (λ (count : ℕ). has_all count (rest (n + 1) digits)) harts ∙ next.1;
+      scheduled_steps =
+          so_far.scheduled_steps ∙ scheduled_step_more digits n _ hart before after c.loop-digit-test.true refl c.hart-hart.ensures.which after_is;
+      harts_exist = ap (λ (count : ℕ). has_all count (harts_from (n + 1) digits)) same_count ∙ next.1;
       first = omega (arith, c.add.ensures.first_one, so_far.first);
       second = omega (arith, c.add.ensures.second_one, so_far.second);
     }
 
--- `run_digits` meets its contract
+-- after the last digit, no steps remain, so the target and the summary are those of the whole schedule
 pub returns : goal.returns
 returns g c =
     c.loop-digit.invariant.scheduled_steps
-    ∙ no_more c.args.digits.now c.loop-digit.digit-index (after_schedule (g.T.Harts.as_target c.loop-digit.target) c.loop-digit.did) c.loop-digit-test.false
+    ∙ no_digits_left c.args.digits.now c.loop-digit.digit-index (after_schedule (g.T.Harts.as_target c.loop-digit.target) c.loop-digit.did)
+    c.loop-digit-test.false

@@ -2,16 +2,17 @@
 use Rattle.std.proofs.Common.{◌≡◌, ◌≤◌, true}
 use Rattle.rv_debug.specs.Prelude.{has_all}
 use Rattle.rv_debug.proofs.Prelude.{harts_of, schedule_start, scheduled_steps}
-use Rattle.rv_debug.proofs.ScheduleLoop.{rest}
+use Rattle.rv_debug.proofs.ScheduleLoop.{harts_from}
 use Rattle.rv_debug.proofs.ScheduledSteps.{after_schedule}
 use Rattle.rv_debug.proofs.scheduled.run_digits.Given as goal
 
--- the scheduled steps so far, and the remaining ones
+-- The remaining steps from here give the result of the whole schedule (`scheduled_steps`). The harts of the remaining digits exist. Each hart has
+-- made at most one step for each digit passed (`first`, `second`).
 abbrev pub invariant-loop-digit : goal.invariant-loop-digit
 invariant-loop-digit g l = record {
-  scheduled_steps : scheduled_steps (rest 0 l.digits) (schedule_start (g.T.Harts.as_target l.fn.target))
-      ≡ scheduled_steps (rest l.digit-index l.digits) (after_schedule (g.T.Harts.as_target l.target) l.did);
-  has : has_all (harts_of (g.T.Harts.as_target l.target)) (rest l.digit-index l.digits) ≡ true;
+  scheduled_steps : scheduled_steps (harts_from 0 l.digits) (schedule_start (g.T.Harts.as_target l.fn.target))
+      ≡ scheduled_steps (harts_from l.digit-index l.digits) (after_schedule (g.T.Harts.as_target l.target) l.did);
+  harts_exist : has_all (harts_of (g.T.Harts.as_target l.target)) (harts_from l.digit-index l.digits) ≡ true;
   first : l.did.first.steps ≤ l.digit-index;
   second : l.did.second.steps ≤ l.digit-index;
 }

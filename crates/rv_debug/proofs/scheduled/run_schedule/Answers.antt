@@ -5,13 +5,13 @@ use Rattle.rv_debug.proofs.Prelude.{AfterSchedule, harts_of, schedule_start}
 use Rattle.rv_debug.proofs.ScheduleLoop.{schedule_enters_none, schedule_harts}
 use Rattle.rv_debug.proofs.scheduled.run_schedule.Goals as goal
 
--- `run_schedule` meets clause `bare` of its contract (`IsBare`) in the arm `Bare`
+-- clause `bare`: a schedule on a bare machine enters no enclave
 pub returns-in-Bare-clause-bare : goal.returns-in-Bare-clause-bare
 returns-in-Bare-clause-bare c =
-    λ bare. sym (ap (λ (after : AfterSchedule). after.did.entered) c.run_digits.ensures)
+    λ is_bare. sym (ap (λ (after : AfterSchedule). after.did.entered) c.run_digits.ensures)
     ∙ schedule_enters_none _ (schedule_start (Bare c.in-Bare.machine)) tt
 
--- `run_schedule` meets clause `harts` of its contract in the arm `Monitored`
+-- clause `harts`: a schedule on a monitored machine does not change the number of harts
 pub returns-in-Monitored-clause-harts : goal.returns-in-Monitored-clause-harts
 returns-in-Monitored-clause-harts c =
     sym (ap (λ (after : AfterSchedule). harts_of after.state) c.run_digits-in-Monitored.ensures)

@@ -1,16 +1,17 @@
 -- This file proves obligations of `Addresses::insert`, which inserts an address, if the set has room for it.
 use Rattle.std.proofs.Common.{arith}
-use Rattle.rv_debug.proofs.AddressLemmas.{sorted-insert, no_room, room}
+use Rattle.rv_debug.proofs.AddressLemmas.{sorted-insert, full_has_no_room, insert_with_room}
 use Rattle.rv_debug.proofs.addresses.Addresses.insert.Goals as goal
 
--- `self` has the invariant of its type when `Addresses::insert` returns
+-- the addresses are sorted after the insertion, since it is at the index that the search gives
 pub invariant_of-self : goal.invariant_of-self
 invariant_of-self c = rw c.insert.ensures.items (sorted-insert _ _ _ c.self.invariant (rw c.as_slice.ensures.value at c.in-Err.ensures))
 
--- `Addresses::insert` meets clause `set` of its contract if `is_full` is true
+-- clause `set`: if the set is full and has not the address, the set of the definition has no room for the address either
 pub returns-then-is_full-clause-set : goal.returns-then-is_full-clause-set
-returns-then-is_full-clause-set c = rw (← c.self.view_is) (no_room _ _ _ (rw c.as_slice.ensures.value at c.in-Err.ensures) (grind arith))
+returns-then-is_full-clause-set c = rw (← c.self.view_is) (full_has_no_room _ _ _ (rw c.as_slice.ensures.value at c.in-Err.ensures) (grind arith))
 
--- `Addresses::insert` meets clause `set` of its contract if `is_full` is false
+-- clause `set`: if the set is not full, the new list is the set with the address inserted
 pub returns-else-is_full-clause-set : goal.returns-else-is_full-clause-set
-returns-else-is_full-clause-set c = rw (c.insert.ensures.items, ← c.self.view_is) (room _ _ _ (rw c.as_slice.ensures.value at c.in-Err.ensures) (grind arith))
+returns-else-is_full-clause-set c =
+    rw (c.insert.ensures.items, ← c.self.view_is) (insert_with_room _ _ _ (rw c.as_slice.ensures.value at c.in-Err.ensures) (grind arith))

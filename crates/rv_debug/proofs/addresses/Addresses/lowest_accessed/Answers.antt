@@ -5,7 +5,7 @@ use Rattle.rv_debug.proofs.Prelude.{lowest_accessed}
 use Rattle.rv_debug.proofs.AddressLemmas.{find-either, lowest-is}
 use Rattle.rv_debug.proofs.addresses.Addresses.lowest_accessed.Goals as goal
 
--- `Addresses::lowest_accessed` meets its contract
+-- The result is the lowest member that the instruction accessed: the lower of the lowest loaded and the lowest stored member.
 pub returns : goal.returns
 unfolding lowest_accessed
 returns c = rw (c.lower.ensures, c.lowest_in.ensures, c.lowest_in-2.ensures)
