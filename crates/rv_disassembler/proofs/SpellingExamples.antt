@@ -27,6 +27,6 @@ examples =
     ∷ []
 
 -- each example word has the disassembly beside it
-pub examples_hold : map (λ e. spelling e.0) examples ≡ map (λ e. e.1) examples
+pub examples_hold : map (λ example. spelling example.0) examples ≡ map (λ example. example.1) examples
 unfolding spelling instr_text line_text word_text decoded digits hex_digits by_bits
 examples_hold = refl
