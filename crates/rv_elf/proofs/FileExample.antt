@@ -6,7 +6,7 @@ use Rattle.rv_elf.specs.Places.{meets_reserved}
 use Rattle.rv_elf.specs.Plans.{file_plan}
 use Rattle.rv_elf.specs.Segments.{segments_of, occupying}
 
--- `elf_header` has e_ident, e_type and e_machine, e_version, e_entry, e_phoff, e_shoff and e_flags, and the six halves after them
+-- `elf_header` has e_ident (first line); e_type, e_machine, e_version, e_entry, e_phoff, e_shoff and e_flags; and the six halves after them
 abbrev elf_header : List ℕ
 elf_header =
     0x7f ∷ 0x45 ∷ 0x4c ∷ 0x46 ∷ 1 ∷ 1 ∷ 1 ∷ 0 ∷ 0 ∷ 0 ∷ 0 ∷ 0 ∷ 0 ∷ 0 ∷ 0 ∷ 0
@@ -23,8 +23,8 @@ program_header =
 abbrev file : List ℕ
 file = elf_header ++ program_header ++ 0x93 ∷ 0 ∷ 0xf0 ∷ 0xff ∷ []
 
--- the file is loaded at 80000000
-loads : file_plan file 1048576 false ≡ Ok (record {
+-- the file is loaded at 80000000, in a RAM of 1 MiB (1048576 bytes), without a monitor
+file_is_planned : file_plan file 1048576 false ≡ Ok (record {
   segments = record { offset = 84; address = 0x80000000; file_size = 4; memory_size = 8 } ∷ [];
   entry = 0x80000000;
   image_size = 88;
@@ -32,19 +32,19 @@ loads : file_plan file 1048576 false ≡ Ok (record {
   monitored = false;
 })
 unfolding header_faults segment_faults place_faults segments_of occupying meets_reserved
-loads = refl
+file_is_planned = refl
 
--- a file whose last byte is missing has the error SegmentTruncated
-cut : file_plan (take 87 file) 1048576 false ≡ Err SegmentTruncated
+-- a file whose last byte, number 88, is missing has the error SegmentTruncated
+truncated_file : file_plan (take 87 file) 1048576 false ≡ Err SegmentTruncated
 unfolding header_faults segment_faults place_faults segments_of occupying meets_reserved
-cut = refl
+truncated_file = refl
 
--- the segment does not fit into a RAM of 7 bytes
-too_large : file_plan file 7 false ≡ Err SegmentOutside
+-- the segment, which has 8 bytes in memory, does not fit into a RAM of 7 bytes: it has the error SegmentOutside
+larger_than_ram : file_plan file 7 false ≡ Err SegmentOutside
 unfolding header_faults segment_faults place_faults segments_of occupying meets_reserved
-too_large = refl
+larger_than_ram = refl
 
--- with the monitor, the segment is in the monitor's range
-reserved : file_plan file 1048576 true ≡ Err SegmentOutside
+-- with a monitor, the segment has the error SegmentOutside, since it is in the range that the monitor reserves for itself
+in_reserved_range : file_plan file 1048576 true ≡ Err SegmentOutside
 unfolding header_faults segment_faults place_faults segments_of occupying meets_reserved
-reserved = refl
+in_reserved_range = refl

@@ -1,8 +1,9 @@
--- This file proves lemmas about the first error of a table whose condition holds.
+-- The first error of a table whose condition holds is the error with the smallest number: the rows are in the order of their numbers.
 use Rattle.std.proofs.Common.{◌≡◌, ℕ, suc, ◌≤◌, ◌&&◌, nat_lt, length, map, Bool, true, false, List, [], ◌∷◌}
 use Rattle.std.proofs.Common.{◌++◌, Option, Some, None, Result, Ok, Err, refl, arith}
 use Rattle.std.proofs.lemmas.Grind.{common_steps}
 use Rattle.rv_elf.specs.declared.elf_fault.ElfFault.{ElfFault}
+use Rattle.rv_elf.specs.declared.elf_fault.ElfFault.TheVariants.{SegmentOutside, Truncated}
 use Rattle.std.specs.List.{list_any, range_with_len}
 use Rattle.std.specs.Result.{IfErr}
 use Rattle.rv_word.specs.Cases.{option_case}
@@ -14,92 +15,95 @@ use Rattle.rv_elf.specs.Fields.{e_entry}
 use Rattle.rv_elf.specs.Places.{first_address}
 use Rattle.rv_elf.specs.Segments.{segments_of, occupying, raw_segments}
 
--- if the first part of a table has no error, the first error is that of the second part
+-- if the first rows of a table have no error, the first error of the table is that of the other rows
 pub none_before : (rows others : List (Bool × ElfFault)) → first_fault rows ≡ None → first_fault (rows ++ others) ≡ first_fault others
-none_before [] others none = refl
-none_before ((true, fault) ∷ rows) others none = absurd (grind arith)
-none_before ((false, fault) ∷ rows) others none = none_before rows others none
+none_before [] others rows_have_no_fault = refl
+none_before ((true, fault) ∷ rows) others rows_have_no_fault = absurd (grind arith)
+none_before ((false, fault) ∷ rows) others rows_have_no_fault = none_before rows others rows_have_no_fault
 
--- an error of the first part of a table is the first error of the table
-pub some_before : (rows others : List (Bool × ElfFault)) (fault : ElfFault) → first_fault rows ≡ Some fault → first_fault (rows ++ others) ≡ Some fault
-some_before [] others fault some = absurd (grind arith)
-some_before ((true, first) ∷ rows) others fault some = some
-some_before ((false, first) ∷ rows) others fault some = some_before rows others fault some
+-- the first error of the first rows of a table is the first error of the whole table
+pub some_before : (rows others : List (Bool × ElfFault)) (fault : ElfFault) → first_fault rows ≡ Some fault
+    → first_fault (rows ++ others) ≡ Some fault
+some_before [] others fault fault_found = absurd (grind arith)
+some_before ((true, row_fault) ∷ rows) others fault fault_found = fault_found
+some_before ((false, row_fault) ∷ rows) others fault fault_found = some_before rows others fault fault_found
 
--- if there is no error, no condition holds
-pub first_is_false : (condition : Bool) (fault : ElfFault) (rows : List (Bool × ElfFault)) → first_fault ((condition, fault) ∷ rows) ≡ None → condition ≡ false
-first_is_false true fault rows none = absurd (grind arith)
-first_is_false false fault rows none = refl
+-- if a table has no error, the condition of its first row fails, and the other rows have no error
+pub no_fault_parts : (condition : Bool) (fault : ElfFault) (rows : List (Bool × ElfFault)) → first_fault ((condition, fault) ∷ rows) ≡ None
+    → (condition ≡ false) × (first_fault rows ≡ None)
+no_fault_parts true fault rows no_fault = absurd (grind arith)
+no_fault_parts false fault rows no_fault = (refl, no_fault)
 
--- if no row has an error, the rows after the first have none
-pub rest_has_none : (condition : Bool) (fault : ElfFault) (rows : List (Bool × ElfFault)) → first_fault ((condition, fault) ∷ rows) ≡ None
-    → first_fault rows ≡ None
-rest_has_none true fault rows none = absurd (grind arith)
-rest_has_none false fault rows none = none
-
--- the rows have consecutive numbers, starting with n
+-- the rows of the table have the numbers n, n + 1, n + 2, .., in this order
 abbrev AreNumbered : ℕ → List (Bool × ElfFault) → Type 0
 AreNumbered n rows = map (λ row. elf_fault_number row.1) rows ≡ range_with_len n (length rows)
 
--- no row has a smaller number than the first
-none_lesser : (rows : List (Bool × ElfFault)) (n least : ℕ) → AreNumbered n rows → least ≤ n
-    → list_any (λ row. row.0 && nat_lt (elf_fault_number row.1) least) rows ≡ false
-none_lesser [] n least numbered low = refl
-none_lesser ((condition, fault) ∷ rows) n least numbered low =
-    let rest = none_lesser rows (suc n) least (grind arith) (omega arith) in
-    let first : elf_fault_number fault ≡ n = grind arith in
+-- if the rows have consecutive numbers from n on, no error with a number below n has a condition that holds (by induction over the rows)
+no_lesser_fault : (rows : List (Bool × ElfFault)) (n number : ℕ) → AreNumbered n rows → number ≤ n
+    → list_any (λ row. row.0 && nat_lt (elf_fault_number row.1) number) rows ≡ false
+no_lesser_fault [] n number rows_are_numbered least_below_n = refl
+no_lesser_fault ((condition, fault) ∷ rows) n number rows_are_numbered least_below_n =
+    let no_lesser_in_rest = no_lesser_fault rows (suc n) number (grind arith) (omega arith) in
+    let number_is : elf_fault_number fault ≡ n = grind arith in
     grind (arith, common_steps)
 
--- the first error whose condition holds has the smallest number
-least_first : (rows : List (Bool × ElfFault)) (n : ℕ) (fault : ElfFault) → AreNumbered n rows → first_fault rows ≡ Some fault → IsLeast rows fault
-least_first [] n fault numbered some = absurd (grind arith)
-least_first ((true, first) ∷ rows) n fault numbered some =
-    let rest = none_lesser rows (suc n) n (grind arith) (omega arith) in
-    let is_n : elf_fault_number first ≡ n = grind arith in
-    let same : first ≡ fault = grind arith in
+-- if the rows have consecutive numbers, the first error whose condition holds has the smallest number (by induction over the rows)
+first_fault_is_least : (rows : List (Bool × ElfFault)) (n : ℕ) (fault : ElfFault) → AreNumbered n rows → first_fault rows ≡ Some fault
+    → IsLeast rows fault
+first_fault_is_least [] n fault rows_are_numbered fault_found = absurd (grind arith)
+first_fault_is_least ((true, row_fault) ∷ rows) n fault rows_are_numbered fault_found =
+    let no_lesser_in_rest = no_lesser_fault rows (suc n) n (grind arith) (omega arith) in
+    let number_is : elf_fault_number row_fault ≡ n = grind arith in
+    let row_fault_is : row_fault ≡ fault = grind arith in
     (grind (arith, common_steps), grind (arith, common_steps))
-least_first ((false, first) ∷ rows) n fault numbered some =
-    least_first rows (suc n) fault (grind arith) some
+first_fault_is_least ((false, row_fault) ∷ rows) n fault rows_are_numbered fault_found =
+    first_fault_is_least rows (suc n) fault (grind arith) fault_found
 
--- the rows of the table are in the order of their numbers
-in_order : (file : List ℕ) (ram_size len entry : ℕ) (monitored : Bool) (segments others : List Segment)
-    → AreNumbered 1 (header_faults file ++ segment_faults len segments ++ place_faults ram_size monitored others entry)
+-- the errors of an ELF file have the numbers from that of `Truncated` on, in the order in which they are checked
+file_faults_numbered : (file : List ℕ) (ram_size len entry : ℕ) (monitored : Bool) (segments others : List Segment)
+    → AreNumbered (elf_fault_number Truncated)
+    (header_faults file ++ segment_faults len segments ++ place_faults ram_size monitored others entry)
 unfolding header_faults segment_faults place_faults
-in_order file ram_size len entry monitored segments others = refl
+file_faults_numbered file ram_size len entry monitored segments others = refl
 
--- the errors of the places are in the order of their numbers
-places_in_order : (ram_size entry : ℕ) (monitored : Bool) (segments : List Segment) → AreNumbered 9 (place_faults ram_size monitored segments entry)
+-- the errors of the places in memory have the numbers from that of `SegmentOutside` on, in the order in which they are checked
+place_faults_numbered : (ram_size entry : ℕ) (monitored : Bool) (segments : List Segment)
+    → AreNumbered (elf_fault_number SegmentOutside) (place_faults ram_size monitored segments entry)
 unfolding place_faults
-places_in_order ram_size entry monitored segments = refl
+place_faults_numbered ram_size entry monitored segments = refl
 
--- the reported error of an ELF file, or of a raw image, has the smallest number
-file_least : (file : List ℕ) (ram_size : ℕ) (monitored : Bool) (fault : ElfFault) → file_fault file ram_size monitored ≡ Some fault
-    → IsLeast (file_faults file ram_size monitored) fault
-file_least file ram_size monitored fault some =
-    least_first (file_faults file ram_size monitored) 1 fault
-    (in_order file ram_size (length file) (e_entry file) monitored (segments_of file) (occupying (segments_of file)))
-    some
+-- the first error of an ELF file has the smallest number of its errors
+file_fault_is_least : (file : List ℕ) (ram_size : ℕ) (monitored : Bool) (fault : ElfFault)
+    → file_fault file ram_size monitored ≡ Some fault → IsLeast (file_faults file ram_size monitored) fault
+file_fault_is_least file ram_size monitored fault fault_found =
+    first_fault_is_least (file_faults file ram_size monitored) (elf_fault_number Truncated) fault
+    (file_faults_numbered file ram_size (length file) (e_entry file) monitored (segments_of file) (occupying (segments_of file)))
+    fault_found
 
--- the error of a raw image is the first in the order
-raw_least : (len ram_size : ℕ) (monitored : Bool) (fault : ElfFault) → raw_fault len ram_size monitored ≡ Some fault
+-- the first error of a raw image has the smallest number of its errors
+raw_fault_is_least : (len ram_size : ℕ) (monitored : Bool) (fault : ElfFault) → raw_fault len ram_size monitored ≡ Some fault
     → IsLeast (raw_faults len ram_size monitored) fault
-raw_least len ram_size monitored fault some =
-    least_first (raw_faults len ram_size monitored) 9 fault (places_in_order ram_size (first_address monitored) monitored (raw_segments len monitored)) some
+raw_fault_is_least len ram_size monitored fault fault_found =
+    first_fault_is_least (raw_faults len ram_size monitored) (elf_fault_number SegmentOutside) fault
+    (place_faults_numbered ram_size (first_address monitored) monitored (raw_segments len monitored)) fault_found
 
--- a result that is the plan or this error has the error with the smallest number
-refused_least : (rows : List (Bool × ElfFault)) (found : Option ElfFault) (plan : LoadPlan) (result : Result LoadPlan ElfFault)
-    → ((fault : ElfFault) → found ≡ Some fault → IsLeast rows fault) → result ≡ option_case found (Ok plan) Err → IfErr result (λ fault. IsLeast rows fault)
-refused_least rows None plan result least result_is = rw result_is tt
-refused_least rows (Some fault) plan result least result_is = rw result_is (least fault refl)
+-- if a result is the plan, or the first error if there is one, and the first error has the smallest number, then so has the error of the result
+err_is_least : (rows : List (Bool × ElfFault)) (first : Option ElfFault) (plan : LoadPlan) (result : Result LoadPlan ElfFault)
+    → ((fault : ElfFault) → first ≡ Some fault → IsLeast rows fault) → result ≡ option_case first (Ok plan) Err
+    → IfErr result (λ fault. IsLeast rows fault)
+err_is_least rows None plan result first_is_least result_is = rw result_is tt
+err_is_least rows (Some fault) plan result first_is_least result_is = rw result_is (first_is_least fault refl)
 
--- an error of a file is the first in the order of the checks
-pub file_plan_least : (file : List ℕ) (ram_size : ℕ) (monitored : Bool) (result : Result LoadPlan ElfFault) → result ≡ file_plan file ram_size monitored
-    → IfErr result (λ fault. IsLeast (file_faults file ram_size monitored) fault)
+-- if the plan of an ELF file is refused, the reported error is the one with the smallest number
+pub file_plan_least : (file : List ℕ) (ram_size : ℕ) (monitored : Bool) (result : Result LoadPlan ElfFault)
+    → result ≡ file_plan file ram_size monitored → IfErr result (λ fault. IsLeast (file_faults file ram_size monitored) fault)
 file_plan_least file ram_size monitored result result_is =
-    refused_least (file_faults file ram_size monitored) (file_fault file ram_size monitored) _ result (file_least file ram_size monitored) result_is
+    err_is_least (file_faults file ram_size monitored) (file_fault file ram_size monitored) _ result
+    (file_fault_is_least file ram_size monitored) result_is
 
--- an error of a raw image is the first in the order of the checks
+-- if the plan of a raw image is refused, the reported error is the one with the smallest number
 pub raw_plan_least : (len ram_size : ℕ) (monitored : Bool) (result : Result LoadPlan ElfFault) → result ≡ raw_plan len ram_size monitored
     → IfErr result (λ fault. IsLeast (raw_faults len ram_size monitored) fault)
 raw_plan_least len ram_size monitored result result_is =
-    refused_least (raw_faults len ram_size monitored) (raw_fault len ram_size monitored) _ result (raw_least len ram_size monitored) result_is
+    err_is_least (raw_faults len ram_size monitored) (raw_fault len ram_size monitored) _ result
+    (raw_fault_is_least len ram_size monitored) result_is

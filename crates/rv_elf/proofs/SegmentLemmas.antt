@@ -1,4 +1,4 @@
--- This file proves lemmas about the segments of a file, read one header after the other.
+-- The segments of a file, read from one program header after the other, and those of them that occupy memory.
 use Rattle.std.proofs.Common.{◌≡◌, ◌≢◌, ◌∙◌, ℕ, ◌+◌, ◌*◌, ◌<◌, not, take, length, slice_index_or, arith, List, [], ◌∷◌, ◌++◌, map, cond, refl}
 use Rattle.std.specs.List.{filter, range_with_len}
 use Rattle.std.proofs.lemmas.Bool.{eq-eqb, ne_eqb}
@@ -6,59 +6,66 @@ use Rattle.std.proofs.lemmas.List.{map-append, append-nil}
 use Rattle.std.proofs.lemmas.List.Elements.{filter_more}
 use Rattle.std.proofs.lemmas.List.FromFn.{filter_of_map_range_with_len_more}
 use Rattle.rv_elf.specs.declared.segment.Segment.{Segment}
-use Rattle.rv_elf.specs.Fields.{e_phoff, p_type}
+use Rattle.rv_elf.specs.Fields.{e_phoff, p_type, pt_load}
 use Rattle.rv_elf.specs.Segments.{is_load, segment_at, has_no_bytes, occupying}
 
--- `place_of` is the offset of a header in the file
-abbrev pub place_of : List ℕ → ℕ → ℕ
-place_of file k = e_phoff file + 32 * k
+-- `header_offset` is the offset in the file of program header k; each header has 32 bytes
+abbrev pub header_offset : List ℕ → ℕ → ℕ
+header_offset file k = e_phoff file + 32 * k
 
--- the segments of the first `count` headers
+-- `first_segments` has the segments of type PT_LOAD of the first `count` program headers
 unfoldable pub first_segments : List ℕ → ℕ → List Segment
-first_segments file count = map (segment_at file) (filter (is_load file) (map (place_of file) (range_with_len 0 count)))
+first_segments file count = map (segment_at file) (filter (is_load file) (map (header_offset file) (range_with_len 0 count)))
 
--- one more header adds its segment to the segments
-more : (file : List ℕ) (count : ℕ) → first_segments file (count + 1)
-    ≡ first_segments file count ++ map (segment_at file) (cond (is_load file (place_of file count)) (place_of file count ∷ []) [])
+-- the segments of `count + 1` headers are those of `count` headers, followed by the segment of the next header if it is of type PT_LOAD
+first_segments-next : (file : List ℕ) (count : ℕ) → first_segments file (count + 1)
+    ≡ first_segments file count ++ map (segment_at file) (cond (is_load file (header_offset file count)) (header_offset file count ∷ []) [])
 unfolding first_segments
-more file count =
+first_segments-next file count =
     rw (
-      filter_of_map_range_with_len_more (is_load file) (place_of file) 0 count count (omega arith),
-      map-append (segment_at file) (filter (is_load file) (map (place_of file) (range_with_len 0 count)))
-          (cond (is_load file (place_of file count)) (place_of file count ∷ []) []),
+      filter_of_map_range_with_len_more (is_load file) (header_offset file) 0 count count (omega arith),
+      map-append (segment_at file) (filter (is_load file) (map (header_offset file) (range_with_len 0 count)))
+          (cond (is_load file (header_offset file count)) (header_offset file count ∷ []) []),
     ) refl
 
 -- a program header of type PT_LOAD adds its segment
-pub with_load : (file : List ℕ) (count : ℕ) → p_type file (place_of file count) ≡ 1
-    → first_segments file (count + 1) ≡ first_segments file count ++ segment_at file (place_of file count) ∷ []
-with_load file count p_type_is = more file count ∙ rw (eq-eqb (p_type file (place_of file count)) 1 p_type_is) refl
+pub with_load : (file : List ℕ) (count : ℕ) → p_type file (header_offset file count) ≡ pt_load
+    → first_segments file (count + 1) ≡ first_segments file count ++ segment_at file (header_offset file count) ∷ []
+with_load file count is_pt_load =
+    first_segments-next file count ∙ rw (eq-eqb (p_type file (header_offset file count)) pt_load is_pt_load) refl
 
--- a program header of another type than PT_LOAD adds no segment
-pub without_load : (file : List ℕ) (count : ℕ) → p_type file (place_of file count) ≢ 1 → first_segments file (count + 1) ≡ first_segments file count
-without_load file count other = more file count ∙ rw (ne_eqb (p_type file (place_of file count)) 1 other) (append-nil (first_segments file count))
+-- a program header of a type other than PT_LOAD adds no segment
+pub without_load : (file : List ℕ) (count : ℕ) → p_type file (header_offset file count) ≢ pt_load
+    → first_segments file (count + 1) ≡ first_segments file count
+without_load file count is_not_pt_load =
+    first_segments-next file count
+    ∙ rw (ne_eqb (p_type file (header_offset file count)) pt_load is_not_pt_load) (append-nil (first_segments file count))
 
--- a segment with bytes in memory is added to the segments that occupy memory
-pub with_occupying : (segments : List Segment) (i : ℕ) (default : Segment) → i < length segments → (slice_index_or segments i default).memory_size ≢ 0
+-- a segment with bytes in memory is appended to the segments that occupy memory
+pub with_occupying : (segments : List Segment) (i : ℕ) (default : Segment) → i < length segments
+    → (slice_index_or segments i default).memory_size ≢ 0
     → occupying (take (i + 1) segments) ≡ occupying (take i segments) ++ slice_index_or segments i default ∷ []
 unfolding occupying
-with_occupying segments i default inside takes =
-    filter_more (λ segment. not (has_no_bytes segment)) segments i default inside ∙ rw (ne_eqb (slice_index_or segments i default).memory_size 0 takes) refl
+with_occupying segments i default index_in_bounds has_bytes =
+    filter_more (λ segment. not (has_no_bytes segment)) segments i default index_in_bounds
+    ∙ rw (ne_eqb (slice_index_or segments i default).memory_size 0 has_bytes) refl
 
--- a segment without bytes in memory is not among those that occupy memory
-pub without_occupying : (segments : List Segment) (i : ℕ) (default : Segment) → i < length segments → (slice_index_or segments i default).memory_size ≡ 0
-    → occupying (take (i + 1) segments) ≡ occupying (take i segments)
+-- a segment without bytes in memory is not appended to the segments that occupy memory
+pub without_occupying : (segments : List Segment) (i : ℕ) (default : Segment) → i < length segments
+    → (slice_index_or segments i default).memory_size ≡ 0 → occupying (take (i + 1) segments) ≡ occupying (take i segments)
 unfolding occupying
-without_occupying segments i default inside none =
-    filter_more (λ segment. not (has_no_bytes segment)) segments i default inside
-    ∙ rw (eq-eqb (slice_index_or segments i default).memory_size 0 none) (append-nil (filter (λ segment. not (has_no_bytes segment)) (take i segments)))
+without_occupying segments i default index_in_bounds has_none =
+    filter_more (λ segment. not (has_no_bytes segment)) segments i default index_in_bounds
+    ∙ rw (eq-eqb (slice_index_or segments i default).memory_size 0 has_none)
+    (append-nil (filter (λ segment. not (has_no_bytes segment)) (take i segments)))
 
--- no segments occupy no memory
+-- of an empty list of segments, none occupies memory
 pub occupying_none : occupying [] ≡ []
 unfolding occupying
 occupying_none = refl
 
--- the rules for one more header
+-- the segments after one more program header, with and without type PT_LOAD
 pub ruleset load_more = (with_load, without_load)
 
--- the rules for one more segment
+-- the segments that occupy memory: of no segment, and after one more segment, with and without bytes in memory
 pub ruleset occupying_more = (with_occupying, without_occupying, occupying_none)

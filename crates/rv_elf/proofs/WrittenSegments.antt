@@ -9,90 +9,101 @@ use Rattle.rv_elf.specs.declared.segment.Segment.{Segment}
 use Rattle.rv_elf.specs.Loaded.{loaded_memory, byte_after}
 use Rattle.rv_elf.proofs.LoadedBytes.{length-loaded_memory, loaded_at}
 
--- after two writes from the same index on, a byte inside the second write, which is not longer, is the byte of the second write
-in_second : (memory part : List ℕ) (index size k : ℕ) → length part ≤ size → index + size ≤ length memory → index ≤ k → k < index + length part
-    → slice_index (write_bytes (write_bytes memory index (replicate size 0)) index part) k ≡ slice_index part (k - index)
-in_second memory part index size k shorter within low high = grind (arith, common_steps)
+-- `written_twice` is the memory after `size` zeros are written from an index on, and then a part of the image from the same index on
+abbrev written_twice : List ℕ → List ℕ → ℕ → ℕ → List ℕ
+written_twice memory part index size = write_bytes (write_bytes memory index (replicate size 0)) index part
 
--- a byte after the part is 0, in the range that was zeroed
-behind_second : (memory part : List ℕ) (index size k : ℕ) → length part ≤ size → index + size ≤ length memory → index + length part ≤ k → k < index + size
-    → slice_index (write_bytes (write_bytes memory index (replicate size 0)) index part) k ≡ 0
-behind_second memory part index size k shorter within low high = grind (arith, common_steps)
+-- after both writes, a byte in the range of the part is the byte of the part
+byte_in_part : (memory part : List ℕ) (index size k : ℕ) → length part ≤ size → index + size ≤ length memory → index ≤ k
+    → k < index + length part → slice_index (written_twice memory part index size) k ≡ slice_index part (k - index)
+byte_in_part memory part index size k part_fits range_in_memory not_below is_below = grind (arith, common_steps)
 
--- a byte below the range is unchanged
-below_both : (memory part : List ℕ) (index size k : ℕ) → length part ≤ size → index + size ≤ length memory → k < index
-    → slice_index (write_bytes (write_bytes memory index (replicate size 0)) index part) k ≡ slice_index memory k
-below_both memory part index size k shorter within low = grind (arith, common_steps)
+-- after both writes, a byte after the part is 0, in the range that was zeroed
+byte_in_zeros : (memory part : List ℕ) (index size k : ℕ) → length part ≤ size → index + size ≤ length memory → index + length part ≤ k
+    → k < index + size → slice_index (written_twice memory part index size) k ≡ 0
+byte_in_zeros memory part index size k part_fits range_in_memory not_below is_below = grind (arith, common_steps)
 
--- a byte above the range is unchanged
-above_both : (memory part : List ℕ) (index size k : ℕ) → length part ≤ size → index + size ≤ length memory → index + size ≤ k
-    → slice_index (write_bytes (write_bytes memory index (replicate size 0)) index part) k ≡ slice_index memory k
-above_both memory part index size k shorter within high = grind (arith, common_steps)
+-- neither write changes a byte below the range
+byte_below_range : (memory part : List ℕ) (index size k : ℕ) → length part ≤ size → index + size ≤ length memory → k < index
+    → slice_index (written_twice memory part index size) k ≡ slice_index memory k
+byte_below_range memory part index size k part_fits range_in_memory is_below = grind (arith, common_steps)
 
--- a byte of the segment in its part of the image is the byte of the image
-part_byte : (image memory : List ℕ) (segment : Segment) (k : ℕ) → ram_base ≤ segment.address → segment.file_size ≤ segment.memory_size
-    → segment.address ≤ ram_base + k → ram_base + k < segment.address + segment.file_size
+-- neither write changes a byte above the range
+byte_above_range : (memory part : List ℕ) (index size k : ℕ) → length part ≤ size → index + size ≤ length memory → index + size ≤ k
+    → slice_index (written_twice memory part index size) k ≡ slice_index memory k
+byte_above_range memory part index size k part_fits range_in_memory not_below = grind (arith, common_steps)
+
+-- `byte_after` gives, at an address in the part of a segment that is in the image, the byte of the image
+byte_after-part : (image memory : List ℕ) (segment : Segment) (k : ℕ) → ram_base ≤ segment.address
+    → segment.file_size ≤ segment.memory_size → segment.address ≤ ram_base + k → ram_base + k < segment.address + segment.file_size
     → byte_after image (segment ∷ []) memory (ram_base + k)
     ≡ slice_index (take segment.file_size (drop segment.offset image)) (k - (segment.address - ram_base))
-part_byte image memory segment k above sized low high = grind (arith, common_steps)
+byte_after-part image memory segment k segment_in_ram not_oversized not_below is_below = grind (arith, common_steps)
 
--- a byte of the segment after its part of the file is 0
-zero_byte : (image memory : List ℕ) (segment : Segment) (k : ℕ) → segment.address + segment.file_size ≤ ram_base + k
-    → ram_base + k < segment.address + segment.memory_size
-    → byte_after image (segment ∷ []) memory (ram_base + k) ≡ 0
-zero_byte image memory segment k low high = grind (arith, common_steps)
+-- `byte_after` gives 0 at an address of a segment after its part of the image
+byte_after-zeros : (image memory : List ℕ) (segment : Segment) (k : ℕ) → segment.address + segment.file_size ≤ ram_base + k
+    → ram_base + k < segment.address + segment.memory_size → byte_after image (segment ∷ []) memory (ram_base + k) ≡ 0
+byte_after-zeros image memory segment k not_below is_below = grind (arith, common_steps)
 
--- a byte below the segment is unchanged
-byte_below : (image memory : List ℕ) (segment : Segment) (k : ℕ) → ram_base + k < segment.address
+-- `byte_after` gives the old byte at an address below the segment
+byte_after-below : (image memory : List ℕ) (segment : Segment) (k : ℕ) → ram_base + k < segment.address
     → byte_after image (segment ∷ []) memory (ram_base + k) ≡ slice_index memory k
-byte_below image memory segment k low = grind (arith, common_steps)
+byte_after-below image memory segment k is_below = grind (arith, common_steps)
 
--- a byte above the segment is unchanged
-byte_above : (image memory : List ℕ) (segment : Segment) (k : ℕ) → segment.address + segment.memory_size ≤ ram_base + k
+-- `byte_after` gives the old byte at an address above the segment
+byte_after-above : (image memory : List ℕ) (segment : Segment) (k : ℕ) → segment.address + segment.memory_size ≤ ram_base + k
     → byte_after image (segment ∷ []) memory (ram_base + k) ≡ slice_index memory k
-byte_above image memory segment k high = grind (arith, common_steps)
+byte_after-above image memory segment k not_below = grind (arith, common_steps)
 
--- the byte of the segment at an index is that of the two writes
-same_byte : (image memory part : List ℕ) (segment : Segment) (k : ℕ) → part ≡ take segment.file_size (drop segment.offset image)
-    → length part ≡ segment.file_size
-    → segment.file_size ≤ segment.memory_size → ram_base ≤ segment.address → segment.address + segment.memory_size ≤ ram_base + length memory
-    → slice_index (write_bytes (write_bytes memory (segment.address - ram_base) (replicate segment.memory_size 0)) (segment.address - ram_base) part) k
+-- after both writes, each byte is the one that `byte_after` gives: below the segment, in its part of the image, in its zeros, or above it
+written_byte : (image memory part : List ℕ) (segment : Segment) (k : ℕ) → part ≡ take segment.file_size (drop segment.offset image)
+    → length part ≡ segment.file_size → segment.file_size ≤ segment.memory_size
+    → ram_base ≤ segment.address → segment.address + segment.memory_size ≤ ram_base + length memory
+    → slice_index (written_twice memory part (segment.address - ram_base) segment.memory_size) k
     ≡ byte_after image (segment ∷ []) memory (ram_base + k)
-same_byte image memory part segment k part_is len sized low high =
+written_byte image memory part segment k part_is part_size_is not_oversized segment_in_ram end_in_ram =
     let index = segment.address - ram_base in
     let size = segment.memory_size in
-    let shorter : length part ≤ size = omega (arith, len, sized) in
-    let within : index + size ≤ length memory = omega (arith, low, high) in
+    let part_fits : length part ≤ size = omega (arith, part_size_is, not_oversized) in
+    let range_in_memory : index + size ≤ length memory = omega (arith, segment_in_ram, end_in_ram) in
     elim (cases_lt k index) [
-      | inl before ↦ below_both memory part index size k shorter within before ∙ sym (byte_below image memory segment k (omega (arith, before, low)))
-      | inr from ↦ elim (cases_lt k (index + length part)) [
-        | inl in_part ↦ in_second memory part index size k shorter within from in_part
-            ∙ rw part_is (sym (part_byte image memory segment k low sized (omega (arith, from, low)) (omega (arith, in_part, len, low))))
-        | inr behind ↦ elim (cases_lt k (index + size)) [
-          | inl in_zeros ↦ behind_second memory part index size k shorter within behind in_zeros
-              ∙ sym (zero_byte image memory segment k (omega (arith, behind, len, low)) (omega (arith, in_zeros, low)))
-          | inr past ↦ above_both memory part index size k shorter within past ∙ sym (byte_above image memory segment k (omega (arith, past, low)))
+      | inl below ↦ byte_below_range memory part index size k part_fits range_in_memory below
+          ∙ sym (byte_after-below image memory segment k (omega (arith, below, segment_in_ram)))
+      | inr not_below ↦ elim (cases_lt k (index + length part)) [
+        | inl in_part ↦
+            byte_in_part memory part index size k part_fits range_in_memory not_below in_part
+            ∙ rw part_is (sym (byte_after-part image memory segment k segment_in_ram not_oversized
+            (omega (arith, not_below, segment_in_ram)) (omega (arith, in_part, part_size_is, segment_in_ram))))
+        | inr after_part ↦ elim (cases_lt k (index + size)) [
+          | inl in_zeros ↦ byte_in_zeros memory part index size k part_fits range_in_memory after_part in_zeros
+              ∙ sym (byte_after-zeros image memory segment k
+              (omega (arith, after_part, part_size_is, segment_in_ram)) (omega (arith, in_zeros, segment_in_ram)))
+          | inr above ↦ byte_above_range memory part index size k part_fits range_in_memory above
+              ∙ sym (byte_after-above image memory segment k (omega (arith, above, segment_in_ram)))
         ]
       ]
     ]
 
--- the two writes of a segment, zeros and then its part of the image, leave the bytes of the segment
-pub written : (image memory between after : List ℕ) (segment : Segment) (part : List ℕ) → part ≡ take segment.file_size (drop segment.offset image)
-    → length part ≡ segment.file_size → segment.file_size ≤ segment.memory_size
+-- if zeros are written at all addresses of a segment, and then its part of the image, the memory is the one after loading the segment
+pub written : (image memory between after : List ℕ) (segment : Segment) (part : List ℕ)
+    → part ≡ take segment.file_size (drop segment.offset image) → length part ≡ segment.file_size
+    → segment.file_size ≤ segment.memory_size
     → write memory segment.address (replicate segment.memory_size 0) ≡ Some between → write between segment.address part ≡ Some after
     → after ≡ loaded_memory image (segment ∷ []) memory
-written image memory between after segment part part_is len sized zeroed put =
+written image memory between after segment part part_is part_size_is not_oversized zeros_written part_written =
     let zeros : List ℕ = replicate segment.memory_size 0 in
     let index = segment.address - ram_base in
-    let one = write-is memory segment.address zeros between zeroed in
-    let two = write-is between segment.address part after put in
-    let high : segment.address + segment.memory_size ≤ ram_base + length memory = rw (length-replicate {A = ℕ} segment.memory_size 0) at one.1 in
-    let sizes : length after ≡ length memory =
-    length-write between segment.address part after put ∙ length-write memory segment.address zeros between zeroed in
-    let after_is : after ≡ write_bytes (write_bytes memory index zeros) index part = two.2 ∙ rw one.2 refl in
-    same_number_lists after (loaded_memory image (segment ∷ []) memory) (sizes ∙ sym (length-loaded_memory image (segment ∷ []) memory))
-    (λ k below. let inside : k < length memory = rw sizes at below in
-    let same = same_byte image memory part segment k part_is len sized one.0 high in
-    let at = loaded_at image (segment ∷ []) memory (ram_base + k) (omega arith) (omega (arith, inside)) in
-    let place : ram_base + k - ram_base ≡ k = omega arith in
-    ap (λ xs. slice_index xs k) after_is ∙ same ∙ sym at ∙ ap (slice_index (loaded_memory image (segment ∷ []) memory)) place)
+    let first_write = write-is memory segment.address zeros between zeros_written in
+    let second_write = write-is between segment.address part after part_written in
+    let end_in_ram : segment.address + segment.memory_size ≤ ram_base + length memory =
+    rw (length-replicate {A = ℕ} segment.memory_size 0) at first_write.1 in
+    let same_size : length after ≡ length memory =
+    length-write between segment.address part after part_written ∙ length-write memory segment.address zeros between zeros_written in
+    let after_is : after ≡ write_bytes (write_bytes memory index zeros) index part = second_write.2 ∙ rw first_write.2 refl in
+    -- both memories have the same byte at each index k
+    same_number_lists after (loaded_memory image (segment ∷ []) memory) (same_size ∙ sym (length-loaded_memory image (segment ∷ []) memory))
+    (λ k is_below. let in_memory : k < length memory = rw same_size at is_below in
+    let byte_is = written_byte image memory part segment k part_is part_size_is not_oversized first_write.0 end_in_ram in
+    let loaded_byte = loaded_at image (segment ∷ []) memory (ram_base + k) (omega arith) (omega (arith, in_memory)) in
+    let index_is : ram_base + k - ram_base ≡ k = omega arith in
+    ap (λ xs. slice_index xs k) after_is ∙ byte_is ∙ sym loaded_byte ∙ ap (slice_index (loaded_memory image (segment ∷ []) memory)) index_is)

@@ -25,13 +25,14 @@ elf_fault_number SegmentOutside = 9
 elf_fault_number SegmentOverlap = 10
 elf_fault_number BadEntry = 11
 
--- there are more than 64 program headers; or there are some, and their size is not 32 bytes or they end after the end of the file
+-- The program header table is bad if it has more than 64 headers. A table that is not empty is also bad if its headers do not have 32 bytes, or if it
+-- ends after the file.
 abbrev pub has_bad_table : List ℕ → Bool
 has_bad_table file =
     nat_lt 64 (e_phnum file)
     || not (e_phnum file == 0) && (not (e_phentsize file == 32) || nat_lt (length file) (e_phoff file + 32 * e_phnum file))
 
--- the entry is no multiple of 4, or an image may not use the four bytes of the first instruction
+-- the entry is bad if it is no multiple of 4, or if an image may not use the four bytes of the first instruction
 abbrev pub is_bad_entry : ℕ → Bool → ℕ → Bool
 is_bad_entry ram_size monitored entry = not (entry % 4 == 0) || not (has_place ram_size monitored entry 4)
 
@@ -79,7 +80,7 @@ first_fault [] = None
 first_fault ((true, fault) ∷ rows) = Some fault
 first_fault ((false, fault) ∷ rows) = first_fault rows
 
--- the condition of the error holds in the table, and that of no error with a smaller number does
+-- the error is the least in the table: its condition holds, and the condition of no error with a smaller number holds
 abbrev pub IsLeast : List (Bool × ElfFault) → ElfFault → Type 0
 IsLeast rows fault =
     (list_any (λ row. row.0 && elf_fault_number row.1 == elf_fault_number fault) rows ≡ true)

@@ -5,11 +5,11 @@ use Rattle.rv_memory.specs.Memory.{number_of_bytes}
 
 -- `half_at` is the number of the two bytes at an offset in the file, the lowest byte first
 abbrev pub half_at : List ℕ → ℕ → ℕ
-half_at file place = number_of_bytes (take 2 (drop place file))
+half_at file offset = number_of_bytes (take 2 (drop offset file))
 
 -- `word_at` is the number of the four bytes at an offset in the file, the lowest byte first
 abbrev pub word_at : List ℕ → ℕ → ℕ
-word_at file place = number_of_bytes (take 4 (drop place file))
+word_at file offset = number_of_bytes (take 4 (drop offset file))
 
 -- `magic` has the first four bytes of an ELF file: 7F, E, L, F
 abbrev pub magic : List ℕ
@@ -61,23 +61,23 @@ e_phnum file = half_at file 44
 
 -- p_type is the type of the segment, in the program header at an offset
 abbrev pub p_type : List ℕ → ℕ → ℕ
-p_type file place = word_at file place
+p_type file offset = word_at file offset
 
 -- p_offset is the offset of the segment in the file
 abbrev pub p_offset : List ℕ → ℕ → ℕ
-p_offset file place = word_at file (place + 4)
+p_offset file offset = word_at file (offset + 4)
 
 -- p_paddr is the physical address of the segment
 abbrev pub p_paddr : List ℕ → ℕ → ℕ
-p_paddr file place = word_at file (place + 12)
+p_paddr file offset = word_at file (offset + 12)
 
 -- p_filesz is the number of bytes of the segment in the file
 abbrev pub p_filesz : List ℕ → ℕ → ℕ
-p_filesz file place = word_at file (place + 16)
+p_filesz file offset = word_at file (offset + 16)
 
 -- p_memsz is the number of bytes of the segment in memory
 abbrev pub p_memsz : List ℕ → ℕ → ℕ
-p_memsz file place = word_at file (place + 20)
+p_memsz file offset = word_at file (offset + 20)
 
 -- `header_places` has the offsets of the program headers, which have 32 bytes each
 abbrev pub header_places : List ℕ → List ℕ

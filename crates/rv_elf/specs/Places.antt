@@ -4,7 +4,7 @@ use Rattle.std.specs.Prelude.{ℕ, ◌+◌, Bool, not, ◌&&◌, nat_le, if◌th
 use Rattle.rv_memory.specs.Blocks.{has, meets, monitor_block}
 use Rattle.rv_memory.specs.Memory.{ram_base}
 
--- with a monitor, an address is reserved if the monitor reserves it for itself
+-- an address is reserved if there is a monitor, and the monitor reserves the address for itself
 abbrev pub is_reserved : Bool → ℕ → Bool
 is_reserved monitored address = monitored && has monitor_block address
 

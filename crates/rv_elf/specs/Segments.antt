@@ -7,16 +7,16 @@ use Rattle.rv_elf.specs.Places.{first_address, has_place}
 
 -- `segment_at` is the segment of the program header at an offset
 abbrev pub segment_at : List ℕ → ℕ → Segment
-segment_at file place = record {
-  offset = p_offset file place;
-  address = p_paddr file place;
-  file_size = p_filesz file place;
-  memory_size = p_memsz file place;
+segment_at file header_offset = record {
+  offset = p_offset file header_offset;
+  address = p_paddr file header_offset;
+  file_size = p_filesz file header_offset;
+  memory_size = p_memsz file header_offset;
 }
 
 -- `is_load` states whether a header is of type PT_LOAD, so that its segment is loaded
 abbrev pub is_load : List ℕ → ℕ → Bool
-is_load file place = p_type file place == pt_load
+is_load file header_offset = p_type file header_offset == pt_load
 
 -- `segments_of` has the segments to load, in the order of their headers
 unfoldable pub segments_of : List ℕ → List Segment
