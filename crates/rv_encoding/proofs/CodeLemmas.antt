@@ -1,4 +1,4 @@
--- Each kind is found by its code, and each code fits in its bits.
+-- Each kind of instruction is found by its funct3 (and funct7), funct3 has three bits, and funct7 has seven. All are proved by cases of the kind.
 use Rattle.std.proofs.Common.{◌≡◌, ℕ, ◌<◌, Some, None, arith}
 use Rattle.rv_encoding.specs.Codes.{branch_funct3, load_funct3, store_funct3, op_imm_funct3, shift_functs, op_functs, csr_funct3, csr_imm_funct3}
 use Rattle.rv_encoding.specs.Codes.{branch_kind, load_kind, store_kind, op_imm_kind, shift_kind, op_kind, csr_kind, csr_imm_kind}
@@ -74,10 +74,10 @@ op_kind_found kind = grind arith
 pub op_functs-lt : (kind : OpKind) → ((op_functs kind).funct3 < 8) × ((op_functs kind).funct7 < 128)
 op_functs-lt kind = grind arith
 
--- The code of a shift is not that of another operation on an immediate. A CSR instruction with an immediate has no code of one with a register.
+-- an operation on an immediate that is no shift does not have the funct3 of a shift, whatever funct7 is
 pub no_shift : (kind : OpImmKind) (funct7 : ℕ) → shift_kind (op_imm_funct3 kind) funct7 ≡ None
 no_shift kind funct7 = grind arith
 
--- no CSR instruction with a register has the funct3 of one with an immediate
+-- a CSR instruction with an immediate does not have the funct3 of one with a register
 pub no_csr : (kind : CsrKind) → csr_kind (csr_imm_funct3 kind) ≡ None
 no_csr kind = grind arith

@@ -1,5 +1,6 @@
--- Decoding by the listing finds the only instruction that a word encodes.
-use Rattle.std.proofs.Common.{◌≡◌, ◌≢◌, ℕ, zero, suc, ◌+◌, ◌<◌, ◌^◌, Bool, true, false, cond, List, [], ◌∷◌, Some, None, refl, sym, ap, subst, ◌∙◌, arith}
+-- Decoding by the listing (`decoded`) finds the only instruction that a word encodes, and None if the word encodes none.
+use Rattle.std.proofs.Common.{◌≡◌, ◌≢◌, ℕ, zero, suc, ◌+◌, ◌<◌, ◌^◌, Bool, true, false, cond, List, [], ◌∷◌, Some, None}
+use Rattle.std.proofs.Common.{refl, sym, ap, subst, ◌∙◌, arith}
 use Rattle.std.specs.Prelude.{◌==◌, map, find, slice_get, Option, IfSome, All}
 use Rattle.std.specs.Option.{option_map}
 use Rattle.std.proofs.lemmas.Option.{slice_get-get_or}
@@ -8,107 +9,118 @@ use Rattle.rv_encoding.specs.Rows.{row_of_instr, word_of, fields_at, Encodes}
 use Rattle.rv_encoding.specs.Listing.{Listed, listing, listed_of}
 use Rattle.rv_encoding.specs.Decoding.{samples, with_fields_of, decoded}
 use Rattle.rv_encoding.proofs.ReadingLemmas.{only_read}
-use Rattle.rv_encoding.proofs.MaskLemmas.{spelled_by_mask, masked_word_of}
+use Rattle.rv_encoding.proofs.MaskLemmas.{encodes_by_mask, masked_word_of}
 use Rattle.rv_encoding.proofs.ListingLemmas.{listing_of_samples, is_listed}
 use Rattle.rv_encoding.specs.declared.instr.Instr.{Instr}
 
--- a word matches the row of an instruction under its mask
+-- the test of `decoded`: whether a word equals the match of the row of an instruction under the row's mask
 abbrev fits_row : ℕ → Instr → Bool
 fits_row word sample = and_by_bits word (row_of_instr sample).mask == (row_of_instr sample).match
 
--- equal numbers pass the test
-test-true : (a b : ℕ) → a ≡ b → (a == b) ≡ true
-test-true a b same = grind arith
+-- the word equals the match of the row of an instruction under the row's mask
+abbrev MatchesRow : ℕ → Instr → Type 0
+MatchesRow word sample = and_by_bits word (row_of_instr sample).mask ≡ (row_of_instr sample).match
 
--- numbers that pass the test are equal
-true-test : (a b : ℕ) → (a == b) ≡ true → a ≡ b
-true-test a b test_is = grind arith
+-- equal numbers pass the test of equality
+test_of_equal : (m n : ℕ) → m ≡ n → (m == n) ≡ true
+test_of_equal m n same = grind arith
 
--- ---- a row that is found matches, and if none is found, none matches
+-- numbers that pass the test of equality are equal
+equal_by_test : (m n : ℕ) → (m == n) ≡ true → m ≡ n
+equal_by_test m n test_is = grind arith
 
--- the row that is found here or later has the bits of the word
-found_first : (word : ℕ) (x s : Instr) (rest : Option Instr) (b : Bool) → b ≡ fits_row word x → cond b (Some x) rest ≡ Some s
-    → (rest ≡ Some s → and_by_bits word (row_of_instr s).mask ≡ (row_of_instr s).match) → and_by_bits word (row_of_instr s).mask ≡ (row_of_instr s).match
-found_first word x s rest true fits_is found later =
-    let same : x ≡ s = cc in
-    subst (λ (i : Instr). and_by_bits word (row_of_instr i).mask ≡ (row_of_instr i).match) same
-    (true-test (and_by_bits word (row_of_instr x).mask) (row_of_instr x).match (sym fits_is))
-found_first word x s rest false fits_is found later = later found
+-- ---- a sample that the search finds matches the word, and if it finds none, no sample matches
 
--- the row that is found has the bits of the word
-found_fits : (word : ℕ) (xs : List Instr) (s : Instr) → find (fits_row word) xs ≡ Some s → and_by_bits word (row_of_instr s).mask ≡ (row_of_instr s).match
-found_fits word [] s found = cc
-found_fits word (x ∷ xs) s found = found_first word x s (find (fits_row word) xs) (fits_row word x) refl found (found_fits word xs s)
+-- the word matches the sample that is found, whether it is the first sample or one of the later; `fits` is the result of the test of the first
+first_or_later_matches : (word : ℕ) (first sample : Instr) (later : Option Instr) (fits : Bool) → fits ≡ fits_row word first
+    → cond fits (Some first) later ≡ Some sample → (later ≡ Some sample → MatchesRow word sample) → MatchesRow word sample
+first_or_later_matches word first sample later true fits_is found later_matches =
+    let is_first : first ≡ sample = cc in
+    subst (MatchesRow word) is_first (equal_by_test (and_by_bits word (row_of_instr first).mask) (row_of_instr first).match (sym fits_is))
+first_or_later_matches word first sample later false fits_is found later_matches = later_matches found
 
--- if nothing is found, the first does not fit, and nothing is found later
-not_found : (b : Bool) (x : Instr) (rest : Option Instr) → cond b (Some x) rest ≡ None → (b ≡ false) × (rest ≡ None)
-not_found true x rest none = cc
-not_found false x rest none = (refl, none)
+-- the word matches the sample that the search finds; by induction over the samples
+found_matches : (word : ℕ) (xs : List Instr) (sample : Instr) → find (fits_row word) xs ≡ Some sample → MatchesRow word sample
+found_matches word [] sample found = cc
+found_matches word (x ∷ xs) sample found =
+    first_or_later_matches word x sample (find (fits_row word) xs) (fits_row word x) refl found (found_matches word xs sample)
 
--- if nothing is found, no row has the bits of the word
-none_fit : (word : ℕ) (xs : List Instr) → find (fits_row word) xs ≡ None → (place : ℕ) (row : Listed)
+-- if the search finds nothing, the first sample does not fit, and the search of the later samples finds nothing
+none_found : (fits : Bool) (first : Instr) (later : Option Instr) → cond fits (Some first) later ≡ None → (fits ≡ false) × (later ≡ None)
+none_found true first later not_found = cc
+none_found false first later not_found = (refl, not_found)
+
+-- if the search finds nothing, the word matches none of the rows of the samples; by induction over the samples
+no_row_matches : (word : ℕ) (xs : List Instr) → find (fits_row word) xs ≡ None → (place : ℕ) (row : Listed)
     → slice_get (map listed_of xs) place ≡ Some row → and_by_bits word row.mask ≢ row.match
-none_fit word [] none place row row_is same = cc
-none_fit word (x ∷ xs) none zero row listed_is same =
+no_row_matches word [] not_found place row row_is matches = cc
+no_row_matches word (x ∷ xs) not_found zero row listed_is matches =
     let row_is : row ≡ listed_of x = cc in
-    let fits = subst (λ (r : Listed). and_by_bits word r.mask ≡ r.match) row_is same in
-    let tested = test-true (and_by_bits word (row_of_instr x).mask) (row_of_instr x).match fits in
-    let missed = (not_found (fits_row word x) x (find (fits_row word) xs) none).0 in
+    let x_matches = subst (λ (r : Listed). and_by_bits word r.mask ≡ r.match) row_is matches in
+    let x_fits = test_of_equal (and_by_bits word (row_of_instr x).mask) (row_of_instr x).match x_matches in
+    let x_does_not_fit = (none_found (fits_row word x) x (find (fits_row word) xs) not_found).0 in
     cc
-none_fit word (x ∷ xs) none (suc place) row row_is same =
-    none_fit word xs (not_found (fits_row word x) x (find (fits_row word) xs) none).1 place row row_is same
+no_row_matches word (x ∷ xs) not_found (suc place) row row_is matches =
+    no_row_matches word xs (none_found (fits_row word x) x (find (fits_row word) xs) not_found).1 place row row_is matches
 
--- ---- the same for the instruction that a word encodes
+-- ---- decoding and encoding
 
--- the word of an instruction is the sum of its fixed bits and its fields
-pub word_of_parts : (i : Instr) (match fields : ℕ) → match ≡ (row_of_instr i).match → fields ≡ fields_at (row_of_instr i).fields → word_of i ≡ match + fields
+-- the word of an instruction is the sum of the match of its row and of its fields at their positions
+pub word_of_parts : (i : Instr) (match fields : ℕ) → match ≡ (row_of_instr i).match → fields ≡ fields_at (row_of_instr i).fields
+    → word_of i ≡ match + fields
 unfolding word_of
-word_of_parts i match fields match_is fields_are = sym (ap (λ n. n + fields) match_is ∙ ap (λ n. (row_of_instr i).match + n) fields_are)
+word_of_parts i match fields match_is fields_are =
+    sym (ap (λ n. n + fields) match_is ∙ ap (λ n. (row_of_instr i).match + n) fields_are)
 
--- no row of the listing matches if no sample does
-unlisted : (word : ℕ) → find (fits_row word) samples ≡ None → (place : ℕ) (row : Listed) → slice_get listing place ≡ Some row
+-- if the search finds no sample, the word matches no row of the listing
+no_listed_row_matches : (word : ℕ) → find (fits_row word) samples ≡ None → (place : ℕ) (row : Listed) → slice_get listing place ≡ Some row
     → and_by_bits word row.mask ≢ row.match
-unlisted word none place row row_is =
-    none_fit word samples none place row (ap (λ (rows : List Listed). slice_get rows place) (sym listing_of_samples) ∙ row_is)
+no_listed_row_matches word not_found place row row_is =
+    let sample_row_is = ap (λ (rows : List Listed). slice_get rows place) (sym listing_of_samples) ∙ row_is in
+    no_row_matches word samples not_found place row sample_row_is
 
--- a word whose row is not found has no instruction
-unfound : (word : ℕ) (result : Option Instr) → word < 2 ^ 32 → IfSome result (Encodes word) → find (fits_row word) samples ≡ None → result ≡ None
-unfound word None fits found none = refl
-unfound word (Some i) fits found none =
-    let below : word_of i < 2 ^ 32 = omega (arith, found.1) in
-    let masked = subst (λ (w : ℕ). and_by_bits w (row_of_instr i).mask ≡ (row_of_instr i).match) found.1 (masked_word_of i found.0 below) in
-    absurd (unlisted word none (is_listed i).0 (listed_of i) (is_listed i).1 masked)
+-- if the search finds no sample, the word encodes no instruction, since it would match the row of the instruction
+encodes_none : (word : ℕ) (result : Option Instr) → word < 2 ^ 32 → IfSome result (Encodes word) → find (fits_row word) samples ≡ None
+    → result ≡ None
+encodes_none word None is_32_bits encodes_result not_found = refl
+encodes_none word (Some i) is_32_bits encodes_result not_found =
+    let word_of_i_is_32_bits : word_of i < 2 ^ 32 = omega (arith, encodes_result.1) in
+    let word_matches = subst (λ (w : ℕ). MatchesRow w i) encodes_result.1 (masked_word_of i encodes_result.0 word_of_i_is_32_bits) in
+    absurd (no_listed_row_matches word not_found (is_listed i).0 (listed_of i) (is_listed i).1 word_matches)
 
--- an instruction that the word encodes, and that is the only one, is the result of `decoded`
-pub decoded_is : (word : ℕ) (result : Option Instr) → word < 2 ^ 32 → IfSome result (Encodes word) → ((i : Instr) → Encodes word i → result ≡ Some i)
-    → result ≡ decoded word
+-- if `result` is an instruction that the word encodes, or None, and each instruction that the word encodes is `result`, it is `decoded word`
+pub decoded_is : (word : ℕ) (result : Option Instr) → word < 2 ^ 32 → IfSome result (Encodes word)
+    → ((i : Instr) → Encodes word i → result ≡ Some i) → result ≡ decoded word
 unfolding decoded
-decoded_is word result fits found only = by_row (find (fits_row word) samples) refl
+decoded_is word result is_32_bits encodes_result is_result = result_of_search (find (fits_row word) samples) refl
   where
-    -- the instruction of the word is that of its row, with the fields of the word
-    by_row : (row : Option Instr) → find (fits_row word) samples ≡ row → result ≡ option_map (with_fields_of word) row
-    by_row (Some s) found_is = only (with_fields_of word s) (spelled_by_mask s word fits (found_fits word samples s found_is))
-    by_row None found_is = unfound word result fits found found_is
+    -- the result is the sample that the search finds, with the fields of the word, or None
+    result_of_search : (found : Option Instr) → find (fits_row word) samples ≡ found → result ≡ option_map (with_fields_of word) found
+    result_of_search (Some sample) found_is =
+        let encodes_sample = encodes_by_mask sample word is_32_bits (found_matches word samples sample found_is) in
+        is_result (with_fields_of word sample) encodes_sample
+    result_of_search None found_is = encodes_none word result is_32_bits encodes_result found_is
 
 -- a word encodes at most one instruction
-pub only_spelled : (word : ℕ) (i other : Instr) → Encodes word i → Encodes word other → other ≡ i
-only_spelled word i other encodes spells_other =
-    let first = only_read word i encodes in
-    let second = only_read word other spells_other in
+pub encodes_only_one : (word : ℕ) (i other : Instr) → Encodes word i → Encodes word other → other ≡ i
+encodes_only_one word i other encodes_i encodes_other =
+    let reads_i = only_read word i encodes_i in
+    let reads_other = only_read word other encodes_other in
     cc
 
 -- a word decodes to the instruction that it encodes
-pub decoded_spelled : (word : ℕ) (i : Instr) → word < 2 ^ 32 → Encodes word i → decoded word ≡ Some i
-decoded_spelled word i fits encodes =
-    sym (decoded_is word (Some i) fits encodes (λ other spells_other. ap Some (sym (only_spelled word i other encodes spells_other))))
+pub decodes_to_encoded : (word : ℕ) (i : Instr) → word < 2 ^ 32 → Encodes word i → decoded word ≡ Some i
+decodes_to_encoded word i is_32_bits encodes_i =
+    sym (decoded_is word (Some i) is_32_bits encodes_i (λ other encodes_other. ap Some (sym (encodes_only_one word i other encodes_i encodes_other))))
 
--- if nothing is decoded, no row of the listing matches
+-- if nothing is decoded, the word matches no row of the listing
 pub none_listed : (word : ℕ) → decoded word ≡ None → All (λ row. and_by_bits word row.mask ≢ row.match) listing
 unfolding decoded
-none_listed word none place d inside =
-    unlisted word (no_row (find (fits_row word) samples) none) place _ (slice_get-get_or listing place d inside)
+none_listed word none_decoded place default in_bounds =
+    let not_found = none_found_if_none_decoded (find (fits_row word) samples) none_decoded in
+    no_listed_row_matches word not_found place _ (slice_get-get_or listing place default in_bounds)
   where
-    -- a word without an instruction has no row
-    no_row : (row : Option Instr) → option_map (with_fields_of word) row ≡ None → row ≡ None
-    no_row (Some s) mapped_is = cc
-    no_row None mapped_is = refl
+    -- if nothing is decoded, the search found no sample
+    none_found_if_none_decoded : (found : Option Instr) → option_map (with_fields_of word) found ≡ None → found ≡ None
+    none_found_if_none_decoded (Some sample) mapped_is_none = cc
+    none_found_if_none_decoded None mapped_is_none = refl

@@ -14,164 +14,161 @@ use Rattle.rv_encoding.specs.declared.instr.Instr.TheVariants.{Csr, CsrImm, Ecal
 
 -- ---- a word under each mask
 
--- the mask 0000707F selects the bits of opcode and funct3 of a word
-mask_i : (word : ℕ) → bit_and word 0x0000707F ≡ word % 2 ^ 7 + word / 2 ^ 12 % 2 ^ 3 * 2 ^ 12
-mask_i word =
-    ap (λ n. bit_and n 0x0000707F) (sym (div-add-mod' word (2 ^ 12)))
-    ∙ and_block 12 (word / 2 ^ 12) 0b111 (word % 2 ^ 12) 0x7F (omega arith) (omega arith)
-    ∙ ap (λ n. n * 2 ^ 12 + bit_and (word % 2 ^ 12) 0x7F) (and_mask (word / 2 ^ 12) 3)
+-- the mask of a row that fixes opcode (bits 6:0) and funct3 (bits 14:12)
+abbrev funct3_mask : ℕ
+funct3_mask = 0x0000707F
+
+-- the mask of a row that fixes opcode, funct3 and funct7 (bits 31:25)
+abbrev funct7_mask : ℕ
+funct7_mask = 0xFE00707F
+
+-- the mask of the row of sfence.vma, which fixes funct7 and bits 14:0: opcode, rd and funct3
+abbrev sfence_vma_mask : ℕ
+sfence_vma_mask = 0xFE007FFF
+
+-- the mask 0x0000707F selects opcode and funct3 of a word; the mask is split at bit 12
+under_funct3_mask : (word : ℕ) → bit_and word funct3_mask ≡ word % 2 ^ 7 + word / 2 ^ 12 % 2 ^ 3 * 2 ^ 12
+under_funct3_mask word =
+    ap (λ n. bit_and n funct3_mask) (sym (div-add-mod' word (2 ^ 12)))
+    ∙ and_block 12 (word / 2 ^ 12) 0b111 (word % 2 ^ 12) 0b1111111 (omega arith) (omega arith)
+    ∙ ap (λ n. n * 2 ^ 12 + bit_and (word % 2 ^ 12) 0b1111111) (and_mask (word / 2 ^ 12) 3)
     ∙ ap (λ n. word / 2 ^ 12 % 2 ^ 3 * 2 ^ 12 + n) (and_mask (word % 2 ^ 12) 7)
     ∙ omega arith
 
--- a mask with all bits from 31 to 25 selects these bits of a word, and its lower bits select the others
-mask_top : (word low : ℕ) → word < 2 ^ 32 → low < 2 ^ 25 → bit_and word (0b1111111 * 2 ^ 25 + low) ≡ word / 2 ^ 25 * 2 ^ 25 + bit_and (word % 2 ^ 25) low
-mask_top word low fits below =
+-- a mask with bits 31:25 set selects these bits of a word, and its lower part `low` selects bits 24:0
+under_top_mask : (word low : ℕ) → word < 2 ^ 32 → low < 2 ^ 25
+    → bit_and word (0b1111111 * 2 ^ 25 + low) ≡ word / 2 ^ 25 * 2 ^ 25 + bit_and (word % 2 ^ 25) low
+under_top_mask word low is_32_bits low_is_25_bits =
     ap (λ n. bit_and n (0b1111111 * 2 ^ 25 + low)) (sym (div-add-mod' word (2 ^ 25)))
-    ∙ and_block 25 (word / 2 ^ 25) 0b1111111 (word % 2 ^ 25) low (omega arith) below
+    ∙ and_block 25 (word / 2 ^ 25) 0b1111111 (word % 2 ^ 25) low (omega arith) low_is_25_bits
     ∙ ap (λ n. n * 2 ^ 25 + bit_and (word % 2 ^ 25) low) (and_mask (word / 2 ^ 25) 7)
     ∙ omega arith
 
--- the mask FE00707F selects the bits of opcode, funct3 and funct7 of a word
-mask_r : (word : ℕ) → word < 2 ^ 32 → bit_and word 0xFE00707F ≡ word / 2 ^ 25 * 2 ^ 25 + (word % 2 ^ 7 + word / 2 ^ 12 % 2 ^ 3 * 2 ^ 12)
-mask_r word fits =
-    mask_top word 0x0000707F fits (omega arith)
-    ∙ ap (λ n. word / 2 ^ 25 * 2 ^ 25 + n) (mask_i (word % 2 ^ 25))
+-- the mask 0xFE00707F selects opcode, funct3 and funct7 of a word
+under_funct7_mask : (word : ℕ) → word < 2 ^ 32 → bit_and word funct7_mask ≡ word / 2 ^ 25 * 2 ^ 25 + (word % 2 ^ 7 + word / 2 ^ 12 % 2 ^ 3 * 2 ^ 12)
+under_funct7_mask word is_32_bits =
+    under_top_mask word funct3_mask is_32_bits (omega arith)
+    ∙ ap (λ n. word / 2 ^ 25 * 2 ^ 25 + n) (under_funct3_mask (word % 2 ^ 25))
     ∙ omega arith
 
--- the mask FE007FFF selects the bits that sfence.vma fixes
-mask_sfence_vma : (word : ℕ) → word < 2 ^ 32 → bit_and word 0xFE007FFF ≡ word / 2 ^ 25 * 2 ^ 25 + word % 2 ^ 15
-mask_sfence_vma word fits =
-    mask_top word 0x00007FFF fits (omega arith)
+-- the mask 0xFE007FFF selects the bits that sfence.vma fixes: funct7 and bits 14:0
+under_sfence_vma_mask : (word : ℕ) → word < 2 ^ 32 → bit_and word sfence_vma_mask ≡ word / 2 ^ 25 * 2 ^ 25 + word % 2 ^ 15
+under_sfence_vma_mask word is_32_bits =
+    under_top_mask word 0x00007FFF is_32_bits (omega arith)
     ∙ ap (λ n. word / 2 ^ 25 * 2 ^ 25 + n) (and_mask (word % 2 ^ 25) 15)
     ∙ omega arith
 
--- the mask of all bits selects the whole word
-mask_word : (word : ℕ) → word < 2 ^ 32 → bit_and word 0xFFFFFFFF ≡ word
-mask_word word fits = and_mask word 32 ∙ omega arith
+-- the mask with all bits set selects the whole word
+under_full_mask : (word : ℕ) → word < 2 ^ 32 → bit_and word 0xFFFFFFFF ≡ word
+under_full_mask word is_32_bits = and_mask word 32 ∙ omega arith
 
 -- ---- a word that equals the match under the mask encodes an instruction with the fields of the word
 
--- a word with the fixed bits of an instruction encodes it with the fields of the word, by `&`
-spelled_by_and : (i : Instr) (word : ℕ) → word < 2 ^ 32 → bit_and word (row_of_instr i).mask ≡ (row_of_instr i).match → Encodes word (with_fields_of word i)
+-- If a word equals the match of the row of an instruction under the row's mask, applied by `&`, it encodes the instruction with the fields of the
+-- word. The lemma for the mask gives the fixed bits of the word as a sum. The rest is arithmetic over the fields.
+encodes_by_and : (i : Instr) (word : ℕ) → word < 2 ^ 32 → bit_and word (row_of_instr i).mask ≡ (row_of_instr i).match
+    → Encodes word (with_fields_of word i)
 unfolding word_of
-spelled_by_and (Lui rd imm) word fits masked =
-    let code = sym (and_mask word 7) ∙ masked in
-    (grind arith, omega (arith, code))
-spelled_by_and (Auipc rd imm) word fits masked =
-    let code = sym (and_mask word 7) ∙ masked in
-    (grind arith, omega (arith, code))
-spelled_by_and (Jal rd offset) word fits masked =
-    let code = sym (and_mask word 7) ∙ masked in
-    (grind arith, omega (arith, code))
-spelled_by_and (Jalr rd rs1 offset) word fits masked =
-    let code = sym (mask_i word) ∙ masked in
-    (grind arith, omega (arith, code))
-spelled_by_and (Branch kind rs1 rs2 offset) word fits masked =
-    let funct3 : branch_funct3 kind < 8 = branch_funct3-lt kind in
-    let code = sym (mask_i word) ∙ masked in
-    (grind arith, omega (arith, code))
-spelled_by_and (Load kind rd rs1 offset) word fits masked =
-    let funct3 : load_funct3 kind < 8 = load_funct3-lt kind in
-    let code = sym (mask_i word) ∙ masked in
-    (grind arith, omega (arith, code))
-spelled_by_and (Store kind rs1 rs2 offset) word fits masked =
-    let funct3 : store_funct3 kind < 8 = store_funct3-lt kind in
-    let code = sym (mask_i word) ∙ masked in
-    (grind arith, omega (arith, code))
-spelled_by_and (OpImm kind rd rs1 imm) word fits masked =
-    let funct3 : op_imm_funct3 kind < 8 = op_imm_funct3-lt kind in
-    let code = sym (mask_i word) ∙ masked in
-    (grind arith, omega (arith, code))
-spelled_by_and (ShiftImm kind rd rs1 shamt) word fits masked =
-    let codes : ((shift_functs kind).funct3 < 8) × ((shift_functs kind).funct7 < 128) = shift_functs-lt kind in
-    let code = sym (mask_r word fits) ∙ masked in
-    (grind arith, omega (arith, code))
-spelled_by_and (Op kind rd rs1 rs2) word fits masked =
-    let codes : ((op_functs kind).funct3 < 8) × ((op_functs kind).funct7 < 128) = op_functs-lt kind in
-    let code = sym (mask_r word fits) ∙ masked in
-    (grind arith, omega (arith, code))
-spelled_by_and (Fence fm pred succ rd rs1) word fits masked =
-    let code = sym (mask_i word) ∙ masked in
-    (grind arith, omega (arith, code))
-spelled_by_and (Csr kind rd rs1 csr) word fits masked =
-    let funct3 : csr_funct3 kind < 8 = csr_funct3-lt kind in
-    let code = sym (mask_i word) ∙ masked in
-    (grind arith, omega (arith, code))
-spelled_by_and (CsrImm kind rd uimm csr) word fits masked =
-    let funct3 : csr_imm_funct3 kind < 8 = csr_imm_funct3-lt kind in
-    let code = sym (mask_i word) ∙ masked in
-    (grind arith, omega (arith, code))
-spelled_by_and Ecall word fits masked = (tt, sym (sym (mask_word word fits) ∙ masked))
-spelled_by_and Ebreak word fits masked = (tt, sym (sym (mask_word word fits) ∙ masked))
-spelled_by_and Sret word fits masked = (tt, sym (sym (mask_word word fits) ∙ masked))
-spelled_by_and Mret word fits masked = (tt, sym (sym (mask_word word fits) ∙ masked))
-spelled_by_and Wfi word fits masked = (tt, sym (sym (mask_word word fits) ∙ masked))
-spelled_by_and (SfenceVma rs1 rs2) word fits masked =
-    let code = sym (mask_sfence_vma word fits) ∙ masked in
-    (grind arith, omega (arith, code))
+encodes_by_and (Lui rd imm) word is_32_bits matches_row =
+    let fixed_bits = sym (and_mask word 7) ∙ matches_row in (grind arith, omega (arith, fixed_bits))
+encodes_by_and (Auipc rd imm) word is_32_bits matches_row =
+    let fixed_bits = sym (and_mask word 7) ∙ matches_row in (grind arith, omega (arith, fixed_bits))
+encodes_by_and (Jal rd offset) word is_32_bits matches_row =
+    let fixed_bits = sym (and_mask word 7) ∙ matches_row in (grind arith, omega (arith, fixed_bits))
+encodes_by_and (Jalr rd rs1 offset) word is_32_bits matches_row =
+    let fixed_bits = sym (under_funct3_mask word) ∙ matches_row in (grind arith, omega (arith, fixed_bits))
+encodes_by_and (Branch kind rs1 rs2 offset) word is_32_bits matches_row =
+    let funct3_is_3_bits : branch_funct3 kind < 8 = branch_funct3-lt kind in
+    let fixed_bits = sym (under_funct3_mask word) ∙ matches_row in (grind arith, omega (arith, fixed_bits))
+encodes_by_and (Load kind rd rs1 offset) word is_32_bits matches_row =
+    let funct3_is_3_bits : load_funct3 kind < 8 = load_funct3-lt kind in
+    let fixed_bits = sym (under_funct3_mask word) ∙ matches_row in (grind arith, omega (arith, fixed_bits))
+encodes_by_and (Store kind rs1 rs2 offset) word is_32_bits matches_row =
+    let funct3_is_3_bits : store_funct3 kind < 8 = store_funct3-lt kind in
+    let fixed_bits = sym (under_funct3_mask word) ∙ matches_row in (grind arith, omega (arith, fixed_bits))
+encodes_by_and (OpImm kind rd rs1 imm) word is_32_bits matches_row =
+    let funct3_is_3_bits : op_imm_funct3 kind < 8 = op_imm_funct3-lt kind in
+    let fixed_bits = sym (under_funct3_mask word) ∙ matches_row in (grind arith, omega (arith, fixed_bits))
+encodes_by_and (ShiftImm kind rd rs1 shamt) word is_32_bits matches_row =
+    let functs_fit : ((shift_functs kind).funct3 < 8) × ((shift_functs kind).funct7 < 128) = shift_functs-lt kind in
+    let fixed_bits = sym (under_funct7_mask word is_32_bits) ∙ matches_row in (grind arith, omega (arith, fixed_bits))
+encodes_by_and (Op kind rd rs1 rs2) word is_32_bits matches_row =
+    let functs_fit : ((op_functs kind).funct3 < 8) × ((op_functs kind).funct7 < 128) = op_functs-lt kind in
+    let fixed_bits = sym (under_funct7_mask word is_32_bits) ∙ matches_row in (grind arith, omega (arith, fixed_bits))
+encodes_by_and (Fence fm pred succ rd rs1) word is_32_bits matches_row =
+    let fixed_bits = sym (under_funct3_mask word) ∙ matches_row in (grind arith, omega (arith, fixed_bits))
+encodes_by_and (Csr kind rd rs1 csr) word is_32_bits matches_row =
+    let funct3_is_3_bits : csr_funct3 kind < 8 = csr_funct3-lt kind in
+    let fixed_bits = sym (under_funct3_mask word) ∙ matches_row in (grind arith, omega (arith, fixed_bits))
+encodes_by_and (CsrImm kind rd uimm csr) word is_32_bits matches_row =
+    let funct3_is_3_bits : csr_imm_funct3 kind < 8 = csr_imm_funct3-lt kind in
+    let fixed_bits = sym (under_funct3_mask word) ∙ matches_row in (grind arith, omega (arith, fixed_bits))
+encodes_by_and Ecall word is_32_bits matches_row = (tt, sym (sym (under_full_mask word is_32_bits) ∙ matches_row))
+encodes_by_and Ebreak word is_32_bits matches_row = (tt, sym (sym (under_full_mask word is_32_bits) ∙ matches_row))
+encodes_by_and Sret word is_32_bits matches_row = (tt, sym (sym (under_full_mask word is_32_bits) ∙ matches_row))
+encodes_by_and Mret word is_32_bits matches_row = (tt, sym (sym (under_full_mask word is_32_bits) ∙ matches_row))
+encodes_by_and Wfi word is_32_bits matches_row = (tt, sym (sym (under_full_mask word is_32_bits) ∙ matches_row))
+encodes_by_and (SfenceVma rs1 rs2) word is_32_bits matches_row =
+    let fixed_bits = sym (under_sfence_vma_mask word is_32_bits) ∙ matches_row in (grind arith, omega (arith, fixed_bits))
 
 -- ---- the word of an instruction equals the match under the mask
 
--- the word of an instruction has the fixed bits of its row, by `&`
-word_of_and : (i : Instr) → IsInstr i → word_of i < 2 ^ 32 → bit_and (word_of i) (row_of_instr i).mask ≡ (row_of_instr i).match
+-- the word of an instruction equals the match of its row under the mask of the row, applied by `&`; by the lemma for the mask, then by arithmetic
+word_matches_row : (i : Instr) → IsInstr i → word_of i < 2 ^ 32 → bit_and (word_of i) (row_of_instr i).mask ≡ (row_of_instr i).match
 unfolding word_of
-word_of_and (Lui rd imm) valid fits =
-    and_mask (word_of (Lui rd imm)) 7 ∙ omega arith
-word_of_and (Auipc rd imm) valid fits =
-    and_mask (word_of (Auipc rd imm)) 7 ∙ omega arith
-word_of_and (Jal rd offset) valid fits =
-    and_mask (word_of (Jal rd offset)) 7 ∙ omega arith
-word_of_and (Jalr rd rs1 offset) valid fits =
-    mask_i (word_of (Jalr rd rs1 offset)) ∙ omega arith
-word_of_and (Branch kind rs1 rs2 offset) valid fits =
-    let funct3 : branch_funct3 kind < 8 = branch_funct3-lt kind in
-    mask_i (word_of (Branch kind rs1 rs2 offset)) ∙ omega arith
-word_of_and (Load kind rd rs1 offset) valid fits =
-    let funct3 : load_funct3 kind < 8 = load_funct3-lt kind in
-    mask_i (word_of (Load kind rd rs1 offset)) ∙ omega arith
-word_of_and (Store kind rs1 rs2 offset) valid fits =
-    let funct3 : store_funct3 kind < 8 = store_funct3-lt kind in
-    mask_i (word_of (Store kind rs1 rs2 offset)) ∙ omega arith
-word_of_and (OpImm kind rd rs1 imm) valid fits =
-    let funct3 : op_imm_funct3 kind < 8 = op_imm_funct3-lt kind in
-    mask_i (word_of (OpImm kind rd rs1 imm)) ∙ omega arith
-word_of_and (ShiftImm kind rd rs1 shamt) valid fits =
-    let codes : ((shift_functs kind).funct3 < 8) × ((shift_functs kind).funct7 < 128) = shift_functs-lt kind in
-    mask_r (word_of (ShiftImm kind rd rs1 shamt)) fits ∙ omega arith
-word_of_and (Op kind rd rs1 rs2) valid fits =
-    let codes : ((op_functs kind).funct3 < 8) × ((op_functs kind).funct7 < 128) = op_functs-lt kind in
-    mask_r (word_of (Op kind rd rs1 rs2)) fits ∙ omega arith
-word_of_and (Fence fm pred succ rd rs1) valid fits =
-    mask_i (word_of (Fence fm pred succ rd rs1)) ∙ omega arith
-word_of_and (Csr kind rd rs1 csr) valid fits =
-    let funct3 : csr_funct3 kind < 8 = csr_funct3-lt kind in
-    mask_i (word_of (Csr kind rd rs1 csr)) ∙ omega arith
-word_of_and (CsrImm kind rd uimm csr) valid fits =
-    let funct3 : csr_imm_funct3 kind < 8 = csr_imm_funct3-lt kind in
-    mask_i (word_of (CsrImm kind rd uimm csr)) ∙ omega arith
-word_of_and Ecall valid fits = refl
-word_of_and Ebreak valid fits = refl
-word_of_and Sret valid fits = refl
-word_of_and Mret valid fits = refl
-word_of_and Wfi valid fits = refl
-word_of_and (SfenceVma rs1 rs2) valid fits =
-    mask_sfence_vma (word_of (SfenceVma rs1 rs2)) fits ∙ omega arith
+word_matches_row (Lui rd imm) valid is_32_bits = and_mask (word_of (Lui rd imm)) 7 ∙ omega arith
+word_matches_row (Auipc rd imm) valid is_32_bits = and_mask (word_of (Auipc rd imm)) 7 ∙ omega arith
+word_matches_row (Jal rd offset) valid is_32_bits = and_mask (word_of (Jal rd offset)) 7 ∙ omega arith
+word_matches_row (Jalr rd rs1 offset) valid is_32_bits = under_funct3_mask (word_of (Jalr rd rs1 offset)) ∙ omega arith
+word_matches_row (Branch kind rs1 rs2 offset) valid is_32_bits =
+    let funct3_is_3_bits : branch_funct3 kind < 8 = branch_funct3-lt kind in
+    under_funct3_mask (word_of (Branch kind rs1 rs2 offset)) ∙ omega arith
+word_matches_row (Load kind rd rs1 offset) valid is_32_bits =
+    let funct3_is_3_bits : load_funct3 kind < 8 = load_funct3-lt kind in
+    under_funct3_mask (word_of (Load kind rd rs1 offset)) ∙ omega arith
+word_matches_row (Store kind rs1 rs2 offset) valid is_32_bits =
+    let funct3_is_3_bits : store_funct3 kind < 8 = store_funct3-lt kind in
+    under_funct3_mask (word_of (Store kind rs1 rs2 offset)) ∙ omega arith
+word_matches_row (OpImm kind rd rs1 imm) valid is_32_bits =
+    let funct3_is_3_bits : op_imm_funct3 kind < 8 = op_imm_funct3-lt kind in
+    under_funct3_mask (word_of (OpImm kind rd rs1 imm)) ∙ omega arith
+word_matches_row (ShiftImm kind rd rs1 shamt) valid is_32_bits =
+    let functs_fit : ((shift_functs kind).funct3 < 8) × ((shift_functs kind).funct7 < 128) = shift_functs-lt kind in
+    under_funct7_mask (word_of (ShiftImm kind rd rs1 shamt)) is_32_bits ∙ omega arith
+word_matches_row (Op kind rd rs1 rs2) valid is_32_bits =
+    let functs_fit : ((op_functs kind).funct3 < 8) × ((op_functs kind).funct7 < 128) = op_functs-lt kind in
+    under_funct7_mask (word_of (Op kind rd rs1 rs2)) is_32_bits ∙ omega arith
+word_matches_row (Fence fm pred succ rd rs1) valid is_32_bits =
+    under_funct3_mask (word_of (Fence fm pred succ rd rs1)) ∙ omega arith
+word_matches_row (Csr kind rd rs1 csr) valid is_32_bits =
+    let funct3_is_3_bits : csr_funct3 kind < 8 = csr_funct3-lt kind in
+    under_funct3_mask (word_of (Csr kind rd rs1 csr)) ∙ omega arith
+word_matches_row (CsrImm kind rd uimm csr) valid is_32_bits =
+    let funct3_is_3_bits : csr_imm_funct3 kind < 8 = csr_imm_funct3-lt kind in
+    under_funct3_mask (word_of (CsrImm kind rd uimm csr)) ∙ omega arith
+word_matches_row Ecall valid is_32_bits = refl
+word_matches_row Ebreak valid is_32_bits = refl
+word_matches_row Sret valid is_32_bits = refl
+word_matches_row Mret valid is_32_bits = refl
+word_matches_row Wfi valid is_32_bits = refl
+word_matches_row (SfenceVma rs1 rs2) valid is_32_bits =
+    under_sfence_vma_mask (word_of (SfenceVma rs1 rs2)) is_32_bits ∙ omega arith
 
 -- ---- the same for the mask bit by bit
 
--- each mask is a word
-mask-lt : (i : Instr) → (row_of_instr i).mask < 2 ^ 32
-mask-lt i = grind arith
+-- the mask of each row has 32 bits
+mask_is_32_bits : (i : Instr) → (row_of_instr i).mask < 2 ^ 32
+mask_is_32_bits i = grind arith
 
--- `&` with a mask is the and, bit by bit
-and_mask_is : (i : Instr) (word : ℕ) → word < 2 ^ 32 → bit_and word (row_of_instr i).mask ≡ and_by_bits word (row_of_instr i).mask
-and_mask_is i word fits = bit_and_is word (row_of_instr i).mask fits (mask-lt i)
+-- masking by `&` is masking bit by bit
+and_is_by_bits : (i : Instr) (word : ℕ) → word < 2 ^ 32 → bit_and word (row_of_instr i).mask ≡ and_by_bits word (row_of_instr i).mask
+and_is_by_bits i word is_32_bits = bit_and_is word (row_of_instr i).mask is_32_bits (mask_is_32_bits i)
 
--- a word with the fixed bits of an instruction encodes the instruction with the fields of the word
-pub spelled_by_mask : (i : Instr) (word : ℕ) → word < 2 ^ 32 → and_by_bits word (row_of_instr i).mask ≡ (row_of_instr i).match
+-- if a word equals the match of the row of an instruction under the row's mask, it encodes the instruction with the fields of the word
+pub encodes_by_mask : (i : Instr) (word : ℕ) → word < 2 ^ 32 → and_by_bits word (row_of_instr i).mask ≡ (row_of_instr i).match
     → Encodes word (with_fields_of word i)
-spelled_by_mask i word fits masked = spelled_by_and i word fits (and_mask_is i word fits ∙ masked)
+encodes_by_mask i word is_32_bits matches_row = encodes_by_and i word is_32_bits (and_is_by_bits i word is_32_bits ∙ matches_row)
 
--- the word of an instruction has 32 bits, and the fixed bits of the row of the instruction
+-- the word of an instruction equals the match of its row under the mask of the row
 pub masked_word_of : (i : Instr) → IsInstr i → word_of i < 2 ^ 32 → and_by_bits (word_of i) (row_of_instr i).mask ≡ (row_of_instr i).match
-masked_word_of i valid fits = sym (and_mask_is i (word_of i) fits) ∙ word_of_and i valid fits
+masked_word_of i valid is_32_bits = sym (and_is_by_bits i (word_of i) is_32_bits) ∙ word_matches_row i valid is_32_bits

@@ -1,9 +1,9 @@
--- This file proves obligations of `fence`, which decodes a word with the opcode 0001111.
-use Rattle.std.proofs.Common.{◌≡◌, Some, arith}
-use Rattle.rv_encoding.proofs.Reading.{read_fence}
+-- This file proves obligations of `fence`, which decodes a word with the opcode MISC-MEM (0001111).
+use Rattle.std.proofs.Common.{arith}
 use Rattle.rv_encoding.proofs.ReadingLemmas.{only_fence}
 use Rattle.rv_encoding.proofs.decoder.fence.Goals as goal
 
--- `fence` meets clause `only` of its contract
+-- each instruction that the word encodes is the result of `fence`, since it is the one that `read_fence` reads from the word
 pub returns-clause-only : goal.returns-clause-only
-returns-clause-only c = λ instr encodes. let read_fence_is : read_fence c.args.word ≡ Some instr = only_fence c.args.word instr c.requires encodes in grind arith
+returns-clause-only c = λ instr encodes.
+    let read_is = only_fence c.args.word instr c.requires encodes in grind arith

@@ -1,9 +1,9 @@
--- This file proves obligations of `jalr`, which decodes a word with the opcode 1100111.
-use Rattle.std.proofs.Common.{◌≡◌, Some, arith}
-use Rattle.rv_encoding.proofs.Reading.{read_jalr}
+-- This file proves obligations of `jalr`, which decodes a word with the opcode JALR (1100111).
+use Rattle.std.proofs.Common.{arith}
 use Rattle.rv_encoding.proofs.ReadingLemmas.{only_jalr}
 use Rattle.rv_encoding.proofs.decoder.jalr.Goals as goal
 
--- `jalr` meets clause `only` of its contract
+-- each instruction that the word encodes is the result of `jalr`, since it is the one that `read_jalr` reads from the word
 pub returns-clause-only : goal.returns-clause-only
-returns-clause-only c = λ instr encodes. let read_jalr_is : read_jalr c.args.word ≡ Some instr = only_jalr c.args.word instr c.requires encodes in grind arith
+returns-clause-only c = λ instr encodes.
+    let read_is = only_jalr c.args.word instr c.requires encodes in grind arith

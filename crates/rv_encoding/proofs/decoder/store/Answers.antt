@@ -1,14 +1,14 @@
--- This file proves obligations of `store`, which decodes a word with the opcode 0100011.
-use Rattle.std.proofs.Common.{◌≡◌, Some, arith}
-use Rattle.rv_encoding.proofs.Reading.{read_store}
+-- This file proves obligations of `store`, which decodes a word with the opcode STORE (0100011).
+use Rattle.std.proofs.Common.{arith}
 use Rattle.rv_encoding.proofs.ReadingLemmas.{only_store}
 use Rattle.rv_encoding.proofs.decoder.store.Goals as goal
 
--- `store` meets clause `only` of its contract where `?` returns the error of `kind`
+-- if `store` returns None since no store has the funct3 of the word, the word encodes no instruction
 pub returns-in_err-kind-clause-only : goal.returns-in_err-kind-clause-only
-returns-in_err-kind-clause-only c =
-    λ instr encodes. let read_store_is : read_store c.args.word ≡ Some instr = only_store c.args.word instr c.requires encodes in grind arith
+returns-in_err-kind-clause-only c = λ instr encodes.
+    let read_is = only_store c.args.word instr c.requires encodes in grind arith
 
--- `store` meets clause `only` of its contract
+-- each instruction that the word encodes is the result of `store`, since it is the one that `read_store` reads from the word
 pub returns-clause-only : goal.returns-clause-only
-returns-clause-only c = λ instr encodes. let read_store_is : read_store c.args.word ≡ Some instr = only_store c.args.word instr c.requires encodes in grind arith
+returns-clause-only c = λ instr encodes.
+    let read_is = only_store c.args.word instr c.requires encodes in grind arith
