@@ -30,86 +30,87 @@ pub record Changes (hart : Hart) (P : Hart → Type 0) : Type 0 where
   -- the instruction writes a control and status register
   pub writes : (csr word : ℕ) (csrs : CsrState) (regs : List ℕ) (pc : ℕ) → write_result hart.csrs csr word hart.mode ≡ Ok csrs
       → P (record hart { regs = regs; csrs = csrs; pc = pc })
-  -- the instruction returns from a trap
+  -- the instruction returns from a trap, by mret in mode M or by sret
   pub mret : is_machine hart.mode ≡ true → P (returned_from_machine hart)
   pub sret : P (returned_from_supervisor hart)
 
--- the claim P holds of the hart after a jump
-jumped-by : (hart : Hart) (P : Hart → Type 0) → Changes hart P → (rd target : ℕ) → IfOk (jumped hart rd target) P
-jumped-by hart P changes rd target =
-    elim (target % 4 == 0) as
-    (λ b. IfOk (if b then Ok (record hart { regs = with_register hart.regs rd (sum_of hart.pc 4); pc = target }) else Err (misaligned target)) P)
-    [ true ↦ changes.computes _ _ | false ↦ tt ]
-
--- the claim P holds of the hart after a branch, taken or not
-branched-by : (hart : Hart) (P : Hart → Type 0) → Changes hart P → (taken : Bool) (target : ℕ) → IfOk (branched hart taken target) P
-branched-by hart P changes false target = changes.computes _ _
-branched-by hart P changes true target =
-    elim (target % 4 == 0) as (λ b. IfOk (if b then Ok (record hart { pc = target }) else Err (misaligned target)) P)
-    [ true ↦ changes.computes _ _ | false ↦ tt ]
-
 -- the claim P holds after an instruction that needs a permission, if it holds when the permission is given
 allowed-by : (P : Hart → Type 0) (allowed : Bool) (word : ℕ) (after : Hart) → (allowed ≡ true → P after) → IfOk (where_allowed allowed word after) P
-allowed-by P true word after holds = holds refl
-allowed-by P false word after holds = tt
+allowed-by P true word after if_allowed = if_allowed refl
+allowed-by P false word after if_allowed = tt
 
--- the claim P holds after a write of a CSR that succeeds
-written-by : (hart : Hart) (P : Hart → Type 0) → Changes hart P → (rd old word csr new : ℕ) (r : Result CsrState CsrFault)
-    → write_result hart.csrs csr new hart.mode ≡ r
-    → IfOk (unless_illegal word (unless_fault r (λ csrs. Ok (with_result (record hart { csrs = csrs }) rd old)))) P
-written-by hart P changes rd old word csr new (Ok csrs) write_is = changes.writes csr new csrs _ _ write_is
-written-by hart P changes rd old word csr new (Err fault) write_is = tt
+-- a claim P that holds after each way in which an instruction changes the hart
+module _ (hart : Hart) (P : Hart → Type 0) (changes : Changes hart P) where
+  -- the claim P holds of the hart after a jump
+  jumped-by : (rd target : ℕ) → IfOk (jumped hart rd target) P
+  jumped-by rd target =
+      elim (target % 4 == 0) as
+      (λ is_aligned. IfOk (if is_aligned then Ok (record hart { regs = with_register hart.regs rd (sum_of hart.pc 4); pc = target })
+      else Err (misaligned target)) P)
+      [ true ↦ changes.computes _ _ | false ↦ tt ]
 
--- the claim P holds of the hart after a CSR instruction
-changed-by : (hart : Hart) (P : Hart → Type 0) → Changes hart P → (kind : CsrKind) (rd source operand csr word : ℕ)
-    → IfOk (unless_illegal word (csr_changed hart kind rd source operand csr)) P
-unfolding csr_changed
-changed-by hart P changes kind rd source operand csr word =
-    elim (old_word hart kind rd csr) as (λ o.
-    IfOk (unless_illegal word
-    (unless_fault o (λ old. unless_fault (new_csrs hart kind source (changed_word kind old operand) csr)
-    (λ csrs. Ok (with_result (record hart { csrs = csrs }) rd old))))) P) [
-      | Ok old ↦
-          elim (is_written kind source) as (λ b.
-          IfOk (unless_illegal word
-          (unless_fault (if b then write_result hart.csrs csr (changed_word kind old operand) hart.mode else Ok hart.csrs)
-          (λ csrs. Ok (with_result (record hart { csrs = csrs }) rd old)))) P)
-          [ true ↦ written-by hart P changes rd old word csr (changed_word kind old operand) _ refl | false ↦ changes.computes _ _ ]
-      | Err fault ↦ tt
-    ]
+  -- the claim P holds of the hart after a branch, taken or not
+  branched-by : (taken : Bool) (target : ℕ) → IfOk (branched hart taken target) P
+  branched-by false target = changes.computes _ _
+  branched-by true target =
+      elim (target % 4 == 0) as (λ is_aligned. IfOk (if is_aligned then Ok (record hart { pc = target }) else Err (misaligned target)) P)
+      [ true ↦ changes.computes _ _ | false ↦ tt ]
 
--- the claim P holds of the hart after each instruction that does not trap
-executed-by : (hart : Hart) (P : Hart → Type 0) → Changes hart P → (instr : Instr) (word loaded : ℕ) → IfOk (executed hart word loaded instr) P
-unfolding executed
-executed-by hart P changes (Lui rd imm) word loaded = changes.computes _ _
-executed-by hart P changes (Auipc rd imm) word loaded = changes.computes _ _
-executed-by hart P changes (Jal rd offset) word loaded = jumped-by hart P changes rd (sum_of hart.pc (sign_extended offset 21))
-executed-by hart P changes (Jalr rd rs1 offset) word loaded = jumped-by hart P changes rd (made_even (address_of hart rs1 offset))
-executed-by hart P changes (Branch kind rs1 rs2 offset) word loaded =
-    branched-by hart P changes (is_taken kind (register hart.regs rs1) (register hart.regs rs2)) (sum_of hart.pc (sign_extended offset 13))
-executed-by hart P changes (Load kind rd rs1 offset) word loaded = changes.computes _ _
-executed-by hart P changes (Store kind rs1 rs2 offset) word loaded = changes.computes _ _
-executed-by hart P changes (OpImm kind rd rs1 imm) word loaded = changes.computes _ _
-executed-by hart P changes (ShiftImm kind rd rs1 shamt) word loaded = changes.computes _ _
-executed-by hart P changes (Op kind rd rs1 rs2) word loaded = changes.computes _ _
-executed-by hart P changes (Fence fm pred succ rd rs1) word loaded = changes.computes _ _
-executed-by hart P changes (Csr kind rd rs1 csr) word loaded = changed-by hart P changes kind rd rs1 (register hart.regs rs1) csr word
-executed-by hart P changes (CsrImm kind rd uimm csr) word loaded = changed-by hart P changes kind rd uimm uimm csr word
-executed-by hart P changes Ecall word loaded = tt
-executed-by hart P changes Ebreak word loaded = tt
-executed-by hart P changes Sret word loaded =
-    allowed-by P (unless_refused hart.mode hart.csrs.mstatus.tsr) word (returned_from_supervisor hart) (λ _. changes.sret)
-executed-by hart P changes Mret word loaded = allowed-by P (is_machine hart.mode) word (returned_from_machine hart) changes.mret
-executed-by hart P changes Wfi word loaded = allowed-by P (unless_refused hart.mode hart.csrs.mstatus.tw) word (advanced hart) (λ _. changes.computes _ _)
-executed-by hart P changes (SfenceVma rs1 rs2) word loaded =
-    allowed-by P (unless_refused hart.mode hart.csrs.mstatus.tvm) word (advanced hart) (λ _. changes.computes _ _)
+  -- the claim P holds after a CSR instruction with this result of its write
+  written-by : (rd old word csr new : ℕ) (written : Result CsrState CsrFault) → write_result hart.csrs csr new hart.mode ≡ written
+      → IfOk (unless_illegal word (unless_fault written (λ csrs. Ok (with_result (record hart { csrs = csrs }) rd old)))) P
+  written-by rd old word csr new (Ok csrs) write_is = changes.writes csr new csrs _ _ write_is
+  written-by rd old word csr new (Err fault) write_is = tt
 
--- a claim about the hart after an instruction holds if it holds for each kind of change
-pub by_changes : (hart : Hart) (P : Hart → Type 0) → Changes hart P → (instr : Instr) (word loaded : ℕ) (after : Hart)
-    → executed hart word loaded instr ≡ Ok after → P after
-by_changes hart P changes instr word loaded after executed_is = subst (λ (r : Result Hart Trap). IfOk r P) executed_is (executed-by hart P changes instr word loaded)
+  -- the claim P holds of the hart after a CSR instruction, whether its read succeeds and whether it writes or not
+  changed-by : (kind : CsrKind) (rd source operand csr word : ℕ) → IfOk (unless_illegal word (csr_changed hart kind rd source operand csr)) P
+  unfolding csr_changed
+  changed-by kind rd source operand csr word =
+      elim (old_word hart kind rd csr) as (λ read.
+      IfOk (unless_illegal word
+      (unless_fault read (λ old. unless_fault (new_csrs hart kind source (changed_word kind old operand) csr)
+      (λ csrs. Ok (with_result (record hart { csrs = csrs }) rd old))))) P) [
+        | Ok old ↦
+            elim (is_written kind source) as (λ does_write.
+            IfOk (unless_illegal word
+            (unless_fault (if does_write then write_result hart.csrs csr (changed_word kind old operand) hart.mode else Ok hart.csrs)
+            (λ csrs. Ok (with_result (record hart { csrs = csrs }) rd old)))) P)
+            [ true ↦ written-by rd old word csr (changed_word kind old operand) _ refl | false ↦ changes.computes _ _ ]
+        | Err fault ↦ tt
+      ]
 
--- a store instruction ends in no exception once its access succeeded
+  -- the claim P holds of the hart after each instruction that ends in no exception
+  executed-by : (instr : Instr) (word loaded : ℕ) → IfOk (executed hart word loaded instr) P
+  unfolding executed
+  executed-by (Lui rd imm) word loaded = changes.computes _ _
+  executed-by (Auipc rd imm) word loaded = changes.computes _ _
+  executed-by (Jal rd offset) word loaded = jumped-by rd (sum_of hart.pc (sign_extended offset 21))
+  executed-by (Jalr rd rs1 offset) word loaded = jumped-by rd (made_even (address_of hart rs1 offset))
+  executed-by (Branch kind rs1 rs2 offset) word loaded =
+      branched-by (is_taken kind (register hart.regs rs1) (register hart.regs rs2)) (sum_of hart.pc (sign_extended offset 13))
+  executed-by (Load kind rd rs1 offset) word loaded = changes.computes _ _
+  executed-by (Store kind rs1 rs2 offset) word loaded = changes.computes _ _
+  executed-by (OpImm kind rd rs1 imm) word loaded = changes.computes _ _
+  executed-by (ShiftImm kind rd rs1 shamt) word loaded = changes.computes _ _
+  executed-by (Op kind rd rs1 rs2) word loaded = changes.computes _ _
+  executed-by (Fence fm pred succ rd rs1) word loaded = changes.computes _ _
+  executed-by (Csr kind rd rs1 csr) word loaded = changed-by kind rd rs1 (register hart.regs rs1) csr word
+  executed-by (CsrImm kind rd uimm csr) word loaded = changed-by kind rd uimm uimm csr word
+  executed-by Ecall word loaded = tt
+  executed-by Ebreak word loaded = tt
+  executed-by Sret word loaded =
+      allowed-by P (unless_refused hart.mode hart.csrs.mstatus.tsr) word (returned_from_supervisor hart) (λ _. changes.sret)
+  executed-by Mret word loaded = allowed-by P (is_machine hart.mode) word (returned_from_machine hart) changes.mret
+  executed-by Wfi word loaded = allowed-by P (unless_refused hart.mode hart.csrs.mstatus.tw) word (advanced hart) (λ _. changes.computes _ _)
+  executed-by (SfenceVma rs1 rs2) word loaded =
+      allowed-by P (unless_refused hart.mode hart.csrs.mstatus.tvm) word (advanced hart) (λ _. changes.computes _ _)
+
+  -- a claim about the hart after an instruction holds if it holds after each way to change the hart
+  pub by_changes : (instr : Instr) (word loaded : ℕ) (after : Hart) → executed hart word loaded instr ≡ Ok after → P after
+  by_changes instr word loaded after executed_is =
+      subst (λ (finish : Result Hart Trap). IfOk finish P) executed_is (executed-by instr word loaded)
+
+-- a store instruction ends in no exception if it does not end in one at its access
 pub store_retires : (instr : Instr) (hart : Hart) (address value word : ℕ) (width : Width)
     → request instr hart ≡ requests.Store address width value → executed hart word 0 instr ≡ Ok (advanced hart)
 unfolding request executed

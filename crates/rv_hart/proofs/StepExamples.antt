@@ -57,7 +57,7 @@ unfolding step from_fetch from_decode from_access request executed retired_or_tr
     csr_of decoded by_bits read verdict matching_entry covers
 step-csrrw = refl
 
--- jal x1, 2: rd is not written
+-- a step with jal x1, 2 traps, since the target is no multiple of 4, and does not write x1
 step-jal_misaligned : step (over_bytes (0xef ∷ 0x00 ∷ 0x20 ∷ 0x00 ∷ []) reset) ≡ record {
   state = over_bytes (0xef ∷ 0x00 ∷ 0x20 ∷ 0x00 ∷ []) (trapped_once 0 0x80000002);
   outcome = record { trap = Some (misaligned 0x80000002); touched = fetch_of reset };
@@ -65,7 +65,7 @@ step-jal_misaligned : step (over_bytes (0xef ∷ 0x00 ∷ 0x20 ∷ 0x00 ∷ []) 
 unfolding step from_fetch from_decode from_access request executed retired_or_trapped decoded by_bits read verdict matching_entry covers
 step-jal_misaligned = refl
 
--- the word 0 encodes no instruction
+-- a step with the word 0, which encodes no instruction, traps
 step-illegal : step (over_bytes (0 ∷ 0 ∷ 0 ∷ 0 ∷ []) reset) ≡ record {
   state = over_bytes (0 ∷ 0 ∷ 0 ∷ 0 ∷ []) (trapped_once 2 0);
   outcome = record { trap = Some (illegal 0); touched = fetch_of reset };

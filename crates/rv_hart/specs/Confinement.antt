@@ -31,7 +31,7 @@ pub record EndAlike (m n bytes : List ℕ) (one other : Stepped) : Type 0 where
   pub here : Stores bytes m one.state.memory one.outcome.touched.stored
   pub there : Stores bytes n other.state.memory one.outcome.touched.stored
 
--- a step ends in this way from every memory with the same bytes where the step reads
+-- a step ends alike, and stores the same bytes, from each memory that has the same bytes where the step reads
 pub record IsConfined (state : Machine) (after : Stepped) : Type 0 where
   pub bytes : List ℕ
   pub alike : (memory : List ℕ) → EqualOn state.memory memory after.outcome.touched

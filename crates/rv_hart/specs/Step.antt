@@ -33,7 +33,7 @@ span address width = Some (record { addr = address; len = width })
 abbrev pub nothing : Touched
 nothing = record { fetched = None; loaded = None; stored = None }
 
--- the accesses of a step: a fetch alone, a fetch and a load, or a fetch and a store
+-- the accesses of a step that only fetches
 abbrev pub fetch_of : Hart → Touched
 fetch_of hart = record { fetched = span hart.pc Word; loaded = None; stored = None }
 

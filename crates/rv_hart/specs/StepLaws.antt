@@ -1,5 +1,5 @@
--- Properties of every step. RISC-V Privileged Architecture 20211203, sections 3.1.6.3 (MPRV), 3.1.6 to 3.1.16 (trap entry) and 3.1.9 (interrupts); Unprivileged ISA
--- 20191213, section 1.6 (traps are precise).
+-- Properties of every step. RISC-V Privileged Architecture 20211203, sections 3.1.6.3 (MPRV), 3.1.6 to 3.1.16 (trap entry) and 3.1.9
+-- (interrupts); Unprivileged ISA 20191213, section 1.6 (traps are precise).
 use Rattle.std.specs.Prelude.{◌≡◌, ◌%◌, ℕ, List, length, false, Option, Some, None, IfSome, IfNone}
 use Rattle.rv_word.specs.Widths.{bytes_in}
 use Rattle.rv_memory.specs.Changes.{ChangesOnly}
@@ -66,12 +66,12 @@ pub record IsLegalHart (hart : Hart) : Type 0 where
   pub pc : aligned_to_4 hart.pc ≡ hart.pc
   pub csrs : HasLegalVectors hart.csrs
 
--- below mode M a step that ends in no trap keeps this
+-- below mode M, a step that ends in no trap keeps pc a multiple of 4, and stvec and sepc legal
 abbrev pub KeepsLegal : Machine → Stepped → Type 0
 KeepsLegal before after =
     is_machine before.hart.mode ≡ false → IsLegalHart before.hart → IfNone after.outcome.trap (IsLegalHart after.state.hart)
 
--- all of these properties, for the state before a step and the result of the step
+-- a step has all properties of this file and of the other laws, for the state before it and its result
 pub record ObeysHartLaws (before : Machine) (after : Stepped) : Type 0 where
   pub x0 : register after.state.hart.regs 0 ≡ 0
   pub aligned : after.state.hart.pc % 4 ≡ 0
