@@ -1,4 +1,5 @@
--- Properties of accesses. An access that succeeds is in RAM and permitted. Two memories of the same size accept and refuse the same accesses.
+-- Fetches, loads and stores. An access succeeds if and only if its bytes are in RAM and the PMP entries permit it. Two memories of the same size
+-- accept and refuse the same accesses.
 use Rattle.std.proofs.Common.{◌≡◌, ℕ, ◌-◌, List, length, Option, Some, None, Result, Ok, Err, Bool, true, false, refl}
 use Rattle.std.specs.Option.{option_map}
 use Rattle.std.specs.Prelude.{if◌then◌else◌}
@@ -19,127 +20,132 @@ use Rattle.rv_memory.proofs.MemoryLaws.{length-bytes_of}
 
 -- ---- an access that succeeds is in RAM and permitted
 
--- `judged` is the result of an access: its value in RAM, if there is one and the verdict permits it, or a fault
+-- The result of an access. `in_ram` is what the access finds in RAM, or None if one of its bytes is outside. If the verdict permits the access, its
+-- value is given by `result_of`.
 abbrev judged : {A B : Type 0} → Option B → Verdict → (B → A) → Result A AccessFault
-judged given verdict made = option_case given (Err Outside) (λ b. where_permitted verdict (made b))
+judged in_ram verdict result_of = option_case in_ram (Err Outside) (λ found. where_permitted verdict (result_of found))
 
--- a result that needs a permission and is Ok was permitted, and has its value
-permitted-if : {A : Type 0} (b : Bool) (verdict : Verdict) (value k : A) → (if b then Ok value else Err (Refused verdict)) ≡ Ok k → (b ≡ true) × (value ≡ k)
-permitted-if true verdict value k result_is = (refl, cc)
-permitted-if false verdict value k result_is = cc
+-- a result that needs a permission and is Ok was permitted, and is the value of the access
+ok-permitted : {A : Type 0} (permitted : Bool) (verdict : Verdict) (value result : A)
+    → (if permitted then Ok value else Err (Refused verdict)) ≡ Ok result → (permitted ≡ true) × (value ≡ result)
+ok-permitted true verdict value result result_is = (refl, cc)
+ok-permitted false verdict value result result_is = cc
 
--- a judged access that is Ok is in RAM, permitted, and has its value
-judged-done : {A B : Type 0} (inside : Bool) (b : B) (verdict : Verdict) (made : B → A) (k : A)
-    → judged (if inside then Some b else None) verdict made ≡ Ok k → (inside ≡ true) × (permits verdict ≡ true) × (made b ≡ k)
-judged-done true b verdict made k judged_is = let done = permitted-if (permits verdict) verdict (made b) k judged_is in (refl, done.0, done.1)
-judged-done false b verdict made k judged_is = cc
+-- a judged access that is Ok is in RAM and permitted, and its result is the value of the access
+judged-ok : {A B : Type 0} (inside : Bool) (found : B) (verdict : Verdict) (result_of : B → A) (result : A)
+    → judged (if inside then Some found else None) verdict result_of ≡ Ok result
+    → (inside ≡ true) × (permits verdict ≡ true) × (result_of found ≡ result)
+judged-ok true found verdict result_of result access_is =
+    let ok = ok-permitted (permits verdict) verdict (result_of found) result access_is in (refl, ok.0, ok.1)
+judged-ok false found verdict result_of result access_is = cc
 
--- a fetch that succeeds is in RAM and permitted
+-- a fetch from the memory m that succeeds is in RAM and permitted
 pub fetch_done : (m : List ℕ) (entries : Entries) (mode : Mode) (address word : ℕ) → fetched m entries mode address ≡ Ok word
     → (is_inside m address (bytes_in Word) ≡ true) × (permits (verdict_on entries mode Fetch address Word) ≡ true)
 unfolding read
-fetch_done m entries mode address word fetch_is =
-    let done = judged-done (is_inside m address (bytes_in Word)) _ (verdict_on entries mode Fetch address Word) number_of_bytes word fetch_is in (done.0, done.1)
+fetch_done m entries mode address word fetch_is = let ok = judged-ok _ _ _ number_of_bytes word fetch_is in (ok.0, ok.1)
 
--- a load that succeeds is in RAM and permitted
-pub load_done : (m : List ℕ) (entries : Entries) (mode : Mode) (address : ℕ) (width : Width) (number : ℕ) → loaded m entries mode address width ≡ Ok number
+-- a load from the memory m that succeeds is in RAM and permitted
+pub load_done : (m : List ℕ) (entries : Entries) (mode : Mode) (address : ℕ) (width : Width) (number : ℕ)
+    → loaded m entries mode address width ≡ Ok number
     → (is_inside m address (bytes_in width) ≡ true) × (permits (verdict_on entries mode Read address width) ≡ true)
 unfolding read
 load_done m entries mode address width number load_is =
-    let done = judged-done (is_inside m address (bytes_in width)) _ (verdict_on entries mode Read address width) number_of_bytes number load_is in (done.0, done.1)
+    let ok = judged-ok _ _ _ number_of_bytes number load_is in (ok.0, ok.1)
 
--- a store that succeeds is in RAM and permitted, and writes the bytes of its value
+-- a store to the memory m that succeeds is in RAM and permitted, and writes the bytes of its value
 pub store_done : (m : List ℕ) (entries : Entries) (mode : Mode) (address : ℕ) (width : Width) (value : ℕ) (after : List ℕ)
     → stored m entries mode address width value ≡ Ok after
     → (is_inside m address (bytes_in width) ≡ true) × (permits (verdict_on entries mode Write address width) ≡ true)
     × (write_bytes m (address - ram_base) (bytes_of (bytes_in width) value) ≡ after)
 unfolding write
 store_done m entries mode address width value after store_is =
-    let bytes = bytes_of (bytes_in width) value in
-    let done = judged-done (is_inside m address (length bytes)) _ (verdict_on entries mode Write address width) (λ (x : List ℕ). x) after store_is in
-    (rw length-bytes_of at done.0, done.1, done.2)
+    let ok = judged-ok _ _ _ (λ (memory : List ℕ). memory) after store_is in
+    (rw length-bytes_of at ok.0, ok.1, ok.2)
 
 -- ---- an access that is in RAM and permitted succeeds
 
--- an access to bytes of RAM with this number that the verdict permits (may) has the number as its result
-number-judged : (bytes : Option (List ℕ)) (verdict : Verdict) (number : ℕ) → option_map number_of_bytes bytes ≡ Some number → permits verdict ≡ true
-    → judged bytes verdict number_of_bytes ≡ Ok number
-number-judged None verdict number map_is may = cc
-number-judged (Some bytes) verdict number map_is may = let same : number_of_bytes bytes ≡ number = cc in rw (may, same) refl
+-- if the bytes that an access finds in RAM have this number, and the verdict permits the access, its result is the number
+number-judged : (bytes : Option (List ℕ)) (verdict : Verdict) (number : ℕ) → option_map number_of_bytes bytes ≡ Some number
+    → permits verdict ≡ true → judged bytes verdict number_of_bytes ≡ Ok number
+number-judged None verdict number number_is is_permitted = cc
+number-judged (Some bytes) verdict number number_is is_permitted =
+    let number_of_bytes_is : number_of_bytes bytes ≡ number = cc in
+    rw (is_permitted, number_of_bytes_is) refl
 
--- a fetch that is in RAM and permitted (may) returns the word there
+-- a fetch that is in RAM (the memory m) and permitted returns the word there
 pub fetch_permitted : (m : List ℕ) (entries : Entries) (mode : Mode) (address word : ℕ) → number_at m address (bytes_in Word) ≡ Some word
     → permits (verdict_on entries mode Fetch address Word) ≡ true → fetched m entries mode address ≡ Ok word
-fetch_permitted m entries mode address word number_at_is may = number-judged (read m address (bytes_in Word)) (verdict_on entries mode Fetch address Word) word number_at_is may
+fetch_permitted m entries mode address word number_is is_permitted =
+    number-judged (read m address (bytes_in Word)) (verdict_on entries mode Fetch address Word) word number_is is_permitted
 
--- a load that is in RAM and permitted (may) returns the number there
+-- a load that is in RAM (the memory m) and permitted returns the number there
 pub load_permitted : (m : List ℕ) (entries : Entries) (mode : Mode) (address : ℕ) (width : Width) (number : ℕ)
     → number_at m address (bytes_in width) ≡ Some number → permits (verdict_on entries mode Read address width) ≡ true
     → loaded m entries mode address width ≡ Ok number
-load_permitted m entries mode address width number number_at_is may =
-    number-judged (read m address (bytes_in width)) (verdict_on entries mode Read address width) number number_at_is may
+load_permitted m entries mode address width number number_is is_permitted =
+    number-judged (read m address (bytes_in width)) (verdict_on entries mode Read address width) number number_is is_permitted
 
--- a store that is in RAM and permitted (may) leaves the written memory
+-- a store that is in RAM and permitted leaves the written memory
 pub store_permitted : (m : List ℕ) (entries : Entries) (mode : Mode) (address : ℕ) (width : Width) (value : ℕ) (after : List ℕ)
     → write m address (bytes_of (bytes_in width) value) ≡ Some after → permits (verdict_on entries mode Write address width) ≡ true
     → stored m entries mode address width value ≡ Ok after
-store_permitted m entries mode address width value after written may = rw (written, may) refl
+store_permitted m entries mode address width value after write_is is_permitted = rw (write_is, is_permitted) refl
 
 -- ---- an access that one memory refuses or accepts has the same outcome in every other memory of the same size
 
--- a result that needs a permission and is refused is refused with every value
-unless-permitted : {A : Type 0} (b : Bool) (verdict : Verdict) (value other : A) (fault : AccessFault)
-    → (if b then Ok value else Err (Refused verdict)) ≡ Err fault → (if b then Ok other else Err (Refused verdict)) ≡ Err fault
-unless-permitted true verdict value other fault result_is = cc
-unless-permitted false verdict value other fault result_is = cc
+-- a result that needs a permission and is refused is refused with the same fault for every other value
+refused-for-every-value : {A : Type 0} (permitted : Bool) (verdict : Verdict) (value other : A) (fault : AccessFault)
+    → (if permitted then Ok value else Err (Refused verdict)) ≡ Err fault → (if permitted then Ok other else Err (Refused verdict)) ≡ Err fault
+refused-for-every-value true verdict value other fault result_is = cc
+refused-for-every-value false verdict value other fault result_is = cc
 
--- a judged access that fails has the same fault in each memory with the same addresses
-judged-refused : {A B : Type 0} (inside : Bool) (b c : B) (verdict : Verdict) (made : B → A) (fault : AccessFault)
-    → judged (if inside then Some b else None) verdict made ≡ Err fault → judged (if inside then Some c else None) verdict made ≡ Err fault
-judged-refused true b c verdict made fault judged_is = unless-permitted (permits verdict) verdict (made b) (made c) fault judged_is
-judged-refused false b c verdict made fault judged_is = cc
+-- a judged access that fails has the same fault, whatever it finds in RAM at the same addresses
+judged-refused : {A B : Type 0} (inside : Bool) (found other : B) (verdict : Verdict) (result_of : B → A) (fault : AccessFault)
+    → judged (if inside then Some found else None) verdict result_of ≡ Err fault
+    → judged (if inside then Some other else None) verdict result_of ≡ Err fault
+judged-refused true found other verdict result_of fault access_is =
+    refused-for-every-value (permits verdict) verdict (result_of found) (result_of other) fault access_is
+judged-refused false found other verdict result_of fault access_is = cc
 
--- a fetch that fails has the same fault in each memory of the same size
+-- a fetch that fails in the memory m fails with the same fault in each memory n of the same size
 pub fetch_refused_too : (m n : List ℕ) (entries : Entries) (mode : Mode) (address : ℕ) (fault : AccessFault) → length m ≡ length n
     → fetched m entries mode address ≡ Err fault → fetched n entries mode address ≡ Err fault
 unfolding read
-fetch_refused_too m n entries mode address fault sizes fetch_is =
-    judged-refused (is_inside n address (bytes_in Word)) _ _ (verdict_on entries mode Fetch address Word) number_of_bytes fault (rw sizes at fetch_is)
+fetch_refused_too m n entries mode address fault same_length fetch_is = judged-refused _ _ _ _ number_of_bytes fault (rw same_length at fetch_is)
 
--- a load that fails has the same fault in each memory of the same size
-pub load_refused_too : (m n : List ℕ) (entries : Entries) (mode : Mode) (address : ℕ) (width : Width) (fault : AccessFault) → length m ≡ length n
-    → loaded m entries mode address width ≡ Err fault → loaded n entries mode address width ≡ Err fault
+-- a load that fails in the memory m fails with the same fault in each memory n of the same size
+pub load_refused_too : (m n : List ℕ) (entries : Entries) (mode : Mode) (address : ℕ) (width : Width) (fault : AccessFault)
+    → length m ≡ length n → loaded m entries mode address width ≡ Err fault → loaded n entries mode address width ≡ Err fault
 unfolding read
-load_refused_too m n entries mode address width fault sizes load_is =
-    judged-refused (is_inside n address (bytes_in width)) _ _ (verdict_on entries mode Read address width) number_of_bytes fault (rw sizes at load_is)
+load_refused_too m n entries mode address width fault same_length load_is = judged-refused _ _ _ _ number_of_bytes fault (rw same_length at load_is)
 
--- a store that fails has the same fault in each memory of the same size
-pub store_refused_too : (m n : List ℕ) (entries : Entries) (mode : Mode) (address : ℕ) (width : Width) (value : ℕ) (fault : AccessFault) → length m ≡ length n
-    → stored m entries mode address width value ≡ Err fault → stored n entries mode address width value ≡ Err fault
+-- a store that fails in the memory m fails with the same fault in each memory n of the same size
+pub store_refused_too : (m n : List ℕ) (entries : Entries) (mode : Mode) (address : ℕ) (width : Width) (value : ℕ) (fault : AccessFault)
+    → length m ≡ length n → stored m entries mode address width value ≡ Err fault → stored n entries mode address width value ≡ Err fault
 unfolding write
-store_refused_too m n entries mode address width value fault sizes store_is =
-    judged-refused (is_inside n address (length (bytes_of (bytes_in width) value))) _ _ (verdict_on entries mode Write address width)
-    (λ (x : List ℕ). x) fault (rw sizes at store_is)
+store_refused_too m n entries mode address width value fault same_length store_is =
+    judged-refused _ _ _ _ (λ (memory : List ℕ). memory) fault (rw same_length at store_is)
 
--- a store that succeeds in a memory also succeeds in each memory of the same size, and writes the same bytes
-pub store_done_too : (m n : List ℕ) (entries : Entries) (mode : Mode) (address : ℕ) (width : Width) (value : ℕ) (after : List ℕ) → length m ≡ length n
-    → stored m entries mode address width value ≡ Ok after
+-- a store that succeeds in the memory m also succeeds in each memory n of the same size, and writes the same bytes
+pub store_done_too : (m n : List ℕ) (entries : Entries) (mode : Mode) (address : ℕ) (width : Width) (value : ℕ) (after : List ℕ)
+    → length m ≡ length n → stored m entries mode address width value ≡ Ok after
     → stored n entries mode address width value ≡ Ok (write_bytes n (address - ram_base) (bytes_of (bytes_in width) value))
 unfolding write
-store_done_too m n entries mode address width value after sizes store_is =
-    let done = store_done m entries mode address width value after store_is in
-    let inside : is_inside n address (length (bytes_of (bytes_in width) value)) ≡ true = rw (length-bytes_of, ← sizes) done.0 in
-    rw (inside, done.1) refl
+store_done_too m n entries mode address width value after same_length store_is =
+    let ok = store_done m entries mode address width value after store_is in
+    let inside : is_inside n address (length (bytes_of (bytes_in width) value)) ≡ true = rw (length-bytes_of, ← same_length) ok.0 in
+    rw (inside, ok.1) refl
 
 -- ---- an access has the same result in two memories with the same bytes there
 
--- two memories with equal bytes at the address give a fetch the same result
-pub fetch_same : (m n : List ℕ) (entries : Entries) (mode : Mode) (address : ℕ) → read m address (bytes_in Word) ≡ read n address (bytes_in Word)
-    → fetched m entries mode address ≡ fetched n entries mode address
-fetch_same m n entries mode address read_is = rw read_is refl
+-- a fetch has the same result in two memories m and n with the same bytes at the address
+pub fetch_same : (m n : List ℕ) (entries : Entries) (mode : Mode) (address : ℕ)
+    → read m address (bytes_in Word) ≡ read n address (bytes_in Word) → fetched m entries mode address ≡ fetched n entries mode address
+fetch_same m n entries mode address same_bytes = rw same_bytes refl
 
--- two memories with equal bytes at the address give a load the same result
+-- a load has the same result in two memories m and n with the same bytes at the address
 pub load_same : (m n : List ℕ) (entries : Entries) (mode : Mode) (address : ℕ) (width : Width)
     → read m address (bytes_in width) ≡ read n address (bytes_in width)
     → loaded m entries mode address width ≡ loaded n entries mode address width
-load_same m n entries mode address width read_is = rw read_is refl
+load_same m n entries mode address width same_bytes = rw same_bytes refl

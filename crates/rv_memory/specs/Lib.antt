@@ -12,7 +12,7 @@ pub mod Complement
 pub mod Lending
 -- Blocks of addresses, given by a first address and a number of bytes, and the block that the monitor reserves for itself
 pub mod Blocks
--- Two blocks meet if and only if both have a common byte
+-- Two blocks meet if and only if they share a byte
 pub mod BlockLaws
 -- The number of harts in a machine
 pub mod Harts
