@@ -1,5 +1,6 @@
 -- This file proves that the range of a NAPOT entry is an interval.
-use Rattle.std.proofs.Common.{◌∙◌, sym, zero, suc, ◌-◌, refl, ap, ap₂, inl, inr, ◌≡◌, ℕ, ◌+◌, ◌*◌, ◌/◌, ◌%◌, ◌^◌, ◌<◌, ◌≤◌, ◌↔◌, ◌==◌, IsTrue, arith, lit<}
+use Rattle.std.proofs.Common.{◌∙◌, sym, zero, suc, ◌-◌, refl, ap, ap₂, inl, inr, ◌≡◌, ℕ, ◌+◌, ◌*◌, ◌/◌, ◌%◌, ◌^◌, ◌<◌, ◌≤◌, ◌↔◌, ◌==◌, IsTrue}
+use Rattle.std.proofs.Common.{arith, lit<}
 use Rattle.std.proofs.Math.Nat.{div-mul-le_self, lt-div-mul-add, div-eq_of_lt-le}
 use Rattle.std.proofs.lemmas.Nat.{shl_whole}
 use Rattle.std.proofs.lemmas.Bool.{eqb-true, eq-eqb, ne_eqb, cases_eq, cond-true, cond-false}
@@ -9,38 +10,38 @@ use native.Mathlib.Nat.{pow-suc}
 use Rattle.rv_pmp.specs.Covers.{ones_at_end}
 use Rattle.std.specs.Int.Count.{trailing_le}
 
--- the numbers with the quotient q are those from q * size up to the next multiple
+-- the numbers b with `b / size ≡ q` are those from `q * size` up to the next multiple of `size`
 pub same_quotient : (size q b : ℕ) → 0 < size → IsTrue (b / size == q) ↔ ((q * size ≤ b) × (b < q * size + size))
 same_quotient size q b positive = (
-  λ same. let e : b / size ≡ q = eqb-true _ _ same in
-      let low = div-mul-le_self b size in
-      let high : b < b / size * size + size = lt-div-mul-add positive in
-      (rw (← e) low, rw (← e) high),
-  λ within. eq-eqb _ _ (div-eq_of_lt-le size within.0 (omega (arith, within.1))),
+  λ test_holds. let quotient_is : b / size ≡ q = eqb-true _ _ test_holds in
+      let from_start = div-mul-le_self b size in
+      let before_next : b < b / size * size + size = lt-div-mul-add positive in
+      (rw (← quotient_is) from_start, rw (← quotient_is) before_next),
+  λ in_interval. eq-eqb _ _ (div-eq_of_lt-le size in_interval.0 (omega (arith, in_interval.1))),
 )
 
--- the trailing ones of a number are the trailing zeros of its complement
-complement : (bits n : ℕ) → n < 2 ^ bits → count_trailing_zeros bits (2 ^ bits - 1 - n) ≡ ones_at_end bits n
+-- the trailing ones of a number are the trailing zeros of its complement (by induction over the bits: the lowest bits differ)
+ones_by_complement : (bits n : ℕ) → n < 2 ^ bits → count_trailing_zeros bits (2 ^ bits - 1 - n) ≡ ones_at_end bits n
 unfolding count_trailing_zeros ones_at_end
-complement zero n fits = refl
-complement (suc bits) n fits =
-    let doubled : 2 ^ suc bits ≡ 2 ^ bits * 2 = pow-suc 2 bits in
-    let half : (2 ^ suc bits - 1 - n) / 2 ≡ 2 ^ bits - 1 - n / 2 = omega (arith, doubled, fits) in
-    let rest = ap (count_trailing_zeros bits) half ∙ complement bits (n / 2) (omega (arith, doubled, fits)) in
+ones_by_complement zero n fits = refl
+ones_by_complement (suc bits) n fits =
+    let power_doubled : 2 ^ suc bits ≡ 2 ^ bits * 2 = pow-suc 2 bits in
+    let half : (2 ^ suc bits - 1 - n) / 2 ≡ 2 ^ bits - 1 - n / 2 = omega (arith, power_doubled, fits) in
+    let rest_alike = ap (count_trailing_zeros bits) half ∙ ones_by_complement bits (n / 2) (omega (arith, power_doubled, fits)) in
     let ones = ones_at_end bits (n / 2) in
     elim (cases_eq (n % 2) 1) [
       | inl odd ↦
-          let low : (2 ^ suc bits - 1 - n) % 2 ≡ 0 = omega (arith, doubled, fits, odd) in
-          let one_more : suc ones ≡ 1 + ones = omega arith in
-          ap₂ under low rest ∙ one_more ∙ sym (cond-true (n % 2 == 1) (1 + ones) 0 (eq-eqb _ _ odd))
+          let lowest_bit : (2 ^ suc bits - 1 - n) % 2 ≡ 0 = omega (arith, power_doubled, fits, odd) in
+          let suc_is : suc ones ≡ 1 + ones = omega arith in
+          ap₂ under lowest_bit rest_alike ∙ suc_is ∙ sym (cond-true (n % 2 == 1) (1 + ones) 0 (eq-eqb _ _ odd))
       | inr even ↦
-          let low : (2 ^ suc bits - 1 - n) % 2 ≡ 1 = omega (arith, doubled, fits, even) in
-          ap₂ under low rest ∙ sym (cond-false (n % 2 == 1) (1 + ones) 0 (ne_eqb _ _ even))
+          let lowest_bit : (2 ^ suc bits - 1 - n) % 2 ≡ 1 = omega (arith, power_doubled, fits, even) in
+          ap₂ under lowest_bit rest_alike ∙ sym (cond-false (n % 2 == 1) (1 + ones) 0 (ne_eqb _ _ even))
     ]
 
 -- the code counts as many trailing ones of a word as the definition
 pub trailing_ones_is : (addr : ℕ) → addr < 2 ^ 32 → trailing_ones w32 addr ≡ ones_at_end 32 addr
-trailing_ones_is addr fits = complement 32 addr fits
+trailing_ones_is addr fits = ones_by_complement 32 addr fits
 
 -- a number of 32 bits has at most 32 trailing ones
 pub ones_at_end_le : (addr : ℕ) → addr < 2 ^ 32 → ones_at_end 32 addr ≤ 32
@@ -48,4 +49,4 @@ ones_at_end_le addr fits = rw (← trailing_ones_is addr fits) (trailing_le 32 _
 
 -- `8 << k` loses no bit
 pub eight_shifted : (k : ℕ) → k ≤ 32 → 8 * 2 ^ k % 2 ^ 64 ≡ 8 * 2 ^ k
-eight_shifted k small = shl_whole 8 4 k 64 (lit< tt) (omega arith)
+eight_shifted k at_most_32 = shl_whole 8 4 k 64 (lit< tt) (omega arith)

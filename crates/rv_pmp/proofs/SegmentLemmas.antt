@@ -1,5 +1,6 @@
 -- Consecutive segments: the last one grows, or one is added; and bounds between which no range begins or ends.
-use Rattle.std.proofs.Common.{◌≡◌, ◌≢◌, ℕ, zero, suc, ◌+◌, ◌-◌, ◌<◌, ◌≤◌, ◌^◌, ◌⊎◌, ◌==◌, ◌&&◌, nat_le, nat_lt, if◌then◌else◌, Bool, true, false, List}
+use Rattle.std.proofs.Common.{◌≡◌, ◌≢◌, ℕ, zero, suc, ◌+◌, ◌-◌, ◌<◌, ◌≤◌, ◌^◌, ◌⊎◌, ◌==◌, ◌&&◌, nat_le, nat_lt, if◌then◌else◌, Bool, true, false}
+use Rattle.std.proofs.Common.{List}
 use Rattle.std.proofs.Common.{length, Option, None, refl, sym, ◌∙◌, ap, inl, inr, arith, slice_index, slice_index_or, slice_set, take, leb}
 use Rattle.std.proofs.Common.{get_or-set_same, get_or-set_other}
 use Rattle.std.specs.List.{Contains}
@@ -15,23 +16,22 @@ use Rattle.rv_pmp.proofs.ByteMatchLemmas.{bool_same, byte_match_alike}
 
 -- ---- the last segment grows, or one is added
 
--- `begin` is the start of a segment, from the list of ends
+-- `begin` is the start of a segment, which follows from the list of the ends of segments
 abbrev begin : List ℕ → ℕ → ℕ
 begin ends k = if k == 0 then 0 else slice_index ends (k - 1)
 
 -- a segment after the first begins where the one before it ends
 begin_after : (ends : List ℕ) (k : ℕ) → 0 < k → begin ends k ≡ slice_index ends (k - 1)
-begin_after ends k some = cond-false (k == 0) 0 (slice_index ends (k - 1)) (ne_eqb k 0 (λ same. omega (arith, some)))
+begin_after ends k k_positive = cond-false (k == 0) 0 (slice_index ends (k - 1)) (ne_eqb k 0 (λ is_zero. omega (arith, k_positive)))
 
--- the segments up to one keep their starts if the end there is set
+-- a new end of the segment `at` changes no start of the segments up to it
 begin_kept : (ends : List ℕ) (at end k : ℕ) → k ≤ at → begin (slice_set ends at end) k ≡ begin ends k
-begin_kept ends at end k before = elim (cases_eq k 0) [
-  | inl first ↦ rw first refl
-  | inr later ↦
-      let some : 0 < k = omega arith in
-      begin_after (slice_set ends at end) k some
-      ∙ get_or-set_other ends at (k - 1) end 0 (λ same. omega (arith, some))
-      ∙ sym (begin_after ends k some)
+begin_kept ends at end k k_up_to_at = elim (cases_eq k 0) [
+  | inl is_first ↦ rw is_first refl
+  | inr not_first ↦
+      let k_positive : 0 < k = omega arith in
+      begin_after (slice_set ends at end) k k_positive ∙ get_or-set_other ends at (k - 1) end 0 (λ is_before_at. omega (arith, k_positive))
+      ∙ sym (begin_after ends k k_positive)
 ]
 
 -- the segments are in order up to `end`, and each has the matching entry of its bytes
@@ -40,161 +40,175 @@ pub record Reaches (covering : ℕ → ℕ → Bool) (s : Segments) (end : ℕ) 
   pub order : AreInOrder s
   pub matched : AreMatched covering s
 
--- the segments extended to an end, if all bytes before it have the same matching entry: the last segment grows, or one is added
-module _ (covering : ℕ → ℕ → Bool) (old : Segments) (start end : ℕ) (matched_entry : Option ℕ) (order : AreInOrder old) (matched : AreMatched covering old)
-    (is_reach : start ≡ reach_of old) (some : start < end) (alike : (byte : ℕ) → start ≤ byte → byte < end → byte_match covering byte ≡ matched_entry) where
-  -- `n` is the number of segments
-  abbrev n : ℕ
-  n = old.count
+-- the segments are extended to `end`: all new bytes have the same matching entry, and the last segment grows or one is added
+module _ (covering : ℕ → ℕ → Bool) (old : Segments) (start end : ℕ) (new_match : Option ℕ) (order : AreInOrder old)
+    (matched : AreMatched covering old)
+    (start_is_reach : start ≡ reach_of old) (not_empty : start < end) (same_match : (byte : ℕ) → start ≤ byte → byte < end
+    → byte_match covering byte ≡ new_match) where
+  -- `count` is the number of segments
+  abbrev count : ℕ
+  count = old.count
 
-  -- `longer` has the segments with the last one grown to `end`
+  -- `longer` has the segments, where the last one grew to `end`
   abbrev longer : Segments
-  longer = record { ends = slice_set old.ends (n - 1) end; byte_matches = old.byte_matches; count = n }
+  longer = record { ends = slice_set old.ends (count - 1) end; byte_matches = old.byte_matches; count = count }
 
-  -- `more` has the segments with one more that ends at `end`
-  abbrev more : Segments
-  more = record { ends = slice_set old.ends n end; byte_matches = slice_set old.byte_matches n matched_entry; count = n + 1 }
+  -- `with_one_more` has the segments and one more, which ends at `end`
+  abbrev with_one_more : Segments
+  with_one_more = record { ends = slice_set old.ends count end; byte_matches = slice_set old.byte_matches count new_match; count = count + 1 }
 
-  -- the last segment grows, if it has the same matching entry as the new bytes
-  pub goes_on : 0 < n → n ≤ length old.ends → slice_index_or old.byte_matches (n - 1) None ≡ matched_entry → Reaches covering longer end
-  goes_on used_some long same =
-      let last : ℕ = n - 1 in
+  -- the last segment grows if it has the same matching entry as the new bytes
+  pub last_grows : 0 < count → count ≤ length old.ends → slice_index_or old.byte_matches (count - 1) None ≡ new_match → Reaches covering longer end
+  last_grows has_segments ends_fit last_has_match =
+      -- the last segment gets a new end, and the other ends and all starts are unchanged
+      let last : ℕ = count - 1 in
       let is_end : slice_index longer.ends last ≡ end = get_or-set_same old.ends last end 0 (omega arith) in
-      let was_end : slice_index old.ends last ≡ start = sym (is_reach ∙ begin_after old.ends n used_some) in
-      let began : (k : ℕ) → k < n → start_of longer k ≡ start_of old k = λ k used. begin_kept old.ends last end k (omega arith) in
-      let kept : (k : ℕ) → k ≢ last → slice_index longer.ends k ≡ slice_index old.ends k = λ k before. get_or-set_other old.ends last k end 0 before in
+      let was_end : slice_index old.ends last ≡ start = sym (start_is_reach ∙ begin_after old.ends count has_segments) in
+      let starts_kept : (k : ℕ) → k < count → start_of longer k ≡ start_of old k = λ k k_used. begin_kept old.ends last end k (omega arith) in
+      let other_ends_kept : (k : ℕ) → k ≢ last
+      → slice_index longer.ends k ≡ slice_index old.ends k = λ k not_last. get_or-set_other old.ends last k end 0 not_last in
       record {
-        reach = begin_after longer.ends n used_some ∙ is_end;
+        reach = begin_after longer.ends count has_segments ∙ is_end;
         order = record {
           at_most = order.at_most;
-          ascending = λ k used. elim (cases_eq k last) [
-            | inl at ↦ rw at (omega (arith, began last (omega arith), is_end, some, order.ascending last (omega arith), was_end))
-            | inr before ↦ omega (arith, began k used, kept k before, order.ascending k used)
+          ascending = λ k k_used. elim (cases_eq k last) [
+            | inl is_last ↦
+                rw is_last (omega (arith, starts_kept last (omega arith), is_end, not_empty, order.ascending last (omega arith), was_end))
+            | inr not_last ↦ omega (arith, starts_kept k k_used, other_ends_kept k not_last, order.ascending k k_used)
           ];
         };
-        matched = λ k byte used low high. elim (cases_eq k last) [
-          | inl at ↦ elim (cases_lt byte start) [
-            | inl early ↦ matched k byte used (omega (arith, began k used)) (rw at (omega (arith, was_end)))
-            | inr late ↦
-                let past = rw at at high in
-                alike byte (omega arith) (omega (arith, is_end)) ∙ rw at (sym same)
+        matched = λ k byte k_used from_start before_end. elim (cases_eq k last) [
+          | inl is_last ↦ elim (cases_lt byte start) [
+            | inl in_old_part ↦ matched k byte k_used (omega (arith, starts_kept k k_used)) (rw is_last (omega (arith, was_end)))
+            | inr in_new_part ↦
+                let before_new_end = rw is_last at before_end in
+                same_match byte (omega arith) (omega (arith, is_end)) ∙ rw is_last (sym last_has_match)
           ]
-          | inr before ↦ matched k byte used (omega (arith, began k used)) (omega (arith, high, kept k before))
+          | inr not_last ↦ matched k byte k_used (omega (arith, starts_kept k k_used)) (omega (arith, before_end, other_ends_kept k not_last))
         ];
       }
 
-  -- one more segment is added for the new bytes
-  pub one_more : n < 33 → n < length old.ends → n < length old.byte_matches → Reaches covering more end
-  one_more room long matches_long =
-      let is_end : slice_index more.ends n ≡ end = get_or-set_same old.ends n end 0 long in
-      let is_matched_entry : slice_index_or more.byte_matches n None ≡ matched_entry = get_or-set_same old.byte_matches n matched_entry None matches_long in
-      let began : (k : ℕ) → k ≤ n → start_of more k ≡ start_of old k = λ k used. begin_kept old.ends n end k used in
-      let kept : (k : ℕ) → k ≢ n → slice_index more.ends k ≡ slice_index old.ends k = λ k before. get_or-set_other old.ends n k end 0 before in
-      let same : n + 1 - 1 ≡ n = omega arith in
+  -- one segment is added for the new bytes
+  pub one_added : count < 33 → count < length old.ends → count < length old.byte_matches → Reaches covering with_one_more end
+  one_added at_most_32 ends_fit matches_fit =
+      -- the new segment gets its end and its matching entry, and the segments before it are unchanged
+      let is_end : slice_index with_one_more.ends count ≡ end = get_or-set_same old.ends count end 0 ends_fit in
+      let is_new_match : slice_index_or with_one_more.byte_matches count None ≡ new_match = get_or-set_same old.byte_matches count new_match None
+      matches_fit in
+      let starts_kept : (k : ℕ) → k ≤ count → start_of with_one_more k ≡ start_of old k = λ k k_used. begin_kept old.ends count end k k_used in
+      let other_ends_kept : (k : ℕ) → k ≢ count
+      → slice_index with_one_more.ends k ≡ slice_index old.ends k = λ k not_new. get_or-set_other old.ends count k end 0 not_new in
+      let count_is : count + 1 - 1 ≡ count = omega arith in
       record {
-        reach = begin_after more.ends (n + 1) (omega arith) ∙ ap (slice_index more.ends) same ∙ is_end;
+        reach = begin_after with_one_more.ends (count + 1) (omega arith) ∙ ap (slice_index with_one_more.ends) count_is ∙ is_end;
         order = record {
           at_most = omega arith;
-          ascending = λ k used. elim (cases_eq k n) [
-            | inl at ↦ rw at (omega (arith, began n (omega arith), is_end, some, is_reach))
-            | inr before ↦ omega (arith, began k (omega arith), kept k before, order.ascending k (omega arith))
+          ascending = λ k k_used. elim (cases_eq k count) [
+            | inl is_new ↦ rw is_new (omega (arith, starts_kept count (omega arith), is_end, not_empty, start_is_reach))
+            | inr not_new ↦ omega (arith, starts_kept k (omega arith), other_ends_kept k not_new, order.ascending k (omega arith))
           ];
         };
-        matched = λ k byte used low high. elim (cases_eq k n) [
-          | inl at ↦
-              let from = rw at at low in
-              let to = rw at at high in
-              alike byte (omega (arith, from, began n (omega arith), is_reach)) (omega (arith, to, is_end)) ∙ rw at (sym is_matched_entry)
-          | inr before ↦
-              matched k byte (omega arith) (omega (arith, began k (omega arith))) (omega (arith, high, kept k before))
-              ∙ sym (get_or-set_other old.byte_matches n k matched_entry None before)
+        matched = λ k byte k_used from_start before_end. elim (cases_eq k count) [
+          | inl is_new ↦
+              let from_new_start = rw is_new at from_start in
+              let before_new_end = rw is_new at before_end in
+              same_match byte (omega (arith, from_new_start, starts_kept count (omega arith), start_is_reach)) (omega (arith, before_new_end, is_end))
+              ∙ rw is_new (sym is_new_match)
+          | inr not_new ↦
+              matched k byte (omega arith) (omega (arith, starts_kept k (omega arith))) (omega (arith, before_end, other_ends_kept k not_new))
+              ∙ sym (get_or-set_other old.byte_matches count k new_match None not_new)
         ];
       }
 
 -- ---- bounds between which no range begins or ends
 
--- bounds in another order are bounds of the same ranges
+-- bounds that are permuted are bounds of the same ranges
 pub bounds_in_order : (ranges : EntryRanges) (xs ys : List ℕ) → IsPermutation xs ys → AreBounds ranges xs → AreBounds ranges ys
-bounds_in_order ranges xs ys moved all = record {
-  from = λ i in_range some. Contains-permutation xs ys _ moved (all.from i in_range some);
-  to = λ i in_range some. Contains-permutation xs ys _ moved (all.to i in_range some);
-  last = Contains-permutation xs ys _ moved all.last;
+bounds_in_order ranges xs ys is_permutation are_bounds = record {
+  from = λ i in_range not_empty. Contains-permutation xs ys _ is_permutation (are_bounds.from i in_range not_empty);
+  to = λ i in_range not_empty. Contains-permutation xs ys _ is_permutation (are_bounds.to i in_range not_empty);
+  last = Contains-permutation xs ys _ is_permutation are_bounds.last;
 }
 
--- an and that holds has both parts
-and_both : (p q : Bool) → (p && q) ≡ true → (p ≡ true) × (q ≡ true)
-and_both true true both = (refl, refl)
-and_both true false both = absurd (both_ways false refl both)
-and_both false q both = absurd (both_ways false refl both)
+-- if an and holds, both its parts hold
+and_both : (first second : Bool) → (first && second) ≡ true → (first ≡ true) × (second ≡ true)
+and_both true true both_hold = (refl, refl)
+and_both true false both_hold = absurd (both_ways false refl both_hold)
+and_both false second both_hold = absurd (both_ways false refl both_hold)
 
--- no end of a range lies between two bytes: it has both or neither
+-- a range has both of two bytes or neither, if no end of the range lies between them
 both_or_neither : (from to start end byte : ℕ) → start ≤ byte → byte < end → (from < to → (from ≤ start) ⊎ (end ≤ from))
     → (from < to → (to ≤ start) ⊎ (end ≤ to)) → (nat_le from byte && nat_lt byte to) ≡ (nat_le from start && nat_lt start to)
-both_or_neither from to start end byte low high from_apart to_apart =
+both_or_neither from to start end byte from_start before_end from_apart to_apart =
     bool_same (nat_le from byte && nat_lt byte to) (nat_le from start && nat_lt start to)
-    (λ has.
-    let a = and_both (nat_le from byte) (nat_lt byte to) has in
-    let above : from ≤ byte = leb-true _ _ a.0 in
-    let below : byte < to = ltb-true _ _ a.1 in
+    (λ has_byte.
+    let bounds = and_both (nat_le from byte) (nat_lt byte to) has_byte in
+    let above : from ≤ byte = leb-true _ _ bounds.0 in
+    let below : byte < to = ltb-true _ _ bounds.1 in
     elim (from_apart (omega arith)) [
-      | inl first ↦ and_from _ _ (le-leb from start first) (lt-ltb start to (omega arith))
-      | inr past ↦ absurd (omega arith)
+      | inl not_above_start ↦ and_from _ _ (le-leb from start not_above_start) (lt-ltb start to (omega arith))
+      | inr not_below_end ↦ absurd (omega arith)
     ])
-    (λ has.
-    let a = and_both (nat_le from start) (nat_lt start to) has in
-    let above : from ≤ start = leb-true _ _ a.0 in
-    let below : start < to = ltb-true _ _ a.1 in
+    (λ has_start.
+    let bounds = and_both (nat_le from start) (nat_lt start to) has_start in
+    let above : from ≤ start = leb-true _ _ bounds.0 in
+    let below : start < to = ltb-true _ _ bounds.1 in
     elim (to_apart (omega arith)) [
-      | inl first ↦ absurd (omega arith)
-      | inr past ↦ and_from _ _ (le-leb from byte (omega arith)) (lt-ltb byte to (omega arith))
+      | inl not_above_start ↦ absurd (omega arith)
+      | inr not_below_end ↦ and_from _ _ (le-leb from byte (omega arith)) (lt-ltb byte to (omega arith))
     ])
 
--- if the first k bounds are not above start, and the others not below end, the bytes between start and end have the same matching entry
-module _ (ranges : EntryRanges) (bounds : List ℕ) (start end k : ℕ) (all : AreBounds ranges bounds)
-    (before : (m : ℕ) → m < k → slice_index bounds m ≤ start) (after : (m : ℕ) → k ≤ m → m < length bounds → end ≤ slice_index bounds m) where
-  -- no bound is between two neighbouring bounds
-  apart : (x : ℕ) → Contains bounds x → (x ≤ start) ⊎ (end ≤ x)
-  apart x found =
-      let m = found.0 in
-      let bound_is : slice_index bounds m ≡ x = sym (get_or_default_zero bounds m x found.1) ∙ found.2 in
+-- The first k bounds are at most `start`, and the others are at least `end`. All bytes from `start` to `end` have the same matching entry.
+module _ (ranges : EntryRanges) (bounds : List ℕ) (start end k : ℕ) (are_bounds : AreBounds ranges bounds)
+    (bounds_before : (m : ℕ) → m < k → slice_index bounds m ≤ start) (bounds_after : (m : ℕ) → k ≤ m → m < length bounds
+    → end ≤ slice_index bounds m) where
+  -- no bound is between `start` and `end`
+  no_bound_between : (x : ℕ) → Contains bounds x → (x ≤ start) ⊎ (end ≤ x)
+  no_bound_between x is_bound =
+      let m = is_bound.0 in
+      let bound_is : slice_index bounds m ≡ x = sym (get_or_default_zero bounds m x is_bound.1) ∙ is_bound.2 in
       elim (cases_lt m k) [
-        | inl early ↦ inl (omega (arith, bound_is, before m early))
-        | inr late ↦ inr (omega (arith, bound_is, after m (omega arith) found.1))
+        | inl is_before ↦ inl (omega (arith, bound_is, bounds_before m is_before))
+        | inr is_after ↦ inr (omega (arith, bound_is, bounds_after m (omega arith) is_bound.1))
       ]
 
   -- all bytes between two neighbouring bounds have the same matching entry
-  pub one_match : (byte : ℕ) → start ≤ byte → byte < end → byte_match (is_within ranges) byte ≡ byte_match (is_within ranges) start
-  one_match byte low high = byte_match_alike (is_within ranges) (is_within ranges) byte start (λ i in_range.
-      both_or_neither (slice_index ranges.from i) (slice_index ranges.to i) start end byte low high
-      (λ some. apart (slice_index ranges.from i) (all.from i in_range some))
-      (λ some. apart (slice_index ranges.to i) (all.to i in_range some)))
+  pub same_match_between : (byte : ℕ) → start ≤ byte → byte < end → byte_match (is_within ranges) byte ≡ byte_match (is_within ranges) start
+  same_match_between byte from_start before_end = byte_match_alike (is_within ranges) (is_within ranges) byte start (λ i in_range.
+      both_or_neither (slice_index ranges.from i) (slice_index ranges.to i) start end byte from_start before_end
+      (λ not_empty. no_bound_between (slice_index ranges.from i) (are_bounds.from i in_range not_empty))
+      (λ not_empty. no_bound_between (slice_index ranges.to i) (are_bounds.to i in_range not_empty)))
 
-  -- after all bounds the start is at least 2^35
-  pub last_before : length bounds ≤ k → 2 ^ 35 ≤ start
-  last_before done = elim (apart (2 ^ 35) all.last) [
-    | inl is ↦ is
-    | inr past ↦ let found = all.last in omega (arith, before found.0 (omega (arith, found.1)), get_or_default_zero bounds found.0 (2 ^ 35) found.1, found.2)
+  -- if all bounds are among the first k, `start` is at least 2^35, which is one of the bounds
+  pub start_past_bounds : length bounds ≤ k → 2 ^ 35 ≤ start
+  start_past_bounds none_after = elim (no_bound_between (2 ^ 35) are_bounds.last) [
+    | inl is_past ↦ is_past
+    | inr end_not_past ↦
+        let is_bound = are_bounds.last in
+        let last_is_2_35 = get_or_default_zero bounds is_bound.0 (2 ^ 35) is_bound.1 in
+        omega (arith, bounds_before is_bound.0 (omega (arith, is_bound.1)), last_is_2_35, is_bound.2)
   ]
 
 -- ---- the segment that has a byte
 
 module _ (s : Segments) (order : AreInOrder s) where
-  -- the ends of the segments ascend
-  rise : (i j : ℕ) → i ≤ j → j < s.count → slice_index s.ends i ≤ slice_index s.ends j
-  rise i zero before used = let same : i ≡ 0 = omega (arith, before) in rw same (omega arith)
-  rise i (suc j) before used = elim (cases_eq i (suc j)) [
-    | inl same ↦ rw same (omega arith)
-    | inr other ↦
+  -- an end of a segment is at most the end of a later one (by induction over the index of the later one)
+  ends_rise : (i j : ℕ) → i ≤ j → j < s.count → slice_index s.ends i ≤ slice_index s.ends j
+  ends_rise i zero i_up_to_j j_used = let same_index : i ≡ 0 = omega (arith, i_up_to_j) in rw same_index (omega arith)
+  ends_rise i (suc j) i_up_to_j j_used = elim (cases_eq i (suc j)) [
+    | inl same_index ↦ rw same_index (omega arith)
+    | inr i_before_j ↦
         let one_before : suc j - 1 ≡ j = omega arith in
-        let began : start_of s (suc j) ≡ slice_index s.ends j = begin_after s.ends (suc j) (omega arith) ∙ ap (slice_index s.ends) one_before in
-        omega (arith, rise i j (omega arith) (omega arith), order.ascending (suc j) used, began)
+        let start_is : start_of s (suc j) ≡ slice_index s.ends j = begin_after s.ends (suc j) (omega arith) ∙ ap (slice_index s.ends) one_before in
+        omega (arith, ends_rise i j (omega arith) (omega arith), order.ascending (suc j) j_used, start_is)
   ]
 
-  -- the ends of the used segments are in ascending order
-  pub used_rise : s.count ≤ length s.ends → IsNonDecreasingBy (λ end. end) (take s.count s.ends)
-  used_rise fits = IsNonDecreasingBy-from_default (λ end. end) (take s.count s.ends) 0 (λ i j before used.
-      let below : j < s.count = omega (arith, used, length-take-le s.count s.ends fits) in
-      rw (get_or-take s.count s.ends i 0 (omega (arith, before, below)), get_or-take s.count s.ends j 0 below) (rise i j before below))
+  -- the list of the ends of the segments is in ascending order
+  pub used_ends_rise : s.count ≤ length s.ends → IsNonDecreasingBy (λ end. end) (take s.count s.ends)
+  used_ends_rise ends_fit = IsNonDecreasingBy-from_default (λ end. end) (take s.count s.ends) 0 (λ i j i_up_to_j j_used.
+      let j_below_count : j < s.count = omega (arith, j_used, length-take-le s.count s.ends ends_fit) in
+      rw (get_or-take s.count s.ends i 0 (omega (arith, i_up_to_j, j_below_count)), get_or-take s.count s.ends j 0 j_below_count)
+      (ends_rise i j i_up_to_j j_below_count))
 
 -- the segment with this index has the byte
 pub record IsSegment (s : Segments) (byte segment : ℕ) : Type 0 where
@@ -202,21 +216,25 @@ pub record IsSegment (s : Segments) (byte segment : ℕ) : Type 0 where
   pub from : start_of s segment ≤ byte
   pub to : byte < slice_index s.ends segment
 
--- the first segment whose end is past a byte has the byte
+-- the first segment whose end is past a byte has the byte, if the last segment's end is past it
 pub at_segment : (s : Segments) (byte segment : ℕ) → s.count ≤ length s.ends → byte < reach_of s → segment ≤ length (take s.count s.ends)
     → IsPartitionPoint (λ end. leb end byte ≡ true) (λ end. leb end byte ≡ false) (take s.count s.ends) segment → IsSegment s byte segment
-at_segment s byte segment fits inside bound point =
-    let long = length-take-le s.count s.ends fits in
-    let ended : (k : ℕ) → k < segment → slice_index s.ends k ≤ byte
-    = λ k below. leb-true _ _ (rw (get_or-take s.count s.ends k 0 (omega (arith, below, bound, long))) at (point.0 k 0 (omega arith) below)) in
-    let began : start_of s segment ≤ byte = elim (cases_eq segment 0) [
-      | inl first ↦ rw first (omega arith)
-      | inr later ↦ let some : 0 < segment = omega arith in omega (arith, begin_after s.ends segment some, ended (segment - 1) (omega (arith, some)))
+at_segment s byte segment ends_fit byte_below_reach segment_bound is_point =
+    let taken_length = length-take-le s.count s.ends ends_fit in
+    -- all ends before the segment are at most the byte, and its own end is past the byte
+    let ends_before : (k : ℕ) → k < segment → slice_index s.ends k ≤ byte
+    = λ k k_before. leb-true _ _ (rw (get_or-take s.count s.ends k 0 (omega (arith, k_before, segment_bound, taken_length))) at
+    (is_point.0 k 0 (omega arith) k_before)) in
+    let starts_before : start_of s segment ≤ byte = elim (cases_eq segment 0) [
+      | inl is_first ↦ rw is_first (omega arith)
+      | inr not_first ↦ let positive : 0 < segment = omega arith in
+          omega (arith, begin_after s.ends segment positive, ends_before (segment - 1) (omega (arith, positive)))
     ] in
-    let used : segment < s.count = elim (cases_lt segment s.count) [
-      | inl below ↦ below
-      | inr past ↦ let at : segment ≡ s.count = omega (arith, past, bound, long) in absurd (omega (arith, inside, rw at at began))
+    let is_used : segment < s.count = elim (cases_lt segment s.count) [
+      | inl is_below ↦ is_below
+      | inr not_below ↦ let is_count : segment ≡ s.count = omega (arith, not_below, segment_bound, taken_length) in
+          absurd (omega (arith, byte_below_reach, rw is_count at starts_before))
     ] in
-    let above : leb (slice_index s.ends segment) byte ≡ false =
-    rw (get_or-take s.count s.ends segment 0 used) at (point.1 segment 0 (omega arith) (omega (arith, used, long))) in
-    record { used = used; from = began; to = leb-false _ _ above }
+    let ends_after : leb (slice_index s.ends segment) byte ≡ false =
+    rw (get_or-take s.count s.ends segment 0 is_used) at (is_point.1 segment 0 (omega arith) (omega (arith, is_used, taken_length))) in
+    record { used = is_used; from = starts_before; to = leb-false _ _ ends_after }

@@ -4,12 +4,12 @@ use Rattle.std.proofs.lemmas.List.{length-map, ext_get_or, get_or-map}
 use Rattle.rv_pmp.specs.Cfg.{stored_cfg}
 use Rattle.rv_pmp.proofs.cfg_byte.all_stored.Goals as goal
 
--- `all_stored` meets its contract
+-- the list that is returned has the stored form of each byte, by the invariant of the loop
 pub returns : goal.returns
 returns c =
     let loop = c.loop-k in
     let cfgs = c.args.cfgs.now in
-    let long : length loop.kept ≡ length (map stored_cfg cfgs) = omega (arith, loop.invariant.long, length-map cfgs stored_cfg) in
-    ext_get_or 0 loop.kept (map stored_cfg cfgs) long (λ i below.
-    loop.invariant.so_far i (omega (arith, below, loop.invariant.long, c.loop-k-test.false))
-    ∙ sym (get_or-map stored_cfg cfgs i 0 0 (omega (arith, below, loop.invariant.long))))
+    let same_length : length loop.kept ≡ length (map stored_cfg cfgs) = omega (arith, loop.invariant.long, length-map cfgs stored_cfg) in
+    ext_get_or 0 loop.kept (map stored_cfg cfgs) same_length (λ i i_below.
+    loop.invariant.so_far i (omega (arith, i_below, loop.invariant.long, c.loop-k-test.false))
+    ∙ sym (get_or-map stored_cfg cfgs i 0 0 (omega (arith, i_below, loop.invariant.long))))

@@ -3,7 +3,7 @@ use Rattle.std.proofs.Common.{◌≡◌, ◌<◌, ℕ, length, slice_index}
 use Rattle.rv_pmp.specs.Cfg.{stored_cfg}
 use Rattle.rv_pmp.proofs.cfg_byte.all_stored.Given as goal
 
--- the bytes so far are the stored forms
+-- there are sixteen bytes, and the bytes so far are the stored forms of the written bytes
 abbrev pub invariant-loop-k : goal.invariant-loop-k
 invariant-loop-k l = record {
   long : length l.kept ≡ 16;

@@ -3,7 +3,7 @@ use Rattle.std.proofs.Common.{◌≡◌, ℕ, ◌<◌, ◌≤◌, length, slice_
 use Rattle.rv_pmp.specs.Cache.Segments.{is_within, reach_of, AreInOrder, AreMatched}
 use Rattle.rv_pmp.proofs.segments.Segments.divide.Given as goal
 
--- the segments extend to start; no bound so far is above it, and no later bound is below it
+-- The segments extend to `start`, and have the matching entries of their bytes. No bound before bound k is above `start`, and no other is below it.
 abbrev pub invariant-loop-k : goal.invariant-loop-k
 invariant-loop-k l = record {
   room : l.self.count ≤ l.k;

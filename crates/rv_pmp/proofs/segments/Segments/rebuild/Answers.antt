@@ -6,16 +6,16 @@ use Rattle.rv_pmp.specs.Entries.{Entries}
 use Rattle.rv_pmp.proofs.ByteMatchLemmas.{byte_match_alike}
 use Rattle.rv_pmp.proofs.segments.Segments.rebuild.Goals as goal
 
--- `Segments::rebuild` meets its contract
+-- the segments are those of the entries, because `divide` made them from the ranges of the entries
 pub returns : goal.returns
 unfolding AreSegments
 returns c =
-    let e : Entries = record { cfgs = c.args.cfgs.now; addrs = c.args.addrs.now } in
+    let pmp : Entries = record { cfgs = c.args.cfgs.now; addrs = c.args.addrs.now } in
     let ranges = c.of-ranges.result in
     let made = c.divide.ensures in (
       made.order,
       made.whole,
-      λ k byte used low high.
-          byte_match_alike (covers e) (is_within ranges) byte byte (λ i in_range. c.of-ranges.ensures i byte in_range)
-          ∙ made.matched k byte used low high,
+      λ k byte k_used from_start before_end.
+          byte_match_alike (covers pmp) (is_within ranges) byte byte (λ i in_range. c.of-ranges.ensures i byte in_range)
+          ∙ made.matched k byte k_used from_start before_end,
     )
