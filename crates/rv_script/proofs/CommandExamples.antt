@@ -1,4 +1,4 @@
--- This file has examples: lines with their commands or errors.
+-- Examples of the script language: lines with their commands, or their errors.
 use Rattle.std.proofs.Common.{◌≡◌, ℕ, true, false, List, [], ◌∷◌, Result, Ok, Err, map, refl}
 use Rattle.std.specs.Prelude.{codes}
 use Rattle.rv_text.specs.GoodLines.{is_text}
@@ -165,8 +165,8 @@ examples =
 
 -- ---- by computation
 
--- each example line has the command or the error beside it
-pub examples_hold : map (λ e. parse_of e.0) examples ≡ map (λ e. e.1) examples
+-- each example line has the command or the error beside it, by computation
+pub examples_hold : map (λ example. parse_of example.0) examples ≡ map (λ example. example.1) examples
 unfolding parse_of meaning_of keyword_of words_of is_text number_of_digits decimal_of hexadecimal_of csr_number_of byte_of_text
 examples_hold = refl
 

@@ -1,4 +1,5 @@
--- This file proves that the keyword of a word is found by a search for its text.
+-- The code finds the keyword of a word by a search in a table of texts and keywords. This is the keyword of the definition, which searches the list
+-- of keywords.
 use Rattle.std.proofs.Common.{◌≡◌, ◌∙◌, ℕ, Bool, true, false, cond, List, [], ◌∷◌, map, Option, Some, None, Bor, refl, sym, ap}
 use Rattle.std.specs.List.{find}
 use Rattle.std.specs.Option.{option_map}
@@ -8,48 +9,51 @@ use Rattle.rv_script.specs.declared.keyword.Keyword.TheVariants.{Step, Run, Brea
 use Rattle.rv_script.specs.declared.keyword.Keyword.TheVariants.{Access, Timer, Hart, Sched}
 use Rattle.rv_script.specs.Command.{spelling_of, keywords, keyword_of}
 
--- a function of one of two options is that of each
-mapped_if : {A B : Type 0} (f : A → B) (b : Bool) (x : A) (o : Option A) (p : Option B) → option_map f o ≡ p
-    → option_map f (cond b (Some x) o) ≡ cond b (Some (f x)) p
-mapped_if f true x o p map_is = refl
-mapped_if f false x o p map_is = map_is
+-- a function f of the choice of `Some x` or another option is the choice of f of each
+mapped_if : {A B : Type 0} (f : A → B) (test : Bool) (x : A) (other : Option A) (mapped_other : Option B) → option_map f other ≡ mapped_other
+    → option_map f (cond test (Some x) other) ≡ cond test (Some (f x)) mapped_other
+mapped_if f true x other mapped_other mapped_is = refl
+mapped_if f false x other mapped_other mapped_is = mapped_is
 
--- a search in a mapped list finds the function of what a search in the list finds
+-- a search in a mapped list finds f of what a search in the list finds, by induction over the list
 found_in_map : {A B : Type 0} (f : A → B) (test : B → Bool) (xs : List A) → option_map f (find (λ x. test (f x)) xs) ≡ find test (map f xs)
 found_in_map f test [] = refl
 found_in_map f test (x ∷ xs) = mapped_if f (test (f x)) x (find (λ x. test (f x)) xs) (find test (map f xs)) (found_in_map f test xs)
 
--- `row_of` is a borrowed row, as the table has it
+-- `row_of` is a borrowed row of the table, by value: a text and its keyword
 abbrev row_of : Bor (List ℕ) × Keyword → List ℕ × Keyword
 row_of row = (row.0.now, row.1)
 
--- the value of the row that was found is the second part of the row
-values : (r : Option (Bor (Bor (List ℕ) × Keyword)))
-    → option_map (λ x. x.now.1) r ≡ option_map (λ (x : List ℕ × Keyword). x.1) (option_map row_of (option_map (λ x. x.now) r))
-values None = refl
-values (Some x) = refl
+-- the keyword of a borrowed row is the keyword of the row by value
+keyword_of_borrowed_row : (found : Option (Bor (Bor (List ℕ) × Keyword)))
+    → option_map (λ row. row.now.1) found
+    ≡ option_map (λ (row : List ℕ × Keyword). row.1) (option_map row_of (option_map (λ row. row.now) found))
+keyword_of_borrowed_row None = refl
+keyword_of_borrowed_row (Some row) = refl
 
--- the row that the search in the table finds is that of the definition
-pub row-found : (word : List ℕ) (rows : List (Bor (List ℕ) × Keyword)) (r : Option (Bor (Bor (List ℕ) × Keyword)))
-    → option_map (λ x. x.now) r ≡ find (λ row. bytes_eq word row.0.now) rows
-    → option_map (λ x. x.now.1) r ≡ option_map (λ (row : List ℕ × Keyword). row.1) (find (λ row. bytes_eq word row.0) (map row_of rows))
-row-found word rows r map_is = values r ∙ ap (λ o. option_map (λ x. x.1) (option_map row_of o)) map_is
-    ∙ ap (option_map (λ x. x.1)) (found_in_map row_of (λ x. bytes_eq word x.0) rows)
+-- if the code finds the first row with the text of a word, its keyword is that of the first such row in the table by value
+pub row-found : (word : List ℕ) (rows : List (Bor (List ℕ) × Keyword)) (found : Option (Bor (Bor (List ℕ) × Keyword)))
+    → option_map (λ row. row.now) found ≡ find (λ row. bytes_eq word row.0.now) rows
+    → option_map (λ row. row.now.1) found ≡ option_map (λ (row : List ℕ × Keyword). row.1) (find (λ row. bytes_eq word row.0) (map row_of rows))
+row-found word rows found found_is =
+    keyword_of_borrowed_row found ∙ ap (λ row. option_map (λ x. x.1) (option_map row_of row)) found_is
+    ∙ ap (option_map (λ x. x.1)) (found_in_map row_of (λ row. bytes_eq word row.0) rows)
 
--- the keyword in the row of a word is the keyword that was found
-second : (r : Option Keyword) → option_map (λ (row : List ℕ × Keyword). row.1) (option_map (λ k. (spelling_of k, k)) r) ≡ r
-second None = refl
-second (Some k) = refl
+-- the keyword in the row of a keyword is this keyword
+keyword_of_row : (found : Option Keyword)
+    → option_map (λ (row : List ℕ × Keyword). row.1) (option_map (λ keyword. (spelling_of keyword, keyword)) found) ≡ found
+keyword_of_row None = refl
+keyword_of_row (Some keyword) = refl
 
--- the keyword of a word in the table is that of the definition
+-- the keyword of a word in the table of all keywords is the keyword of the definition
 pub keyword_of-rows : (word : List ℕ)
     → option_map (λ (row : List ℕ × Keyword). row.1) (find (λ row. bytes_eq word row.0) (map (λ k. (spelling_of k, k)) keywords)) ≡ keyword_of word
 unfolding keyword_of
 keyword_of-rows word =
     ap (option_map (λ (row : List ℕ × Keyword). row.1)) (sym (found_in_map (λ k. (spelling_of k, k)) (λ row. bytes_eq word row.0) keywords))
-    ∙ second (find (λ k. bytes_eq word (spelling_of k)) keywords)
+    ∙ keyword_of_row (find (λ k. bytes_eq word (spelling_of k)) keywords)
 
--- the text of each keyword gives this keyword
+-- the keyword of the text of a keyword is this keyword
 pub keyword_of-spelling_of : (k : Keyword) → Some k ≡ keyword_of (spelling_of k)
 unfolding keyword_of
 keyword_of-spelling_of Step = refl
@@ -72,10 +76,10 @@ keyword_of-spelling_of Timer = refl
 keyword_of-spelling_of Hart = refl
 keyword_of-spelling_of Sched = refl
 
--- no two keywords have the same text
+-- no two keywords have the same text, since the keyword of a text is unique
 pub spelling_of-injective : (j k : Keyword) → spelling_of j ≡ spelling_of k → j ≡ k
-spelling_of-injective j k alike =
-    let first = keyword_of-spelling_of j in
-    let second = keyword_of-spelling_of k in
-    let both = ap keyword_of alike in
+spelling_of-injective j k same_text =
+    let j_is = keyword_of-spelling_of j in
+    let k_is = keyword_of-spelling_of k in
+    let same_keyword = ap keyword_of same_text in
     cc

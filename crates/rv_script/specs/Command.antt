@@ -32,7 +32,7 @@ decimal_within low high operand = option_and_then (within low high) (decimal_of 
 abbrev pub register_of : List ℕ → Option ℕ
 register_of operand = decimal_within 0 31 operand
 
--- a switch is `on` or `off`
+-- `switch_of` is the truth value of a switch, `on` or `off`
 abbrev pub switch_of : List ℕ → Option Bool
 switch_of operand =
     if bytes_eq operand (codes "on") then Some true
@@ -69,32 +69,34 @@ pub data Form : Type 0 where
 -- `made` is the command of a form and its operands, or none if their number is wrong or one cannot be read
 abbrev pub made : Form → List (List ℕ) → Option Command
 made (NoOperand command) [] = Some command
-made (OneOperand make) (t ∷ []) = make t
-made (TwoOperands make) (t ∷ u ∷ []) = make t u
-made (FourOperands make) (t ∷ u ∷ v ∷ w ∷ []) = make t u v w
+made (OneOperand make) (first ∷ []) = make first
+made (TwoOperands make) (first ∷ second ∷ []) = make first second
+made (FourOperands make) (first ∷ second ∷ third ∷ fourth ∷ []) = make first second third fourth
 made _ _ = None
 
--- forms in which each operand is read by itself
+-- `one` is the form of a command with one operand, which `read` reads
 abbrev pub one : {A : Type 0} → (List ℕ → Option A) → (A → Command) → Form
-one read make = OneOperand (λ t. option_map make (read t))
+one read make = OneOperand (λ operand. option_map make (read operand))
 
 -- `two` is the form of a command with two operands, each with its reader
 abbrev pub two : {A B : Type 0} → (List ℕ → Option A) → (List ℕ → Option B) → (A → B → Command) → Form
-two first second make = TwoOperands (λ t u. option_and_then (λ a. option_map (make a) (second u)) (first t))
+two read_first read_second make =
+    TwoOperands (λ first second. option_and_then (λ a. option_map (make a) (read_second second)) (read_first first))
 
 -- `four` is the form of a command with four operands, each with its reader
 abbrev pub four : {A B C D : Type 0} → (List ℕ → Option A) → (List ℕ → Option B) → (List ℕ → Option C) → (List ℕ → Option D)
     → (A → B → C → D → Command) → Form
-four first second third fourth make =
-    FourOperands (λ t u v w.
-    option_and_then (λ a. option_and_then (λ b. option_and_then (λ c. option_map (make a b c) (fourth w)) (third v)) (second u)) (first t))
+four read_first read_second read_third read_fourth make =
+    FourOperands (λ first second third fourth.
+    option_and_then (λ a. option_and_then (λ b. option_and_then (λ c.
+    option_map (make a b c) (read_fourth fourth)) (read_third third)) (read_second second)) (read_first first))
 
 -- a row of the table of commands has the first word and the operands
 pub record CommandRow : Type 0 where
   pub spelling : List ℕ
   pub form : Form
 
--- each command has a keyword, and a form of its operands
+-- `command_row` is the row of a keyword: its text, and the form of its operands
 abbrev pub command_row : Keyword → CommandRow
 command_row keyword.Step = record { spelling = codes "step"; form = one (decimal_within 1 1000000) command.Step }
 command_row keyword.Run = record { spelling = codes "run"; form = one (decimal_within 1 1000000) command.Run }

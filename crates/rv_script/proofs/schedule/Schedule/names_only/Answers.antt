@@ -5,7 +5,7 @@ use Rattle.std.specs.Prelude.{nat_lt}
 use Rattle.rv_script.specs.Schedules.{has_all, hart_of_digit}
 use Rattle.rv_script.proofs.schedule.Schedule.names_only.Goals as goal
 
--- `Schedule::names_only` meets its contract
+-- the result states whether the hart of each step has a number below `harts`
 pub returns : goal.returns
 unfolding has_all
 returns c =

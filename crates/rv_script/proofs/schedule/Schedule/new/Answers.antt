@@ -5,15 +5,16 @@ use Rattle.rv_script.specs.Schedules.{schedule_of}
 use Rattle.rv_script.specs.declared.schedule.Schedule.{Schedule}
 use Rattle.rv_script.proofs.schedule.Schedule.new.Goals as goal
 
--- a word copied to the start of zeros is followed by the other zeros
-copied : (most : ℕ) (word prefix : List ℕ) → prefix ≡ word → prefix ++ drop (length word) (replicate most 0) ≡ word ++ replicate (most - length word) 0
-copied most word prefix prefix_is = ap₂ (λ (a b : List ℕ). a ++ b) prefix_is (drop-replicate (length word) most 0)
+-- if a word is copied over the first of `most` zeros, the other zeros follow it
+copied : (most : ℕ) (word prefix : List ℕ) → prefix ≡ word
+    → prefix ++ drop (length word) (replicate most 0) ≡ word ++ replicate (most - length word) 0
+copied most word prefix prefix_is = ap₂ (λ (digits zeros : List ℕ). digits ++ zeros) prefix_is (drop-replicate (length word) most 0)
 
--- `Schedule::new` meets its contract
+-- a valid word is copied to the 64 digits of the schedule, followed by zeros, and its length is the number of steps
 pub returns : goal.returns
 unfolding schedule_of
 returns c =
     let word = c.args.word.now in
-    let is = sym c.is_schedule.ensures ∙ c.if-not-is_schedule.false in
-    rw is (ap (λ (digits : List ℕ). Some (let made : Schedule = record { digits = digits; steps = length word } in made))
+    let is_valid = sym c.is_schedule.ensures ∙ c.if-not-is_schedule.false in
+    rw is_valid (ap (λ (digits : List ℕ). Some (let made : Schedule = record { digits = digits; steps = length word } in made))
     (copied 64 word c.copy_from_slice.new.self c.copy_from_slice.ensures.after))
