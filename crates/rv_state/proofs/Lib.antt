@@ -1,18 +1,18 @@
--- Lemmas about many steps counted at once
+-- Many steps counted at once, with the same result as one by one
 pub mod CountedLemmas
--- Lemmas about words under a mask, bit by bit
+-- Words under a mask, bit by bit
 pub mod MaskLemmas
--- A register reads the written word under its mask after a write
+-- After a write a register reads the kept bits of the written word
 pub mod ReadBackLemmas
--- Lemmas about the parts of the word of pending interrupts
+-- The word of pending interrupts consists of the software bits and the timer line
 pub mod RaisedLemmas
 -- The words of mstatus and sstatus have no bit outside their masks, and sstatus is mstatus under its mask
 pub mod StatusLemmas
 -- Below mode M no write changes the machine's parts
 pub mod MachinePartsLemmas
--- Below mode M a read of a CSR does not depend on the registers of mode M, the PMP entries or the counters
+-- Below mode M CSR accesses do not depend on the registers of mode M, the PMP entries or the counters
 pub mod BelowMLemmas
 -- Examples: names of registers in the listing, by their rows
 mod CsrExamples
--- A write leaves stvec and sepc as a write stores them
+-- stvec and sepc have legal values after each write
 pub mod StoredLemmas

@@ -1,5 +1,6 @@
--- This file proves lemmas about words under a mask, bit by bit.
-use Rattle.std.proofs.Common.{◌≡◌, ℕ, zero, suc, ◌+◌, ◌*◌, ◌/◌, ◌%◌, ◌^◌, ◌<◌, ◌≤◌, Bool, true, false, List, [], ◌∷◌, refl, sym, ap, ◌∙◌, arith}
+-- Words under a mask, bit by bit: masking twice is masking once, and mie, mip and mcountinhibit keep the bits of their masks.
+use Rattle.std.proofs.Common.{◌≡◌, ℕ, zero, suc, ◌+◌, ◌*◌, ◌/◌, ◌%◌, ◌^◌, ◌<◌, ◌≤◌, Bool, true, false}
+use Rattle.std.proofs.Common.{List, [], ◌∷◌, refl, sym, ap, ◌∙◌, arith}
 use Rattle.std.specs.Prelude.{◌&&◌, ◌==◌}
 use Rattle.std.proofs.Math.Nat.{pow-suc, div-div-eq-div-mul, div-one}
 use Rattle.rv_word.specs.BitFields.{is_set}
@@ -8,59 +9,59 @@ use Rattle.rv_state.specs.Bits.{kept_bits}
 use Rattle.rv_state.specs.CsrTable.{enabled_of, inhibited_of}
 use Rattle.rv_state.specs.Interrupts.{software_pending_of}
 
--- the bits that two numbers have in common, among the lowest `count` bits
-abbrev shared : ℕ → ℕ → ℕ → ℕ
-shared count left right = word_of_bits (bitwise (λ x y. x && y) (bit_list count left) (bit_list count right))
+-- the number whose bits are those that both numbers have, among the lowest `count` bits
+abbrev common_bits : ℕ → ℕ → ℕ → ℕ
+common_bits count left right = word_of_bits (bitwise (λ x y. x && y) (bit_list count left) (bit_list count right))
 
--- a number that is made of a lowest bit and a rest has this lowest bit
-pub lowest : (bit : Bool) (rest : ℕ) → ((digit bit + 2 * rest) % 2 == 1) ≡ bit
-lowest true rest = let e : (1 + 2 * rest) % 2 ≡ 1 = omega arith in rw e refl
-lowest false rest = let e : (0 + 2 * rest) % 2 ≡ 0 = omega arith in rw e refl
+-- the lowest bit of `bit + 2 * rest` is the bit
+pub low_bit_of : (bit : Bool) (rest : ℕ) → ((digit bit + 2 * rest) % 2 == 1) ≡ bit
+low_bit_of true rest = let remainder_is : (1 + 2 * rest) % 2 ≡ 1 = omega arith in rw remainder_is refl
+low_bit_of false rest = let remainder_is : (0 + 2 * rest) % 2 ≡ 0 = omega arith in rw remainder_is refl
 
--- a number that is made of a lowest bit and a rest has this rest
-pub above : (bit : Bool) (rest : ℕ) → (digit bit + 2 * rest) / 2 ≡ rest
-above true rest = omega arith
-above false rest = omega arith
+-- the bits of `bit + 2 * rest` above the lowest are the rest
+pub upper_bits_of : (bit : Bool) (rest : ℕ) → (digit bit + 2 * rest) / 2 ≡ rest
+upper_bits_of true rest = omega arith
+upper_bits_of false rest = omega arith
 
--- and with the same bit again changes nothing
+-- a second conjunction with the same bit changes nothing
 and-again : (x y : Bool) → ((x && y) && y) ≡ (x && y)
 and-again true true = refl
 and-again true false = refl
 and-again false y = refl
 
--- the common bits of a word with a mask do not change if they are taken again
-shared-again : (count word mask : ℕ) → shared count (shared count word mask) mask ≡ shared count word mask
-shared-again zero word mask = refl
-shared-again (suc count) word mask =
+-- the bits that a word has in common with a mask are also those of the masked word; by induction over the bits
+common_bits-again : (count word mask : ℕ) → common_bits count (common_bits count word mask) mask ≡ common_bits count word mask
+common_bits-again zero word mask = refl
+common_bits-again (suc count) word mask =
     let bit = (word % 2 == 1) && (mask % 2 == 1) in
-    let rest = shared count (word / 2) (mask / 2) in
-    rw (lowest bit rest, above bit rest, and-again (word % 2 == 1) (mask % 2 == 1))
-    (ap (λ n. digit bit + 2 * n) (shared-again count (word / 2) (mask / 2)))
+    let rest = common_bits count (word / 2) (mask / 2) in
+    rw (low_bit_of bit rest, upper_bits_of bit rest, and-again (word % 2 == 1) (mask % 2 == 1))
+    (ap (λ n. digit bit + 2 * n) (common_bits-again count (word / 2) (mask / 2)))
 
 -- masking a masked word again changes nothing
 pub masked_again : (word mask : ℕ) → and_by_bits (and_by_bits word mask) mask ≡ and_by_bits word mask
 unfolding by_bits
-masked_again word mask = shared-again 32 word mask
+masked_again word mask = common_bits-again 32 word mask
 
--- the bit of a number below 2 is the number itself
-digit-below : (n : ℕ) → n < 2 → digit (n == 1) ≡ n
-digit-below zero below = refl
-digit-below (suc zero) below = refl
-digit-below (suc (suc n)) below = absurd (omega arith)
+-- a number below 2, read as a bit and back as a number, is the number itself
+digit-below_2 : (n : ℕ) → n < 2 → digit (n == 1) ≡ n
+digit-below_2 zero is_below_2 = refl
+digit-below_2 (suc zero) is_below_2 = refl
+digit-below_2 (suc (suc n)) is_below_2 = absurd (omega arith)
 
 -- the lowest bit of a number, as 0 or 1, is its remainder by 2
-pub digit-rem : (n : ℕ) → digit (n % 2 == 1) ≡ n % 2
-digit-rem n = digit-below (n % 2) (omega arith)
+pub digit_is_remainder : (n : ℕ) → digit (n % 2 == 1) ≡ n % 2
+digit_is_remainder n = digit-below_2 (n % 2) (omega arith)
 
 -- ---- a word under a mask, as the sum of the bits in the mask
 
--- `masked` has the bits of a list that are in a mask
-abbrev pub masked : List Bool → List Bool → List Bool
-masked [] bits = []
-masked (m ∷ ms) [] = []
-masked (m ∷ ms) (bit ∷ bits) = (m && bit) ∷ masked ms bits
+-- the bits of the second list where the mask, the first list, has a 1, and 0 elsewhere
+abbrev pub bits_in_mask : List Bool → List Bool → List Bool
+bits_in_mask [] bits = []
+bits_in_mask (mask_bit ∷ mask_bits) [] = []
+bits_in_mask (mask_bit ∷ mask_bits) (bit ∷ bits) = (mask_bit && bit) ∷ bits_in_mask mask_bits bits
 
--- and is the same in both orders
+-- conjunction is commutative
 and-comm : (x y : Bool) → (x && y) ≡ (y && x)
 and-comm true true = refl
 and-comm true false = refl
@@ -68,13 +69,13 @@ and-comm false true = refl
 and-comm false false = refl
 
 -- the common bits of a list and a mask are the bits of the list in the mask
-pub bitwise-masked : (bits mask : List Bool) → bitwise (λ x y. x && y) bits mask ≡ masked mask bits
-bitwise-masked [] [] = refl
-bitwise-masked [] (m ∷ ms) = refl
-bitwise-masked (bit ∷ bits) [] = refl
-bitwise-masked (bit ∷ bits) (m ∷ ms) = rw (and-comm bit m, bitwise-masked bits ms) refl
+pub bitwise-in_mask : (bits mask : List Bool) → bitwise (λ x y. x && y) bits mask ≡ bits_in_mask mask bits
+bitwise-in_mask [] [] = refl
+bitwise-in_mask [] (mask_bit ∷ mask_bits) = refl
+bitwise-in_mask (bit ∷ bits) [] = refl
+bitwise-in_mask (bit ∷ bits) (mask_bit ∷ mask_bits) = rw (and-comm bit mask_bit, bitwise-in_mask bits mask_bits) refl
 
--- `bits_from` has `count` bits of a word, from bit k up
+-- `count` bits of a word, from bit k upwards
 abbrev pub bits_from : ℕ → ℕ → ℕ → List Bool
 bits_from zero k word = []
 bits_from (suc count) k word = is_set word k ∷ bits_from count (suc k) word
@@ -89,52 +90,79 @@ bit_list-from zero k word = refl
 bit_list-from (suc count) k word =
     rw (halved word k) (ap (λ bits. is_set word k ∷ bits) (bit_list-from count (suc k) word))
 
--- a word under a mask is the number of its bits in the mask
-pub by_places : (word mask : ℕ) → and_by_bits word mask ≡ word_of_bits (masked (bit_list 32 mask) (bits_from 32 0 word))
+-- a word under a mask is the number whose bits are those of the word that are in the mask
+pub masked_word_is : (word mask : ℕ) → and_by_bits word mask ≡ word_of_bits (bits_in_mask (bit_list 32 mask) (bits_from 32 0 word))
 unfolding by_bits
-by_places word mask =
-    ap word_of_bits (bitwise-masked (bit_list 32 word) (bit_list 32 mask)
-    ∙ ap (masked (bit_list 32 mask)) (ap (bit_list 32) (sym (div-one word)) ∙ bit_list-from 32 0 word))
+masked_word_is word mask =
+    let bits_are : bit_list 32 word ≡ bits_from 32 0 word = ap (bit_list 32) (sym (div-one word)) ∙ bit_list-from 32 0 word in
+    ap word_of_bits (bitwise-in_mask (bit_list 32 word) (bit_list 32 mask) ∙ ap (bits_in_mask (bit_list 32 mask)) bits_are)
 
 -- ---- the bits that a register keeps are the word under its mask, and masking them again changes nothing
 
--- a register that keeps the bits of a mask keeps its own value
-kept_again : (keep : ℕ → ℕ) (mask : ℕ) → ((word : ℕ) → and_by_bits word mask ≡ keep word) → (word : ℕ) → keep (keep word) ≡ keep word
-kept_again keep mask by_mask word =
-    sym (by_mask (keep word)) ∙ ap (λ n. and_by_bits n mask) (sym (by_mask word)) ∙ masked_again word mask ∙ by_mask word
+-- the bits that mstatus implements: SIE, MIE, SPIE, MPIE, SPP, MPP, MPRV, MXR, TVM, TW and TSR
+abbrev pub mstatus_bits : ℕ
+mstatus_bits = 0x007A19AA
 
--- mie keeps the bits of 0xAAA
-pub enabled_is : (word : ℕ) → and_by_bits word 0xAAA ≡ enabled_of word
+-- the same bits without MPP (bits 12:11)
+abbrev pub mstatus_bits_without_mpp : ℕ
+mstatus_bits_without_mpp = 0x007A01AA
+
+-- the bits of mstatus that sstatus shows: SIE, SPIE, SPP and MXR
+abbrev pub sstatus_bits : ℕ
+sstatus_bits = 0x00080122
+
+-- the bits of mie that can be set: SSIE, MSIE, STIE, MTIE, SEIE and MEIE (bits 1, 3, 5, 7, 9 and 11)
+abbrev mie_mask : ℕ
+mie_mask = 0xAAA
+
+-- the bits of mip that software can write: SSIP, STIP and SEIP (bits 1, 5 and 9)
+abbrev software_mask : ℕ
+software_mask = 0x222
+
+-- the bits of mcountinhibit that can be set: CY and IR (bits 0 and 2)
+abbrev inhibit_mask : ℕ
+inhibit_mask = 0x5
+
+-- if `keep` is masking with the mask, then keeping the kept bits again changes nothing
+kept_again : (keep : ℕ → ℕ) (mask : ℕ) → ((word : ℕ) → and_by_bits word mask ≡ keep word) → (word : ℕ) → keep (keep word) ≡ keep word
+kept_again keep mask keep_is_mask word =
+    let masked_twice = sym (keep_is_mask (keep word)) ∙ ap (λ n. and_by_bits n mask) (sym (keep_is_mask word)) in
+    masked_twice ∙ masked_again word mask ∙ keep_is_mask word
+
+-- mie keeps the bits of its mask
+pub enabled_is : (word : ℕ) → and_by_bits word mie_mask ≡ enabled_of word
 unfolding kept_bits
-enabled_is word = omega (arith, by_places word 0xAAA)
+enabled_is word = omega (arith, masked_word_is word mie_mask)
 
 -- a value of mie does not change if it is written again
 pub enabled_again : (word : ℕ) → enabled_of (enabled_of word) ≡ enabled_of word
-enabled_again word = kept_again enabled_of 0xAAA enabled_is word
+enabled_again word = kept_again enabled_of mie_mask enabled_is word
 
--- the software bits of mip are the bits of the mask 0x222
-pub software_is : (word : ℕ) → and_by_bits word 0x222 ≡ software_pending_of word
+-- the bits of mip that software writes are the bits of their mask
+pub software_is : (word : ℕ) → and_by_bits word software_mask ≡ software_pending_of word
 unfolding kept_bits
-software_is word = omega (arith, by_places word 0x222)
+software_is word = omega (arith, masked_word_is word software_mask)
 
--- the software bits of mip do not change if they are taken again
+-- taking the bits of mip that software writes a second time changes nothing
 pub software_again : (word : ℕ) → software_pending_of (software_pending_of word) ≡ software_pending_of word
-software_again word = kept_again software_pending_of 0x222 software_is word
+software_again word = kept_again software_pending_of software_mask software_is word
 
--- the bits of mip that software writes are bits 1, 5 and 9
-pub software_of : (word : ℕ) → software_pending_of word ≡ word / 2 ^ 1 % 2 * 2 + word / 2 ^ 5 % 2 * 32 + word / 2 ^ 9 % 2 * 512
+-- the bits of mip that software writes are bits 1, 5 and 9 of the word (SSIP, STIP and SEIP)
+pub software_of : (word : ℕ)
+    → software_pending_of word ≡ word / 2 ^ 1 % 2 * 2 ^ 1 + word / 2 ^ 5 % 2 * 2 ^ 5 + word / 2 ^ 9 % 2 * 2 ^ 9
 unfolding kept_bits
-software_of word = omega (arith, digit-rem (word / 2 ^ 1), digit-rem (word / 2 ^ 5), digit-rem (word / 2 ^ 9))
+software_of word =
+    omega (arith, digit_is_remainder (word / 2 ^ 1), digit_is_remainder (word / 2 ^ 5), digit_is_remainder (word / 2 ^ 9))
 
--- the software bits of mip are at most 0x222
-pub software_at_most : (word : ℕ) → software_pending_of word ≤ 0x222
+-- the software bits of mip, as a number, are at most their mask
+pub software_at_most : (word : ℕ) → software_pending_of word ≤ software_mask
 software_at_most word = omega (arith, software_of word)
 
--- mcountinhibit keeps the bits CY and IR
-pub inhibited_is : (word : ℕ) → and_by_bits word 0x5 ≡ inhibited_of word
+-- mcountinhibit keeps the bits of its mask
+pub inhibited_is : (word : ℕ) → and_by_bits word inhibit_mask ≡ inhibited_of word
 unfolding kept_bits
-inhibited_is word = omega (arith, by_places word 0x5)
+inhibited_is word = omega (arith, masked_word_is word inhibit_mask)
 
 -- a value of mcountinhibit does not change if it is written again
 pub inhibited_again : (word : ℕ) → inhibited_of (inhibited_of word) ≡ inhibited_of word
-inhibited_again word = kept_again inhibited_of 0x5 inhibited_is word
+inhibited_again word = kept_again inhibited_of inhibit_mask inhibited_is word

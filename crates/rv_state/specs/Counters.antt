@@ -4,15 +4,15 @@ use Rattle.std.specs.Prelude.{ℕ, zero, suc, ◌+◌, ◌*◌, ◌%◌, ◌^◌
 use Rattle.rv_word.specs.BitFields.{bits, is_set}
 use Rattle.rv_state.specs.CsrState.{CsrState}
 
--- a counter after a write to its lower or its upper half
+-- the counter with a new low half (bits 31 to 0)
 abbrev pub with_low_half : ℕ → ℕ → ℕ
 with_low_half counter word = bits counter 63 32 * 2 ^ 32 + word
 
--- `with_high_half` is the counter with a new high half (bits 63 to 32)
+-- the counter with a new high half (bits 63 to 32)
 abbrev pub with_high_half : ℕ → ℕ → ℕ
 with_high_half counter word = word * 2 ^ 32 + bits counter 31 0
 
--- whether the step wrote one of these two registers
+-- whether the step wrote the CSR with the number `low` or `high`: the two halves of a counter; `None` if it wrote no CSR
 abbrev pub wrote : Option ℕ → ℕ → ℕ → Bool
 wrote None low high = false
 wrote (Some number) low high = number == low || number == high

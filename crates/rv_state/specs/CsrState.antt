@@ -21,7 +21,7 @@ pub record CsrState : Type 0 where
   pub timer : Bool
   -- the sixteen entries of physical memory protection
   pub pmp : Entries
-  -- whole counters of 64 bits
+  -- the counters, with all their 64 bits
   pub mcycle : ℕ
   pub minstret : ℕ
   pub stvec : ℕ

@@ -6,15 +6,15 @@ pub mod Bits
 pub mod Causes
 -- The numbers of the errors of an access to a control and status register, in the order in which they are checked
 pub mod CsrFaults
--- The fields of mstatus and sstatus . Every bit outside these fields reads 0 and ignores writes
+-- The fields of mstatus and sstatus; every bit outside these fields reads 0 and ignores writes
 pub mod Mstatus
 -- The state of the control and status registers
 pub mod CsrState
 -- The 64-bit counters, their halves, and the increment of a step
 pub mod Counters
--- The pending interrupts, and the one that is taken . No interrupt is delegated
+-- The pending interrupts, and the one that is taken; no interrupt is delegated
 pub mod Interrupts
--- Representations of state in the code
+-- The representation of the counters and of the pending interrupts in the code
 pub mod Cache
 -- Trap entry and the two returns
 pub mod Traps

@@ -3,27 +3,37 @@
 use crate::bits::{flag, is_set};
 use rv_pmp::Mode;
 
-/// The bit of each field. For MPP it is the lower of its two bits.
+/// The bit number of SIE.
 const SIE: u32 = 1;
 
+/// The bit number of MIE.
 const MIE: u32 = 3;
 
+/// The bit number of SPIE.
 const SPIE: u32 = 5;
 
+/// The bit number of MPIE.
 const MPIE: u32 = 7;
 
+/// The bit number of SPP.
 const SPP: u32 = 8;
 
+/// The number of the lower bit of MPP.
 const MPP: u32 = 11;
 
+/// The bit number of MPRV.
 const MPRV: u32 = 17;
 
+/// The bit number of MXR.
 const MXR: u32 = 19;
 
+/// The bit number of TVM.
 const TVM: u32 = 20;
 
+/// The bit number of TW.
 const TW: u32 = 21;
 
+/// The bit number of TSR.
 const TSR: u32 = 22;
 
 /// The fields of mstatus that this machine has (Privileged Architecture, section 3.1.6).

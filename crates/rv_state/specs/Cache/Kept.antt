@@ -11,9 +11,9 @@ pub record CountersState : Type 0 where
   pub minstret : ℕ
   pub inhibit : ℕ
 
--- `running` is the value of a counter: the stored value if the counter is inhibited, otherwise the sum of the stored value and the count
+-- the value of a counter: the stored value if the counter is inhibited (`is_held`), otherwise the stored value plus the count, modulo 2 ^ 64
 abbrev pub running : Bool → ℕ → ℕ → ℕ
-running is_held kept count = if is_held then kept else (kept + count) % 2 ^ 64
+running is_held stored count = if is_held then stored else (stored + count) % 2 ^ 64
 
 -- `later` is a counter, inhibited or not, after `steps` steps
 abbrev pub later : Bool → ℕ → ℕ → ℕ
@@ -27,7 +27,7 @@ counted_on steps c = record c {
   minstret = later (is_set c.inhibit 2) c.minstret steps;
 }
 
--- the pending software interrupts, and the timer line
+-- the bits of mip that software writes, and the timer line
 pub record RaisedState : Type 0 where
   pub software : ℕ
   pub timer : Bool
