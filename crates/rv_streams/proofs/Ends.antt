@@ -1,4 +1,4 @@
--- This file proves lemmas about the end of the lines.
+-- The end of the input as the lines report it (`EndsWithSource`), and the counts of a sink over several calls.
 use Rattle.std.proofs.Common.{◌≡◌, ℕ, ◌+◌, Bool, true, false, ◌||◌, inl, inr, Result, Ok, Err, refl, sym, ap, ◌∙◌, arith, IsTrue}
 use Rattle.std.proofs.lemmas.Bool.{false≢true}
 use Rattle.std.proofs.Math.Bool.{or-true}
@@ -12,37 +12,38 @@ use Rattle.rv_streams.specs.Script.{ReadsThroughSeparator}
 use Rattle.rv_streams.specs.Separator.{has_separator}
 use Rattle.rv_streams.specs.Unread.{unread, HasEnded, EndsWithSource}
 
--- without a change, the end is that of the source
+-- lines that do not change end with their source
 pub EndsWithSource-none : {S : Type 0} {g : Ghosts S} (lines : Lines S g) → EndsWithSource lines lines
 EndsWithSource-none lines = record {
-  stays = λ e. (e, refl);
+  stays = λ at_end. (at_end, refl);
   going = λ _. refl;
-  ended = λ e. inl e;
+  ended = λ at_end. inl at_end;
   same = refl;
   before = λ follows. follows;
 }
 
--- the lines end when the source has just returned its end
+-- if the lines end in a call, the source has returned its end in this call
 pub EndsWithSource-ends : {S : Type 0} {g : Ghosts S} (old new : Lines S g) → old.is_at_end ≡ false → new.is_at_end ≡ true
     → g.ends new.source ≡ g.ends old.source + 1 → g.input new.source ≡ g.input old.source
     → (g.follows_input new.source → g.follows_input old.source) → EndsWithSource old new
-EndsWithSource-ends {S} {g} old new before after count same back =
-    let risen : HasRisen (g.ends old.source) (g.ends new.source) = omega (arith, count) in record {
-      stays = λ e. cc;
-      going = λ e. cc;
-      ended = λ _. inr risen;
-      same = same;
-      before = back;
+EndsWithSource-ends {S} {g} old new not_at_end at_end one_more_end same_input follows_before =
+    let ends_rose : HasRisen (g.ends old.source) (g.ends new.source) = omega (arith, one_more_end) in record {
+      stays = λ was_at_end. cc;
+      going = λ still_not_at_end. cc;
+      ended = λ _. inr ends_rose;
+      same = same_input;
+      before = follows_before;
     }
 
--- a read that does not fail leaves the count of failures unchanged
-pub no_failure : {A E : Type 0} (old mid new : ℕ) (r : Result A E) (a : A) → new ≡ counted_if (is_err r) mid → r ≡ Ok a → mid ≡ old → new ≡ old
-no_failure old mid new r a count ok same = count ∙ (ap (λ r. counted_if (is_err r) mid) ok ∙ same)
+-- a call that does not fail leaves the count of failures unchanged
+pub no_failure : {A E : Type 0} (old mid new : ℕ) (result : Result A E) (a : A) → new ≡ counted_if (is_err result) mid → result ≡ Ok a → mid ≡ old
+    → new ≡ old
+no_failure old mid new result a new_is result_is mid_is = new_is ∙ (ap (λ result. counted_if (is_err result) mid) result_is ∙ mid_is)
 
 -- a sink that worked and then failed has failed
 pub SinkFailed-after : {W : Type 0} (h : SinkGhosts W) {old mid new : W} → SinkWorked h old mid → SinkFailed h mid new → SinkFailed h old new
-SinkFailed-after h worked (inl risen) = let same = worked.worked.0 in inl (omega (arith, risen, same))
-SinkFailed-after h worked (inr risen) = let same = worked.worked.1 in inr (omega (arith, risen, same))
+SinkFailed-after h worked (inl failures_rose) = let same_failures = worked.worked.0 in inl (omega (arith, failures_rose, same_failures))
+SinkFailed-after h worked (inr refusals_rose) = let same_refusals = worked.worked.1 in inr (omega (arith, refusals_rose, same_refusals))
 
 -- a sink that worked in two calls, one after the other, worked in both together
 pub SinkWorked-more : {W : Type 0} (h : SinkGhosts W) {old mid new : W} → SinkWorked h old mid → SinkWorked h mid new → SinkWorked h old new
@@ -51,57 +52,63 @@ SinkWorked-more h first next = record {
   unflushed = next.unflushed ∙ first.unflushed;
 }
 
--- a sink that worked, and was flushed once after that
+-- a sink that worked, and was flushed once after that, was flushed once in both calls together
 pub SinkFlushed-after : {W : Type 0} (h : SinkGhosts W) {old mid new : W} → SinkWorked h old mid → SinkFlushed h mid new → SinkFlushed h old new
-SinkFlushed-after h first last = record {
-  worked = (last.worked.0 ∙ first.worked.0, last.worked.1 ∙ first.worked.1);
-  flushed = last.flushed;
-  once = last.once ∙ ap (λ n. n + 1) first.unflushed;
+SinkFlushed-after h first flush = record {
+  worked = (flush.worked.0 ∙ first.worked.0, flush.worked.1 ∙ first.worked.1);
+  flushed = flush.flushed;
+  once = flush.once ∙ ap (λ count. count + 1) first.unflushed;
 }
 
--- a text was written, and the sink flushed once after it
-pub flushed_once : {W A E : Type 0} (h : SinkGhosts W) {old new : W} (r : Result A E) {a : A} → r ≡ Ok a → OnOk r (NoneFailed h old new)
-    → OnOk r ((h.is_flushed new ≡ true) × (h.flushes new ≡ h.flushes old + 1)) → SinkFlushed h old new
+-- if a call succeeds that writes a text and flushes the sink, the sink is flushed once after it
+pub flushed_once : {W A E : Type 0} (h : SinkGhosts W) {old new : W} (result : Result A E) {a : A} → result ≡ Ok a
+    → OnOk result (NoneFailed h old new) → OnOk result ((h.is_flushed new ≡ true) × (h.flushes new ≡ h.flushes old + 1)) → SinkFlushed h old new
 flushed_once h (Ok a) result_is worked flushed = record { worked = worked; flushed = flushed.0; once = flushed.1 }
-flushed_once h (Err e) result_is worked flushed = let never : Err e ≡ Ok _ = result_is in cc
+flushed_once h (Err e) result_is worked flushed = let impossible : Err e ≡ Ok _ = result_is in cc
 
 -- a flush that succeeded counts as one flush, without a failure
-pub SinkFlushed-flush : {W A E : Type 0} (h : SinkGhosts W) {old new : W} (r : Result A E) {a : A} → r ≡ Ok a
-    → h.failures new ≡ counted_if (is_err r) (h.failures old) → h.refusals new ≡ h.refusals old → h.is_flushed new ≡ (h.is_flushed old || is_ok r)
-    → h.flushes new ≡ counted_if (is_ok r) (h.flushes old) → SinkFlushed h old new
-SinkFlushed-flush h {old = old} (Ok a) result_is failures refusals flushed once =
-    record { worked = (failures, refusals); flushed = flushed ∙ or-true (h.is_flushed old); once = once }
-SinkFlushed-flush h (Err e) result_is failures refusals flushed once = let never : Err e ≡ Ok _ = result_is in cc
+pub SinkFlushed-flush : {W A E : Type 0} (h : SinkGhosts W) {old new : W} (result : Result A E) {a : A} → result ≡ Ok a
+    → h.failures new ≡ counted_if (is_err result) (h.failures old) → h.refusals new ≡ h.refusals old
+    → h.is_flushed new ≡ (h.is_flushed old || is_ok result) → h.flushes new ≡ counted_if (is_ok result) (h.flushes old) → SinkFlushed h old new
+SinkFlushed-flush h {old = old} (Ok a) result_is same_failures same_refusals is_flushed flushes_is =
+    record { worked = (same_failures, same_refusals); flushed = is_flushed ∙ or-true (h.is_flushed old); once = flushes_is }
+SinkFlushed-flush h (Err e) result_is same_failures same_refusals is_flushed flushes_is = let impossible : Err e ≡ Ok _ = result_is in cc
 
--- the property holds for two calls, one after the other
-pub EndsWithSource-more : {S : Type 0} {g : Ghosts S} (old mid new : Lines S g) → EndsWithSource old mid → EndsWithSource mid new → EndsWithSource old new
-EndsWithSource-more {S} {g} old mid new first next = record {
-  stays = λ e. let was = first.stays e in let is = next.stays was.0 in (is.0, is.1 ∙ was.1);
-  going = λ e. go_on mid.is_at_end refl e;
-  ended = λ e. go_to mid.is_at_end refl e;
-  same = next.same ∙ first.same;
-  before = λ follows. first.before (next.before follows);
+-- the lines end with their source over two calls, one after the other
+pub EndsWithSource-more : {S : Type 0} {g : Ghosts S} (old mid new : Lines S g) → EndsWithSource old mid → EndsWithSource mid new
+    → EndsWithSource old new
+EndsWithSource-more {S} {g} old mid new first second = record {
+  stays = λ at_end. let (mid_at_end, first_ends) = first.stays at_end in
+      let (new_at_end, second_ends) = second.stays mid_at_end in (new_at_end, second_ends ∙ first_ends);
+  going = λ not_at_end. no_new_end mid.is_at_end refl not_at_end;
+  ended = λ at_end. has_ended mid.is_at_end refl at_end;
+  same = second.same ∙ first.same;
+  before = λ follows. first.before (second.before follows);
 } where
-  -- without a new end, the number of ends is unchanged
-  go_on : (b : Bool) → mid.is_at_end ≡ b → new.is_at_end ≡ false → g.ends new.source ≡ g.ends old.source
-  go_on true was e = let is = (next.stays was).0 in cc
-  go_on false was e = next.going e ∙ first.going was
+  -- if the lines are not at their end in `new`, the number of ends that the source returned is unchanged
+  no_new_end : (mid_ended : Bool) → mid.is_at_end ≡ mid_ended → new.is_at_end ≡ false → g.ends new.source ≡ g.ends old.source
+  no_new_end true mid_at_end not_at_end = let new_at_end = (second.stays mid_at_end).0 in cc
+  no_new_end false mid_not_at_end not_at_end = second.going not_at_end ∙ first.going mid_not_at_end
 
-  -- if the lines are at their end in `new`, the source reported its end, where `b` states whether they were at their end in `mid` already
-  go_to : (b : Bool) → mid.is_at_end ≡ b → new.is_at_end ≡ true → HasEnded old new
-  go_to true was e = elim (first.ended was) [
-    | inl at_end ↦ inl at_end
-    | inr risen ↦ let same = (next.stays was).1 in let r : HasRisen (g.ends old.source) (g.ends new.source) = omega (arith, risen, same) in inr r
+  -- if the lines are at their end in `new`, the source returned its end, in the first call if `mid_ended`, and otherwise in the second
+  has_ended : (mid_ended : Bool) → mid.is_at_end ≡ mid_ended → new.is_at_end ≡ true → HasEnded old new
+  has_ended true mid_at_end at_end = elim (first.ended mid_at_end) [
+    | inl old_at_end ↦ inl old_at_end
+    | inr first_rose ↦
+        let same_ends = (second.stays mid_at_end).1 in
+        let ends_rose : HasRisen (g.ends old.source) (g.ends new.source) = omega (arith, first_rose, same_ends) in inr ends_rose
   ]
-  go_to false was e = elim (next.ended e) [
-    | inl at_end ↦ cc
-    | inr risen ↦ let same = first.going was in let r : HasRisen (g.ends old.source) (g.ends new.source) = omega (arith, risen, same) in inr r
+  has_ended false mid_not_at_end at_end = elim (second.ended at_end) [
+    | inl mid_at_end ↦ cc
+    | inr second_rose ↦
+        let same_ends = first.going mid_not_at_end in
+        let ends_rose : HasRisen (g.ends old.source) (g.ends new.source) = omega (arith, second_rose, same_ends) in inr ends_rose
   ]
 
 -- if lines were read through the separator, and not to the end of the input, the input has a separator
-pub separator_read : {S : Type 0} {g : Ghosts S} (old mid new : Lines S g) → ReadsThroughSeparator old mid → EndsWithSource mid new → new.is_at_end ≡ false
-    → g.follows_input new.source → IsTrue (has_separator (unread old))
-separator_read old mid new reads end going follows = elim reads.ended [
-  | inl at_end ↦ absurd (false≢true (sym going ∙ (end.stays at_end).0))
-  | inr has ↦ has (end.before follows)
+pub separator_read : {S : Type 0} {g : Ghosts S} (old mid new : Lines S g) → ReadsThroughSeparator old mid → EndsWithSource mid new
+    → new.is_at_end ≡ false → g.follows_input new.source → IsTrue (has_separator (unread old))
+separator_read old mid new reads ends not_at_end follows = elim reads.ended [
+  | inl mid_at_end ↦ absurd (false≢true (sym not_at_end ∙ (ends.stays mid_at_end).0))
+  | inr separated ↦ separated (ends.before follows)
 ]

@@ -1,4 +1,4 @@
--- This file proves lemmas about bytes that a sink holds.
+-- Bytes that a sink holds for another sink, from index `start` to index `end` of its buffer: passing them on, holding more, and flushing.
 use Rattle.std.proofs.Common.{◌≡◌, ◌<◌, ◌≤◌, ◌≢◌, ◌==◌, ◌&&◌, ℕ, ◌+◌, Bool, false, true, List, ◌++◌, take, drop, length}
 use Rattle.std.proofs.Common.{arith, refl, ◌∙◌, ap, sym, append_assoc, append-nil}
 use Rattle.std.proofs.lemmas.Bool.Decides.{nat_tests}
@@ -6,39 +6,48 @@ use Rattle.std.proofs.Math.Bool.{and-false}
 use Rattle.std.proofs.lemmas.Bool.{false≢true}
 use Rattle.std.proofs.lemmas.List.{drop-append-le, drop-drop, drop_all, length-take, take-append-drop, take-take}
 
--- if the bytes so far and the bytes from index `at` on are all bytes, this holds after `count` more bytes, at most `room` (few), are passed on
+-- If the taken bytes and the bytes from index `at` on are all bytes, this holds after `count` of at most `room` further bytes are passed on.
 pub passed_more : (mid after all bytes : List ℕ) (at count room : ℕ) → count ≤ room
     → after ≡ mid ++ take count (take room (drop at bytes)) → mid ++ drop at bytes ≡ all → after ++ drop (at + count) bytes ≡ all
-passed_more mid after all bytes at count room few wrote so_far =
-    ap (λ t. t ++ drop (at + count) bytes) (wrote ∙ ap (λ t. mid ++ t) (take-take count room (drop at bytes) few)) ∙ (append_assoc mid (take count (drop at bytes)) (drop (at + count) bytes)
-    ∙ (ap (λ t. mid ++ (take count (drop at bytes) ++ t)) (sym (drop-drop count at bytes))
-    ∙ (ap (λ t. mid ++ t) (take-append-drop count (drop at bytes)) ∙ so_far)))
+passed_more mid after all bytes at count room count_within_room after_is all_are =
+    let passed = take count (drop at bytes) in
+    let taken_is = after_is ∙ ap (λ added. mid ++ added) (take-take count room (drop at bytes) count_within_room) in
+    ap (λ taken. taken ++ drop (at + count) bytes) taken_is
+    ∙ (append_assoc mid passed (drop (at + count) bytes)
+    ∙ (ap (λ rest. mid ++ (passed ++ rest)) (sym (drop-drop count at bytes))
+    ∙ (ap (λ rest. mid ++ rest) (take-append-drop count (drop at bytes)) ∙ all_are)))
 
--- a part is held behind the bytes that are held
-pub held_more : (before buffer new part : List ℕ) (start end count : ℕ) → start ≤ end → end ≤ length buffer → take (end + count) new ≡ take end buffer ++ take count part
+-- a part that is copied to the buffer at index `end` is held behind the bytes that are held
+pub held_more : (before buffer new part : List ℕ) (start end count : ℕ) → start ≤ end → end ≤ length buffer
+    → take (end + count) new ≡ take end buffer ++ take count part
     → before ++ drop start (take (end + count) new) ≡ (before ++ drop start (take end buffer)) ++ take count part
-held_more before buffer new part start end count ordered within held =
-    let within_held : start ≤ length (take end buffer) = omega (arith, length-take end buffer) in
-    ap (λ t. before ++ drop start t) held ∙ (ap (λ t. before ++ t) (drop-append-le start (take end buffer) (take count part) within_held)
+held_more before buffer new part start end count start_before_end end_in_buffer new_is =
+    let start_in_held : start ≤ length (take end buffer) = omega (arith, length-take end buffer) in
+    ap (λ bytes. before ++ drop start bytes) new_is
+    ∙ (ap (λ bytes. before ++ bytes) (drop-append-le start (take end buffer) (take count part) start_in_held)
     ∙ sym (append_assoc before (drop start (take end buffer)) (take count part)))
 
--- a sink that has taken a byte is not flushed
+-- A sink is flushed if the other sink is and no byte is left (`at == len`). This stays the same if a call takes a byte: bytes were left before it,
+-- and after it the other sink is not flushed.
 pub unflushed : (was is after : Bool) (start at count len : ℕ) → after ≡ (is && (count == 0)) → (is && (at == len)) ≡ (was && (start == len))
     → at < len → count ≢ 0 → (after && (at + count == len)) ≡ (was && (start == len))
-unflushed was is after start at count len flushed so_far within some =
-    let moved : (count == 0) ≡ false = grind (arith, nat_tests, some) in
-    let going : (at == len) ≡ false = grind (arith, nat_tests, within) in
-    ap (λ b. b && (at + count == len)) (flushed ∙ (ap (λ b. is && b) moved ∙ and-false is)) ∙ sym (sym so_far ∙ (ap (λ b. is && b) going ∙ and-false is))
+unflushed was is after start at count len after_is same_so_far bytes_left some_taken =
+    let count_not_0 : (count == 0) ≡ false = grind (arith, nat_tests, some_taken) in
+    let not_at_end : (at == len) ≡ false = grind (arith, nat_tests, bytes_left) in
+    let not_flushed_after = after_is ∙ (ap (λ none_taken. is && none_taken) count_not_0 ∙ and-false is) in
+    let not_flushed_before = sym same_so_far ∙ (ap (λ none_left. is && none_left) not_at_end ∙ and-false is) in
+    ap (λ flushed. flushed && (at + count == len)) not_flushed_after ∙ sym not_flushed_before
 
 -- if the other sink is flushed and no byte is held, all bytes are passed on
-pub all_passed : (bytes buffer : List ℕ) (flushed : Bool) (start end : ℕ) → (flushed && (start == end)) ≡ true → bytes ++ drop start (take end buffer) ≡ bytes
-all_passed bytes buffer true start end is =
-    let same : start ≡ end = grind (arith, nat_tests, is) in
-    let few : length (take end buffer) ≤ start = omega (arith, same, length-take end buffer) in
-    ap (λ t. bytes ++ t) (drop_all start (take end buffer) few) ∙ append-nil bytes
-all_passed bytes buffer false start end is = absurd (false≢true is)
+pub all_passed : (bytes buffer : List ℕ) (flushed : Bool) (start end : ℕ) → (flushed && (start == end)) ≡ true
+    → bytes ++ drop start (take end buffer) ≡ bytes
+all_passed bytes buffer true start end none_held =
+    let start_is_end : start ≡ end = grind (arith, nat_tests, none_held) in
+    let held_before_start : length (take end buffer) ≤ start = omega (arith, start_is_end, length-take end buffer) in
+    ap (λ held. bytes ++ held) (drop_all start (take end buffer) held_before_start) ∙ append-nil bytes
+all_passed bytes buffer false start end impossible = absurd (false≢true impossible)
 
--- the other sink is flushed then
-pub flushed_too : (flushed none : Bool) → (flushed && none) ≡ true → flushed ≡ true
-flushed_too true none is = refl
-flushed_too false none is = absurd (false≢true is)
+-- if the other sink is flushed and no byte is held, the other sink is flushed
+pub flushed_too : (flushed none_held : Bool) → (flushed && none_held) ≡ true → flushed ≡ true
+flushed_too true none_held both_hold = refl
+flushed_too false none_held impossible = absurd (false≢true impossible)

@@ -1,6 +1,7 @@
--- This file proves lemmas about the lines of a script that are read one by one, up to its end.
+-- The lines of a script that are read one by one, up to its end: the end of the input, or a separator.
 use Rattle.std.proofs.Common.{◌≡◌, ℕ, ◌+◌, ◌≤◌, Bool, true, false, not, ◌||◌, List, [], ◌∷◌, ◌++◌, length, take, inl, inr}
 use Rattle.std.proofs.Common.{IsTrue, None, refl, sym, ◌∙◌, ap, subst, lit≤, append-nil, add-one}
+use Rattle.std.proofs.Math.Bool.{or-true}
 use Rattle.std.proofs.lemmas.List.{length-append}
 use Rattle.std.proofs.lemmas.List.Folds.{list_any-append}
 use Rattle.std.specs.List.{list_all, list_any, take_while}
@@ -26,7 +27,7 @@ use Rattle.rv_streams.proofs.TakeWhileLemmas.{take_while-all, take_while-stop, t
 -- the significant bytes of a line have the same word as the line
 pub line_word-take : (line : List ℕ) → line_word (take significant_bytes line) ≡ line_word line
 unfolding line_word
-line_word-take line = if_good-take (λ l. only_word (words_of l)) None line
+line_word-take line = if_good-take (λ good_line. only_word (words_of good_line)) None line
 
 -- the shown bytes of a line determine whether it ends the script
 pub ends_script-shown : (end : ScriptEnd) (left rest : List ℕ) (ends : Bool) (shown : List ℕ) → (takes : TakesLine left rest ends shown)
@@ -35,130 +36,131 @@ ends_script-shown Input left rest ends shown takes = refl
 ends_script-shown Separator left rest ends shown takes = ap is_dashes (sym (line_word-take takes.line) ∙ ap line_word (sym takes.prefix))
 
 -- each line is a line of a script that ends with the input
-all_within : (lines : List (List ℕ)) → list_all (is_script_line Input) lines ≡ true
-all_within [] = refl
-all_within (line ∷ lines) = all_within lines
+all_are_script_lines : (lines : List (List ℕ)) → list_all (is_script_line Input) lines ≡ true
+all_are_script_lines [] = refl
+all_are_script_lines (line ∷ lines) = all_are_script_lines lines
 
 -- the lines of the script are the lines before its end
 script_lines-is : (end : ScriptEnd) (lines : List (List ℕ)) → script_lines end lines ≡ take_while (is_script_line end) lines
-script_lines-is Input lines = sym (take_while-all (is_script_line Input) lines (all_within lines))
+script_lines-is Input lines = sym (take_while-all (is_script_line Input) lines (all_are_script_lines lines))
 script_lines-is Separator lines = refl
 
--- lines of the script alone are all of the script
+-- if no line ends the script, all lines are lines of the script
 pub script_lines-all : (end : ScriptEnd) (lines : List (List ℕ)) → list_all (is_script_line end) lines ≡ true → script_lines end lines ≡ lines
 script_lines-all end lines inside = script_lines-is end lines ∙ take_while-all (is_script_line end) lines inside
 
 -- the lines of the script are the lines before the line that ends it
 script_lines-stop : (end : ScriptEnd) (lines others : List (List ℕ)) (line : List ℕ) → list_all (is_script_line end) lines ≡ true
     → ends_script end line ≡ true → script_lines end (lines ++ line ∷ others) ≡ lines
-script_lines-stop end lines others line inside ends_script_is = script_lines-is end (lines ++ line ∷ others)
-    ∙ take_while-stop (is_script_line end) lines line others inside (ap not ends_script_is)
+script_lines-stop end lines others line inside line_ends = script_lines-is end (lines ++ line ∷ others)
+    ∙ take_while-stop (is_script_line end) lines line others inside (ap not line_ends)
 
--- the lines of a script in a prefix of lines are a prefix of the script's lines in all
+-- the lines of the script among xs are a prefix of the lines of the script among xs and ys
 pub script_lines-prefix : (end : ScriptEnd) (xs ys : List (List ℕ))
     → (others : List (List ℕ)) × (script_lines end (xs ++ ys) ≡ script_lines end xs ++ others)
 script_lines-prefix Input xs ys = (ys, refl)
 script_lines-prefix Separator xs ys = take_while-prefix (is_script_line Separator) xs ys
 
--- an or with true is true
-or_true : (b : Bool) → (b || true) ≡ true
-or_true true = refl
-or_true false = refl
-
 -- the input has a separator if one of its lines is a separator
-has_separator-there : (lines others : List (List ℕ)) (line unread : List ℕ) → lines_of unread ≡ lines ++ line ∷ others → is_separator line ≡ true
+has_separator-at : (lines others : List (List ℕ)) (line unread : List ℕ) → lines_of unread ≡ lines ++ line ∷ others → is_separator line ≡ true
     → IsTrue (has_separator unread)
-has_separator-there lines others line unread all separator = subst IsTrue (sym (ap (list_any is_separator) all
-    ∙ (list_any-append is_separator lines (line ∷ others)
-    ∙ ap (λ b. list_any is_separator lines || (b || list_any is_separator others)) separator))) (or_true (list_any is_separator lines))
+has_separator-at lines others line unread lines_are line_separates =
+    let separates_or_later =
+    ap (λ test. list_any is_separator lines || (test || list_any is_separator others)) line_separates in
+    subst IsTrue (sym (ap (list_any is_separator) lines_are ∙ (list_any-append is_separator lines (line ∷ others) ∙ separates_or_later)))
+    (or-true (list_any is_separator lines))
 
 -- ---- a script that was read completely
 
 -- The lines `lines` are all lines of the script. At most the line that ends the script was read in addition.
 pub record ReadsScript (end : ScriptEnd) (unread left : List ℕ) (lines : List (List ℕ)) : Type 0 where
+  -- the line that ends the script, if it was read
   pub closing : List (List ℕ)
   pub is_at_end : Bool
   pub reads : ReadsLines unread left is_at_end (lines ++ closing)
   pub one : length closing ≤ 1
+  -- the lines that were read, and all unread lines, have the same lines of the script
   pub inside : script_lines end (lines ++ closing) ≡ lines
   pub all : script_lines end (lines_of unread) ≡ lines
   pub rest : left ≡ after_lines (length lines + 1) unread
 
 -- the script is complete at the end of the input
-ReadsScript-ended : (end : ScriptEnd) (unread left rest : List ℕ) (is_at_end : Bool) (lines : List (List ℕ)) → TakesScript end unread left is_at_end lines
-    → left ≡ [] → rest ≡ [] → ReadsScript end unread rest lines
-ReadsScript-ended end unread left rest is_at_end lines so_far none none_too =
-    let every : lines_of unread ≡ lines = so_far.reads.all ∙ (ap (λ t. lines ++ lines_of t) none ∙ append-nil lines) in
-    let whole = script_lines-all end lines so_far.inside in
-    let behind : after_lines (length lines + 1) unread ≡ [] = rw add-one (after_lines-more (length lines) unread)
-    ∙ ap after_line (sym so_far.reads.rest ∙ none) in record {
+ReadsScript-ended : (end : ScriptEnd) (unread left rest : List ℕ) (is_at_end : Bool) (lines : List (List ℕ))
+    → TakesScript end unread left is_at_end lines → left ≡ [] → rest ≡ [] → ReadsScript end unread rest lines
+ReadsScript-ended end unread left rest is_at_end lines so_far none_left no_rest =
+    let all_lines : lines_of unread ≡ lines =
+    so_far.reads.all ∙ (ap (λ text. lines ++ lines_of text) none_left ∙ append-nil lines) in
+    let all_inside = script_lines-all end lines so_far.inside in
+    let none_after : after_lines (length lines + 1) unread ≡ [] =
+    rw add-one (after_lines-more (length lines) unread) ∙ ap after_line (sym so_far.reads.rest ∙ none_left) in record {
       closing = [];
       is_at_end = is_at_end;
-      reads = subst (λ ls. ReadsLines unread rest is_at_end ls) (sym (append-nil lines)) (subst (λ t. ReadsLines unread t is_at_end lines) (none
-          ∙ sym none_too) so_far.reads);
+      reads = subst (λ lines. ReadsLines unread rest is_at_end lines) (sym (append-nil lines))
+          (subst (λ text. ReadsLines unread text is_at_end lines) (none_left ∙ sym no_rest) so_far.reads);
       one = lit≤ tt;
-      inside = ap (script_lines end) (append-nil lines) ∙ whole;
-      all = ap (script_lines end) every ∙ whole;
-      rest = none_too ∙ sym behind;
+      inside = ap (script_lines end) (append-nil lines) ∙ all_inside;
+      all = ap (script_lines end) all_lines ∙ all_inside;
+      rest = no_rest ∙ sym none_after;
     }
 
--- the text has the lines that were read, the next line, and the lines of the rest
-lines_with : (unread left rest : List ℕ) (is_at_end ends : Bool) (shown : List ℕ) (lines : List (List ℕ)) → ReadsLines unread left is_at_end lines
-    → (takes : TakesLine left rest ends shown)
+-- the unread text has the lines that were read, the next line, and the lines of the rest
+pub lines_of-taken : (unread left rest : List ℕ) (is_at_end ends : Bool) (shown : List ℕ) (lines : List (List ℕ))
+    → ReadsLines unread left is_at_end lines → (takes : TakesLine left rest ends shown)
     → lines_of unread ≡ lines ++ takes.line ∷ lines_of rest
-lines_with unread left rest is_at_end ends shown lines reads takes = reads.all ∙ ap (λ t. lines ++ t) takes.lines
+lines_of-taken unread left rest is_at_end ends shown lines reads takes = reads.all ∙ ap (λ others. lines ++ others) takes.lines
 
 -- the script is complete after a line that ends it
 ReadsScript-through : (end : ScriptEnd) (unread left rest : List ℕ) (ends : Bool) (shown : List ℕ) (lines : List (List ℕ))
     → TakesScript end unread left false lines → TakesLine left rest ends shown → ends_script end shown ≡ true
     → ReadsScript end unread rest lines
-ReadsScript-through end unread left rest ends shown lines so_far takes ends_script_is =
-    let last = ends_script-shown end left rest ends shown takes ∙ ends_script_is in
+ReadsScript-through end unread left rest ends shown lines so_far takes shown_ends =
+    let line_ends = ends_script-shown end left rest ends shown takes ∙ shown_ends in
     let reads = ReadsLines-more unread left rest ends shown lines so_far.reads takes in record {
       closing = takes.line ∷ [];
       is_at_end = ends;
       reads = reads;
       one = lit≤ tt;
-      inside = script_lines-stop end lines [] takes.line so_far.inside last;
-      all = ap (script_lines end) (lines_with unread left rest false ends shown lines so_far.reads takes)
-          ∙ script_lines-stop end lines (lines_of rest) takes.line so_far.inside last;
+      inside = script_lines-stop end lines [] takes.line so_far.inside line_ends;
+      all = ap (script_lines end) (lines_of-taken unread left rest false ends shown lines so_far.reads takes)
+          ∙ script_lines-stop end lines (lines_of rest) takes.line so_far.inside line_ends;
       rest = reads.rest ∙ ap (λ n. after_lines n unread) (length-append lines (takes.line ∷ []));
     }
 
 -- ---- a source, read through the end of a script
 
+-- The script begins in the lines `old`. Its end is found by the call that leads from `mid` to `new`.
 module _ {S : Type 0} {g : Ghosts S} (old mid new : Lines S g) where
   -- if no line of the script is left, the lines taken are all of its lines
-  pub FindsEnd-whole : (end : ScriptEnd) (lines : List (List ℕ)) → FindsEnd end mid new → TakesScript end (unread old) (unread mid) mid.is_at_end lines
-      → g.follows_input new.source → ReadsScript end (unread old) (unread new) lines
+  pub FindsEnd-whole : (end : ScriptEnd) (lines : List (List ℕ)) → FindsEnd end mid new
+      → TakesScript end (unread old) (unread mid) mid.is_at_end lines → g.follows_input new.source → ReadsScript end (unread old) (unread new) lines
   FindsEnd-whole end lines (inl at_end) so_far follows =
       ReadsScript-ended end (unread old) (unread mid) (unread new) mid.is_at_end lines so_far (at_end.none follows) (at_end.left follows)
   FindsEnd-whole end lines (inr reads) so_far follows =
       ReadsScript-through end (unread old) (unread mid) (unread new) new.is_at_end reads.shown lines
-      (subst (λ b. TakesScript end (unread old) (unread mid) b lines) reads.going so_far) (reads.takes follows) reads.ends
+      (subst (λ is_at_end. TakesScript end (unread old) (unread mid) is_at_end lines) reads.going so_far) (reads.takes follows) reads.ends
 
-  -- the input has a separator if a line ended the script
-  ends-there : (lines : List (List ℕ)) → ReadsScriptEnd Separator mid new → TakesScript Separator (unread old) (unread mid) mid.is_at_end lines
-      → g.follows_input new.source → IsTrue (has_separator (unread old))
-  ends-there lines reads so_far follows =
+  -- if a line ended the script at a separator, the input has a separator
+  has_separator-if_ended : (lines : List (List ℕ)) → ReadsScriptEnd Separator mid new
+      → TakesScript Separator (unread old) (unread mid) mid.is_at_end lines → g.follows_input new.source → IsTrue (has_separator (unread old))
+  has_separator-if_ended lines reads so_far follows =
       let takes = reads.takes follows in
-      has_separator-there lines (lines_of (unread new)) takes.line (unread old)
-      (lines_with (unread old) (unread mid) (unread new) mid.is_at_end new.is_at_end reads.shown lines so_far.reads takes)
+      has_separator-at lines (lines_of (unread new)) takes.line (unread old)
+      (lines_of-taken (unread old) (unread mid) (unread new) mid.is_at_end new.is_at_end reads.shown lines so_far.reads takes)
       (ends_script-shown Separator (unread mid) (unread new) new.is_at_end reads.shown takes ∙ reads.ends)
 
   -- after the separator, the bytes that follow it are left
   pub FindsEnd-separator : SourceWorked g old.source new.source → held new ≡ [] → FindsEnd Separator mid new
       → (g.follows_input new.source → (lines : List (List ℕ)) × TakesScript Separator (unread old) (unread mid) mid.is_at_end lines)
       → ReadsThroughSeparator old new
-  FindsEnd-separator source emptied found taken = record {
-    source = source;
-    emptied = emptied;
+  FindsEnd-separator source_worked none_held found_end lines_taken = record {
+    source = source_worked;
+    emptied = none_held;
     rest = λ follows.
-        let (lines, so_far) = taken follows in
-        let whole = FindsEnd-whole Separator lines found so_far follows in
-        whole.rest ∙ ap (λ ls. after_lines (length ls + 1) (unread old)) (sym whole.all);
-    ended = elim found [
+        let (lines, so_far) = lines_taken follows in
+        let whole = FindsEnd-whole Separator lines found_end so_far follows in
+        whole.rest ∙ ap (λ lines. after_lines (length lines + 1) (unread old)) (sym whole.all);
+    ended = elim found_end [
       | inl at_end ↦ inl at_end.at_end
-      | inr reads ↦ inr (λ follows. let (lines, so_far) = taken follows in ends-there lines reads so_far follows)
+      | inr reads ↦ inr (λ follows. let (lines, so_far) = lines_taken follows in has_separator-if_ended lines reads so_far follows)
     ];
   }

@@ -14,7 +14,7 @@ use Rattle.rv_streams.specs.Device.{HasRisen}
 use Rattle.rv_streams.specs.Faults.{Outcome}
 use Rattle.rv_streams.specs.Transfer.{ReadsAtMost, ReadsMoreThan, WritesPrefix}
 
--- the meaning of each result of appending a part to a text
+-- the meaning of each result of appending a part to a text, which may have at most 4 MiB (4194304 bytes)
 abbrev pub AddsPart : List ℕ → List ℕ → List ℕ → Outcome → Type 0
 AddsPart part old new (Ok _) = (new ≡ old ++ part) × (length new ≤ 4194304)
 AddsPart part old new (Err TooLong) = (4194304 < length old + length part) × (new ≡ old)
@@ -22,7 +22,7 @@ AddsPart part old new (Err NoMemory) = (0 < length part) × (length old + length
 AddsPart part old new (Err _) = ⊥
 
 module _ {S : Type 0} (g : SourceGhosts S) where
-  -- The whole text was read, until the source returned its end.
+  -- The whole text of at most 4 MiB was read, until the source returned its end.
   pub record ReadsWholeText (old new : S) : Type 0 where
     pub same : g.input new ≡ g.input old
     pub source : SourceWorked g old new
@@ -30,14 +30,14 @@ module _ {S : Type 0} (g : SourceGhosts S) where
     pub few : g.follows_input new → length (g.remaining old) ≤ 4194304
     pub used_up : g.follows_input new → g.remaining new ≡ []
 
-  -- The source failed before it returned its end.
+  -- The source failed before it returned its end, after at most 4 MiB were read.
   pub record FailsInText (old new : S) : Type 0 where
     pub same : g.input new ≡ g.input old
     pub source : SourceFailed g old new
     pub going : g.ends new ≡ g.ends old
     pub reads : g.follows_input new → ReadsAtMost 4194304 (g.remaining old) (g.remaining new)
 
-  -- The text is too long, and this was found before the source returned its end.
+  -- More than 4 MiB were read before the source returned its end, so the text is too long.
   pub record FindsTooMuch (old new : S) : Type 0 where
     pub same : g.input new ≡ g.input old
     pub source : SourceWorked g old new

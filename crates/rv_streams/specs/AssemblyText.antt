@@ -15,7 +15,7 @@ word_line word = hex2 (byte_of word 0) ++ hex2 (byte_of word 1) ++ hex2 (byte_of
 abbrev pub asm_text : List ℕ → List ℕ
 asm_text words = flat_map word_line words
 
--- the lines of the words of a text, or its error; `TooLong` has precedence over any error of a line
+-- the lines of the words of a text, or its error; `TooLong`, for more than 4 MiB (4194304 bytes), has precedence over any error of a line
 unfoldable pub asm_output : List ℕ → Result (List ℕ) BenchFault
 asm_output text =
     if nat_lt 4194304 (length text) then Err TooLong

@@ -32,8 +32,8 @@ is_image_line line = is_some (line_bytes line)
 abbrev pub bytes_of_lines : List (List ℕ) → List ℕ
 bytes_of_lines lines = flat_map (λ line. unwrap_or (line_bytes line) []) lines
 
--- The image of lines. The result is `TooLong` if there are too many bytes before the first line with an error. Otherwise it is `Hex` if there is
--- a line with an error, and all bytes if there is none.
+-- The image of lines. The result is `TooLong` if there are more than 32 MiB (33554432 bytes) before the first line with an error. Otherwise it is
+-- `Hex` if there is a line with an error, and all bytes if there is none.
 abbrev pub image_of : List (List ℕ) → Result (List ℕ) BenchFault
 image_of lines =
     if nat_lt 33554432 (length (bytes_of_lines (take_while is_image_line lines))) then Err TooLong
@@ -73,7 +73,7 @@ pub record StopsAtFault (unread left : List ℕ) (fault : BenchFault) : Type 0 w
   pub image : image_of sound ≡ Ok (bytes_of_lines sound)
   pub fails : image_of (sound ++ line ∷ []) ≡ Err fault
 
--- the meaning of each result of appending the bytes of a word to an image
+-- the meaning of each result of appending the bytes of a word to an image, which may have at most 32 MiB (33554432 bytes)
 abbrev pub AddsBytes : List ℕ → List ℕ → List ℕ → Result (Unit {0}) BenchFault → Type 0
 AddsBytes word old new (Ok _) = IsSomeAnd (bytes_of_digits word) (λ bytes. new ≡ old ++ bytes)
 AddsBytes word old new (Err Hex) = (bytes_of_digits word ≡ None) × (new ≡ old)

@@ -29,7 +29,7 @@ module _ {S : Type 0} {g : Ghosts S} where
     pub emptied : held new ≡ []
     pub reads : g.follows_input new.source → ReadsPrefixOfImage (unread old) (unread new)
 
-  -- the meaning of each result of `read_image`
+  -- the meaning of each result of `read_image`; an image has at most 32 MiB (33554432 bytes)
   abbrev pub ReadsImage : {Z : Type 0} → Lines S g → Lines S g → Result (Vec ℕ Z) BenchFault → Type 0
   ReadsImage old new (Ok image) =
       ReadsThroughSeparator old new × (vec_len image ≤ 33554432) × (g.follows_input new.source → image_in (unread old) ≡ Ok image.items)

@@ -33,7 +33,8 @@ module _ {S : Type 0} {g : Ghosts S} where
 
   -- A call that reads the next line, of any text or of a script: it returns a line or none, or the source fails.
   pub record ReadsLine {L E : Type 0} (old new : Lines S g) (result : Result (Option L) E) (items : L → List ℕ) : Type 0 where
-    pub line : g.follows_input new.source → IfOk result (λ found. IfSome found (λ line. TakesLine (unread old) (unread new) new.is_at_end (items line)))
+    pub line : g.follows_input new.source
+        → IfOk result (λ found. IfSome found (λ line. TakesLine (unread old) (unread new) new.is_at_end (items line)))
     pub going : IfOk result (λ found. OnSome found (old.is_at_end ≡ false))
     pub end : EndsWithSource old new
     pub failures : g.failures new.source ≡ counted_if (is_err result) (g.failures old.source)

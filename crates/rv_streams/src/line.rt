@@ -20,8 +20,10 @@ pub(crate) const KEPT_BYTES: usize = SIGNIFICANT_BYTES + 1;
 /// The maximal number of bytes of a line that are read at once.
 const PART_LEN: usize = 128;
 
+/// The byte that ends a line.
 const LINE_FEED: u8 = b'\n';
 
+/// The byte that a line may have before its line feed.
 const CARRIAGE_RETURN: u8 = b'\r';
 
 /// A line, or a prefix of it.

@@ -2,6 +2,6 @@
 use Rattle.std.proofs.Common.{[], refl, sym, append-nil}
 use Rattle.rv_streams.proofs.gathered.make_room.Goals as goal
 
--- `make_room` meets clause `prefix` of its contract if nothing is written
+-- if there is room, nothing is written, which is a prefix of the gathered bytes (clause `prefix`)
 pub returns-else-remaining_capacity-room-clause-prefix : goal.returns-else-remaining_capacity-room-clause-prefix
 returns-else-remaining_capacity-room-clause-prefix g c = (c.args.gathered.now.items, ([], sym (append-nil _), refl))

@@ -3,7 +3,7 @@ use Rattle.std.proofs.Common.{rules}
 use Rattle.rv_streams.proofs.HeldLemmas.{passed_more, unflushed}
 use Rattle.rv_streams.proofs.held.pass.Goals as goal
 
--- an iteration of the loop over `at` preserves the invariant
+-- an iteration of the loop over `at` preserves the invariant: it passes on some of the bytes that are left
 pub loop-at-preserved : goal.loop-at-preserved
 loop-at-preserved g c = record {
   bound = search rules;

@@ -2,7 +2,7 @@
 use Rattle.std.proofs.Common.{◌≡◌, ◌-◌, ◌≤◌, ◌++◌, ◌==◌, ◌&&◌, drop, length}
 use Rattle.rv_streams.proofs.held.pass.Given as goal
 
--- the bytes before the index are passed on, and no call has failed
+-- the bytes before the index `at` are passed on, and no call has failed
 abbrev pub invariant-loop-at : goal.invariant-loop-at
 invariant-loop-at g l = record {
   bound : l.at ≤ length l.bytes;
@@ -13,6 +13,6 @@ invariant-loop-at g l = record {
   refusals : g.W.Sink.refusals l.sink ≡ g.W.Sink.refusals l.initial.sink;
 }
 
--- fewer bytes are left
+-- the loop ends, since fewer bytes are left after each iteration
 abbrev pub decreases-loop-at : goal.decreases-loop-at
 decreases-loop-at g l = length l.bytes - l.at

@@ -1,4 +1,4 @@
--- The crate hex decodes the same bytes as `bytes_of_digits`.
+-- This file proves obligations of `add_bytes`: the crate hex decodes the same bytes of a word as the definition `bytes_of_digits`.
 use Rattle.std.proofs.Common.{rules, ◌≡◌, ℕ, ◌+◌, ◌*◌, ◌%◌, Bool, true, false, cond, ◌&&◌, inl, inr, List, [], ◌∷◌, length}
 use Rattle.std.proofs.Common.{Option, Some, None, Result, Ok, Err, refl, sym, subst, ◌∙◌, ap, arith}
 use Rattle.std.proofs.lemmas.Grind.{common_steps}
@@ -14,7 +14,7 @@ use Rattle.rv_streams.specs.Faults.{Outcome}
 use Rattle.rv_streams.specs.Image.{AddsBytes, pair_values, bytes_of_digits}
 use Rattle.rv_streams.proofs.image.add_bytes.Goals as goal
 
--- the two definitions of the value of a digit agree
+-- the two definitions of the value of a hexadecimal digit agree
 hex_digit_value-is : (c : ℕ) → hex_digit_value c ≡ cond (is_digit c 16) (Some (digit_value c)) None
 hex_digit_value-is c = grind (arith, nat_tests)
 
@@ -26,25 +26,27 @@ byte_before (Some high) None bytes = None
 byte_before None low bytes = None
 
 -- the decoder reads two digits as a byte before the rest, and fails if one of them is no digit
-read_pair : (a b i : ℕ) (high low : Option ℕ) (rest : Result (List ℕ) FromHexError)
+read_pair : (first second index : ℕ) (high low : Option ℕ) (rest : Result (List ℕ) FromHexError)
     → result_ok
-    ((digit_or_error a i high >>= (λ h. digit_or_error b (i + 1) low >>= (λ l. Ok (h * 16 + l)))) >>= (λ byte. rest >>= (λ bytes. Ok (byte ∷ bytes))))
+    ((digit_or_error first index high >>= (λ high. digit_or_error second (index + 1) low >>= (λ low. Ok (high * 16 + low))))
+    >>= (λ byte. rest >>= (λ bytes. Ok (byte ∷ bytes))))
     ≡ byte_before high low (result_ok rest)
 unfolding byte_before
-read_pair a b i (Some high) (Some low) (Ok bytes) = refl
-read_pair a b i (Some high) (Some low) (Err e) = refl
-read_pair a b i (Some high) None rest = refl
-read_pair a b i None low rest = refl
+read_pair first second index (Some high) (Some low) (Ok bytes) = refl
+read_pair first second index (Some high) (Some low) (Err e) = refl
+read_pair first second index (Some high) None rest = refl
+read_pair first second index None low rest = refl
 
--- two digits (p, q) before other bytes (all) give the byte of both digits and the other bytes, if all tests are true
-byte_before-tests : (p q all : Bool) (high low : ℕ) (bytes : List ℕ)
-    → byte_before (cond p (Some high) None) (cond q (Some low) None) (cond all (Some bytes) None) ≡ cond (p && (q && all))
-    (Some ((16 * high + low) ∷ bytes)) None
+-- two digits before other bytes give the byte of both digits and the other bytes, if the tests of both digits and of the other bytes are true
+byte_before-tests : (is_high is_low are_others : Bool) (high low : ℕ) (bytes : List ℕ)
+    → byte_before (cond is_high (Some high) None) (cond is_low (Some low) None) (cond are_others (Some bytes) None)
+    ≡ cond (is_high && (is_low && are_others)) (Some ((16 * high + low) ∷ bytes)) None
 unfolding byte_before
-byte_before-tests true true true high low bytes = let same : high * 16 + low ≡ 16 * high + low = omega arith in ap (λ n. Some (n ∷ bytes)) same
+byte_before-tests true true true high low bytes =
+    let same_byte : high * 16 + low ≡ 16 * high + low = omega arith in ap (λ n. Some (n ∷ bytes)) same_byte
 byte_before-tests true true false high low bytes = refl
-byte_before-tests true false all high low bytes = refl
-byte_before-tests false q all high low bytes = refl
+byte_before-tests true false are_others high low bytes = refl
+byte_before-tests false is_low are_others high low bytes = refl
 
 -- the decoder of pairs gives the bytes of a word of even length if all its bytes are hexadecimal digits
 decode_pairs-is : (i : ℕ) (word : List ℕ) → length word % 2 ≡ 0
@@ -53,43 +55,47 @@ unfolding decode_pairs
 decode_pairs-is i [] even = refl
 decode_pairs-is i (a ∷ []) even = absurd (omega arith)
 decode_pairs-is i (a ∷ b ∷ rest) even =
-    let all = list_all (λ c. is_digit c 16) rest in
-    let more : result_ok (decode_pairs (i + 2) rest) ≡ cond all (Some (pair_values rest)) None = decode_pairs-is (i + 2) rest (omega arith) in
+    let are_digits = list_all (λ c. is_digit c 16) rest in
+    let decoded = result_ok (decode_pairs (i + 2) rest) in
+    let high = cond (is_digit a 16) (Some (digit_value a)) None in
+    let low = cond (is_digit b 16) (Some (digit_value b)) None in
+    let decoded_is : decoded ≡ cond are_digits (Some (pair_values rest)) None = decode_pairs-is (i + 2) rest (omega arith) in
     read_pair a b i (hex_digit_value a) (hex_digit_value b) (decode_pairs (i + 2) rest)
-    ∙ (ap (λ o. byte_before o (hex_digit_value b) (result_ok (decode_pairs (i + 2) rest))) (hex_digit_value-is a)
-    ∙ (ap (λ o. byte_before (cond (is_digit a 16) (Some (digit_value a)) None) o (result_ok (decode_pairs (i + 2) rest))) (hex_digit_value-is b)
-    ∙ (ap (λ o. byte_before (cond (is_digit a 16) (Some (digit_value a)) None) (cond (is_digit b 16) (Some (digit_value b)) None) o) more
-    ∙ byte_before-tests (is_digit a 16) (is_digit b 16) all (digit_value a) (digit_value b) (pair_values rest))))
+    ∙ (ap (λ high. byte_before high (hex_digit_value b) decoded) (hex_digit_value-is a)
+    ∙ (ap (λ low. byte_before high low decoded) (hex_digit_value-is b)
+    ∙ (ap (λ bytes. byte_before high low bytes) decoded_is
+    ∙ byte_before-tests (is_digit a 16) (is_digit b 16) are_digits (digit_value a) (digit_value b) (pair_values rest))))
 
--- the crate hex decodes a word to the bytes of its digits
+-- the crate hex decodes a word to the bytes of its digits, or to an error if its length is odd or a byte is no digit
 pub bytes_of_digits-decoded : (word : List ℕ) → bytes_of_digits word ≡ result_ok (decode_of word)
 unfolding bytes_of_digits
 bytes_of_digits-decoded word =
     elim (cases_eq (length word % 2) 1) [
       | inl odd ↦ rw (odd) refl
-      | inr other ↦
+      | inr not_odd ↦
           let even : length word % 2 ≡ 0 = omega arith in
           rw (even) (sym (decode_pairs-is 0 word even))
     ]
 
--- `add_bytes` meets clause `outcome` of its contract (`AddsBytes`) if `is_err` is true
+-- if the word is not decoded, the result is `Hex`, and the image is unchanged (clause `outcome`)
 pub returns-then-is_err-clause-outcome : goal.returns-then-is_err-clause-outcome
 returns-then-is_err-clause-outcome c = (rw (bytes_of_digits-decoded c.args.word.now) (search rules), refl)
 
--- `add_bytes` meets clause `outcome` of its contract (`AddsBytes`) if `len-count > IMAGE_MAX` is true
+-- if the image would be too long, the result is `TooLong`, and the image is unchanged (clause `outcome`)
 pub returns-then-len-count-gt-IMAGE_MAX-clause-outcome : goal.returns-then-len-count-gt-IMAGE_MAX-clause-outcome
 returns-then-len-count-gt-IMAGE_MAX-clause-outcome c = (rw (bytes_of_digits-decoded c.args.word.now) (search rules), refl)
 
--- `add_bytes` meets clause `outcome` of its contract (`AddsBytes`)
+-- otherwise the bytes are appended, or memory for them is refused and the image is unchanged (clause `outcome`)
 pub returns-clause-outcome : goal.returns-clause-outcome
 returns-clause-outcome c = by_result c.add_behind.result refl where
   -- the contract holds for each result of `add_behind`: success, or an error
-  by_result : (r : Outcome) → c.add_behind.result ≡ r → AddsBytes c.args.word.now c.args.image.now.items c.add_behind.new.bytes.items r
+  by_result : (result : Outcome) → c.add_behind.result ≡ result
+      → AddsBytes c.args.word.now c.args.image.now.items c.add_behind.new.bytes.items result
   by_result (Ok done) result_is =
       let items = rw result_is at c.add_behind.ensures.items in rw (bytes_of_digits-decoded c.args.word.now) (grind (arith, common_steps))
   by_result (Err fault) result_is =
       let items = rw result_is at c.add_behind.ensures.items in
       let full = rw result_is at c.add_behind.ensures.full in
-      let memory : fault ≡ NoMemory = rw result_is at c.add_behind.ensures.fault in
-      subst (λ f. AddsBytes c.args.word.now c.args.image.now.items c.add_behind.new.bytes.items (Err f)) (sym memory)
+      let is_no_memory : fault ≡ NoMemory = rw result_is at c.add_behind.ensures.fault in
+      subst (λ fault. AddsBytes c.args.word.now c.args.image.now.items c.add_behind.new.bytes.items (Err fault)) (sym is_no_memory)
       (rw (bytes_of_digits-decoded c.args.word.now) (grind (arith, common_steps)), items)

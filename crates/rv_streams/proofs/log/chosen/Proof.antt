@@ -1,4 +1,5 @@
--- A log takes no memory and owns nothing, so its ghost fields may have any values.
+-- `chosen` returns a log of calls: a value without run-time fields, whose ghost fields are chosen by its ghost argument. A log takes no memory and
+-- owns nothing, so its ghost fields may have any values. The proof is in the program logic of the prover, since no contract could state this.
 use mathlib.Core.Path.{refl, sym, subst}
 use Prim.Native.Nat.{ℕ}
 use mathlib.Core.List.{List, [], ◌∷◌, ◌++◌}
@@ -39,61 +40,80 @@ use Rattle.rv_streams.proofs.log.chosen.Statement as stated
 use Rattle.rv_streams.proofs.log.chosen.Code as code
 
 module _ (Y : RattleType) where
+  -- the type of what the log is about, which is a type parameter
   abbrev R : RattleType
   R = param 0 Y
 
+  -- the code of `chosen` for this type
   abbrev function : Fn
   function = inst_fn (layouts (a_type ∷ []) (Y, tt)) code.function
 
+  -- the argument is a reference, which is dropped at the end
   abbrev stayed : Stays (ended Y).signature.params (ended Y).kept
   stayed = (stay_dropped (RefOf (0 ∷ []) tt (plain (λ _. R)) (λ _. tt)) yes, tt)
 
 module _ (Y : RattleType) (L : Laws Y) {M : Type 1} {𝓤 : Ura M} (𝓛 : Logic 𝓤) (at_mem : Memory → SProp 𝓤) (run : Routine → Fun 𝓤) where
   open 𝓛 use {H}
 
+  -- the clauses of the contract of `chosen`
   abbrev held : Clauses 𝓤 (ended Y)
   held = clauses Y 𝓛 at_mem run
 
   module _ (C : Calls 𝓤 H) (Λ : Loops 𝓤 H) (z : (walk_of 𝓛 (ended Y) (stayed Y) held).Ghost) where
+    -- the ghost state in which the arguments have these values
     abbrev At : List Val → (walk_of 𝓛 (ended Y) (stayed Y) held).Ghost
     At us = ((z.0.0, z.0.1, z.0.2, z.0.3, (us, tt)), z.1)
 
+    -- the postcondition for these arguments
     abbrev Post : List Val → Val → SProp 𝓤
     Post us = (walk_of 𝓛 (ended Y) (stayed Y) held).post (At us)
 
+    -- from the precondition, the code leads to the postcondition
     abbrev Goes : List Val → Type 1
     Goes us = ent 𝓤 ((walk_of 𝓛 (ended Y) (stayed Y) held).pre (At us)) (WpFn 𝓤 H C Λ (function Y) (us ++ []) (Post us))
 
-    abbrev b : ℕ
-    b = z.0.3.0.ref_ptr.0
+    -- the argument is a pointer to this block, at this offset
+    abbrev block : ℕ
+    block = z.0.3.0.ref_ptr.0
 
-    abbrev o : ℕ
-    o = z.0.3.0.ref_ptr.1
+    abbrev offset : ℕ
+    offset = z.0.3.0.ref_ptr.1
 
+    -- the lifetimes of the call are alive
     abbrev toks : SProp 𝓤
     toks = alive 𝓛 (ended Y).signature z.0.0 z.0.1
 
+    -- the caller passes the ownership of the argument
     abbrev passed : Fml
-    passed = owns (types_at (ended Y).signature.params z.0.0) z.0.3 (vptr b o ∷ [], tt)
+    passed = owns (types_at (ended Y).signature.params z.0.0) z.0.3 (vptr block offset ∷ [], tt)
 
-    walks : Goes (vptr b o ∷ [])
+    -- the code returns a structure of no run-time fields: execution step by step, with the rules of the logic
+    walks : Goes (vptr block offset ∷ [])
     walks =
-        let v : Val = vstruct (vcons (vstruct vnil) vnil) in let r : denote.Triple.Entry.Res (ended Y).signature z.0.0 = z.1 in
+        let v : Val = vstruct (vcons (vstruct vnil) vnil) in
+        let r : denote.Triple.Entry.Res (ended Y).signature z.0.0 = z.1 in
         let O : Fml = (type_at (ended Y).signature.result z.0.0).own_val r (v ∷ []) in
         qed 𝓛 ((raw toks ⊛ ‵ passed) ∷ raw ((held z.0.0 z.0.3).requires z.1) ∷ []) ∵ split ! $ keep ! (0 ∷ []) $
-        enter ! C Λ (function Y) (vptr b o ∷ []) _ $ alloc_all ! (λ l. pass_all ! refl ((tt, tt), tt) $
+        enter ! C Λ (function Y) (vptr block offset ∷ []) _ $ alloc_all ! (λ l. pass_all ! refl ((tt, tt), tt) $
         sets ! (agg ! (no_more !)) refl (tt, tt) $ sets ! (agg ! (and_then ! (get ! refl) (no_more !))) refl (tt, (tt, tt)) $
         returns ! (look_at ! 0 refl) $ free_all ! refl $
-        use0 𝓛 (‵ O) (makes_shadow 𝓛 O ((λ vss. (tt, ((λ uss. (tt, tt)), tt))), tt) (((vstruct vnil ∷ [], tt), (refl, ((tt, (refl, tt)), tt))), tt)) $
-        suffices ! _ (ends_at 𝓛 (ended Y) (stayed Y) held (At (vptr b o ∷ [])) v r (tt, tt) (tt, tt)) $ says ! refl $
+        use0 𝓛 (‵ O)
+        (makes_shadow 𝓛 O ((λ vss. (tt, ((λ uss. (tt, tt)), tt))), tt) (((vstruct vnil ∷ [], tt), (refl, ((tt, (refl, tt)), tt))), tt)) $
+        suffices ! _ (ends_at 𝓛 (ended Y) (stayed Y) held (At (vptr block offset ∷ [])) v r (tt, tt) (tt, tt)) $ says ! refl $
         nothing ! $ nothing ! $ fjoin ! $ join ! $ move ! (1 ∷ 0 ∷ []) $ join ! $ done !)
 
+  -- the code meets the contract: the argument has the values that the caller owns, and `walks` applies to them
   meets : (𝓣 : Tables 𝓤 H) → Meets 𝓛 (ended Y).signature (WpFn 𝓤 H 𝓣.C 𝓣.Λ (function Y)) (closing 𝓛 (ended Y) held)
   meets 𝓣 =
       walk_Meets 𝓛 (ended Y) (stayed Y) (Goes-dropped 𝓛 2 (RefOf (0 ∷ []) tt (plain (λ _. R Y)) (λ _. tt)) yes (λ κs x f. refl), tt) held
       (WpFn 𝓤 H 𝓣.C 𝓣.Λ (function Y)) (WpFn-mono 𝓤 H 𝓛.laws 𝓣 (function Y))
       (λ z. let a = z.0.3 in let vss = z.0.4 in let Rs : List RattleType = types_at (ended Y).signature.params z.0.0 in
-      fact_use 𝓤 (Are Rs (Ises Rs) a vss) (via 𝓤 (sem 𝓛 (owns Rs a vss)) (via 𝓤 (on_entry 𝓛 (ended Y).signature z.0.0 z.0.1 a vss) (fst∗ 𝓤 (on_entry 𝓛 (ended Y).signature z.0.0 z.0.1 a vss) ((held z.0.0 a).requires z.1)) (snd∗ 𝓤 (alive 𝓛 (ended Y).signature z.0.0 z.0.1) (sem 𝓛 (owns Rs a vss)))) (owns_show 𝓛 Rs (Ises Rs) (showss 𝓛 Rs) a vss)) (λ are.
+      let entry = on_entry 𝓛 (ended Y).signature z.0.0 z.0.1 a vss in
+      let owned = sem 𝓛 (owns Rs a vss) in
+      fact_use 𝓤 (Are Rs (Ises Rs) a vss)
+      (via 𝓤 owned
+      (via 𝓤 entry (fst∗ 𝓤 entry ((held z.0.0 a).requires z.1)) (snd∗ 𝓤 (alive 𝓛 (ended Y).signature z.0.0 z.0.1) owned))
+      (owns_show 𝓛 Rs (Ises Rs) (showss 𝓛 Rs) a vss)) (λ are.
       subst (Goes 𝓣.C 𝓣.Λ z) (sym are.0.0) (walks 𝓣.C 𝓣.Λ z)))
 
 -- the constructor of a log returns the log that its ghost argument chooses
@@ -102,5 +122,6 @@ unfolding tables_of
 chosen_spec 𝓤 𝓛 𝓜 𝓡 wired Y laws =
     let A = 𝓛.A in
     let 𝓣 : Tables 𝓤 𝓛.H = tables_of 𝓤 𝓛.H 𝓜 (tables 𝓤 𝓛.H 𝓜 𝓡 𝓡.env) in
-    entered 𝓤 𝓛.H (triple_of 𝓛 (ended Y).signature (closing 𝓛 (ended Y) (clauses Y 𝓛 𝓜.mem 𝓡.returns))) 𝓣.C 𝓣.Λ (#self (layouts (a_type ∷ []) (Y, tt))) (function Y) (code.unfolded 𝓤 𝓛.H 𝓜 𝓡 wired (Y, tt))
+    let contract = triple_of 𝓛 (ended Y).signature (closing 𝓛 (ended Y) (clauses Y 𝓛 𝓜.mem 𝓡.returns)) in
+    entered 𝓤 𝓛.H contract 𝓣.C 𝓣.Λ (#self (layouts (a_type ∷ []) (Y, tt))) (function Y) (code.unfolded 𝓤 𝓛.H 𝓜 𝓡 wired (Y, tt))
     (meets Y laws 𝓛 𝓜.mem 𝓡.returns 𝓣)

@@ -4,7 +4,7 @@ use Rattle.std.proofs.lemmas.Grind.{common_steps}
 use Rattle.rv_streams.proofs.Writing.{WritesUpTo-more}
 use Rattle.rv_streams.proofs.transfer.write_all.Goals as goal
 
--- an iteration of the loop over `rest` preserves the invariant
+-- an iteration of the loop over `rest` preserves the invariant: it writes some bytes of the rest
 pub loop-rest-preserved : goal.loop-rest-preserved
 loop-rest-preserved g c = record {
   failures = search rules;

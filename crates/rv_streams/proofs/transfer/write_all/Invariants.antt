@@ -12,6 +12,6 @@ invariant-loop-rest g l = record {
   written : WritesUpTo (g.W.Sink.taken l.initial.sink) (g.W.Sink.taken l.sink) l.text l.rest;
 }
 
--- the rest of the text gets shorter
+-- the loop ends, since the rest of the text gets shorter
 abbrev pub decreases-loop-rest : goal.decreases-loop-rest
 decreases-loop-rest g l = length l.rest

@@ -9,29 +9,37 @@ use Rattle.rv_streams.specs.Calls.{SourceWorked}
 use Rattle.rv_streams.proofs.Mapped.{ok_mapped, passed_on}
 use Rattle.rv_streams.proofs.whole.read_whole.Goals as goal
 
--- a part that is not appended ends the read with its fault
-refused : {S : Type 0} (Z : Type 0) (g : Ghosts S) (old new : S) (text part added : List ℕ) (fault : BenchFault)
-    → g.input new ≡ g.input old → SourceWorked g old new → g.ends new ≡ g.ends old → (g.follows_input new → g.remaining old ≡ (text ++ part) ++ g.remaining new)
+-- a part that is not appended to the text ends the read with its fault: the text is too long, or memory is refused
+part_refused : {S : Type 0} (Z : Type 0) (g : Ghosts S) (old new : S) (text part added : List ℕ) (fault : BenchFault)
+    → g.input new ≡ g.input old → SourceWorked g old new → g.ends new ≡ g.ends old
+    → (g.follows_input new → g.remaining old ≡ (text ++ part) ++ g.remaining new)
     → AddsPart part text added (Err fault) → ReadsText g {Z = Z} old new (Err fault)
-refused Z g old new text part added TooLong same source going split adds =
-    record { same = same; source = source; going = going; reads = λ follows. (text ++ part, split follows, omega (arith, adds.0, length-append text part)) }
-refused Z g old new text part added NoMemory same source going split adds = record {
-  same = same;
-  source = source;
-  going = going;
-  some = λ follows. let (some, few, unchanged) = adds in
-      omega (arith, some, ap length (split follows), length-append (text ++ part) (g.remaining new), length-append text part);
-  reads = λ follows. let (some, few, unchanged) = adds in (text ++ part, split follows, omega (arith, few, length-append text part));
+part_refused Z g old new text part added TooLong same_input source_worked same_ends bytes_are (exceeds_limit, unchanged) = record {
+  same = same_input;
+  source = source_worked;
+  going = same_ends;
+  reads = λ follows. (text ++ part, bytes_are follows, omega (arith, exceeds_limit, length-append text part));
 }
-refused Z g old new text part added _ same source going split adds = absurd adds
+part_refused Z g old new text part added NoMemory same_input source_worked same_ends bytes_are (has_bytes, within_limit, unchanged) = record {
+  same = same_input;
+  source = source_worked;
+  going = same_ends;
+  some = λ follows.
+      let all_bytes = text ++ part in
+      omega (arith, has_bytes, ap length (bytes_are follows), length-append all_bytes (g.remaining new), length-append text part);
+  reads = λ follows. (text ++ part, bytes_are follows, omega (arith, within_limit, length-append text part));
+}
+part_refused Z g old new text part added _ same_input source_worked same_ends bytes_are impossible = absurd impossible
 
--- `read_whole` meets its contract (`ReadsText`) where `?` returns the error of `add_part`
+-- if a part cannot be appended to the text, the result is the fault of `add_part`
 pub returns-in_err-add_part : goal.returns-in_err-add_part
 returns-in_err-add_part g c =
     let found = ok_mapped _ c.read_some.result c.map_err.result _ c.map_err.ensures.cases c.in_ok-count.was in
-    passed_on (ReadsText g.S.Source c.args.source.now c.read_some.new.self) c.from_residual-in_err-add_part.result _ c.from_residual-in_err-add_part.ensures.1
-    (refused Global g.S.Source c.args.source.now c.read_some.new.self c.loop-text.text.items (take c.in_ok-count.count c.read_some.new.buffer) _ _
+    let text = c.loop-text.text.items in
+    passed_on (ReadsText g.S.Source c.args.source.now c.read_some.new.self) c.from_residual-in_err-add_part.result _
+    c.from_residual-in_err-add_part.ensures.1
+    (part_refused Global g.S.Source c.args.source.now c.read_some.new.self text (take c.in_ok-count.count c.read_some.new.buffer) _ _
     (search rules) (search rules) (search rules)
     (λ follows. c.loop-text.invariant.prefix (c.read_some.ensures.before follows)
-    ∙ (ap (λ t. c.loop-text.text.items ++ t) (rw found at (c.read_some.ensures.bytes follows)) ∙ sym (append_assoc c.loop-text.text.items _ _)))
+    ∙ (ap (λ rest. text ++ rest) (rw found at (c.read_some.ensures.bytes follows)) ∙ sym (append_assoc text _ _)))
     c.in_err-add_part.ensures)

@@ -3,7 +3,7 @@ use Rattle.std.proofs.Common.{◌∙◌, sym}
 use Rattle.rv_streams.proofs.BufferedLemmas.{line_given}
 use Rattle.rv_streams.proofs.buffered.BufferedSourceSource.read_in_line.Goals as goal
 
--- `BufferedSourceSource::read_in_line` meets clause `bytes` of its contract
+-- the remaining bytes before the call are the returned bytes, followed by the remaining bytes after it (clause `bytes`)
 pub returns-clause-bytes : goal.returns-clause-bytes
 returns-clause-bytes g c = λ follows.
     sym (c.in_ok-read_ahead.ensures.bytes follows) ∙ line_given _ _ _ _ _ _ c.give-count.result _ c.through_feed-text.ensures.prefix

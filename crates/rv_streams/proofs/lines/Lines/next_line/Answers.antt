@@ -5,16 +5,16 @@ use Rattle.rv_streams.proofs.LineTextLemmas.{TakesLine-feed, TakesLine-end}
 use Rattle.rv_streams.proofs.lines.Lines.next_line.Goals as goal
 
 -- a length is positive if the test of emptiness is false
-is_some : (n : ℕ) (empty : Bool) → empty ≡ (n == 0) → empty ≡ false → 0 < n
-is_some n empty e h = grind arith
+length_positive : (n : ℕ) (is_empty : Bool) → is_empty ≡ (n == 0) → is_empty ≡ false → 0 < n
+length_positive n is_empty is_empty_test not_empty = grind arith
 
--- `Lines::next_line` meets clause `read` of its contract (`ReadsLine`) in the arm `LineFeed`
+-- the line that a line feed ends is returned, and its line feed is taken (clause `read`)
 pub returns-in-LineFeed-clause-read : goal.returns-in-LineFeed-clause-read
 returns-in-LineFeed-clause-read g c = record {
-  line = λ follows. rw c.take_prefix.ensures.rest (
-      TakesLine-feed _ _ _ _ _ (rw c.in-LineFeed.is at (c.in_ok-read_text.ensures.bytes follows))
-      (c.take_prefix.ensures.taken ∙ (rw c.as_slice.ensures.value at c.shown_len-count.ensures))
-      );
+  line = λ follows.
+      let reads = rw c.in-LineFeed.is at (c.in_ok-read_text.ensures.bytes follows) in
+      let shown_is = c.take_prefix.ensures.taken ∙ (rw c.as_slice.ensures.value at c.shown_len-count.ensures) in
+      rw c.take_prefix.ensures.rest (TakesLine-feed _ _ _ _ _ reads shown_is);
   going = search rules;
   end = search rules;
   failures = search rules;
@@ -24,14 +24,14 @@ returns-in-LineFeed-clause-read g c = record {
   falls = search rules;
 }
 
--- `Lines::next_line` meets clause `read` of its contract (`ReadsLine`) if `is_empty` is false
+-- at the end of the source, the bytes that are left are the last line (clause `read`)
 pub returns-else-is_empty-clause-read : goal.returns-else-is_empty-clause-read
 returns-else-is_empty-clause-read g c = record {
   line = λ follows.
       let end = c.in_ok-read_text.ensures.end follows (ap Ok c.in-End.is) in
       rw (c.take_prefix-in-End.ensures.rest, end) (
       TakesLine-end _ _ _ _ (rw c.in-End.is at (c.in_ok-read_text.ensures.bytes follows)) end
-      (is_some _ _ c.is_empty.ensures c.if-is_empty.false) c.take_prefix-in-End.ensures.taken
+      (length_positive _ _ c.is_empty.ensures c.if-is_empty.false) c.take_prefix-in-End.ensures.taken
       );
   going = search rules;
   end = EndsWithSource-ends _ _ c.if-self.false refl (rw c.in-End.is at c.in_ok-read_text.ensures.ends) c.read_text.ensures.same
@@ -43,7 +43,7 @@ returns-else-is_empty-clause-read g c = record {
   falls = search rules;
 }
 
--- `Lines::next_line` meets clause `read` of its contract (`ReadsLine`) if `is_empty` is true
+-- at the end of the source, no line is returned if no byte is left (clause `read`)
 pub returns-then-is_empty-clause-read : goal.returns-then-is_empty-clause-read
 returns-then-is_empty-clause-read g c = record {
   line = search rules;
