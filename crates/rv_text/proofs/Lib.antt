@@ -1,10 +1,10 @@
 -- The significant bytes of a line have the same meaning as the line
 pub mod CutLines
--- Lemmas about a test of each digit against `AllDigits`, and about the largest number with a given count of digits
+-- A number that is read digit by digit has only digits of its base, and stays below the base to the power of their count
 pub mod DigitValues
--- The first byte that passes a test, from its search
+-- A search finds the first byte that passes a test
 mod FirstBytes
--- Lemmas about hexadecimal digits that are written from the first
+-- The hexadecimal digits of a number, written one by one from the highest, and read back
 pub mod HexDigits
 -- Lemmas about the first line of a text
 pub mod LineCuts

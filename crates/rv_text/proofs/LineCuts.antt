@@ -5,61 +5,67 @@ use Rattle.std.proofs.lemmas.List.{take_all}
 use Rattle.std.specs.List.{position_or_len, before_first, after_first, prefix_len}
 use Rattle.std.proofs.lemmas.Bool.Decides.{nat_tests}
 use Rattle.std.proofs.lemmas.List.Sums.{split_at_first, passes_at_first}
+use Rattle.rv_text.specs.Characters.{carriage_return, line_feed}
 use Rattle.rv_text.specs.Lines.{has_feed, lines_of, through_last_feed, without_return}
 use Rattle.rv_text.proofs.LineLemmas.{lines_of-append, lines_of-line, lines_of-last, without_return-other, through_last_feed-append_feed}
 
--- a byte is a line feed (10)
+-- the byte is a line feed
 abbrev is_feed : ℕ → Bool
-is_feed b = b == 10
+is_feed b = b == line_feed
 
--- one more element in front of a list is taken first
+-- the first n + 1 elements of a list are its first element and the first n of the others
 take-one_more : (n x : ℕ) (xs : List ℕ) → take (1 + n) (x ∷ xs) ≡ x ∷ take n xs
-take-one_more n x xs = let one_more : 1 + n ≡ suc n = omega arith in rw one_more refl
+take-one_more n x xs = let count_is : 1 + n ≡ suc n = omega arith in rw count_is refl
 
--- the bytes before the first line feed have no line feed also with one more byte in front, where `b` states whether this byte is a line feed
-no_feed-step : (b : Bool) (n x : ℕ) (xs : List ℕ) → is_feed x ≡ b → has_feed (take n xs) ≡ false → has_feed (take (cond (not b) (1 + n) 0) (x ∷ xs)) ≡ false
-no_feed-step true n x xs test_is more = refl
-no_feed-step false n x xs test_is more =
-    ap has_feed (take-one_more n x xs) ∙ ap (λ b. b || has_feed (take n xs)) test_is ∙ more
+-- no byte before the first line feed of `x ∷ xs` is a line feed, if this holds for `xs`; `x_is_feed` states whether x is one
+no_feed-cons : (x_is_feed : Bool) (n x : ℕ) (xs : List ℕ) → is_feed x ≡ x_is_feed → has_feed (take n xs) ≡ false
+    → has_feed (take (cond (not x_is_feed) (1 + n) 0) (x ∷ xs)) ≡ false
+no_feed-cons true n x xs test_is no_feed_in_rest = refl
+no_feed-cons false n x xs test_is no_feed_in_rest =
+    ap has_feed (take-one_more n x xs) ∙ ap (λ b. b || has_feed (take n xs)) test_is ∙ no_feed_in_rest
 
--- the bytes before the first line feed have no line feed
+-- the bytes of a text before its first line feed have no line feed (by induction over the text)
 pub no_feed : (xs : List ℕ) → has_feed (before_first is_feed xs) ≡ false
 no_feed [] = refl
-no_feed (x ∷ xs) = no_feed-step (is_feed x) (prefix_len (λ y. not (is_feed y)) xs) x xs refl (no_feed xs)
+no_feed (x ∷ xs) = no_feed-cons (is_feed x) (prefix_len (λ y. not (is_feed y)) xs) x xs refl (no_feed xs)
 
--- a line feed has the code 10
-ten : (n : ℕ) → is_feed n ≡ true → n ≡ 10
-ten n feed = grind (arith, nat_tests)
+-- a byte that passes the test for a line feed has the code of the line feed
+code_of_line_feed : (n : ℕ) → is_feed n ≡ true → n ≡ line_feed
+code_of_line_feed n is_line_feed = grind (arith, nat_tests)
 
 -- a text that ends with a line feed consists of whole lines
-whole_line : (prefix : List ℕ) → through_last_feed (prefix ++ 10 ∷ []) ≡ prefix ++ 10 ∷ []
-whole_line prefix = through_last_feed-append_feed prefix (10 ∷ []) refl
+whole_line : (prefix : List ℕ) → through_last_feed (prefix ++ line_feed ∷ []) ≡ prefix ++ line_feed ∷ []
+whole_line prefix = through_last_feed-append_feed prefix (line_feed ∷ []) refl
 
--- the lines of a text with a line feed are the line before it, and the lines of the rest
-cut : (prefix rest : List ℕ) → has_feed prefix ≡ false → lines_of (prefix ++ 10 ∷ rest) ≡ without_return prefix ∷ lines_of rest
-cut prefix rest none =
-    ap lines_of (sym (append_assoc prefix (10 ∷ []) rest)) ∙ lines_of-append (prefix ++ 10 ∷ []) rest (whole_line prefix)
-    ∙ ap (λ ls. ls ++ lines_of rest) (lines_of-line prefix none)
+-- the lines of a text with a line feed are the bytes before it, without a carriage return at their end, and the lines of the rest
+lines_of-feed : (prefix rest : List ℕ) → has_feed prefix ≡ false
+    → lines_of (prefix ++ line_feed ∷ rest) ≡ without_return prefix ∷ lines_of rest
+lines_of-feed prefix rest no_feed_in_prefix =
+    ap lines_of (sym (append_assoc prefix (line_feed ∷ []) rest))
+    ∙ lines_of-append (prefix ++ line_feed ∷ []) rest (whole_line prefix)
+    ∙ ap (λ lines. lines ++ lines_of rest) (lines_of-line prefix no_feed_in_prefix)
 
--- the lines of a text with a line feed are the line before it, and the lines of the rest
+-- the lines of a text with a line feed are the bytes before the first one, without a carriage return, and the lines of the bytes after it
 pub lines-cut : (text : List ℕ) → position_or_len is_feed text < length text
     → lines_of text ≡ without_return (before_first is_feed text) ∷ lines_of (after_first is_feed text)
-lines-cut text within =
-    let feed : get_or text (position_or_len is_feed text) 0 ≡ 10 = ten _ (passes_at_first is_feed text 0 within) in
-    let parts : text ≡ before_first is_feed text ++ 10 ∷ after_first is_feed text = rw feed at (split_at_first is_feed text 0 within) in
-    ap lines_of parts ∙ cut (before_first is_feed text) (after_first is_feed text) (no_feed text)
+lines-cut text feed_in_text =
+    let feed_is : get_or text (position_or_len is_feed text) 0 ≡ line_feed =
+    code_of_line_feed _ (passes_at_first is_feed text 0 feed_in_text) in
+    let text_is : text ≡ before_first is_feed text ++ line_feed ∷ after_first is_feed text =
+    rw feed_is at (split_at_first is_feed text 0 feed_in_text) in
+    ap lines_of text_is ∙ lines_of-feed (before_first is_feed text) (after_first is_feed text) (no_feed text)
 
--- a text whose first line feed is past its end has none
+-- if the search for a line feed returns the length of the text, the text has no line feed
 pub all_taken : (text : List ℕ) → position_or_len is_feed text ≡ length text → has_feed text ≡ false
-all_taken text position_or_len_is =
-    let whole : take (length text) text ≡ text = take_all (length text) text (omega arith) in
-    sym (ap has_feed whole) ∙ rw position_or_len_is at (no_feed text)
+all_taken text no_feed_found =
+    let take_all_is : take (length text) text ≡ text = take_all (length text) text (omega arith) in
+    sym (ap has_feed take_all_is) ∙ rw no_feed_found at (no_feed text)
 
 -- a text without a line feed is one line
 pub lines-whole : (text : List ℕ) → 0 < length text → position_or_len is_feed text ≡ length text → lines_of text ≡ text ∷ []
-lines-whole [] some position_or_len_is = absurd (omega arith)
-lines-whole (x ∷ xs) some position_or_len_is = lines_of-last x xs (all_taken (x ∷ xs) position_or_len_is)
+lines-whole [] not_empty no_feed_found = absurd (omega arith)
+lines-whole (x ∷ xs) not_empty no_feed_found = lines_of-last x xs (all_taken (x ∷ xs) no_feed_found)
 
--- a line whose last byte is not a carriage return is unchanged
-pub no_return-other : (line prefix : List ℕ) (last : ℕ) → line ≡ prefix ++ last ∷ [] → last ≢ 13 → line ≡ without_return line
-no_return-other line prefix last line_is other = rw line_is (sym (without_return-other prefix last other))
+-- a line whose last byte is not a carriage return is not changed by the removal of carriage returns
+pub no_return-other : (line prefix : List ℕ) (last : ℕ) → line ≡ prefix ++ last ∷ [] → last ≢ carriage_return → line ≡ without_return line
+no_return-other line prefix last line_splits not_return = rw line_splits (sym (without_return-other prefix last not_return))

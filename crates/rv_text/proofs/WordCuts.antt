@@ -8,34 +8,39 @@ use Rattle.std.proofs.lemmas.List.Splits.{slice_split_none, slice_split_first}
 use Rattle.rv_text.specs.GoodLines.{is_blank}
 use Rattle.rv_text.specs.Words.{is_filled, words_of}
 
--- a list with a word before the others, or without it (b), is the list of this word or of none, followed by the others
-first_or_none : (b : Bool) (word : List ℕ) (words : List (List ℕ)) → cond b (word ∷ words) words ≡ cond b (word ∷ []) [] ++ words
+-- `kept` states whether a word is kept: in both cases, the kept words are that word or none, followed by the others
+first_or_none : (kept : Bool) (word : List ℕ) (words : List (List ℕ)) → cond kept (word ∷ words) words ≡ cond kept (word ∷ []) [] ++ words
 first_or_none true word words = refl
 first_or_none false word words = refl
 
 -- a text without a blank is one word, or none if it is empty
 pub words-whole : (text : List ℕ) → position_or_len is_blank text ≡ length text → words_of text ≡ filter is_filled (text ∷ [])
 unfolding words_of
-words-whole text end =
-    ap (filter is_filled) (slice_split_none is_blank text (λ k d below. fails_before_first is_blank text k d (omega (arith, end, below))))
+words-whole text no_blank_found =
+    ap (filter is_filled) (slice_split_none is_blank text
+    (λ k default is_below. fails_before_first is_blank text k default (omega (arith, no_blank_found, is_below))))
 
 -- the words of a text with a blank are the word before it, if it has a byte, and the words of the rest
 pub words-cut : (text : List ℕ) → position_or_len is_blank text < length text
     → words_of text ≡ filter is_filled (before_first is_blank text ∷ []) ++ words_of (after_first is_blank text)
 unfolding words_of
-words-cut text within =
-    ap (filter is_filled) (slice_split_first is_blank text 0 within) ∙ first_or_none (is_filled (before_first is_blank text)) _ _
+words-cut text blank_in_text =
+    ap (filter is_filled) (slice_split_first is_blank text 0 blank_in_text) ∙ first_or_none (is_filled (before_first is_blank text)) _ _
 
--- a text of length 0 is empty
-no_text : (text : List ℕ) (is : Bool) → is ≡ (length text == 0) → is ≡ true → text ≡ []
-no_text [] is test h = refl
-no_text (x ∷ xs) is test h = grind (arith, nat_tests)
+-- a text is empty if the test of its length holds
+empty_by_test : (text : List ℕ) (is_empty : Bool) → is_empty ≡ (length text == 0) → is_empty ≡ true → text ≡ []
+empty_by_test [] is_empty is_empty_is test_holds = refl
+empty_by_test (x ∷ xs) is_empty is_empty_is test_holds = grind (arith, nat_tests)
 
--- a text whose rest is empty has no word
-pub words-none : (text rest : List ℕ) (is : Bool) → words_of text ≡ words_of rest → is ≡ (length rest == 0) → is ≡ true → words_of text ≡ []
+-- a text has no word if it has the same words as its rest, and the rest is empty
+pub words-none : (text rest : List ℕ) (is_empty : Bool) → words_of text ≡ words_of rest → is_empty ≡ (length rest == 0)
+    → is_empty ≡ true → words_of text ≡ []
 unfolding words_of
-words-none text rest is every test h = every ∙ ap words_of (no_text rest is test h)
+words-none text rest is_empty same_words is_empty_is test_holds =
+    same_words ∙ ap words_of (empty_by_test rest is_empty is_empty_is test_holds)
 
--- the first n words of a list are the words before the others
-pub words-full : (n : ℕ) (words more all : List (List ℕ)) → all ≡ words ++ more → length words ≡ n → words ≡ take n all
-words-full n words more all every len = rw every (sym (take-append-le n words more (omega (arith, len)) ∙ take_all n words (omega (arith, len))))
+-- if a list begins with n words, these are its first n words
+pub words-full : (n : ℕ) (words others all_words : List (List ℕ)) → all_words ≡ words ++ others → length words ≡ n
+    → words ≡ take n all_words
+words-full n words others all_words all_words_are count_is =
+    rw all_words_are (sym (take-append-le n words others (omega (arith, count_is)) ∙ take_all n words (omega (arith, count_is))))

@@ -20,39 +20,39 @@ joined-onto_first : (x : ℕ) (words : List (List ℕ)) → joined (onto_first x
 joined-onto_first x [] = refl
 joined-onto_first x (word ∷ words) = refl
 
--- the parts between blanks, one after another, are the bytes that are not blank
+-- the parts of a line between its blanks, one after another, are the bytes that are not blank (by induction over the line)
 joined-slice_split : (line : List ℕ) → joined (slice_split is_blank line) ≡ filter (λ byte. not (is_blank byte)) line
 joined-slice_split [] = refl
-joined-slice_split (x ∷ xs) = go (is_blank x) (joined-slice_split xs) where
-  -- the parts of a line with first byte x, one after another, are the bytes that are not blank, where `b` states whether x is blank
-  go : (b : Bool) → joined (slice_split is_blank xs) ≡ filter (λ byte. not (is_blank byte)) xs
-      → joined (cond b ([] ∷ slice_split is_blank xs) (onto_first x (slice_split is_blank xs)))
-      ≡ cond (not b) (x ∷ filter (λ byte. not (is_blank byte)) xs) (filter (λ byte. not (is_blank byte)) xs)
-  go true more = more
-  go false more = joined-onto_first x (slice_split is_blank xs) ∙ ap (λ t. x ∷ t) more
+joined-slice_split (x ∷ xs) = joined_by_test (is_blank x) (joined-slice_split xs) where
+  -- the same claim for `x ∷ xs` by cases: `x_is_blank` states whether x is a blank
+  joined_by_test : (x_is_blank : Bool) → joined (slice_split is_blank xs) ≡ filter (λ byte. not (is_blank byte)) xs
+      → joined (cond x_is_blank ([] ∷ slice_split is_blank xs) (onto_first x (slice_split is_blank xs)))
+      ≡ cond (not x_is_blank) (x ∷ filter (λ byte. not (is_blank byte)) xs) (filter (λ byte. not (is_blank byte)) xs)
+  joined_by_test true rest_joined = rest_joined
+  joined_by_test false rest_joined = joined-onto_first x (slice_split is_blank xs) ∙ ap (λ bytes. x ∷ bytes) rest_joined
 
--- a text with a byte is filled
+-- a word with a first byte is not empty
 filled : (x : ℕ) (xs : List ℕ) → is_filled (x ∷ xs) ≡ true
 filled x xs = grind (arith, nat_tests)
 
--- the words without the empty ones are the same together
+-- empty words add no byte: the words without the empty ones, one after another, are the same bytes
 joined-filter : (words : List (List ℕ)) → joined (filter is_filled words) ≡ joined words
 joined-filter [] = refl
 joined-filter ([] ∷ words) = joined-filter words
-joined-filter ((x ∷ xs) ∷ words) = rw (filled x xs) (ap (λ t. x ∷ (xs ++ t)) (joined-filter words))
+joined-filter ((x ∷ xs) ∷ words) = rw (filled x xs) (ap (λ bytes. x ∷ (xs ++ bytes)) (joined-filter words))
 
 -- the words of a line, one after another, are the bytes of the line that are not blank
 pub joined-words_of : (line : List ℕ) → joined (words_of line) ≡ filter (λ byte. not (is_blank byte)) line
 unfolding words_of
 joined-words_of line = joined-filter (slice_split is_blank line) ∙ joined-slice_split line
 
--- the words without the empty ones are all filled
+-- no word is empty after the empty words are removed
 all_filled : (words : List (List ℕ)) → list_all is_filled (filter is_filled words) ≡ true
 all_filled [] = refl
 all_filled ([] ∷ words) = all_filled words
 all_filled ((x ∷ xs) ∷ words) = rw (filled x xs, filled x xs) (all_filled words)
 
--- each word of a line has a byte
+-- no word of a line is empty
 pub words_of-filled : (line : List ℕ) → list_all is_filled (words_of line) ≡ true
 unfolding words_of
 words_of-filled line = all_filled (slice_split is_blank line)
@@ -60,30 +60,31 @@ words_of-filled line = all_filled (slice_split is_blank line)
 -- a byte that is not blank, put before the first word, leaves words without blanks
 no_blank-onto_first : (x : ℕ) (words : List (List ℕ)) → is_blank x ≡ false → list_all has_no_blank words ≡ true
     → list_all has_no_blank (onto_first x words) ≡ true
-no_blank-onto_first x [] not_blank all = rw not_blank refl
-no_blank-onto_first x (word ∷ words) not_blank all = rw not_blank all
+no_blank-onto_first x [] not_blank no_word_has_blank = rw not_blank refl
+no_blank-onto_first x (word ∷ words) not_blank no_word_has_blank = rw not_blank no_word_has_blank
 
--- the parts between blanks have no blank
+-- the parts of a line between its blanks have no blank (by induction over the line)
 no_blank-slice_split : (line : List ℕ) → list_all has_no_blank (slice_split is_blank line) ≡ true
 no_blank-slice_split [] = refl
-no_blank-slice_split (x ∷ xs) = go (is_blank x) refl (no_blank-slice_split xs) where
-  -- the parts of a line with first byte x have no blank, where `b` states whether x is blank
-  go : (b : Bool) → is_blank x ≡ b → list_all has_no_blank (slice_split is_blank xs) ≡ true
-      → list_all has_no_blank (cond b ([] ∷ slice_split is_blank xs) (onto_first x (slice_split is_blank xs))) ≡ true
-  go true is more = more
-  go false is more = no_blank-onto_first x (slice_split is_blank xs) is more
+no_blank-slice_split (x ∷ xs) = no_blank_by_test (is_blank x) refl (no_blank-slice_split xs) where
+  -- the same claim for `x ∷ xs` by cases: `x_is_blank` states whether x is a blank
+  no_blank_by_test : (x_is_blank : Bool) → is_blank x ≡ x_is_blank → list_all has_no_blank (slice_split is_blank xs) ≡ true
+      → list_all has_no_blank (cond x_is_blank ([] ∷ slice_split is_blank xs) (onto_first x (slice_split is_blank xs))) ≡ true
+  no_blank_by_test true test_is no_part_has_blank = no_part_has_blank
+  no_blank_by_test false test_is no_part_has_blank = no_blank-onto_first x (slice_split is_blank xs) test_is no_part_has_blank
 
--- filtered words without blanks have none
+-- if no word has a blank, then none has one after the empty words are removed
 no_blank-filter : (words : List (List ℕ)) → list_all has_no_blank words ≡ true → list_all has_no_blank (filter is_filled words) ≡ true
-no_blank-filter [] all = refl
-no_blank-filter ([] ∷ words) all = no_blank-filter words all
-no_blank-filter ((x ∷ xs) ∷ words) all = rw (filled x xs) (go (has_no_blank (x ∷ xs)) all (no_blank-filter words)) where
-  -- the filtered words with first word x ∷ xs have no blank, where `b` states whether the first word has none
-  go : (b : Bool) → b && list_all has_no_blank words ≡ true
-      → (list_all has_no_blank words ≡ true → list_all has_no_blank (filter is_filled words) ≡ true)
-      → b && list_all has_no_blank (filter is_filled words) ≡ true
-  go true all more = more all
-  go false all more = cc
+no_blank-filter [] no_word_has_blank = refl
+no_blank-filter ([] ∷ words) no_word_has_blank = no_blank-filter words no_word_has_blank
+no_blank-filter ((x ∷ xs) ∷ words) no_word_has_blank =
+    rw (filled x xs) (no_blank_by_test (has_no_blank (x ∷ xs)) no_word_has_blank (no_blank-filter words)) where
+      -- the same claim for a first word `x ∷ xs` by cases: `first_has_no_blank` states whether this word has no blank
+      no_blank_by_test : (first_has_no_blank : Bool) → first_has_no_blank && list_all has_no_blank words ≡ true
+          → (list_all has_no_blank words ≡ true → list_all has_no_blank (filter is_filled words) ≡ true)
+          → first_has_no_blank && list_all has_no_blank (filter is_filled words) ≡ true
+      no_blank_by_test true no_word_has_blank others_filtered = others_filtered no_word_has_blank
+      no_blank_by_test false no_word_has_blank others_filtered = cc
 
 -- no word of a line has a blank
 pub words_of-no_blank : (line : List ℕ) → list_all has_no_blank (words_of line) ≡ true

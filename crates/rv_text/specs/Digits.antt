@@ -2,7 +2,7 @@
 use Rattle.std.specs.Prelude.{ℕ, zero, suc, ◌/◌, ◌%◌, List, [], ◌∷◌, ◌++◌}
 use Rattle.std.specs.Char.{digit_char}
 
--- the `places` last hexadecimal digits of a number, in lower case
+-- `hex_digits places n` has the `places` last hexadecimal digits of n, in lower case
 unfoldable pub hex_digits : ℕ → ℕ → List ℕ
 hex_digits zero n = []
 hex_digits (suc places) n = hex_digits places (n / 16) ++ digit_char (n % 16) ∷ []

@@ -23,6 +23,6 @@ significant_bytes = max_line + 1
 abbrev pub kept_bytes : ℕ
 kept_bytes = significant_bytes + 1
 
--- at most `max_line` bytes, and each is such a character
+-- a line is well-formed if it has at most `max_line` bytes, and each is a tab or a character from space to tilde
 abbrev pub is_good_line : List ℕ → Bool
 is_good_line line = nat_le (length line) max_line && list_all is_text line

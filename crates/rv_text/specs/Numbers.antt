@@ -8,6 +8,6 @@ use Rattle.std.specs.Str.Parse.{digits_value}
 abbrev pub is_number : ℕ → ℕ → List ℕ → Bool
 is_number base most text = nat_lt 0 (length text) && nat_le (length text) most && list_all (λ c. is_digit c base) text
 
--- `number_of_digits` is the number of 1 to `most` digits of the base
+-- `number_of_digits` is the number that a text of 1 to `most` digits of the base has, or `None` for any other text
 unfoldable pub number_of_digits : ℕ → ℕ → List ℕ → Option ℕ
 number_of_digits base most text = if is_number base most text then Some (digits_value base text) else None

@@ -4,6 +4,6 @@ use Rattle.std.specs.List.{list_all}
 use Rattle.rv_text.specs.GoodLines.{is_text}
 use Rattle.rv_text.proofs.good_line.are_text.Given as goal
 
--- the test of the bytes so far
+-- `are` states whether a line may have all of the bytes before the index
 abbrev pub invariant-loop-byte : goal.invariant-loop-byte
 invariant-loop-byte l = record { so_far : l.are ≡ list_all is_text (take l.byte-index l.bytes) }

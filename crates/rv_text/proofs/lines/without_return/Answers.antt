@@ -5,12 +5,15 @@ use Rattle.rv_text.proofs.LineLemmas.{without_return-return}
 use Rattle.rv_text.proofs.LineCuts.{no_return-other}
 use Rattle.rv_text.proofs.lines.without_return.Goals as goal
 
--- `without_return` meets its contract in the arm `Some`
+-- if the last byte of the line is a carriage return (13), the result is the line without it
 pub returns-in-Some : goal.returns-in-Some
 returns-in-Some c =
     sym (ap without_return (c.in-Some.ensures.cases.0 ∙ ap (λ last. c.in-Some.prefix.now ++ last ∷ []) c.if-last-eq13.true)
     ∙ without_return-return c.in-Some.prefix.now)
 
--- `without_return` meets its contract in the default arm
+-- if the line does not end with a carriage return, the result is the line itself
 pub returns-in_default : goal.returns-in_default
-returns-in_default c = no_return-other c.args.line.now c.in-Some.prefix.now c.in-Some.last.now c.in-Some.ensures.cases.0 c.if-last-eq13.false
+returns-in_default c =
+    let line_splits = c.in-Some.ensures.cases.0 in
+    let not_return = c.if-last-eq13.false in
+    no_return-other c.args.line.now c.in-Some.prefix.now c.in-Some.last.now line_splits not_return

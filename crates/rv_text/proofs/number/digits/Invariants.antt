@@ -6,7 +6,7 @@ use Rattle.std.specs.Char.{is_digit}
 use Rattle.std.specs.Str.Parse.{digits_value}
 use Rattle.rv_text.proofs.number.digits.Given as goal
 
--- the bytes so far are digits, and the value is theirs
+-- the bytes before the index are digits of the base, and the value is the number that they have
 abbrev pub invariant-loop-byte : goal.invariant-loop-byte
 invariant-loop-byte l = record {
   digits : list_all (λ c. is_digit c l.base) (take l.byte-index l.text) ≡ true;

@@ -7,7 +7,7 @@ use Rattle.std.proofs.lemmas.List.Sums.{prefix_len-le-length}
 use Rattle.rv_text.proofs.Positions.{unwrap_or-position}
 use Rattle.rv_text.proofs.position.position_in_short.Goals as goal
 
--- `position_in_short` meets clause `value` of its contract
+-- the result is the position of the first wanted byte, or the length of the text (clause `value`): the iterator yields the bytes of the text in order
 pub returns-clause-value : goal.returns-clause-value
 returns-clause-value c =
     let text = c.args.text.now in

@@ -9,7 +9,7 @@ use Rattle.rv_text.proofs.FirstBytes.{position-first_byte}
 use Rattle.rv_text.proofs.Positions.{unwrap_or-position}
 use Rattle.rv_text.proofs.words.blank_position.Goals as goal
 
--- `blank_position` meets clause `value` of its contract if `text < LONG` is true
+-- the search of a short text by a loop returns the position of the first blank, or the length of the text (clause `value`)
 pub returns-then-text-lt-LONG-clause-value : goal.returns-then-text-lt-LONG-clause-value
 returns-then-text-lt-LONG-clause-value c =
     let text = c.args.text.now in
@@ -18,6 +18,6 @@ returns-then-text-lt-LONG-clause-value c =
     (YieldsList-from_slice text c.iter.ensures.rest) (λ x b q k. search rules))
     (prefix_len-le-length _ text)
 
--- `blank_position` meets clause `value` of its contract
+-- the search of a long text by `memchr2` returns the position of the first blank, or the length of the text (clause `value`)
 pub returns-clause-value : goal.returns-clause-value
 returns-clause-value c = c.unwrap_or-2.ensures ∙ position-first_byte is_blank c.args.text.now c.memchr2.result c.memchr2.ensures

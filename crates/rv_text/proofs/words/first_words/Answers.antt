@@ -5,9 +5,9 @@ use Rattle.std.proofs.lemmas.Bool.Decides.{nat_tests}
 use Rattle.rv_text.proofs.WordCuts.{words-full}
 use Rattle.rv_text.proofs.words.first_words.Goals as goal
 
--- `first_words` meets its contract after the loop over `rest`
+-- if the loop ends because `MOST_WORDS` = 6 words are read, these are the first 6 words of the line
 pub returns-after-loop-rest : goal.returns-after-loop-rest
 returns-after-loop-rest c =
-    let len : length (map (λ word. word.now) c.loop-rest.words.items) ≡ 6 =
+    let count_is : length (map (λ word. word.now) c.loop-rest.words.items) ≡ 6 =
     grind (arith, nat_tests, length-map c.loop-rest.words.items (λ word. word.now)) in
-    words-full 6 _ _ _ c.loop-rest.invariant.all len
+    words-full 6 _ _ _ c.loop-rest.invariant.all_words count_is

@@ -2,6 +2,6 @@
 use Rattle.rv_text.proofs.WordCuts.{words-none}
 use Rattle.rv_text.proofs.words.next_word.Goals as goal
 
--- `next_word` meets its contract
+-- if the loop reaches the end of the text, the text has no word: by the invariant, it has the same words as the empty rest
 pub returns : goal.returns
-returns c = words-none _ _ _ c.loop-rest.invariant.all c.is_empty.ensures c.loop-rest-test.false
+returns c = words-none _ _ _ c.loop-rest.invariant.same_words c.is_empty.ensures c.loop-rest-test.false
