@@ -20,7 +20,7 @@ signed_field number width =
     let low = number % 2 ^ width
     in if nat_lt low (2 ^ (width - 1)) then pos low else (pos low -ℤ pos (2 ^ width))
 
--- the word with that signed value: the upper bits are copies of the highest bit of the field
+-- `sign_extended` is the word that has the signed value of the field: its upper bits are copies of the highest bit of the field
 abbrev pub sign_extended : ℕ → ℕ → ℕ
 sign_extended number width =
     let low = number % 2 ^ width

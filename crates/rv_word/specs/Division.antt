@@ -11,15 +11,15 @@ pub record IsDivision (dividend divisor quotient remainder : ℤ) : Type 0 where
   pub not_negative : pos 0 ≤ℤ dividend → pos 0 ≤ℤ remainder
   pub not_positive : dividend ≤ℤ pos 0 → remainder ≤ℤ pos 0
 
--- a word is the quotient, or the remainder, of such a division modulo 2 ^ 32
+-- the word is the quotient of a division, modulo 2 ^ 32
 abbrev pub IsQuotient : ℤ → ℤ → ℕ → Type 0
 IsQuotient dividend divisor word = (q : ℤ) × (r : ℤ) × IsDivision dividend divisor q r × (word ≡ low_word q)
 
--- the word is the remainder of a division whose quotient is rounded toward zero
+-- the word is the remainder of a division, modulo 2 ^ 32
 abbrev pub IsRemainder : ℤ → ℤ → ℕ → Type 0
 IsRemainder dividend divisor word = (q : ℤ) × (r : ℤ) × IsDivision dividend divisor q r × (word ≡ low_word r)
 
--- signed overflow: -2 ^ 31 by -1, whose quotient fits in no word
+-- a signed division overflows if it divides -2 ^ 31 by -1: the quotient 2 ^ 31 is no signed word
 abbrev pub overflows : ℕ → ℕ → Bool
 overflows dividend divisor = dividend == 2 ^ 31 && divisor == 2 ^ 32 - 1
 

@@ -1,8 +1,8 @@
--- Words, and the integers that they represent . A word is a natural number below 2 ^ 32
+-- Words, and the integers that they represent. A word is a natural number below 2 ^ 32
 pub mod Word
 -- Values by the case of an option or of a result
 pub mod Cases
--- Bits and fields of bits, and their signs . Bit k has the weight 2 ^ k
+-- Bits and fields of bits, and their signs. Bit k has the weight 2 ^ k
 pub mod BitFields
 -- The bytes of a word in memory, little-endian
 pub mod ByteOrder

@@ -9,19 +9,21 @@ use Rattle.rv_word.specs.BitFields.{sign_extended}
 use Rattle.rv_word.proofs.BitFieldLemmas.{sign_extended_by_shifts, signed-sign_extended}
 use Rattle.rv_word.proofs.bit_field.sext.Goals as goal
 
--- `sext` meets its contract
+-- the result is the sign extension of the low `width` bits, and has their signed value: a left shift and an arithmetic right shift compute it
 pub returns : goal.returns
 returns c =
-    let fits : FitsSigned w32 c.cast_signed.result = search rules in
-    let shifted : FitsSigned w32 (shr_z c.cast_signed.result (2 ^ (32 - c.args.width))) =
-    record { sfits = omega (arith, mag_shr c.cast_signed.result (2 ^ (32 - c.args.width)), fits) } in
-    let word_is : c.cast_unsigned.result ≡ cast_unsigned w32 (shr_z c.cast_signed.result (2 ^ (32 - c.args.width))) =
+    let width = c.args.width in
+    let factor = 2 ^ (32 - width) in
+    let fits_i32 : FitsSigned w32 c.cast_signed.result = search rules in
+    let shifted_fits_i32 : FitsSigned w32 (shr_z c.cast_signed.result factor) =
+    record { sfits = omega (arith, mag_shr c.cast_signed.result factor, fits_i32) } in
+    let word_is : c.cast_unsigned.result ≡ cast_unsigned w32 (shr_z c.cast_signed.result factor) =
     simp to_z-of_z at c.cast_unsigned.ensures in
-    let extended : c.cast_unsigned.result ≡ sign_extended c.args.value c.args.width =
+    let is_sign_extension : c.cast_unsigned.result ≡ sign_extended c.args.value width =
     word_is
-    ∙ ap (λ z. cast_unsigned w32 (shr_z z (2 ^ (32 - c.args.width)))) c.cast_signed.ensures
-    ∙ sign_extended_by_shifts c.args.value c.args.width c.requires.positive c.requires.within in
+    ∙ ap (λ z. cast_unsigned w32 (shr_z z factor)) c.cast_signed.ensures
+    ∙ sign_extended_by_shifts c.args.value width c.requires.positive c.requires.within in
     record {
-      value = extended;
-      same_sign = ap signed extended ∙ signed-sign_extended c.args.value c.args.width c.requires.positive c.requires.within;
+      value = is_sign_extension;
+      same_sign = ap signed is_sign_extension ∙ signed-sign_extended c.args.value width c.requires.positive c.requires.within;
     }

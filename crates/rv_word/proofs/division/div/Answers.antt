@@ -5,13 +5,13 @@ use Rattle.rv_word.specs.Word.{signed, low_word}
 use Rattle.rv_word.proofs.DivisionLemmas.{quotient-equation, quotient-unique, quotient-word}
 use Rattle.rv_word.proofs.division.div.Goals as goal
 
--- `div` meets its contract if `divisor = 0` is false
+-- for a divisor that is not 0, the result is the quotient, solves the equation of a division, and is its only solution
 pub returns-else-divisor-eq0 : goal.returns-else-divisor-eq0
 returns-else-divisor-eq0 c =
-    let word : c.cast_unsigned.result ≡ low_word (int_div (signed c.args.dividend) (signed c.args.divisor)) = search rules in
-    let value = word ∙ sym (quotient-word c.args.dividend c.args.divisor c.if-divisor-eq0.false) in
+    let word_is : c.cast_unsigned.result ≡ low_word (int_div (signed c.args.dividend) (signed c.args.divisor)) = search rules in
+    let value_is = word_is ∙ sym (quotient-word c.args.dividend c.args.divisor c.if-divisor-eq0.false) in
     record {
-      value = value;
-      equation = quotient-equation c.args.dividend c.args.divisor c.cast_unsigned.result c.ranges.divisor.fits value;
-      unique = quotient-unique c.args.dividend c.args.divisor c.cast_unsigned.result value c.if-divisor-eq0.false;
+      value = value_is;
+      equation = quotient-equation c.args.dividend c.args.divisor c.cast_unsigned.result c.ranges.divisor.fits value_is;
+      unique = quotient-unique c.args.dividend c.args.divisor c.cast_unsigned.result value_is c.if-divisor-eq0.false;
     }
