@@ -35,11 +35,11 @@ use Rattle.rv_bench.proofs.Declassified.{secret_declassification}
 abbrev script : List ℕ
 script = codes "poke 80020000 41\nsetreg 9 5ec2e701\nregs\n"
 
--- `other_script` is the script above with another secret
+-- `other_script` is `script` with another secret byte at another address, and another secret value in another register
 abbrev other_script : List ℕ
 other_script = codes "poke 80020ffc 5a\nsetreg 5 0badc0de\nregs\n"
 
--- the enclave of slot 0 runs on the selected hart, and these are bytes of its region
+-- the enclave of slot 0 runs on the selected hart, and the two addresses that the scripts poke are in its region
 pub record RunsEnclave (bench : BenchState) : Type 0 where
   pub runs : is_selected 0 bench.target ≡ true
   pub first : has (region_in 0 bench.target) 0x80020000 ≡ true
@@ -47,89 +47,95 @@ pub record RunsEnclave (bench : BenchState) : Type 0 where
 
 -- ---- the commands
 
--- the line pokes 41 into the region
-first_poke : parse_of (codes "poke 80020000 41") ≡ Ok (Poke 0x80020000 0x41)
+-- the first line of `script` is read as a poke of the byte 41
+first_poke_parsed : parse_of (codes "poke 80020000 41") ≡ Ok (Poke 0x80020000 0x41)
 unfolding parse_of is_text meaning_of words_of keyword_of hexadecimal_of number_of_digits byte_of_text
-first_poke = refl
+first_poke_parsed = refl
 
--- the line pokes 5a into the region
-second_poke : parse_of (codes "poke 80020ffc 5a") ≡ Ok (Poke 0x80020ffc 0x5a)
+-- the first line of `other_script` is read as a poke of the byte 5a
+second_poke_parsed : parse_of (codes "poke 80020ffc 5a") ≡ Ok (Poke 0x80020ffc 0x5a)
 unfolding parse_of is_text meaning_of words_of keyword_of hexadecimal_of number_of_digits byte_of_text
-second_poke = refl
+second_poke_parsed = refl
 
--- the line sets register 9
-first_setreg : parse_of (codes "setreg 9 5ec2e701") ≡ Ok (SetReg 9 0x5ec2e701)
+-- the second line of `script` is read as a command that sets register 9
+first_setreg_parsed : parse_of (codes "setreg 9 5ec2e701") ≡ Ok (SetReg 9 0x5ec2e701)
 unfolding parse_of is_text meaning_of words_of keyword_of hexadecimal_of decimal_of number_of_digits
-first_setreg = refl
+first_setreg_parsed = refl
 
--- the line sets register 5
-second_setreg : parse_of (codes "setreg 5 0badc0de") ≡ Ok (SetReg 5 0x0badc0de)
+-- the second line of `other_script` is read as a command that sets register 5
+second_setreg_parsed : parse_of (codes "setreg 5 0badc0de") ≡ Ok (SetReg 5 0x0badc0de)
 unfolding parse_of is_text meaning_of words_of keyword_of hexadecimal_of decimal_of number_of_digits
-second_setreg = refl
+second_setreg_parsed = refl
 
--- the line shows the registers
-regs : parse_of (codes "regs") ≡ Ok Regs
+-- the last line of both scripts is read as the command that shows the registers
+regs_parsed : parse_of (codes "regs") ≡ Ok Regs
 unfolding parse_of is_text meaning_of words_of keyword_of
-regs = refl
+regs_parsed = refl
 
 -- ---- line by line
 
 -- after a poke the enclave runs on the selected hart as before
-poked_selected : (target : Target) (memory : Option (List ℕ))
+poke_keeps_selection : (target : Target) (memory : Option (List ℕ))
     → is_selected 0 (option_case (option_map (over_memory target) memory) target (λ after. after)) ≡ is_selected 0 target
-poked_selected (Bare machine) None = refl
-poked_selected (Bare machine) (Some memory) = refl
-poked_selected (Monitored selected) None = refl
-poked_selected (Monitored selected) (Some memory) = refl
+poke_keeps_selection (Bare machine) None = refl
+poke_keeps_selection (Bare machine) (Some memory) = refl
+poke_keeps_selection (Monitored selected) None = refl
+poke_keeps_selection (Monitored selected) (Some memory) = refl
 
--- a command without steps has the steps of no moves
-no_steps : (one other : Option MonitoredMachine) → IfSome one (λ a. IfSome other (λ b. StepsAreMoves 0 a b [] []))
-no_steps (Some one) (Some other) = record { moves = []; steps = refl; first = refl; second = refl; are = tt }
-no_steps (Some one) None = tt
-no_steps None other = tt
+-- a command that takes no step takes the steps of an empty list of moves
+no_steps_are_no_moves : (one other : Option MonitoredMachine) → IfSome one (λ a. IfSome other (λ b. StepsAreMoves 0 a b [] []))
+no_steps_are_no_moves (Some one) (Some other) = record { moves = []; steps = refl; first = refl; second = refl; are = tt }
+no_steps_are_no_moves (Some one) None = tt
+no_steps_are_no_moves None other = tt
 
 -- two lines are alike if their commands are
-parsed_alike : (first second : BenchState) (a b : Result Command CommandFault) (here there : Command) → a ≡ Ok here → b ≡ Ok there
-    → CommandsAlike 0 first second here there → ParsedAlike 0 first second a b
-parsed_alike first second a b here there a_is b_is alike = rw (a_is, b_is) alike
+commands_alike_parsed : (first second : BenchState) (parsed other_parsed : Result Command CommandFault) (command other_command : Command)
+    → parsed ≡ Ok command → other_parsed ≡ Ok other_command → CommandsAlike 0 first second command other_command
+    → ParsedAlike 0 first second parsed other_parsed
+commands_alike_parsed first second parsed other_parsed command other_command parsed_is other_parsed_is alike = rw (parsed_is, other_parsed_is) alike
 
 -- a poke leaves the enclave on the selected hart
-runs_after : (bench : BenchState) (parsed : Result Command CommandFault) (address byte : ℕ) → parsed ≡ Ok (Poke address byte)
+poke_keeps_running : (bench : BenchState) (parsed : Result Command CommandFault) (address byte : ℕ) → parsed ≡ Ok (Poke address byte)
     → is_selected 0 bench.target ≡ true → is_selected 0 (execute_or_fault bench parsed).state.target ≡ true
 unfolding execute
-runs_after bench parsed address byte parsed_is runs = rw parsed_is (poked_selected bench.target _ ∙ runs)
+poke_keeps_running bench parsed address byte parsed_is runs = rw parsed_is (poke_keeps_selection bench.target _ ∙ runs)
 
--- the lines of both scripts are alike
-is_alike : (bench : BenchState) → RunsEnclave bench → LinesAlike 0 bench bench (lines_of script) (lines_of other_script)
+-- The lines of both scripts are alike: each poke is a byte of the region, each register belongs to the running enclave, and the last line is equal.
+scripts_alike : (bench : BenchState) → RunsEnclave bench → LinesAlike 0 bench bench (lines_of script) (lines_of other_script)
 unfolding execute_line
-is_alike bench there = (
-  parsed_alike bench bench _ _ _ _ first_poke second_poke (inr (inl (there.first, there.second))),
-  (
-    parsed_alike _ _ _ _ _ _ first_setreg second_setreg
-        (inr (inr (runs_after bench _ _ _ first_poke there.runs, runs_after bench _ _ _ second_poke there.runs))),
-    (parsed_alike _ _ _ _ _ _ regs regs (inl (inl (record { same = refl; steps = no_steps _ _; stop = refl }))), tt),
-  ),
-)
+scripts_alike bench enclave =
+    let runs = poke_keeps_running bench _ _ _ first_poke_parsed enclave.runs in
+    let other_runs = poke_keeps_running bench _ _ _ second_poke_parsed enclave.runs in (
+      commands_alike_parsed bench bench _ _ _ _ first_poke_parsed second_poke_parsed (inr (inl (enclave.first, enclave.second))),
+      (
+        commands_alike_parsed _ _ _ _ _ _ first_setreg_parsed second_setreg_parsed (inr (inr (runs, other_runs))),
+        (
+          commands_alike_parsed _ _ _ _ _ _ regs_parsed regs_parsed
+              (inl (inl (record { same = refl; steps = no_steps_are_no_moves _ _; stop = refl }))),
+          tt,
+        ),
+      ),
+    )
 
 -- the lines of both scripts are alike after any lines before them
-from_bench : (bench : Result BenchState BenchFault) (before : List (List ℕ)) → IfOk bench (λ bench. RunsEnclave (state_after bench_line bench before))
-    → IfOk bench (λ bench.
+scripts_alike_after : (bench : Result BenchState BenchFault) (before : List (List ℕ))
+    → IfOk bench (λ bench. RunsEnclave (state_after bench_line bench before)) → IfOk bench (λ bench.
     let start = state_after bench_line bench before in LinesAlike 0 start start (lines_of script) (lines_of other_script))
-from_bench (Ok bench) before there = is_alike (state_after bench_line bench before) there
-from_bench (Err fault) before there = tt
+scripts_alike_after (Ok bench) before enclave = scripts_alike (state_after bench_line bench before) enclave
+scripts_alike_after (Err fault) before enclave = tt
 
--- two secrets in the script of the example have the same observed output, whatever the lines before it
+-- two inputs that end in the two scripts have the same observed output, whatever the lines before the scripts
 pub secrets_are_concealed : (setup : Setup) (prefix : List ℕ) → through_last_feed prefix ≡ prefix → has_separator prefix ≡ true
     → IfOk (bench_in setup prefix) (λ bench. RunsEnclave (state_after bench_line bench (lines_of (after_separator prefix))))
     → observed_output 0 setup (prefix ++ script) ≡ observed_output 0 setup (prefix ++ other_script)
-secrets_are_concealed setup prefix whole separated there =
+secrets_are_concealed setup prefix whole_lines separated enclave_runs =
     secret_declassification setup (prefix ++ script) 0 (prefix ++ other_script) (record {
       prefix = prefix;
       rest = script;
       another = other_script;
       input_is = refl;
       other_is = refl;
-      whole_prefix = whole;
+      whole_prefix = whole_lines;
       separated = separated;
-      alike = from_bench (bench_in setup prefix) (lines_of (after_separator prefix)) there;
+      alike = scripts_alike_after (bench_in setup prefix) (lines_of (after_separator prefix)) enclave_runs;
     })

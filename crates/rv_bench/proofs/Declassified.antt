@@ -1,4 +1,5 @@
--- Lines keep two benches related, and what others observe of the replies is equal, by the law of one command; and from one input to another.
+-- Declassification over scripts: lines that are alike keep two benches related for enclave e, and the observed parts of the replies are equal. The
+-- proof is by the law of one command and induction over the lines, and then compares two inputs.
 use Rattle.std.proofs.Common.{◌≡◌, ℕ, false, inl, List, [], ◌∷◌, ◌++◌, Result, Ok, Err, IfOk, refl, sym, ◌∙◌, ap, ap₂, true}
 use Rattle.rv_word.specs.Cases.{result_case}
 use Rattle.rv_text.specs.Lines.{lines_of, through_last_feed}
@@ -19,17 +20,15 @@ use Rattle.rv_debug.proofs.LowCommands.{low_command}
 use Rattle.rv_command_line.specs.declared.setup.Setup.{Setup}
 use Rattle.rv_streams.specs.Separator.{after_separator, has_separator}
 use Rattle.rv_streams.specs.declared.fault.BenchFault.{BenchFault}
-use Rattle.rv_bench.specs.Declassification.{LineIsLow, LinesAreLow}
-use Rattle.rv_bench.specs.Declassification.{LinesAlike, LinesObservedAlike, ParsedAlike, ScriptDeclassification, SecretDeclassification}
-use Rattle.rv_bench.specs.Declassification.{observed_line, observed_output}
+use Rattle.rv_bench.specs.Declassification.{LineIsLow, LinesAreLow, LinesAlike, LinesObservedAlike, ParsedAlike, ScriptDeclassification}
+use Rattle.rv_bench.specs.Declassification.{SecretDeclassification, observed_line, observed_output}
 use Rattle.rv_bench.specs.Loaded.{started}
 use Rattle.rv_bench.specs.Output.{bench_in}
 use Rattle.rv_bench.specs.Replies.{bench_line, replies, state_after}
-use Rattle.rv_bench.proofs.IntegrityLemmas.{keeps_line, keeps_lines}
-use Rattle.rv_bench.proofs.NoninterferenceLemmas.{bench_keeps}
+use Rattle.rv_bench.proofs.IntegrityLemmas.{line_keeps_invariant, lines_keep_invariant}
 use Rattle.rv_bench.proofs.PrefixLines.{bench_in-prefix, script_lines-prefix}
 use Rattle.rv_bench.proofs.RepliesLemmas.{replies-append}
-use Rattle.rv_bench.proofs.Starts.{started_keeps}
+use Rattle.rv_bench.proofs.Starts.{StartInvariant, bench_in_invariant, of_started}
 
 module _ (e : ℕ) where
   -- ---- one line of each bench
@@ -43,156 +42,164 @@ module _ (e : ℕ) where
   line_observed : (first second : BenchState) (line other : List ℕ) → TargetInvariant first.target → TargetInvariant second.target
       → BenchesAreRelated e first second → ParsedAlike e first second (parse_of line) (parse_of other) → LineObserved first second line other
   unfolding execute_line
-  line_observed first second line other kept kept' related alike =
-      let both = go (parse_of line) (parse_of other) alike in record { text = both.0; state = both.1 } where
-        -- the two parsed lines have equal observations and leave related benches, if they are alike
-        go : (parsed parsed' : Result Command CommandFault) → ParsedAlike e first second parsed parsed'
-            → (result_case parsed (observed e first) command_fault_text ≡ result_case parsed' (observed e second) command_fault_text)
-            × BenchesAreRelated e (execute_or_fault first parsed).state (execute_or_fault second parsed').state
-        go (Ok here) (Ok there) alike = let alike_after = declassification e first second here there kept kept' related alike in (alike_after.observed, alike_after.state)
-        go (Err here) (Err there) alike = (ap command_fault_text alike, related)
-        go (Ok here) (Err there) alike = absurd alike
-        go (Err here) (Ok there) alike = absurd alike
+  line_observed first second line other first_invariant second_invariant related alike =
+      let (text, state) = by_parsed (parse_of line) (parse_of other) alike in record { text = text; state = state } where
+        -- two parsed lines that are alike have equal observations, and leave related benches
+        by_parsed : (parsed other_parsed : Result Command CommandFault) → ParsedAlike e first second parsed other_parsed
+            → (result_case parsed (observed e first) command_fault_text ≡ result_case other_parsed (observed e second) command_fault_text)
+            × BenchesAreRelated e (execute_or_fault first parsed).state (execute_or_fault second other_parsed).state
+        by_parsed (Ok command) (Ok other_command) alike =
+            let alike_after = declassification e first second command other_command first_invariant second_invariant related alike in
+            (alike_after.observed, alike_after.state)
+        by_parsed (Err fault) (Err other_fault) same_fault = (ap command_fault_text same_fault, related)
+        by_parsed (Ok command) (Err fault) impossible = absurd impossible
+        by_parsed (Err fault) (Ok command) impossible = absurd impossible
 
   -- ---- lines
 
-  -- lines that are alike have equal observations on related benches, and leave them related
+  -- lines that are alike have equal observations on related benches, and leave them related, by induction over both lists
   pub lines_observed : (first second : BenchState) (lines others : List (List ℕ)) → TargetInvariant first.target → TargetInvariant second.target
       → BenchesAreRelated e first second → LinesAlike e first second lines others → LinesObservedAlike e first second lines others
-  lines_observed first second [] [] kept kept' related alike = record { text = refl; state = related }
-  lines_observed first second [] (other ∷ others) kept kept' related alike = absurd alike
-  lines_observed first second (line ∷ lines) [] kept kept' related alike = absurd alike
-  lines_observed first second (line ∷ lines) (other ∷ others) kept kept' related alike =
-      let alike_after = line_observed first second line other kept kept' related alike.0 in
-      let rest = lines_observed (execute_line first line).state (execute_line second other).state lines others (keeps_line first line kept)
-      (keeps_line second other kept') alike_after.state alike.1 in
-      record { text = ap₂ (λ (one others : List ℕ). one ++ others) alike_after.text rest.text; state = rest.state }
+  lines_observed first second [] [] first_invariant second_invariant related alike = record { text = refl; state = related }
+  lines_observed first second [] (other ∷ others) first_invariant second_invariant related impossible = absurd impossible
+  lines_observed first second (line ∷ lines) [] first_invariant second_invariant related impossible = absurd impossible
+  lines_observed first second (line ∷ lines) (other ∷ others) first_invariant second_invariant related (alike, others_alike) =
+      let observed = line_observed first second line other first_invariant second_invariant related alike in
+      let later = lines_observed (execute_line first line).state (execute_line second other).state lines others
+      (line_keeps_invariant first line first_invariant) (line_keeps_invariant second other second_invariant) observed.state others_alike in
+      record { text = ap₂ (λ (one others : List ℕ). one ++ others) observed.text later.text; state = later.state }
 
   -- ---- low lines
 
-  -- a line that is low is alike in both benches, and leaves equal windows
+  -- A low line does not step a hart on which the enclave runs, and does not enter the enclave. It is alike in both benches, and leaves equal windows.
   line_low : (first second : BenchState) (line : List ℕ) → TargetInvariant first.target → TargetInvariant second.target
       → BenchesAreRelated e first second → WindowsAreEqual e first second → LineIsLow e first line
-      → ParsedAlike e first second (parse_of line) (parse_of line) × WindowsAreEqual e (execute_line first line).state (execute_line second line).state
+      → ParsedAlike e first second (parse_of line) (parse_of line)
+      × WindowsAreEqual e (execute_line first line).state (execute_line second line).state
   unfolding execute_line
-  line_low first second line kept kept' related equal = go (parse_of line) where
+  line_low first second line first_invariant second_invariant related same_windows = by_parsed (parse_of line) where
     -- a low parsed line is alike in both benches, and leaves equal windows
-    go : (parsed : Result Command CommandFault)
-        → IfOk parsed (λ command. RunsOnNoneIn e (harts_named first.target command) first.target × (is_entered e (execute first command).entered ≡ false))
+    by_parsed : (parsed : Result Command CommandFault) → IfOk parsed (λ command.
+        RunsOnNoneIn e (harts_named first.target command) first.target × (is_entered e (execute first command).entered ≡ false))
         → ParsedAlike e first second parsed parsed × WindowsAreEqual e (execute_or_fault first parsed).state (execute_or_fault second parsed).state
-    go (Ok command) low = let low_alike = low_command e first second command kept kept' related equal low.0 low.1 in (inl (inl low_alike.same), low_alike.window)
-    go (Err fault) low = (refl, equal)
+    by_parsed (Ok command) (on_none, not_entered) =
+        let alike = low_command e first second command first_invariant second_invariant related same_windows on_none not_entered in
+        (inl (inl alike.same), alike.window)
+    by_parsed (Err fault) is_low = (refl, same_windows)
 
-  -- lines that are low in the first bench are alike, if the windows are equal
+  -- lines that are low in the first bench are alike if the windows are equal, by induction over the lines
   pub lines_low : (first second : BenchState) (lines : List (List ℕ)) → TargetInvariant first.target → TargetInvariant second.target
       → BenchesAreRelated e first second → WindowsAreEqual e first second → LinesAreLow e first lines → LinesAlike e first second lines lines
-  lines_low first second [] kept kept' related equal low = tt
-  lines_low first second (line ∷ lines) kept kept' related equal low =
-      let (alike, windows) = line_low first second line kept kept' related equal low.0 in
-      let alike_after = line_observed first second line line kept kept' related alike in (
+  lines_low first second [] first_invariant second_invariant related same_windows are_low = tt
+  lines_low first second (line ∷ lines) first_invariant second_invariant related same_windows (is_low, others_low) =
+      let (alike, next_windows) = line_low first second line first_invariant second_invariant related same_windows is_low in
+      let observed = line_observed first second line line first_invariant second_invariant related alike in (
         alike,
-        lines_low (execute_line first line).state (execute_line second line).state lines (keeps_line first line kept) (keeps_line second line kept')
-            alike_after.state windows low.1,
+        lines_low (execute_line first line).state (execute_line second line).state lines (line_keeps_invariant first line first_invariant)
+            (line_keeps_invariant second line second_invariant) observed.state next_windows others_low,
       )
 
   -- ---- the same lines, after an enclave has ended
 
-  -- after an enclave has ended, the same line is alike for every slot
-  line_ended : (first second : BenchState) (line : List ℕ) → TargetInvariant first.target → TargetInvariant second.target → AreRelatedForAll first second
+  -- after an enclave has ended in related benches, the same line is alike for every slot, and leaves benches that are related for every slot
+  line_after_end : (first second : BenchState) (line : List ℕ) → TargetInvariant first.target → TargetInvariant second.target
+      → AreRelatedForAll first second
       → ParsedAlike e first second (parse_of line) (parse_of line) × AreRelatedForAll (execute_line first line).state (execute_line second line).state
   unfolding execute_line
-  line_ended first second line kept kept' related = go (parse_of line) where
-    -- a parsed line is alike in both benches, and leaves benches that are related for every slot
-    go : (parsed : Result Command CommandFault) → ParsedAlike e first second parsed parsed
+  line_after_end first second line first_invariant second_invariant related = by_parsed (parse_of line) where
+    -- the same claim for a parsed line
+    by_parsed : (parsed : Result Command CommandFault) → ParsedAlike e first second parsed parsed
         × AreRelatedForAll (execute_or_fault first parsed).state (execute_or_fault second parsed).state
-    go (Ok command) = (
-      inl (inl (ended_law.same e first second command kept kept' related)),
-      ended_law.again first second command kept kept' related,
+    by_parsed (Ok command) = (
+      inl (inl (ended_law.same e first second command first_invariant second_invariant related)),
+      ended_law.again first second command first_invariant second_invariant related,
     )
-    go (Err fault) = (refl, related)
+    by_parsed (Err fault) = (refl, related)
 
-  -- after an enclave has ended in related benches, the same lines are alike for every slot
-  pub lines_ended : (first second : BenchState) (lines : List (List ℕ)) → TargetInvariant first.target → TargetInvariant second.target
+  -- after an enclave has ended in related benches, the same lines are alike for every slot, by induction over the lines
+  pub lines_after_end : (first second : BenchState) (lines : List (List ℕ)) → TargetInvariant first.target → TargetInvariant second.target
       → AreRelatedForAll first second → LinesAlike e first second lines lines
-  lines_ended first second [] kept kept' related = tt
-  lines_ended first second (line ∷ lines) kept kept' related =
-      let (alike, again) = line_ended first second line kept kept' related in (
+  lines_after_end first second [] first_invariant second_invariant related = tt
+  lines_after_end first second (line ∷ lines) first_invariant second_invariant related =
+      let (alike, still_related) = line_after_end first second line first_invariant second_invariant related in (
         alike,
-        lines_ended (execute_line first line).state (execute_line second line).state lines (keeps_line first line kept) (keeps_line second line kept') again,
+        lines_after_end (execute_line first line).state (execute_line second line).state lines (line_keeps_invariant first line first_invariant)
+            (line_keeps_invariant second line second_invariant) still_related,
       )
 
   -- ---- scripts
 
-  -- observed lines leave the same state
-  same_state : (bench : BenchState) (lines : List (List ℕ)) → state_after (observed_line e) bench lines ≡ state_after bench_line bench lines
-  same_state bench [] = refl
-  same_state bench (line ∷ lines) = same_state (bench_line bench line).state lines
+  -- what is observed of the replies has no effect on the state: observed lines leave the state that the lines leave
+  observed_state : (bench : BenchState) (lines : List (List ℕ)) → state_after (observed_line e) bench lines ≡ state_after bench_line bench lines
+  observed_state bench [] = refl
+  observed_state bench (line ∷ lines) = observed_state (bench_line bench line).state lines
 
   -- two scripts that are alike after the same lines have equal observations
   script_observed : (bench : BenchState) (before lines others : List (List ℕ)) → TargetInvariant bench.target
       → (let start = state_after bench_line bench before in LinesAlike e start start lines others)
       → replies (observed_line e) bench (before ++ lines) ≡ replies (observed_line e) bench (before ++ others)
-  script_observed bench before lines others kept alike =
+  script_observed bench before lines others invariant alike =
       let start = state_after bench_line bench before in
-      let keeps = keeps_lines bench before kept in
-      let rest = lines_observed start start lines others keeps keeps (relation_law.itself e start) alike in
-      let text : BenchState → List (List ℕ) → List ℕ = λ state script. replies (observed_line e) bench before ++ replies (observed_line e) state script in
+      let start_invariant = lines_keep_invariant bench before invariant in
+      let observed = lines_observed start start lines others start_invariant start_invariant (relation_law.itself e start) alike in
+      let first_text = replies (observed_line e) bench before in
+      let text : BenchState → List (List ℕ) → List ℕ = λ state script. first_text ++ replies (observed_line e) state script in
       replies-append (observed_line e) bench before lines
-      ∙ ap (λ (state : BenchState). text state lines) (same_state bench before)
-      ∙ ap (λ (t : List ℕ). replies (observed_line e) bench before ++ t) rest.text
-      ∙ ap (λ (state : BenchState). text state others) (sym (same_state bench before))
+      ∙ ap (λ (state : BenchState). text state lines) (observed_state bench before)
+      ∙ ap (λ (later_text : List ℕ). first_text ++ later_text) observed.text
+      ∙ ap (λ (state : BenchState). text state others) (sym (observed_state bench before))
       ∙ sym (replies-append (observed_line e) bench before others)
 
--- a bench with the invariant has the properties of declassification
-declassification_through : (bench : BenchState) → TargetInvariant bench.target → ScriptDeclassification bench
-declassification_through bench kept = record {
-  alike = λ e before lines others other kept' related alike.
-      lines_observed e (state_after bench_line bench before) other lines others (keeps_lines bench before kept) kept' related alike;
-  low = λ e before lines other kept' related equal low.
-      lines_low e (state_after bench_line bench before) other lines (keeps_lines bench before kept) kept' related equal low;
-  ended = λ e k before lines other kept' related ended.
+-- on a bench with the invariant, every part of a script satisfies noninterference with declassification
+script_declassification : (bench : BenchState) → TargetInvariant bench.target → ScriptDeclassification bench
+script_declassification bench invariant = record {
+  alike = λ e before lines others other other_invariant related alike.
+      lines_observed e (state_after bench_line bench before) other lines others (lines_keep_invariant bench before invariant) other_invariant
+      related alike;
+  low = λ e before lines other other_invariant related same_windows are_low.
+      lines_low e (state_after bench_line bench before) other lines (lines_keep_invariant bench before invariant) other_invariant
+      related same_windows are_low;
+  ended = λ e k before lines other other_invariant related ended.
       let start = state_after bench_line bench before in
-      let keeps = keeps_lines bench before kept in
-      lines_ended k start other lines keeps kept' (ended_law.ended e start other keeps related ended);
+      let start_invariant = lines_keep_invariant bench before invariant in
+      lines_after_end k start other lines start_invariant other_invariant (ended_law.ended e start other start_invariant related ended);
 }
 
--- a bench that starts has the properties of declassification
-declassified_from : (bench : Result BenchState BenchFault) → IfOk bench (λ state. TargetInvariant state.target) → IfOk bench ScriptDeclassification
-declassified_from (Ok state) kept = declassification_through state kept
-declassified_from (Err fault) kept = tt
-
--- each bench that starts has the properties of declassification
+-- on each bench that starts, every part of a script satisfies noninterference with declassification
 pub started_declassification : (image : List ℕ) (setup : Setup) → IfOk (started image setup) ScriptDeclassification
-started_declassification image setup = declassified_from (started image setup) (started_keeps image setup)
+started_declassification = of_started ScriptDeclassification script_declassification
 
 -- ---- inputs
 
+-- inputs that begin with the same prefix, which has the image, the separator and the first lines of the script
 module _ (setup : Setup) (e : ℕ) (prefix : List ℕ) (whole : through_last_feed prefix ≡ prefix) (separated : has_separator prefix ≡ true) where
+  -- the lines of the script in the prefix
+  abbrev before : List (List ℕ)
+  before = lines_of (after_separator prefix)
+
   -- `Observed` is the observed output of a script, if the bench starts
   abbrev Observed : Result BenchState BenchFault → List (List ℕ) → Result (List ℕ) BenchFault
   Observed bench script = result_case bench (λ state. Ok (replies (observed_line e) state script)) Err
 
-  -- the observed output of an input is that of its lines
-  observed_is : (rest : List ℕ)
-      → observed_output e setup (prefix ++ rest) ≡ Observed (bench_in setup prefix) (lines_of (after_separator prefix) ++ lines_of rest)
+  -- the observed output of an input is the observed output of the lines of its script
+  observed_is : (rest : List ℕ) → observed_output e setup (prefix ++ rest) ≡ Observed (bench_in setup prefix) (before ++ lines_of rest)
   observed_is rest =
       ap₂ Observed (bench_in-prefix prefix whole separated setup rest) (script_lines-prefix prefix whole separated rest)
 
   -- two rests of a script that are alike have equal observed outputs
-  from_bench : (bench : Result BenchState BenchFault) (rest another : List ℕ) → IfOk bench (λ state. TargetInvariant state.target)
-      → IfOk bench (λ bench.
-      let start = state_after bench_line bench (lines_of (after_separator prefix)) in LinesAlike e start start (lines_of rest) (lines_of another))
-      → Observed bench (lines_of (after_separator prefix) ++ lines_of rest) ≡ Observed bench (lines_of (after_separator prefix) ++ lines_of another)
-  from_bench (Ok bench) rest another kept alike =
-      ap Ok (script_observed e bench (lines_of (after_separator prefix)) (lines_of rest) (lines_of another) kept alike)
-  from_bench (Err fault) rest another kept alike = refl
+  rests_observed : (bench : Result BenchState BenchFault) (rest another : List ℕ) → StartInvariant bench
+      → IfOk bench (λ bench. let start = state_after bench_line bench before in LinesAlike e start start (lines_of rest) (lines_of another))
+      → Observed bench (before ++ lines_of rest) ≡ Observed bench (before ++ lines_of another)
+  rests_observed (Ok bench) rest another invariant alike =
+      ap Ok (script_observed e bench before (lines_of rest) (lines_of another) invariant alike)
+  rests_observed (Err fault) rest another invariant alike = refl
 
 -- proves that inputs which differ only in secrets have equal observed outputs
 pub secret_declassification : (setup : Setup) (input : List ℕ) → SecretDeclassification setup input
 secret_declassification setup input e other differ =
     ap (observed_output e setup) differ.input_is
     ∙ observed_is setup e differ.prefix differ.whole_prefix differ.separated differ.rest
-    ∙ from_bench setup e differ.prefix differ.whole_prefix differ.separated (bench_in setup differ.prefix) differ.rest differ.another
-    (bench_keeps setup differ.prefix) differ.alike
+    ∙ rests_observed setup e differ.prefix differ.whole_prefix differ.separated (bench_in setup differ.prefix) differ.rest differ.another
+    (bench_in_invariant setup differ.prefix) differ.alike
     ∙ sym (observed_is setup e differ.prefix differ.whole_prefix differ.separated differ.another)
     ∙ sym (ap (observed_output e setup) differ.other_is)

@@ -1,4 +1,5 @@
--- This file proves that each result of a job has the meaning that the output of the job for the input gives it.
+-- The result of a job is stated by its function in detail (`RunsStream`, `RunsTwin`, `RunsDis`, `RunsAsm`). This file derives the common statement
+-- (`MeetsOutput`). The sink took the output of the job for the input, or the job has the error of the input, or a device or memory failed.
 use Rattle.std.proofs.Common.{◌≡◌, ◌<◌, List, ℕ, ◌++◌, length, inl, inr, Ok, Err, sym, ap, ◌∙◌, subst, arith}
 use Rattle.std.specs.Result.{IsOkAnd}
 use Rattle.rv_memory.specs.declared.ram_fault.RamFault.TheVariants.{BadSize, NoMemory as NoRamMemory}
@@ -7,6 +8,7 @@ use Rattle.rv_command_line.specs.declared.job.Job.TheVariants.{Run, Twin, Asm, D
 use Rattle.rv_command_line.specs.declared.setup.Setup.{Setup}
 use Rattle.rv_streams.specs.declared.device.Sink.{Ghosts as SinkGhosts}
 use Rattle.rv_streams.specs.declared.device.Source.{Ghosts as SourceGhosts}
+use Rattle.rv_streams.specs.declared.fault.BenchFault.{BenchFault}
 use Rattle.rv_streams.specs.declared.fault.BenchFault.TheVariants.{Image, Ram, Read, Write, Hex, TooLong, NoMemory, Asm as AsmText}
 use Rattle.rv_streams.specs.declared.lines.Lines.{Lines}
 use Rattle.rv_streams.specs.Assemble.{RunsAsm}
@@ -31,42 +33,48 @@ module _ {S W : Type 0} (g : SourceGhosts S) (h : SinkGhosts W) (source left : S
 
   -- a source that gave bytes had some
   some_read : length (g.remaining left) < length (g.remaining source) → 0 < length (g.remaining source)
-  some_read less = omega (arith, less)
+  some_read fewer_left = omega (arith, fewer_left)
 
+  -- the job reads the source by lines, which are `old` before the job and `new` after it
   module _ (old new : Lines S g) (lines : ReadsByLines g source left old new) where
     -- the unread bytes of new lines are the remaining bytes of their source
     input_is : unread old ≡ g.remaining source
     input_is = ap (λ bytes. bytes ++ g.remaining old.source) lines.empty ∙ ap g.remaining lines.made
 
-    -- the source of the lines follows the input, if the source does
-    follows : g.follows_input left → g.follows_input new.source
-    follows = subst g.follows_input lines.back
-
     -- a failure of the source of the lines is a failure of the source
-    failed : SourceFailed g old.source new.source → SourceFailed g source left
-    failed risen = subst (λ left. SourceFailed g source left) (sym lines.back) (subst (λ source. SourceFailed g source new.source) lines.made risen)
+    source_failed : SourceFailed g old.source new.source → SourceFailed g source left
+    source_failed risen =
+        subst (λ left. SourceFailed g source left) (sym lines.back) (subst (λ source. SourceFailed g source new.source) lines.made risen)
 
-    -- a property of the input holds
+    -- a property of the unread bytes of the lines is a property of the remaining bytes of the source
     of_input : (P : List ℕ → Type 0) → (g.follows_input new.source → P (unread old)) → g.follows_input left → P (g.remaining source)
-    of_input P holds agrees = subst P input_is (holds (follows agrees))
+    of_input P holds follows = subst P input_is (holds (subst g.follows_input lines.back follows))
+
+    -- an error of a job has its meaning if nothing was written, and the input has this error or memory was refused
+    error_meets : (job : Job) (fault : BenchFault) → after ≡ before → (g.follows_input new.source → FailsBy job (unread old) fault)
+        → (after ≡ before) × (g.follows_input left → FailsBy job (g.remaining source) fault)
+    error_meets job fault unwritten fails_by = (unwritten, of_input (λ input. FailsBy job input fault) fails_by)
 
     module _ (setup : Setup) where
+      -- `run` is the job of a run
+      abbrev run : Job
+      run = Run setup
+
       -- a result of the run has the meaning that the job `run` has
-      stream_meets : (outcome : Outcome) → RunsStream h setup old new before after outcome → MeetsOutput g h source left before after (Run setup) outcome
-      stream_meets (Ok done) (size, run) = (run.sink, of_input (λ input. IsOkAnd (job_output (Run setup) input) Wrote) run.written)
-      stream_meets (Err Read) (run, stops) = failed run.source
-      stream_meets (Err Write) (size, run, stops) = (run.sink, of_input (λ input. IsOkAnd (job_output (Run setup) input) WrotePrefix) run.prefix)
-      stream_meets (Err Hex) (finds, fault, unwritten) = (unwritten, of_input (λ input. FailsBy (Run setup) input Hex) (λ agrees. inl (fault agrees)))
-      stream_meets (Err TooLong) (finds, fault, unwritten) =
-          (unwritten, of_input (λ input. FailsBy (Run setup) input TooLong) (λ agrees. inl (fault agrees)))
-      stream_meets (Err NoMemory) (memory, unwritten) = (unwritten, of_input (λ input. FailsBy (Run setup) input NoMemory) (λ agrees. inr (_, memory.reads agrees)))
-      stream_meets (Err (Ram BadSize)) (size, reads, fault, unwritten) =
-          (unwritten, of_input (λ input. FailsBy (Run setup) input (Ram BadSize)) (λ agrees. inl (fault agrees)))
+      stream_meets : (outcome : Outcome) → RunsStream h setup old new before after outcome → MeetsOutput g h source left before after run outcome
+      stream_meets (Ok done) (size, runs) = (runs.sink, of_input (λ input. IsOkAnd (job_output run input) Wrote) runs.written)
+      stream_meets (Err Read) (fails, stops) = source_failed fails.source
+      stream_meets (Err Write) (size, fails, stops) = (fails.sink, of_input (λ input. IsOkAnd (job_output run input) WrotePrefix) fails.prefix)
+      stream_meets (Err Hex) (finds, fault_is, unwritten) = error_meets run Hex unwritten (λ follows. inl (fault_is follows))
+      stream_meets (Err TooLong) (finds, fault_is, unwritten) = error_meets run TooLong unwritten (λ follows. inl (fault_is follows))
+      stream_meets (Err NoMemory) (memory, unwritten) = error_meets run NoMemory unwritten (λ follows. inr (_, memory.reads follows))
+      stream_meets (Err (Ram BadSize)) (size, reads, fault_is, unwritten) =
+          error_meets run (Ram BadSize) unwritten (λ follows. inl (fault_is follows))
       stream_meets (Err (Ram (NoRamMemory refused))) (size, bytes, reads, image, unwritten) =
-          (unwritten, of_input (λ input. FailsBy (Run setup) input (Ram (NoRamMemory refused))) (λ agrees. inr (size, bytes, image agrees)))
-      stream_meets (Err (Image fault)) (size, reads, told, unwritten) =
-          (unwritten, of_input (λ input. FailsBy (Run setup) input (Image fault)) (λ agrees. inl (told agrees)))
-      stream_meets (Err (AsmText fault)) never = absurd never
+          error_meets run (Ram (NoRamMemory refused)) unwritten (λ follows. inr (size, bytes, image follows))
+      stream_meets (Err (Image fault)) (size, reads, fault_is, unwritten) =
+          error_meets run (Image fault) unwritten (λ follows. inl (fault_is follows))
+      stream_meets (Err (AsmText fault)) impossible = absurd impossible
 
       module _ (slot : ℕ) where
         -- `twin` is the job of a twin run
@@ -75,71 +83,71 @@ module _ {S W : Type 0} (g : SourceGhosts S) (h : SinkGhosts W) (source left : S
 
         -- a result of the twin run has the meaning that the job `twin` has
         twin_meets : (outcome : Outcome) → RunsTwin h setup slot old new before after outcome → MeetsOutput g h source left before after twin outcome
-        twin_meets (Ok done) (size, run) = (run.sink, of_input (λ input. IsOkAnd (job_output twin input) Wrote) run.written)
-        twin_meets (Err Read) (run, stops) = failed run.source
-        twin_meets (Err Write) (size, run, stops) = (run.sink, of_input (λ input. IsOkAnd (job_output twin input) WrotePrefix) run.prefix)
-        twin_meets (Err Hex) (finds, fault, unwritten) = (unwritten, of_input (λ input. FailsBy twin input Hex) (λ agrees. inl (fault agrees)))
-        twin_meets (Err TooLong) (finds, fault, unwritten) = (unwritten, of_input (λ input. FailsBy twin input TooLong) (λ agrees. inl (fault agrees)))
-        twin_meets (Err NoMemory) (memory, unwritten) = (unwritten, of_input (λ input. FailsBy twin input NoMemory) (λ agrees. inr (_, memory.reads agrees)))
-        twin_meets (Err (Ram BadSize)) (size, reads, fault, unwritten) =
-            (unwritten, of_input (λ input. FailsBy twin input (Ram BadSize)) (λ agrees. inl (fault agrees)))
+        twin_meets (Ok done) (size, runs) = (runs.sink, of_input (λ input. IsOkAnd (job_output twin input) Wrote) runs.written)
+        twin_meets (Err Read) (fails, stops) = source_failed fails.source
+        twin_meets (Err Write) (size, fails, stops) = (fails.sink, of_input (λ input. IsOkAnd (job_output twin input) WrotePrefix) fails.prefix)
+        twin_meets (Err Hex) (finds, fault_is, unwritten) = error_meets twin Hex unwritten (λ follows. inl (fault_is follows))
+        twin_meets (Err TooLong) (finds, fault_is, unwritten) = error_meets twin TooLong unwritten (λ follows. inl (fault_is follows))
+        twin_meets (Err NoMemory) (memory, unwritten) = error_meets twin NoMemory unwritten (λ follows. inr (_, memory.reads follows))
+        twin_meets (Err (Ram BadSize)) (size, reads, fault_is, unwritten) =
+            error_meets twin (Ram BadSize) unwritten (λ follows. inl (fault_is follows))
         twin_meets (Err (Ram (NoRamMemory refused))) (size, bytes, reads, image, unwritten) =
-            (unwritten, of_input (λ input. FailsBy twin input (Ram (NoRamMemory refused))) (λ agrees. inr (size, bytes, image agrees)))
-        twin_meets (Err (Image fault)) (size, reads, told, unwritten) =
-            (unwritten, of_input (λ input. FailsBy twin input (Image fault)) (λ agrees. inl (told agrees)))
-        twin_meets (Err (AsmText fault)) never = absurd never
+            error_meets twin (Ram (NoRamMemory refused)) unwritten (λ follows. inr (size, bytes, image follows))
+        twin_meets (Err (Image fault)) (size, reads, fault_is, unwritten) =
+            error_meets twin (Image fault) unwritten (λ follows. inl (fault_is follows))
+        twin_meets (Err (AsmText fault)) impossible = absurd impossible
 
     -- a result of the disassembly has the meaning that the job `dis` has
     dis_meets : (outcome : Outcome) → RunsDis h old new before after outcome → MeetsOutput g h source left before after Dis outcome
     dis_meets (Ok done) (reads, sink, written) = (sink, of_input (λ input. IsOkAnd (job_output Dis input) Wrote) written)
-    dis_meets (Err Read) (fails, unwritten) = failed fails.source
+    dis_meets (Err Read) (fails, unwritten) = source_failed fails.source
     dis_meets (Err Write) (reads, sink, prefix) = (sink, of_input (λ input. IsOkAnd (job_output Dis input) WrotePrefix) prefix)
-    dis_meets (Err Hex) (finds, fault, unwritten) = (unwritten, of_input (λ input. FailsBy Dis input Hex) (λ agrees. inl (fault agrees)))
-    dis_meets (Err TooLong) (finds, fault, unwritten) = (unwritten, of_input (λ input. FailsBy Dis input TooLong) (λ agrees. inl (fault agrees)))
-    dis_meets (Err NoMemory) (memory, unwritten) = (unwritten, of_input (λ input. FailsBy Dis input NoMemory) (λ agrees. inr (_, memory.reads agrees)))
-    dis_meets (Err (Ram fault)) never = absurd never
-    dis_meets (Err (Image fault)) never = absurd never
-    dis_meets (Err (AsmText fault)) never = absurd never
+    dis_meets (Err Hex) (finds, fault_is, unwritten) = error_meets Dis Hex unwritten (λ follows. inl (fault_is follows))
+    dis_meets (Err TooLong) (finds, fault_is, unwritten) = error_meets Dis TooLong unwritten (λ follows. inl (fault_is follows))
+    dis_meets (Err NoMemory) (memory, unwritten) = error_meets Dis NoMemory unwritten (λ follows. inr (_, memory.reads follows))
+    dis_meets (Err (Ram fault)) impossible = absurd impossible
+    dis_meets (Err (Image fault)) impossible = absurd impossible
+    dis_meets (Err (AsmText fault)) impossible = absurd impossible
 
-  -- a result of the assembly has the meaning that the job `asm` has
+  -- a result of the assembly, which does not read by lines, has the meaning that the job `asm` has
   asm_meets : (outcome : Outcome) → RunsAsm g h source left before after outcome → MeetsOutput g h source left before after Asm outcome
   asm_meets (Ok done) (reads, sink, written) = (sink, written)
   asm_meets (Err Read) (fails, unwritten) = fails.source
   asm_meets (Err Write) (reads, sink, prefix) = (sink, prefix)
-  asm_meets (Err Hex) never = absurd never
-  asm_meets (Err TooLong) (finds, fault, unwritten) = (unwritten, λ agrees. inl (fault agrees))
-  asm_meets (Err NoMemory) (reads, unwritten) = (unwritten, λ agrees. inr (some_read (reads.some agrees)))
-  asm_meets (Err (Ram fault)) never = absurd never
-  asm_meets (Err (Image fault)) never = absurd never
+  asm_meets (Err Hex) impossible = absurd impossible
+  asm_meets (Err TooLong) (finds, fault_is, unwritten) = (unwritten, λ follows. inl (fault_is follows))
+  asm_meets (Err NoMemory) (reads, unwritten) = (unwritten, λ follows. inr (some_read (reads.some follows)))
+  asm_meets (Err (Ram fault)) impossible = absurd impossible
+  asm_meets (Err (Image fault)) impossible = absurd impossible
   asm_meets (Err (AsmText fault)) (reads, line, fails, unwritten) = (unwritten, fails)
 
   -- each result of a job has the meaning that the output of the job gives it
-  pub does_meets : (job : Job) (outcome : Outcome) → DoesJob g h source left before after job outcome
+  pub job_meets_output : (job : Job) (outcome : Outcome) → DoesJob g h source left before after job outcome
       → MeetsOutput g h source left before after job outcome
-  does_meets (Run setup) outcome does = stream_meets does.0 does.1 does.2 setup outcome does.3
-  does_meets (Twin setup slot) outcome does = twin_meets does.0 does.1 does.2 setup slot outcome does.3
-  does_meets Asm outcome does = asm_meets outcome does
-  does_meets Dis outcome does = dis_meets does.0 does.1 does.2 outcome does.3
+  job_meets_output (Run setup) outcome (old, new, lines, runs) = stream_meets old new lines setup outcome runs
+  job_meets_output (Twin setup slot) outcome (old, new, lines, runs) = twin_meets old new lines setup slot outcome runs
+  job_meets_output Asm outcome runs = asm_meets outcome runs
+  job_meets_output Dis outcome (old, new, lines, runs) = dis_meets old new lines outcome runs
 
-  -- an assembly does not change the input of the source
-  asm_same : (outcome : Outcome) → RunsAsm g h source left before after outcome → g.input left ≡ g.input source
-  asm_same (Ok done) (reads, sink, written) = reads.same
-  asm_same (Err Read) (fails, unwritten) = fails.same
-  asm_same (Err Write) (reads, sink, prefix) = reads.same
-  asm_same (Err Hex) never = absurd never
-  asm_same (Err TooLong) (finds, fault, unwritten) = finds.same
-  asm_same (Err NoMemory) (reads, unwritten) = reads.same
-  asm_same (Err (Ram fault)) never = absurd never
-  asm_same (Err (Image fault)) never = absurd never
-  asm_same (Err (AsmText fault)) (reads, line, fails, unwritten) = reads.same
+  -- an assembly does not change the input of the source, whatever its result
+  asm_same_input : (outcome : Outcome) → RunsAsm g h source left before after outcome → g.input left ≡ g.input source
+  asm_same_input (Ok done) (reads, sink, written) = reads.same
+  asm_same_input (Err Read) (fails, unwritten) = fails.same
+  asm_same_input (Err Write) (reads, sink, prefix) = reads.same
+  asm_same_input (Err Hex) impossible = absurd impossible
+  asm_same_input (Err TooLong) (finds, fault_is, unwritten) = finds.same
+  asm_same_input (Err NoMemory) (reads, unwritten) = reads.same
+  asm_same_input (Err (Ram fault)) impossible = absurd impossible
+  asm_same_input (Err (Image fault)) impossible = absurd impossible
+  asm_same_input (Err (AsmText fault)) (reads, line, fails, unwritten) = reads.same
 
   -- reading by lines does not change the input of the source
-  lines_same : (old new : Lines S g) → ReadsByLines g source left old new → g.input left ≡ g.input source
-  lines_same old new lines = ap g.input lines.back ∙ (lines.end.same ∙ ap g.input lines.made)
+  lines_same_input : (old new : Lines S g) → ReadsByLines g source left old new → g.input left ≡ g.input source
+  lines_same_input old new lines = ap g.input lines.back ∙ (lines.end.same ∙ ap g.input lines.made)
 
-  -- the assumed input stays the same
-  pub does_same : (job : Job) (outcome : Outcome) → DoesJob g h source left before after job outcome → g.input left ≡ g.input source
-  does_same (Run setup) outcome does = lines_same does.0 does.1 does.2
-  does_same (Twin setup slot) outcome does = lines_same does.0 does.1 does.2
-  does_same Asm outcome does = asm_same outcome does
-  does_same Dis outcome does = lines_same does.0 does.1 does.2
+  -- no job changes the input that the source is assumed to have
+  pub job_same_input : (job : Job) (outcome : Outcome) → DoesJob g h source left before after job outcome → g.input left ≡ g.input source
+  job_same_input (Run setup) outcome (old, new, lines, runs) = lines_same_input old new lines
+  job_same_input (Twin setup slot) outcome (old, new, lines, runs) = lines_same_input old new lines
+  job_same_input Asm outcome runs = asm_same_input outcome runs
+  job_same_input Dis outcome (old, new, lines, runs) = lines_same_input old new lines

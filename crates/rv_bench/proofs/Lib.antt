@@ -2,31 +2,31 @@
 mod PairLemmas
 -- Noninterference of scripts
 mod NoninterferenceLemmas
--- Lines keep two benches related, and what others observe of the replies is equal, by the law of one command; and from one input to another
+-- Declassification over scripts: lines that are alike keep two benches related, and the observed parts of the replies are equal
 mod Declassified
 -- An example of the law of declassification: an enclave runs on the selected hart
 mod DeclassificationExample
--- The end of the second script of a pair
+-- The second script of a twin run: it ends at the line that enters the slot, or at the end of the input
 mod Entering
--- The laws of commands about the host's influence and about events hold from any line of a script on
+-- The laws of commands about the host's influence and about events, from any line of a script on
 mod HostInfluence
 -- Inputs that begin with the same whole lines, including the separator
 mod PrefixLines
 -- The replies to lines, one after another
 mod RepliesLemmas
--- A run, line by line
+-- A run over the lines of a script: the responses to the lines so far, to one more line, and to all lines
 mod Runs
 -- An example of the law of secrets
 mod SecretExample
--- The closed instance from input to output
+-- A closed instance of the law of declassification, from input to output
 mod SecretScript
 -- The memory of the closed instance after its image is loaded
 mod SecretImage
 -- Every part of a script preserves each enclave that it leaves undisturbed, by the law of one command
 mod IntegrityLemmas
--- The result of each job, by its output for the input
+-- The result of each job, stated by the output of the job for the input
 mod JobResults
--- The output of the program, by its effects
+-- The program wrote its output for its arguments and its input, or a device failed
 mod ProgramResults
 -- The program over a reader and a writer, by their logs
 mod StandardResults
@@ -34,11 +34,11 @@ mod StandardResults
 mod Starts
 -- A run over an input, from its image and its script
 mod Streams
--- The loop over the lines of a script, iteration by iteration
-mod LoopTurns
+-- The loop over the lines of a script, one iteration at a time
+mod LoopSteps
 -- The program from bytes in memory to bytes in memory
 mod MemoryResults
--- Two benches with the same script stay equivalent, and each preserves undisturbed enclaves, by the laws of one command over the lines
+-- Laws of a twin run: two benches with the same script stay equivalent until the slot is entered, and each preserves undisturbed enclaves
 mod TwinAlike
 -- A twin run over an input, from its image and its two scripts
 mod Twins

@@ -1,4 +1,4 @@
--- This file proves that the effects of the program give its output.
+-- The program wrote its output for its arguments and its input, or a device failed: derived from the job that it performed and what it reported.
 use Rattle.std.proofs.Common.{◌≡◌, ◌⊎◌, ℕ, List, ◌++◌, inl, inr, Result, Ok, Err, refl, sym, ap, subst}
 use Rattle.std.specs.Result.{IsOkAnd}
 use Rattle.clap.specs.Words.{Text}
@@ -10,79 +10,90 @@ use Rattle.rv_streams.specs.declared.device.Sink.{Ghosts as SinkGhosts}
 use Rattle.rv_streams.specs.declared.device.Source.{Ghosts as SourceGhosts}
 use Rattle.rv_streams.specs.declared.fault.BenchFault.{BenchFault}
 use Rattle.rv_streams.specs.declared.fault.BenchFault.TheVariants.{Image, Ram, Read, Write, Hex, TooLong, NoMemory, Asm as AsmText}
-use Rattle.rv_streams.specs.Calls.{SourceFailed, SinkFlushed, SinkFailed}
+use Rattle.rv_streams.specs.Calls.{SinkFlushed}
 use Rattle.rv_streams.specs.Faults.{Outcome}
 use Rattle.rv_bench.specs.FaultText.{fault_text}
 use Rattle.rv_bench.specs.Performing.{Performs, Refuses, ReportsOutcome, TriesToWrite, exit_status}
 use Rattle.rv_bench.specs.ProgramOutput.{FailsBy, Means, MeetsOutput, RunsProgram, StopsAtDevice, Writes, WritesOutput, failed_status, output_of}
-use Rattle.rv_bench.proofs.JobResults.{does_meets, does_same}
+use Rattle.rv_bench.proofs.JobResults.{job_meets_output, job_same_input}
 
 module _ {S W : Type 0} (g : SourceGhosts S) (h : SinkGhosts W) (source left : S) (before after : W) where
   -- the output was written, or a device failed
   abbrev Ends : Result Job WordsFault → ℕ → Type 0
-  Ends read status = WritesOutput g h source left before after read (g.remaining source) status ⊎ StopsAtDevice g h source left before after read status
+  Ends read status =
+      WritesOutput g h source left before after read (g.remaining source) status ⊎ StopsAtDevice g h source left before after read status
 
   -- a text was written, or the sink failed
   tries : (read : Result Job WordsFault) (text : List ℕ) (status : ℕ) → TriesToWrite h before after text
-      → (Writes g h source left before after (record { text = text; status = status }) status → WritesOutput g h source left before after read (g.remaining source) status)
+      → (Writes g h source left before after (record { text = text; status = status }) status
+      → WritesOutput g h source left before after read (g.remaining source) status)
       → status ≡ failed_status read → Ends read status
-  tries read text status (inl wrote) into is = inl (into (record { sink = wrote.sink; written = wrote.written; status_is = refl }))
-  tries read text status (inr stopped) into status_is = inr (inr stopped.sink, status_is)
+  tries read text status (inl wrote) is_output status_is =
+      inl (is_output (record { sink = wrote.sink; written = wrote.written; status_is = refl }))
+  tries read text status (inr stopped) is_output status_is = inr (inr stopped.sink, status_is)
 
   -- a job that succeeded has written its text, with exit status 0
   succeeds : (job : Job) (result : Result (List ℕ) BenchFault) → SinkFlushed h before after
       → IsOkAnd result (λ text. h.taken after ≡ h.taken before ++ text) → Writes g h source left before after (output_of result) 0
-  succeeds job (Ok text) sink written = record { sink = sink; written = written; status_is = refl }
-  succeeds job (Err fault) sink written = absurd written
+  succeeds job (Ok text) sink_flushed written = record { sink = sink_flushed; written = written; status_is = refl }
+  succeeds job (Err fault) sink_flushed impossible = absurd impossible
 
-  -- an error of the input, or memory was refused
+  -- a job that failed by an error of the input, or since memory was refused, has tried to write the text of the error, with exit status 1
   fails : (job : Job) (fault : BenchFault) → TriesToWrite h before after (fault_text fault) → FailsBy job (g.remaining source) fault → Ends (Ok job) 1
-  fails job fault told (inl is) =
-      tries (Ok job) (fault_text fault) 1 told
-      (λ writes. inl (subst (λ result. Writes g h source left before after (output_of result) 1) (sym is) writes)) refl
-  fails job fault told (inr memory) = tries (Ok job) (fault_text fault) 1 told (λ writes. inr (output_of (Err fault), (fault, memory, refl), writes)) refl
+  fails job fault tries_to_write (inl output_is_fault) =
+      tries (Ok job) (fault_text fault) 1 tries_to_write
+      (λ writes. inl (subst (λ result. Writes g h source left before after (output_of result) 1) (sym output_is_fault) writes)) refl
+  fails job fault tries_to_write (inr out_of_memory) =
+      tries (Ok job) (fault_text fault) 1 tries_to_write (λ writes. inr (output_of (Err fault), (fault, out_of_memory, refl), writes)) refl
 
-  -- if the arguments name no job, the program ends with their fault
+  -- if the arguments name no job, the program ends with the text and the status of their fault
   refuses : (fault : WordsFault) (status : ℕ) → Refuses h before after fault status → Ends (Err fault) status
-  refuses words.Refused status (told, is) = subst (Ends (Err words.Refused)) (sym is) (tries (Err words.Refused) _ 2 told (λ writes. inl writes) refl)
-  refuses words.NoMemory status (told, is) = subst (Ends (Err words.NoMemory)) (sym is) (tries (Err words.NoMemory) _ 1 told (λ writes. inl writes) refl)
-  refuses (words.Help text) status (inl (wrote, is)) = inl (inl (record { sink = wrote.sink; written = wrote.written; status_is = is }))
-  refuses (words.Help text) status (inr (stopped, is)) = inr (inr stopped.sink, is)
+  refuses words.Refused status (tries_to_write, status_is) =
+      subst (Ends (Err words.Refused)) (sym status_is) (tries (Err words.Refused) _ 2 tries_to_write (λ writes. inl writes) refl)
+  refuses words.NoMemory status (tries_to_write, status_is) =
+      subst (Ends (Err words.NoMemory)) (sym status_is) (tries (Err words.NoMemory) _ 1 tries_to_write (λ writes. inl writes) refl)
+  refuses (words.Help text) status (inl (wrote, status_is)) =
+      inl (inl (record { sink = wrote.sink; written = wrote.written; status_is = status_is }))
+  refuses (words.Help text) status (inr (stopped, status_is)) = inr (inr stopped.sink, status_is)
 
 module _ {S W : Type 0} (g : SourceGhosts S) (h : SinkGhosts W) (source left : S) (before : W) (job : Job) where
-  -- the outcome of the job was reported
+  -- an error that is not of a device was reported, after which the sink is `after`: nothing was written before the text of the error
+  reports_error : (fault : BenchFault) (mid after : W) → mid ≡ before → TriesToWrite h mid after (fault_text fault)
+      → FailsBy job (g.remaining source) fault → Ends g h source left before after (Ok job) 1
+  reports_error fault mid after unwritten tries_to_write fails_by =
+      fails g h source left before after job fault (subst (λ mid. TriesToWrite h mid after (fault_text fault)) unwritten tries_to_write) fails_by
+
+  -- the outcome of the job, after which the sink is `mid`, was reported, after which it is `after`: the output was written, or a device failed
   reports : (outcome : Outcome) (mid after : W) → MeetsOutput g h source left before mid job outcome → ReportsOutcome h outcome mid after
       → g.follows_input left → Ends g h source left before after (Ok job) (exit_status outcome)
-  reports (Ok done) mid after (sink, written) same follows =
-      subst (λ after. Ends g h source left before after (Ok job) 0) (sym same)
-      (inl (inl (succeeds g h source left before mid job _ sink (written follows))))
-  reports (Err Read) mid after failed told follows = inr (inl failed, refl)
-  reports (Err Write) mid after (failed, prefix) same follows =
-      subst (λ after. Ends g h source left before after (Ok job) 1) (sym same) (inr (inr failed, refl))
-  reports (Err Hex) mid after (same, by) told follows =
-      fails g h source left before after job Hex (subst (λ mid. TriesToWrite h mid after (fault_text Hex)) same told) (by follows)
-  reports (Err TooLong) mid after (same, by) told follows =
-      fails g h source left before after job TooLong (subst (λ mid. TriesToWrite h mid after (fault_text TooLong)) same told) (by follows)
-  reports (Err NoMemory) mid after (same, by) told follows =
-      fails g h source left before after job NoMemory (subst (λ mid. TriesToWrite h mid after (fault_text NoMemory)) same told) (by follows)
-  reports (Err (Ram fault)) mid after (same, by) told follows =
-      fails g h source left before after job (Ram fault) (subst (λ mid. TriesToWrite h mid after (fault_text (Ram fault))) same told) (by follows)
-  reports (Err (Image fault)) mid after (same, by) told follows =
-      fails g h source left before after job (Image fault) (subst (λ mid. TriesToWrite h mid after (fault_text (Image fault))) same told) (by follows)
-  reports (Err (AsmText fault)) mid after (same, by) told follows =
-      fails g h source left before after job (AsmText fault) (subst (λ mid. TriesToWrite h mid after (fault_text (AsmText fault))) same told) (by follows)
+  reports (Ok done) mid after (sink_flushed, written) same_sink follows =
+      subst (λ after. Ends g h source left before after (Ok job) 0) (sym same_sink)
+      (inl (inl (succeeds g h source left before mid job _ sink_flushed (written follows))))
+  reports (Err Read) mid after source_failed reported follows = inr (inl source_failed, refl)
+  reports (Err Write) mid after (sink_failed, prefix) same_sink follows =
+      subst (λ after. Ends g h source left before after (Ok job) 1) (sym same_sink) (inr (inr sink_failed, refl))
+  reports (Err Hex) mid after (unwritten, fails_by) reported follows = reports_error Hex mid after unwritten reported (fails_by follows)
+  reports (Err TooLong) mid after (unwritten, fails_by) reported follows = reports_error TooLong mid after unwritten reported (fails_by follows)
+  reports (Err NoMemory) mid after (unwritten, fails_by) reported follows = reports_error NoMemory mid after unwritten reported (fails_by follows)
+  reports (Err (Ram fault)) mid after (unwritten, fails_by) reported follows =
+      reports_error (Ram fault) mid after unwritten reported (fails_by follows)
+  reports (Err (Image fault)) mid after (unwritten, fails_by) reported follows =
+      reports_error (Image fault) mid after unwritten reported (fails_by follows)
+  reports (Err (AsmText fault)) mid after (unwritten, fails_by) reported follows =
+      reports_error (AsmText fault) mid after unwritten reported (fails_by follows)
 
--- the program wrote its output, or a device failed
+-- the program that performed the job of its arguments, or refused them, wrote its output, or a device failed
 pub runs_program : {S W : Type 0} (g : SourceGhosts S) (h : SinkGhosts W) (source left : S) (before after : W) (given : List Text) (status : ℕ)
     → Performs g h source left before after given status → RunsProgram g h source left before after (Means given) status
 runs_program g h source left before after given status (inl (accepted, does)) =
-    let meets = does_meets g h source left before does.mid (job_of given) does.outcome does.does in record {
-      same = does_same g h source left before does.mid (job_of given) does.outcome does.does;
-      read = Ok (job_of given);
+    let job = job_of given in
+    let meets = job_meets_output g h source left before does.mid job does.outcome does.does in record {
+      same = job_same_input g h source left before does.mid job does.outcome does.does;
+      read = Ok job;
       means = (accepted, refl);
       untouched = tt;
-      writes = λ follows. subst (Ends g h source left before after (Ok (job_of given))) (sym does.status_is)
-          (reports g h source left before (job_of given) does.outcome does.mid after meets does.told follows);
+      writes = λ follows. subst (Ends g h source left before after (Ok job)) (sym does.status_is)
+          (reports g h source left before job does.outcome does.mid after meets does.told follows);
     }
 runs_program g h source left before after given status (inr refused) = record {
   same = ap g.input refused.untouched;
@@ -96,5 +107,6 @@ runs_program g h source left before after given status (inr refused) = record {
 pub runs_refused : {S W : Type 0} (g : SourceGhosts S) (h : SinkGhosts W) (source : S) (before after : W) (IsMeaning : Result Job WordsFault → Type 0)
     (fault : WordsFault) (status : ℕ) → IsMeaning (Err fault) → Refuses h before after fault status
     → RunsProgram g h source source before after IsMeaning status
-runs_refused g h source before after IsMeaning fault status means told =
-    record { same = refl; read = Err fault; means = means; untouched = refl; writes = λ follows. refuses g h source source before after fault status told }
+runs_refused g h source before after IsMeaning fault status means fault_reported =
+    let writes = λ (follows : g.follows_input source). refuses g h source source before after fault status fault_reported in
+    record { same = refl; read = Err fault; means = means; untouched = refl; writes = writes }

@@ -1,4 +1,4 @@
--- This file describes a run, line by line.
+-- Lemmas about a run over the lines of a script: the responses to the lines so far, to one more line, and to all lines.
 use Rattle.std.proofs.Common.{◌≡◌, ℕ, Bool, false, not, length, inl, inr, Result, Ok, arith, List, [], ◌∷◌, ◌++◌, take, refl, sym}
 use Rattle.std.proofs.Common.{◌∙◌, ap, subst, append_assoc, append-nil, lit≤}
 use Rattle.std.proofs.lemmas.Bool.{false≢true}
@@ -20,7 +20,7 @@ use Rattle.rv_streams.proofs.Ends.{SinkFailed-after, SinkFlushed-after, SinkWork
 use Rattle.rv_streams.proofs.LineTextLemmas.{ReadsLines-none, ReadsLines-more}
 use Rattle.rv_streams.proofs.ScriptLemmas.{ends_script-shown, script_lines-all, script_lines-prefix, ReadsScript, FindsEnd-separator, FindsEnd-whole}
 use Rattle.rv_streams.proofs.TakeWhileLemmas.{list_all-push}
-use Rattle.rv_bench.specs.Responses.{RespondsToAll, RespondsToLine, RespondsToLines, RespondsToNext}
+use Rattle.rv_bench.specs.Responses.{RespondsToAll, RespondsToEnd, RespondsToLine, RespondsToLines, RespondsToNext}
 use Rattle.rv_bench.specs.Replies.{Responding, Replied, bench_line, one_bench, replies, state_after}
 use Rattle.rv_bench.specs.Run.{FailsIn, RunsScript, StopsAtRead, StopsAtWrite}
 use Rattle.rv_debug.specs.BenchState.{BenchState}
@@ -33,8 +33,9 @@ use Rattle.rv_bench.proofs.RepliesLemmas.{replies-append, state_after-append, re
 -- the response to a line, for an equal responder and an equal line
 pub RespondsToLine-same : {A : Type 0} {old by : Responding A} {now : A} {given line : List ℕ} {responded : Replied A} → old ≡ by → given ≡ line
     → RespondsToLine old now given responded → RespondsToLine by now line responded
-RespondsToLine-same {old = old} {now = now} {line = line} {responded = responded} responds same is =
-    subst (λ b. RespondsToLine b now line responded) responds (subst (λ l. RespondsToLine old now l responded) same is)
+RespondsToLine-same {old = old} {now = now} {line = line} {responded = responded} same_responder same_line responds =
+    subst (λ responder. RespondsToLine responder now line responded) same_responder
+    (subst (λ line. RespondsToLine old now line responded) same_line responds)
 
 -- ---- the lines so far
 
@@ -49,40 +50,41 @@ module _ {A : Type 0} {by : Responding A} {end : ScriptEnd} {start : A} {unread 
   }
 
   module _ {now : A} {left new : List ℕ} where
-    -- if the input is not at its end after the lines, it is not at its end
+    -- the responses to the lines so far, if the end of the input is not yet reported
     pub RespondsToLines-going : {is_at_end : Bool} → is_at_end ≡ false → RespondsToLines by end start unread old now left is_at_end new
         → RespondsToLines by end start unread old now left false new
-    RespondsToLines-going going so_far = subst (λ b. RespondsToLines by end start unread old now left b new) going so_far
+    RespondsToLines-going not_at_end so_far =
+        subst (λ is_at_end. RespondsToLines by end start unread old now left is_at_end new) not_at_end so_far
 
-    -- the source fails in a line
+    -- if the source fails in the next line, the run stops at this read, after the responses to the lines so far
     pub RespondsToLines-read : {rest kept : List ℕ} → RespondsToLines by end start unread old now left false new → by.is_over now ≡ false
         → ReadsLineText left rest kept → StopsAtRead by end start unread rest kept old new
-    RespondsToLines-read so_far going begun = let reads = so_far.taken.reads in record {
+    RespondsToLines-read so_far not_over begun = let reads = so_far.taken.reads in record {
       text = reads.text;
       begun = begun.text;
-      split = reads.split ∙ ap (λ t. reads.text ++ t) begun.split;
+      split = reads.split ∙ ap (λ rest. reads.text ++ rest) begun.split;
       whole = reads.whole refl;
       unfinished = begun.unfinished;
       prefix = begun.prefix;
       inside = ap (script_lines end) reads.are_lines ∙ (script_lines-all end so_far.lines so_far.taken.inside ∙ sym reads.are_lines);
-      going = ap by.is_over (ap (state_after by.respond start) reads.are_lines ∙ sym so_far.state) ∙ going;
+      going = ap by.is_over (ap (state_after by.respond start) reads.are_lines ∙ sym so_far.state) ∙ not_over;
       written = so_far.written ∙ ap (λ lines. old ++ replies by.respond start lines) (sym reads.are_lines);
     }
 
     module _ {is_at_end : Bool} {rest : List ℕ} (so_far : RespondsToLines by end start unread old now left is_at_end new)
         (whole : ReadsScript end unread rest so_far.lines) where
-      -- at the end every line of the script has its reply
+      -- after the whole script, the written bytes are the replies to all its lines
       pub RespondsToLines-all : new ≡ old ++ replies by.respond start (script_lines end (lines_of unread))
       RespondsToLines-all = so_far.written ∙ ap (λ lines. old ++ replies by.respond start lines) (sym whole.all)
 
-      -- the state is that after all of them
+      -- after the whole script, the state is the state after all its lines
       pub RespondsToLines-state : now ≡ state_after by.respond start (script_lines end (lines_of unread))
       RespondsToLines-state = so_far.state ∙ ap (state_after by.respond start) (sym whole.all)
 
       -- if the sink fails after the last line, all lines of the script have their replies
       pub RespondsToLines-written : {last : List ℕ} → by.is_over now ≡ false → last ≡ new
           → StopsAtWrite by end start unread rest old last
-      RespondsToLines-written going kept = let reads = whole.reads in record {
+      RespondsToLines-written not_over same_bytes = let reads = whole.reads in record {
         text = reads.text;
         responded = so_far.lines;
         next = [];
@@ -90,29 +92,31 @@ module _ {A : Type 0} {by : Responding A} {end : ScriptEnd} {start : A} {unread 
         split = reads.split;
         are_lines = ap (script_lines end) reads.are_lines ∙ (whole.inside ∙ sym (append-nil so_far.lines));
         all = reads.all ∙ ap (λ lines. lines ++ lines_of rest) (sym reads.are_lines);
-        going = ap by.is_over (sym so_far.state) ∙ going;
-        written = ([], ([], kept ∙ (so_far.written ∙ sym (append-nil (old ++ replies by.respond start so_far.lines))), refl));
+        going = ap by.is_over (sym so_far.state) ∙ not_over;
+        written = ([], ([], same_bytes ∙ (so_far.written ∙ sym (append-nil (old ++ replies by.respond start so_far.lines))), refl));
       }
 
-  -- the written bytes, if the sink fails, are a prefix of all replies
+  -- if the sink fails, the written bytes are a prefix of all replies: the replies before the failure, and a prefix of the next reply
   pub StopsAtWrite-prefix : {left new : List ℕ} → StopsAtWrite by end start unread left old new
       → WritesPrefix old new (replies by.respond start (script_lines end (lines_of unread)))
   StopsAtWrite-prefix {left = left} stops =
-      let (more, (prefix, wrote, said)) = stops.written in
-      let (following, split) = script_lines-prefix end (lines_of stops.text) (lines_of left) in
-      let before = replies by.respond start stops.responded in
+      let (unwritten, (prefix, wrote, reply_is)) = stops.written in
+      let (following, script_is) = script_lines-prefix end (lines_of stops.text) (lines_of left) in
       let read = script_lines end (lines_of stops.text) in
+      let before = replies by.respond start stops.responded in
       let others = replies by.respond (state_after by.respond start read) following in
-      let first : replies by.respond start read ≡ before ++ (prefix ++ more) =
-      ap (replies by.respond start) stops.are_lines ∙ (replies-append by.respond start stops.responded stops.next ∙ ap (λ t. before ++ t) said) in (
-        more ++ others,
+      let read_replies : replies by.respond start read ≡ before ++ (prefix ++ unwritten) =
+      ap (replies by.respond start) stops.are_lines
+      ∙ (replies-append by.respond start stops.responded stops.next ∙ ap (λ reply. before ++ reply) reply_is) in (
+        unwritten ++ others,
         (
           before ++ prefix,
           wrote ∙ append_assoc old before prefix,
           ap (λ lines. replies by.respond start (script_lines end lines)) stops.all
-              ∙ (ap (replies by.respond start) split
+              ∙ (ap (replies by.respond start) script_is
               ∙ (replies-append by.respond start read following
-              ∙ (ap (λ t. t ++ others) (first ∙ sym (append_assoc before prefix more)) ∙ append_assoc (before ++ prefix) more others))),
+              ∙ (ap (λ text. text ++ others) (read_replies ∙ sym (append_assoc before prefix unwritten))
+              ∙ append_assoc (before ++ prefix) unwritten others))),
         ),
       )
 
@@ -124,20 +128,21 @@ module _ {A : Type 0} {by : Responding A} {end : ScriptEnd} {start : A} {unread 
   abbrev lines : List (List ℕ)
   lines = next.so_far.lines ++ next.takes.line ∷ []
 
-  -- after the lines so far, it has the response to the bytes that are taken of it
+  -- The response to one more line depends only on its significant bytes, which `next` has responded to.
   next_response : by.respond (state_after by.respond start next.so_far.lines) next.takes.line ≡ record { state = after; reply = reply }
-  next_response = let line = next.takes.line in
-      ap (λ s. by.respond s line) (sym next.so_far.state)
-      ∙ (next.responds.1 line (sym (ap (take significant_bytes) next.takes.prefix
-      ∙ take-take significant_bytes significant_bytes line (lit≤ tt))) ∙ next.responds.0)
+  next_response =
+      let line = next.takes.line in
+      let same_significant = sym (ap (take significant_bytes) next.takes.prefix ∙ take-take significant_bytes significant_bytes line (lit≤ tt)) in
+      ap (λ state. by.respond state line) (sym next.so_far.state) ∙ (next.responds.1 line same_significant ∙ next.responds.0)
 
   -- the responder was not over before the line
   pub RespondsToNext-going : by.is_over (state_after by.respond start next.so_far.lines) ≡ false
   RespondsToNext-going = ap by.is_over (sym next.so_far.state) ∙ next.going
 
-  -- the state is that after all lines, with the last one
+  -- the state is the state after all lines, including the last one
   pub RespondsToNext-state : after ≡ state_after by.respond start lines
-  RespondsToNext-state = sym (state_after-append by.respond start next.so_far.lines (next.takes.line ∷ []) ∙ ap (λ (a : Replied A). a.state) next_response)
+  RespondsToNext-state =
+      sym (state_after-append by.respond start next.so_far.lines (next.takes.line ∷ []) ∙ ap (λ (a : Replied A). a.state) next_response)
 
   -- the lines taken from the source are the lines of the script so far, and the last one
   pub RespondsToNext-taken : TakesScript end unread rest ends lines
@@ -149,24 +154,27 @@ module _ {A : Type 0} {by : Responding A} {end : ScriptEnd} {start : A} {unread 
 
   -- after the reply to one more line is written, the lines so far include this line
   pub RespondsToNext-wrote : {new : List ℕ} → new ≡ mid ++ reply → RespondsToLines by end start unread old after rest ends new
-  RespondsToNext-wrote wrote = let so_far = next.so_far in record {
-    lines = lines;
-    taken = RespondsToNext-taken;
-    state = RespondsToNext-state;
-    written =
-        wrote
-        ∙ (ap (λ t. t ++ reply) so_far.written
-        ∙ (append_assoc old (replies by.respond start so_far.lines) reply
-        ∙ ap (λ t. old ++ t) (sym (replies-more by.respond start so_far.lines next.takes.line
-        ∙ ap (λ (a : Replied A). replies by.respond start so_far.lines ++ a.reply) next_response))));
-  }
+  RespondsToNext-wrote wrote_reply =
+      let so_far = next.so_far in
+      let before = replies by.respond start so_far.lines in
+      record {
+        lines = lines;
+        taken = RespondsToNext-taken;
+        state = RespondsToNext-state;
+        written =
+            wrote_reply
+            ∙ (ap (λ text. text ++ reply) so_far.written
+            ∙ (append_assoc old before reply
+            ∙ ap (λ text. old ++ text) (sym (replies-more by.respond start so_far.lines next.takes.line
+            ∙ ap (λ (a : Replied A). before ++ a.reply) next_response))));
+      }
 
   -- if the sink fails within the reply to a line, the script stops at this write
   pub RespondsToNext-stops : {new : List ℕ} → WritesPrefix mid new reply → StopsAtWrite by end start unread rest old new
-  RespondsToNext-stops stops =
+  RespondsToNext-stops (unwritten, (prefix, wrote_prefix, reply_split)) =
       let so_far = next.so_far in
       let reads = RespondsToNext-taken.reads in
-      let said = append-nil (by.respond (state_after by.respond start so_far.lines) next.takes.line).reply
+      let reply_is = append-nil (by.respond (state_after by.respond start so_far.lines) next.takes.line).reply
       ∙ ap (λ (a : Replied A). a.reply) next_response in record {
         text = reads.text;
         responded = so_far.lines;
@@ -176,51 +184,51 @@ module _ {A : Type 0} {by : Responding A} {end : ScriptEnd} {start : A} {unread 
         are_lines = ap (script_lines end) reads.are_lines ∙ script_lines-all end lines RespondsToNext-taken.inside;
         all = reads.all ∙ ap (λ lines. lines ++ lines_of rest) (sym reads.are_lines);
         going = RespondsToNext-going;
-        written =
-            let (more, (prefix, wrote, split)) = stops in
-            (more, (prefix, wrote ∙ ap (λ t. t ++ prefix) so_far.written, said ∙ split));
+        written = (unwritten, (prefix, wrote_prefix ∙ ap (λ text. text ++ prefix) so_far.written, reply_is ∙ reply_split));
       }
 
 -- ---- the responses to a script
 
 module _ {W : Type 0} (h : SinkGhosts W) where
-  -- the calls of a sink in a script: it is flushed once at the end of the input, and not at a separator
+  -- the calls of a sink in a script: it is flushed once if the script ends with the input, and not if it ends at a separator
   abbrev pub SinkAt : ScriptEnd → W → W → Type 0
   SinkAt Input = SinkFlushed h
   SinkAt Separator = SinkWorked h
 
-  -- the state of the sink after the end of a script, after earlier writes
+  -- writes that worked, followed by the calls at the end of a script, are the calls of a sink in a script
   SinkAt-after : (end : ScriptEnd) (old mid new : W) → SinkWorked h old mid → SinkAt end mid new → SinkAt end old new
   SinkAt-after Input old mid new = SinkFlushed-after h
   SinkAt-after Separator old mid new = SinkWorked-more h
 
 module _ {S W : Type 0} {g : SourceGhosts S} (h : SinkGhosts W) where
-  -- no line of the script was left, and its replies are written
+  -- the run reached the end of the script: no line was left, and the replies are written
   RunsScript-whole : (end : ScriptEnd) (output : Result (List ℕ) BenchFault) (before after : W) {old mid new : Lines S g}
       → SourceWorked g old.source new.source → held new ≡ [] → SinkAt h end before after → EndsWithSource old new → FindsEnd end mid new
       → (g.follows_input new.source → (lines : List (List ℕ)) × TakesScript end (unread old) (unread mid) mid.is_at_end lines)
       → (g.follows_input new.source → IsOkAnd output (λ text. h.taken after ≡ h.taken before ++ text))
       → RunsScript h end output old new before after
-  RunsScript-whole Input output before after source emptied sink ends (inl at_end) taken written = record {
+  RunsScript-whole Input output before after source_worked none_held sink_calls ends_with_source (inl at_end) lines_taken written = record {
     at_end = at_end.at_end;
-    ended = ends.ended at_end.at_end;
-    emptied = emptied;
-    source = source;
-    sink = sink;
+    ended = ends_with_source.ended at_end.at_end;
+    emptied = none_held;
+    source = source_worked;
+    sink = sink_calls;
     used_up = at_end.left;
     written = written;
   }
-  RunsScript-whole Input output before after source emptied sink ends (inr reads) taken written = absurd (false≢true reads.ends)
-  RunsScript-whole Separator output before after {old = old} {mid = mid} {new = new} source emptied sink ends found taken written =
-      record { reads = FindsEnd-separator old mid new source emptied found taken; sink = sink; written = written }
+  RunsScript-whole Input output before after source_worked none_held sink_calls ends_with_source (inr reads) lines_taken written =
+      absurd (false≢true reads.ends)
+  RunsScript-whole Separator output before after {old = old} {mid = mid} {new = new} source_worked none_held sink_calls ends_with_source found
+      lines_taken written =
+      record { reads = FindsEnd-separator old mid new source_worked none_held found lines_taken; sink = sink_calls; written = written }
 
-  -- the sink passed on what it held after the replies
+  -- the responses are the same after the sink passed on the bytes that it held
   pub RespondsToAll-passed : {A : Type 0} {by : Responding A} {end : ScriptEnd} {start now : A} {old new : Lines S g} {before mid after : W}
       → RespondsToAll h by end start now old new before mid → h.taken after ≡ h.taken mid → SinkWorked h mid after
       → RespondsToAll h by end start now old new before after
-  RespondsToAll-passed {by = by} {end = end} {start = start} {now = now} {old = old} {before = before} responds same worked = record {
+  RespondsToAll-passed {by = by} {end = end} {start = start} {now = now} {old = old} {before = before} responds same_bytes sink_worked = record {
     source = responds.source;
-    sink = SinkWorked-more h responds.sink worked;
+    sink = SinkWorked-more h responds.sink sink_worked;
     emptied = responds.emptied;
     stopped = elim responds.stopped [
       | inl run ↦ inl (record {
@@ -228,7 +236,8 @@ module _ {S W : Type 0} {g : SourceGhosts S} (h : SinkGhosts W) where
         found = run.found;
         going = run.going;
         responded = λ follows.
-            subst (RespondsToLines by end start (unread old) (h.taken before) now (unread run.last) run.last.is_at_end) (sym same) (run.responded follows);
+            subst (RespondsToLines by end start (unread old) (h.taken before) now (unread run.last) run.last.is_at_end)
+            (sym same_bytes) (run.responded follows);
       })
       | inr run ↦ inr (record {
         was = run.was;
@@ -238,44 +247,51 @@ module _ {S W : Type 0} {g : SourceGhosts S} (h : SinkGhosts W) where
         is = run.is;
         going = run.going;
         over = run.over;
-        told = same ∙ run.told;
+        told = same_bytes ∙ run.told;
         next = run.next;
       })
     ];
   }
 
-  -- The sink may be flushed after the replies; if it fails then, it has all replies.
+  -- a responder that has responded to all lines, up to the end of the script, has read the whole script
+  pub script_read : {A : Type 0} {by : Responding A} {end : ScriptEnd} {start now : A} {old new : Lines S g} {before after : W}
+      → (run : RespondsToEnd h by end start now old new before after) → (follows : g.follows_input new.source)
+      → ReadsScript end (unread old) (unread new) (run.responded follows).lines
+  script_read {end = end} {old = old} {new = new} run follows =
+      FindsEnd-whole old run.last new end _ run.found (run.responded follows).taken follows
+
+  -- One bench has responded to a script. The sink may be flushed after the replies; if it fails then, it has all replies.
   module _ {end : ScriptEnd} {start now : BenchState} {old new : Lines S g} {before mid : W}
       (responds : RespondsToAll h one_bench end start now old new before mid) (ends : EndsWithSource old new) where
-    -- the bench after the run is that after all lines of the script
+    -- a bench is never over, so it responds to all lines of the script, and is then in the state after them
     pub one_bench-state : g.follows_input new.source → now ≡ state_after bench_line start (script_lines end (lines_of (unread old)))
     one_bench-state follows = elim responds.stopped [
-      | inl run ↦ RespondsToLines-state (run.responded follows)
-          (FindsEnd-whole old run.last new end _ run.found (run.responded follows).taken follows)
+      | inl run ↦ RespondsToLines-state (run.responded follows) (script_read run follows)
       | inr run ↦ absurd (false≢true run.over)
     ]
 
-    module _ {after : W} (same : h.taken after ≡ h.taken mid) where
+    module _ {after : W} (same_bytes : h.taken after ≡ h.taken mid) where
       -- all replies were written: the meaning of an Ok result
-      pub one_bench-runs : SinkAt h end mid after → RunsScript h end (Ok (replies bench_line start (script_lines end (lines_of (unread old))))) old new before after
-      one_bench-runs sink = elim responds.stopped [
+      pub one_bench-runs : SinkAt h end mid after
+          → RunsScript h end (Ok (replies bench_line start (script_lines end (lines_of (unread old))))) old new before after
+      one_bench-runs sink_calls = elim responds.stopped [
         | inl run ↦
-            RunsScript-whole end _ before after responds.source responds.emptied (SinkAt-after h end before mid after responds.sink sink) ends run.found
+            RunsScript-whole end _ before after responds.source responds.emptied (SinkAt-after h end before mid after responds.sink sink_calls)
+            ends run.found
             (λ follows. ((run.responded follows).lines, (run.responded follows).taken))
-            (λ follows. same ∙ RespondsToLines-all (run.responded follows)
-            (FindsEnd-whole old run.last new end _ run.found (run.responded follows).taken follows))
+            (λ follows. same_bytes ∙ RespondsToLines-all (run.responded follows) (script_read run follows))
         | inr run ↦ absurd (false≢true run.over)
       ]
 
       -- a failure of the sink after the replies is the write error of the run
       pub one_bench-fails : SinkFailed h mid after → FailsIn h one_bench end start old new before after Write
-      one_bench-fails failed = elim responds.stopped [
+      one_bench-fails sink_failed = elim responds.stopped [
         | inl run ↦
-            let stops = λ (follows : g.follows_input new.source). RespondsToLines-written (run.responded follows)
-            (FindsEnd-whole old run.last new end _ run.found (run.responded follows).taken follows) refl same in (
+            let stops = λ (follows : g.follows_input new.source).
+            RespondsToLines-written (run.responded follows) (script_read run follows) refl same_bytes in (
               record {
                 source = responds.source;
-                sink = SinkFailed-after h responds.sink failed;
+                sink = SinkFailed-after h responds.sink sink_failed;
                 emptied = responds.emptied;
                 prefix = λ follows. StopsAtWrite-prefix (stops follows);
               },

@@ -21,68 +21,72 @@ use Rattle.rv_bench.specs.Replies.{bench_line, state_after}
 use Rattle.rv_streams.proofs.Mapped.{IsOkAnd-at}
 use Rattle.rv_bench.proofs.NoninterferenceLemmas.{secret_noninterference}
 
--- `key` has lines that poke a key
+-- `key` pokes a key byte into the enclave, and has a comment line
 abbrev key : List ℕ
 key = codes "poke 80020000 41\n# that was the key\n"
 
--- `other_key` has lines that poke another key
+-- `other_key` pokes another key byte, to another address of the enclave
 abbrev other_key : List ℕ
 other_key = codes "poke 80020ffc 5a\n# that was the key\n"
 
--- `rest` is the rest of the script
+-- `rest` is the rest of the script, which lists the enclaves and shows the registers
 abbrev rest : List ℕ
 rest = codes "enclaves\nregs\n"
 
--- the enclave is live and runs on no hart, and these are bytes of its region
+-- the enclave of slot 0 is live and runs on no hart, and the two addresses that the keys are poked to are in its region
 pub record HasEnclave (bench : BenchState) : Type 0 where
   pub idle : can_scramble 0 bench ≡ true
   pub first : has (region_in 0 bench.target) 0x80020000 ≡ true
   pub second : has (region_in 0 bench.target) 0x80020ffc ≡ true
 
 -- a comment avoids the enclave
-comment_passes : (bench : BenchState) → LineAvoidsEnclave 0 bench (codes "# that was the key")
+comment_avoids_enclave : (bench : BenchState) → LineAvoidsEnclave 0 bench (codes "# that was the key")
 unfolding parse_of is_text meaning_of words_of is_blind execute
-comment_passes bench = record { blind = refl; past = refl }
+comment_avoids_enclave bench = record { blind = refl; past = refl }
 
 -- `enclaves` avoids the enclave
-enclaves_pass : (bench : BenchState) → LineAvoidsEnclave 0 bench (codes "enclaves")
+enclaves_avoids_enclave : (bench : BenchState) → LineAvoidsEnclave 0 bench (codes "enclaves")
 unfolding parse_of is_text meaning_of words_of keyword_of is_blind execute
-enclaves_pass bench = record { blind = refl; past = refl }
+enclaves_avoids_enclave bench = record { blind = refl; past = refl }
 
 -- `regs` avoids the enclave
-regs_pass : (bench : BenchState) → LineAvoidsEnclave 0 bench (codes "regs")
+regs_avoids_enclave : (bench : BenchState) → LineAvoidsEnclave 0 bench (codes "regs")
 unfolding parse_of is_text meaning_of words_of keyword_of is_blind execute
-regs_pass bench = record { blind = refl; past = refl }
+regs_avoids_enclave bench = record { blind = refl; past = refl }
 
--- the line pokes 41 into the region
-first_poke : parse_of (codes "poke 80020000 41") ≡ Ok (Poke 0x80020000 0x41)
+-- the first line of `key` is read as a poke of the byte 41
+first_poke_parsed : parse_of (codes "poke 80020000 41") ≡ Ok (Poke 0x80020000 0x41)
 unfolding parse_of is_text meaning_of words_of keyword_of hexadecimal_of number_of_digits byte_of_text
-first_poke = refl
+first_poke_parsed = refl
 
--- the line pokes 5a into the region
-second_poke : parse_of (codes "poke 80020ffc 5a") ≡ Ok (Poke 0x80020ffc 0x5a)
+-- the first line of `other_key` is read as a poke of the byte 5a
+second_poke_parsed : parse_of (codes "poke 80020ffc 5a") ≡ Ok (Poke 0x80020ffc 0x5a)
 unfolding parse_of is_text meaning_of words_of keyword_of hexadecimal_of number_of_digits byte_of_text
-second_poke = refl
+second_poke_parsed = refl
 
--- the keys are secrets: the other lines avoid the enclave
-is_secret : (bench : BenchState) → HasEnclave bench → AreSecret 0 bench (lines_of key) (lines_of other_key) (lines_of rest)
-is_secret bench there = record {
-  pokes = (inl (IsOkAnd-at _ _ _ first_poke there.first, IsOkAnd-at _ _ _ second_poke there.second), (inr (refl, comment_passes _), tt));
-  passes = λ live. (enclaves_pass _, λ live. (regs_pass _, tt));
-  by = inl there.idle;
+-- the keys are secrets: each is poked into the region, and the other lines avoid the enclave, which runs on no hart
+keys_are_secret : (bench : BenchState) → HasEnclave bench → AreSecret 0 bench (lines_of key) (lines_of other_key) (lines_of rest)
+keys_are_secret bench enclave = record {
+  pokes = (
+    inl (IsOkAnd-at _ _ _ first_poke_parsed enclave.first, IsOkAnd-at _ _ _ second_poke_parsed enclave.second),
+    (inr (refl, comment_avoids_enclave _), tt),
+  );
+  passes = λ live. (enclaves_avoids_enclave _, λ live. (regs_avoids_enclave _, tt));
+  by = inl enclave.idle;
 }
 
 -- the keys are secrets after any lines before them
-from_bench : (bench : Result BenchState BenchFault) (before : List (List ℕ)) → IfOk bench (λ bench. HasEnclave (state_after bench_line bench before))
+keys_are_secret_after : (bench : Result BenchState BenchFault) (before : List (List ℕ))
+    → IfOk bench (λ bench. HasEnclave (state_after bench_line bench before))
     → IfOk bench (λ bench. AreSecret 0 (state_after bench_line bench before) (lines_of key) (lines_of other_key) (lines_of rest))
-from_bench (Ok bench) before there = is_secret (state_after bench_line bench before) there
-from_bench (Err fault) before there = tt
+keys_are_secret_after (Ok bench) before enclave = keys_are_secret (state_after bench_line bench before) enclave
+keys_are_secret_after (Err fault) before enclave = tt
 
--- two keys that the script pokes into the enclave have the same output, whatever the lines before and after
+-- two inputs that differ only in the key have the same output, whatever the lines before the key
 pub key_is_concealed : (setup : Setup) (prefix : List ℕ) → through_last_feed prefix ≡ prefix → has_separator prefix ≡ true
     → IfOk (bench_in setup prefix) (λ bench. HasEnclave (state_after bench_line bench (lines_of (after_separator prefix))))
     → output setup (prefix ++ (key ++ rest)) ≡ output setup (prefix ++ (other_key ++ rest))
-key_is_concealed setup prefix whole separated there =
+key_is_concealed setup prefix whole_lines separated has_enclave =
     secret_noninterference setup (prefix ++ (key ++ rest)) 0 (prefix ++ (other_key ++ rest)) (record {
       prefix = prefix;
       secret = key;
@@ -90,9 +94,9 @@ key_is_concealed setup prefix whole separated there =
       rest = rest;
       input_is = refl;
       other_is = refl;
-      whole_prefix = whole;
+      whole_prefix = whole_lines;
       whole_secret = refl;
       whole_another = refl;
       separated = separated;
-      poked = from_bench (bench_in setup prefix) (lines_of (after_separator prefix)) there;
+      poked = keys_are_secret_after (bench_in setup prefix) (lines_of (after_separator prefix)) has_enclave;
     })

@@ -1,4 +1,4 @@
--- This file states the effect of the program over a reader and a writer, in terms of their call logs.
+-- The effect of the program over a reader and a writer, in terms of the logs of their calls.
 use Rattle.std.proofs.Common.{◌≡◌, ◌<◌, ◌+◌, ◌⊎◌, ℕ, List, [], ◌++◌, inl, inr, Result, Ok, Err, zero, suc, true, refl, sym, ◌∙◌, ap, subst, arith}
 use Rattle.std.specs.Result.{OnErr}
 use Rattle.clap.specs.Words.{Text}
@@ -17,59 +17,62 @@ use Rattle.rv_bench.specs.Standard.{Gave, Passed, RunsOverStreams}
 
 -- The counts of a sink that was not called before are those of the log, and so are its bytes once it is flushed.
 pub record LogsSink {W : Type 0} (h : SinkGhosts W) (before after : W) (log : CallLog) : Type 0 where
-  pub nothing : h.taken before ≡ []
-  pub unfailed : h.failures before ≡ 0
-  pub unrefused : h.refusals before ≡ 0
-  pub unflushed : h.flushes before ≡ 0
+  -- before the first call, the sink has taken no byte, and no call has failed, taken no byte, or flushed
+  pub none_taken : h.taken before ≡ []
+  pub none_failed : h.failures before ≡ 0
+  pub none_refused : h.refusals before ≡ 0
+  pub none_flushed : h.flushes before ≡ 0
+  -- after the last call, the sink and the log agree
   pub taken : h.is_flushed after ≡ true → h.taken after ≡ log.bytes
   pub flushed : h.is_flushed after ≡ true → log.is_flushed ≡ true
   pub failures : h.failures after + h.refusals after ≡ log.failures + log.empty_calls
   pub flushes : h.flushes after ≡ log.flushes
 
--- the state of a sink that holds bytes for another one
-abbrev held_ghosts : {W : Type 0} (h : SinkGhosts W) → SinkGhosts (BufferedSink W h)
-held_ghosts h = record {
+-- the ghost values of a sink that buffers bytes for another sink; such a sink refuses no call
+abbrev buffered_ghosts : {W : Type 0} (h : SinkGhosts W) → SinkGhosts (BufferedSink W h)
+buffered_ghosts h = record {
   taken = taken_of h;
   is_flushed = is_flushed_of h;
-  flushes = λ it. h.flushes it.sink;
-  refusals = λ it. 0;
+  flushes = λ buffered. h.flushes buffered.sink;
+  refusals = λ buffered. 0;
   failures = failures_of h;
 }
 
--- a sink that holds bytes for another sink with a log has the counts of this log
-pub held_logs : {W : Type 0} (h : SinkGhosts W) (before after : BufferedSink W h) (log : CallLog) → taken_of h before ≡ [] → failures_of h before ≡ 0
-    → h.flushes before.sink ≡ 0 → h.taken after.sink ≡ log.bytes → h.is_flushed after.sink ≡ log.is_flushed → failures_of h after ≡ log.failures + log.empty_calls
-    → h.flushes after.sink ≡ log.flushes → LogsSink (held_ghosts h) before after log
-held_logs h before after log nothing unfailed unflushed bytes flushed failures flushes = record {
-  nothing = nothing;
-  unfailed = unfailed;
-  unrefused = refl;
-  unflushed = unflushed;
-  taken = λ is. all_passed (h.taken after.sink) after.buffer (h.is_flushed after.sink) after.start after.end is ∙ bytes;
-  flushed = λ is. sym flushed ∙ flushed_too (h.is_flushed after.sink) _ is;
-  failures = omega (arith, failures);
-  flushes = flushes;
+-- a sink that buffers bytes for another sink with a log has the counts of this log
+pub buffered_logs : {W : Type 0} (h : SinkGhosts W) (before after : BufferedSink W h) (log : CallLog)
+    → taken_of h before ≡ [] → failures_of h before ≡ 0 → h.flushes before.sink ≡ 0
+    → h.taken after.sink ≡ log.bytes → h.is_flushed after.sink ≡ log.is_flushed → failures_of h after ≡ log.failures + log.empty_calls
+    → h.flushes after.sink ≡ log.flushes → LogsSink (buffered_ghosts h) before after log
+buffered_logs h before after log none_taken none_failed none_flushed same_bytes same_flushed same_failures same_flushes = record {
+  none_taken = none_taken;
+  none_failed = none_failed;
+  none_refused = refl;
+  none_flushed = none_flushed;
+  taken = λ is_flushed. all_passed (h.taken after.sink) after.buffer (h.is_flushed after.sink) after.start after.end is_flushed ∙ same_bytes;
+  flushed = λ is_flushed. sym same_flushed ∙ flushed_too (h.is_flushed after.sink) _ is_flushed;
+  failures = omega (arith, same_failures);
+  flushes = same_flushes;
 }
 
--- one of two counts has risen if their sum has
-one_of_both : (m n : ℕ) → 0 < m + n → (0 < m) ⊎ (0 < n)
-one_of_both zero n some = inr (omega (arith, some))
-one_of_both (suc m) n some = inl (omega arith)
+-- if a sum of two counts is positive, one of them is
+one_is_positive : (m n : ℕ) → 0 < m + n → (0 < m) ⊎ (0 < n)
+one_is_positive zero n sum_positive = inr (omega (arith, sum_positive))
+one_is_positive (suc m) n sum_positive = inl (omega arith)
 
 module _ {S W : Type 0} (g : SourceGhosts S) (h : SinkGhosts W) (source left : S) (before after : W) (writer : CallLog)
     (logs : LogsSink h before after writer) where
-  -- standard output gets the output of the program
+  -- if the sink was written and flushed without an error, standard output got exactly this output of the program
   passed : (output : ProgramOutput) (status : ℕ) → Writes g h source left before after output status → Passed writer output status
   passed output status writes = let worked = writes.sink.worked in record {
-    bytes = sym (logs.taken writes.sink.flushed) ∙ (writes.written ∙ ap (λ taken. taken ++ output.text) logs.nothing);
-    failures = omega (arith, logs.failures, worked.0, worked.1, logs.unfailed, logs.unrefused);
-    refusals = omega (arith, logs.failures, worked.0, worked.1, logs.unfailed, logs.unrefused);
+    bytes = sym (logs.taken writes.sink.flushed) ∙ (writes.written ∙ ap (λ taken. taken ++ output.text) logs.none_taken);
+    failures = omega (arith, logs.failures, worked.0, worked.1, logs.none_failed, logs.none_refused);
+    refusals = omega (arith, logs.failures, worked.0, worked.1, logs.none_failed, logs.none_refused);
     flushed = logs.flushed writes.sink.flushed;
-    once = sym logs.flushes ∙ (writes.sink.once ∙ ap (λ n. n + 1) logs.unflushed);
+    once = sym logs.flushes ∙ (writes.sink.once ∙ ap (λ count. count + 1) logs.none_flushed);
     status_is = writes.status_is;
   }
 
-  -- standard output gets the output for the arguments, or another output if memory runs out
+  -- standard output got the output for the arguments, or another output if memory ran out
   outputs : (read : Result Job WordsFault) (input : List ℕ) (status : ℕ) → WritesOutput g h source left before after read input status
       → Passed writer (program_output read input) status
       ⊎ ((output : ProgramOutput) × StopsOutOfMemory read input output × Passed writer output status)
@@ -78,26 +81,30 @@ module _ {S W : Type 0} (g : SourceGhosts S) (h : SinkGhosts W) (source left : S
 
   -- a failure of the sink is a failure of standard output, or a call that took no byte
   sink_failed : SinkFailed h before after → (0 < writer.failures) ⊎ (0 < writer.empty_calls)
-  sink_failed (inl risen) = one_of_both writer.failures writer.empty_calls (omega (arith, risen, logs.failures))
-  sink_failed (inr risen) = one_of_both writer.failures writer.empty_calls (omega (arith, risen, logs.failures))
+  sink_failed (inl failures_rose) = one_is_positive writer.failures writer.empty_calls (omega (arith, failures_rose, logs.failures))
+  sink_failed (inr refusals_rose) = one_is_positive writer.failures writer.empty_calls (omega (arith, refusals_rose, logs.failures))
 
   -- for refused arguments, no byte of the input was read
   read_nothing : (read : Result Job WordsFault) (Nothing : Type 0) → (left ≡ source → Nothing) → OnErr read (left ≡ source) → OnErr read Nothing
-  read_nothing (Ok job) Nothing none same = tt
-  read_nothing (Err fault) Nothing none same = none same
+  read_nothing (Ok job) Nothing if_untouched untouched = tt
+  read_nothing (Err fault) Nothing if_untouched untouched = if_untouched untouched
 
   -- the program over standard input and output has its specified result, whether its arguments are read or refused
   pub runs_over : (given : Result (List Text) WordsFault) (input : List ℕ) (reader : CallLog) (status : ℕ)
-      → (g.input left ≡ g.input source → Gave reader input → g.follows_input left) → g.remaining source ≡ input → g.failures source ≡ 0 → g.failures left ≡ reader.failures
+      → (g.input left ≡ g.input source → Gave reader input → g.follows_input left)
+      → g.remaining source ≡ input → g.failures source ≡ 0 → g.failures left ≡ reader.failures
       → (left ≡ source → reader ≡ no_call input)
       → RunsProgram g h source left before after (MeansGiven given) status → RunsOverStreams given input reader writer status
-  runs_over given input reader status gave input_is unfailed failures none runs = record {
+  runs_over given input reader status follows_if_gave input_is none_failed same_failures no_call_if_untouched runs = record {
     read = runs.read;
     means = runs.means;
-    untouched = read_nothing runs.read (reader ≡ no_call input) none runs.untouched;
-    writes = λ by. elim (runs.writes (gave runs.same by)) [
-      | inl writes ↦ inl (outputs runs.read input status (subst (λ input. WritesOutput g h source left before after runs.read input status) input_is writes))
-      | inr (inl risen, status_is) ↦ let some : 0 < reader.failures = omega (arith, risen, unfailed, failures) in inr (inl some, status_is)
+    untouched = read_nothing runs.read (reader ≡ no_call input) no_call_if_untouched runs.untouched;
+    writes = λ gave. elim (runs.writes (follows_if_gave runs.same gave)) [
+      | inl writes ↦
+          let writes_for_input = subst (λ input. WritesOutput g h source left before after runs.read input status) input_is writes in
+          inl (outputs runs.read input status writes_for_input)
+      | inr (inl source_failed, status_is) ↦
+          let reader_failed : 0 < reader.failures = omega (arith, source_failed, none_failed, same_failures) in inr (inl reader_failed, status_is)
       | inr (inr failed, status_is) ↦ inr (inr (sink_failed failed), status_is)
     ];
   }

@@ -1,4 +1,4 @@
--- This file derives the meaning of a run over an input from its image and its script.
+-- The meaning of each result of a run over an input, derived from the image that was read and the script that was run.
 use Rattle.std.proofs.Common.{◌≡◌, ℕ, List, ◌++◌, inr, Result, Ok, Err, refl, sym, ◌∙◌, ap, subst, arith}
 use Rattle.std.specs.Result.{IsOkAnd}
 use Rattle.rv_text.specs.Lines.{lines_of}
@@ -27,33 +27,43 @@ use Rattle.rv_bench.specs.Stream.{RunsStream}
 use Rattle.rv_bench.proofs.Starts.{no_ram, has_ram, fault_has_ram}
 
 -- a result that is Ok and has a property is Ok with a value that has it
-ok_and : {A E : Type 0} (r : Result A E) (P : A → Type 0) → IsOkAnd r P → (x : A) × (r ≡ Ok x) × P x
-ok_and (Ok x) P h = (x, refl, h)
-ok_and (Err e) P h = absurd h
+ok_and : {A E : Type 0} (result : Result A E) (P : A → Type 0) → IsOkAnd result P → (x : A) × (result ≡ Ok x) × P x
+ok_and (Ok x) P holds = (x, refl, holds)
+ok_and (Err e) P impossible = absurd impossible
 
+-- The image was read from the lines `old` through the separator, which leaves the lines `mid`. The script is read from there, which leaves `new`.
 module _ {S W : Type 0} {g : SourceGhosts S} (h : SinkGhosts W) (setup : Setup) (image : List ℕ) (old mid new : Lines S g) (before after : W)
-    (reads : ReadsThroughSeparator old mid) (image_is : g.follows_input mid.source → image_in (unread old) ≡ Ok image) (image_end : EndsWithSource old mid)
-    (script_end : EndsWithSource mid new) where
-  -- the bench of the input is that of the image
-  bench_is : (r : Result BenchState BenchFault) → started image setup ≡ r → g.follows_input mid.source → bench_in setup (unread old) ≡ r
-  bench_is r starts follows = rw (image_is follows) starts
+    (reads : ReadsThroughSeparator old mid) (image_is : g.follows_input mid.source → image_in (unread old) ≡ Ok image)
+    (image_end : EndsWithSource old mid) (script_end : EndsWithSource mid new) where
+  -- the input starts the bench of the image, or has its error
+  bench_is : (bench : Result BenchState BenchFault) → started image setup ≡ bench → g.follows_input mid.source
+      → bench_in setup (unread old) ≡ bench
+  bench_is bench starts follows = rw (image_is follows) starts
 
-  -- the output of an input is the replies to the lines of its script
+  -- the output for an input is the replies to the lines of its script
   output_is : (state : BenchState) → started image setup ≡ Ok state → g.follows_input mid.source
       → output setup (unread old) ≡ Ok (replies bench_line state (lines_of (unread mid)))
   output_is state starts follows =
-      ap (λ m. replies_of m (lines_of (after_separator (unread old)))) (bench_is (Ok state) starts follows)
-      ∙ ap (λ t. Ok (replies bench_line state (lines_of t))) (sym (reads.rest follows))
+      ap (λ bench. replies_of bench (lines_of (after_separator (unread old)))) (bench_is (Ok state) starts follows)
+      ∙ ap (λ script. Ok (replies bench_line state (lines_of script))) (sym (reads.rest follows))
 
-  -- the error of an input is that of the start
+  -- the error of an input is the error of the start
   fault_is : (fault : BenchFault) → started image setup ≡ Err fault → g.follows_input mid.source → output setup (unread old) ≡ Err fault
-  fault_is fault starts follows = ap (λ m. replies_of m (lines_of (after_separator (unread old)))) (bench_is (Err fault) starts follows)
+  fault_is fault starts follows =
+      ap (λ bench. replies_of bench (lines_of (after_separator (unread old)))) (bench_is (Err fault) starts follows)
 
-  -- a failure of the source after the image is a failure of the source in the whole call
-  failed : SourceFailed g mid.source new.source → SourceFailed g old.source new.source
-  failed risen = let same = reads.source in omega (arith, risen, same)
+  -- a failure of the source in the script is a failure of the source in the whole call
+  source_failed : SourceFailed g mid.source new.source → SourceFailed g old.source new.source
+  source_failed script_failed = let image_worked = reads.source in omega (arith, script_failed, image_worked)
 
-  -- the image was read and the script is run
+  -- a property of the bench and of the text of its script holds of the bench and the script of the whole input
+  of_input : (P : List ℕ → BenchState → Type 0) (state : BenchState) → started image setup ≡ Ok state → g.follows_input mid.source
+      → P (unread mid) state → IsOkAnd (bench_in setup (unread old)) (P (after_separator (unread old)))
+  of_input P state starts follows holds =
+      subst (λ bench. IsOkAnd bench (P (after_separator (unread old)))) (sym (bench_is (Ok state) starts follows))
+      (subst (λ script. P script state) (reads.rest follows) holds)
+
+  -- the result of the script, or the error of the start, is the result of the whole run
   pub streamed : (outcome : Outcome) → RunsBench h image setup mid new before after outcome → RunsStream h setup old new before after outcome
   streamed (Ok done) runs =
       let (state, starts, run) = ok_and (started image setup) _ runs in (
@@ -65,41 +75,41 @@ module _ {S W : Type 0} {g : SourceGhosts S} (h : SinkGhosts W) (setup : Setup) 
           source = run.source ∙ reads.source;
           sink = run.sink;
           used_up = run.used_up;
-          written = λ follows. subst (λ o. IsOkAnd o (λ text. h.taken after ≡ h.taken before ++ text))
+          written = λ follows. subst (λ output. IsOkAnd output (λ text. h.taken after ≡ h.taken before ++ text))
               (sym (output_is state starts (script_end.before follows))) (run.written follows);
         },
       )
   streamed (Err Read) runs =
-      let (state, starts, run) = ok_and (started image setup) _ runs in (
-        record { source = failed run.0.source; sink = run.0.sink; going = run.0.going },
+      let (state, starts, (fails, stops)) = ok_and (started image setup) _ runs in
+      let Stops : List ℕ → BenchState → Type 0 = λ script bench.
+      StopsAtRead one_bench Input bench script (g.remaining new.source) (held new) (h.taken before) (h.taken after) in (
+        record { source = source_failed fails.source; sink = fails.sink; going = fails.going },
         λ follows. inr (
-          separator_read old mid new reads script_end run.0.going follows,
-          subst (λ m. IsOkAnd m (λ state. StopsAtRead one_bench Input state (after_separator (unread old)) (g.remaining new.source) (held new)
-              (h.taken before) (h.taken after))) (sym (bench_is (Ok state) starts (script_end.before follows)))
-              (subst (λ t. StopsAtRead one_bench Input state t (g.remaining new.source) (held new) (h.taken before) (h.taken after))
-              (reads.rest (script_end.before follows)) (run.1 follows)),
+          separator_read old mid new reads script_end fails.going follows,
+          of_input Stops state starts (script_end.before follows) (stops follows),
         ),
       )
   streamed (Err Write) runs =
-      let (state, starts, run) = ok_and (started image setup) _ runs in (
+      let (state, starts, (fails, stops)) = ok_and (started image setup) _ runs in
+      let Stops : List ℕ → BenchState → Type 0 = λ script bench.
+      StopsAtWrite one_bench Input bench script (unread new) (h.taken before) (h.taken after) in (
         has_ram image setup state starts,
         record {
-          source = run.0.source ∙ reads.source;
-          sink = run.0.sink;
-          emptied = run.0.emptied;
-          prefix = λ follows. subst (λ o. IsOkAnd o (λ text. WritesPrefix (h.taken before) (h.taken after) text))
-              (sym (output_is state starts (script_end.before follows))) (run.0.prefix follows);
+          source = fails.source ∙ reads.source;
+          sink = fails.sink;
+          emptied = fails.emptied;
+          prefix = λ follows. subst (λ output. IsOkAnd output (λ text. WritesPrefix (h.taken before) (h.taken after) text))
+              (sym (output_is state starts (script_end.before follows))) (fails.prefix follows);
         },
-        λ follows.
-            subst (λ m. IsOkAnd m (λ state. StopsAtWrite one_bench Input state (after_separator (unread old)) (unread new) (h.taken before)
-            (h.taken after))) (sym (bench_is (Ok state) starts (script_end.before follows)))
-            (subst (λ t. StopsAtWrite one_bench Input state t (unread new) (h.taken before) (h.taken after)) (reads.rest (script_end.before follows))
-            (run.1 follows)),
+        λ follows. of_input Stops state starts (script_end.before follows) (stops follows),
       )
-  streamed (Err (Ram BadSize)) (none, same, unwritten) =
-      (none, subst (ReadsThroughSeparator old) (sym same) reads, λ follows. fault_is (Ram BadSize) (no_ram image setup none) (script_end.before follows), unwritten)
-  streamed (Err (Ram (NoRamMemory refused))) (some, size, same, unwritten) =
-      (some, size, subst (ReadsThroughSeparator old) (sym same) reads, λ follows. rw (image_is (script_end.before follows)) refl, unwritten)
-  streamed (Err (Image fault)) (faulty, same, unwritten) =
-      (fault_has_ram image setup fault faulty, subst (ReadsThroughSeparator old) (sym same) reads, λ follows. fault_is (Image fault) faulty (script_end.before follows), unwritten)
+  streamed (Err (Ram BadSize)) (bad_size, same_lines, unwritten) =
+      let reads_new = subst (ReadsThroughSeparator old) (sym same_lines) reads in
+      (bad_size, reads_new, λ follows. fault_is (Ram BadSize) (no_ram image setup bad_size) (script_end.before follows), unwritten)
+  streamed (Err (Ram (NoRamMemory refused))) (valid_size, bytes_are, same_lines, unwritten) =
+      let reads_new = subst (ReadsThroughSeparator old) (sym same_lines) reads in
+      (valid_size, bytes_are, reads_new, λ follows. rw (image_is (script_end.before follows)) refl, unwritten)
+  streamed (Err (Image fault)) (bad_image, same_lines, unwritten) =
+      let reads_new = subst (ReadsThroughSeparator old) (sym same_lines) reads in
+      (fault_has_ram image setup fault bad_image, reads_new, λ follows. fault_is (Image fault) bad_image (script_end.before follows), unwritten)
   streamed (Err _) runs = absurd (ok_and (started image setup) _ runs).2

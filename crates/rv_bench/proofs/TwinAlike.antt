@@ -1,4 +1,5 @@
--- Two benches with the same script stay equivalent, and each preserves undisturbed enclaves, by the laws of one command over the lines.
+-- Laws of a twin run: two benches with the same script stay equivalent until the slot is entered, and each preserves undisturbed enclaves. Each law
+-- follows from the law of one command, by induction over the lines.
 use Rattle.std.proofs.Common.{◌≡◌, ℕ, Bool, true, false, List, [], ◌∷◌, ◌++◌, Option, Some, None, IfSome, Result, Ok, Err, IfOk, refl, sym}
 use Rattle.std.proofs.Common.{◌∙◌, ap, subst}
 use Rattle.std.specs.Prelude.{◌&&◌, ◌||◌, if◌then◌else◌}
@@ -10,10 +11,9 @@ use Rattle.rv_script.specs.Command.{parse_of}
 use Rattle.rv_debug.specs.Noninterference.{AlikeBy, StayAlike}
 use Rattle.rv_debug.specs.Isolation.{IsPreservedIn, after_commands}
 use Rattle.rv_debug.specs.Targets.{TargetInvariant}
-use Rattle.rv_debug.specs.BothBenches.{BenchesEquivExcept, BothExecuted, BothLineExecuted, RunsOnNoHart, TargetsEquivExcept, both_execute}
-use Rattle.rv_debug.specs.BothBenches.{both_do, both_execute_line, both_line_executed}
-use Rattle.rv_debug.specs.BothBenches.{can_scramble}
-use Rattle.rv_debug.specs.BothBenches.{can_scramble_in, has_no_command, is_blind, scrambled, scrambled_in}
+use Rattle.rv_debug.specs.BothBenches.{BenchesEquivExcept, BothExecuted, BothLineExecuted, RunsOnNoHart, TargetsEquivExcept, both_execute, both_do}
+use Rattle.rv_debug.specs.BothBenches.{both_execute_line, both_line_executed, can_scramble, can_scramble_in, has_no_command, is_blind, scrambled}
+use Rattle.rv_debug.specs.BothBenches.{scrambled_in}
 use Rattle.rv_debug.specs.declared.both.BothLine.{BothLine}
 use Rattle.rv_debug.specs.declared.both.BothLine.TheVariants.{Given}
 use Rattle.rv_debug.specs.declared.both.BothWhy.{BothWhy}
@@ -22,9 +22,9 @@ use Rattle.rv_script.specs.declared.command.Command.{Command}
 use Rattle.rv_script.specs.declared.command.CommandFault.{CommandFault}
 use Rattle.rv_debug.specs.declared.target.Target.{Target}
 use Rattle.rv_debug.specs.declared.target.Target.TheVariants.{Bare, Monitored}
-use Rattle.rv_debug.proofs.NotRunning.{rest_law, scramble_rests}
+use Rattle.rv_debug.proofs.NotRunning.{on_no_hart_law, scrambled_on_no_hart}
 use Rattle.rv_debug.proofs.BothAlike.{both_alike}
-use Rattle.rv_debug.proofs.EffectsInvariant.{keeps_monitor}
+use Rattle.rv_debug.proofs.EffectsInvariant.{command_keeps_invariant}
 use Rattle.rv_debug.proofs.Isolation.{integrity}
 use Rattle.rv_command_line.specs.declared.setup.Setup.{Setup}
 use Rattle.rv_streams.specs.declared.fault.BenchFault.{BenchFault}
@@ -37,262 +37,285 @@ use Rattle.rv_text.specs.Lines.{lines_of}
 use Rattle.rv_bench.specs.Twin.{after_first_script, monitored_setup}
 use Rattle.rv_bench.specs.TwinLaws.{BothPreserve, RepliesAlikeTo, OfPair, StayTogether, TwinNoninterference, TwinIntegrity, commands_done}
 use Rattle.rv_bench.specs.TwinLaws.{done_by_both, done_in_line}
-use Rattle.rv_bench.proofs.NoninterferenceLemmas.{bench_keeps}
+use Rattle.rv_bench.proofs.Starts.{StartInvariant, bench_in_invariant}
 use Rattle.rv_bench.proofs.RepliesLemmas.{state_after-append}
-use Rattle.rv_bench.proofs.IntegrityLemmas.{keeps_lines, stream_integrity}
+use Rattle.rv_bench.proofs.IntegrityLemmas.{lines_keep_invariant, stream_integrity}
 
 -- `with_line` is the result of a line whose command had this result on both benches
 abbrev with_line : BothExecuted → BothLine → BothLineExecuted
-with_line after line =
-    record { first = after.first; second = after.second; first_reply = after.first_reply; second_reply = after.second_reply; line = line }
+with_line executed line =
+    record { first = executed.first; second = executed.second; first_reply = executed.first_reply; second_reply = executed.second_reply; line = line }
 
 module _ (slot : ℕ) where
   -- ---- one command
 
-  -- `done` is the result of a command that both benches execute
-  abbrev done : BenchState → BenchState → Command → BothExecuted
-  done a b c = both_do slot (execute a c) (execute b c)
+  -- `both_executed` is the result of a command that both benches execute
+  abbrev both_executed : BenchState → BenchState → Command → BothExecuted
+  both_executed first second command = both_do slot (execute first command) (execute second command)
 
-  -- `after_if` is the result of a command: both benches execute it if it is blind in both, and neither executes any other
-  abbrev after_if : Bool → BenchState → BenchState → Command → BothExecuted
-  after_if blind a b c = if blind then done a b c else record { first = a; second = b; first_reply = []; second_reply = []; why = NotBlind }
+  -- `executed_if_blind` is the result of a command: both benches execute it if it is blind in both, and neither executes any other
+  abbrev executed_if_blind : Bool → BenchState → BenchState → Command → BothExecuted
+  executed_if_blind blind first second command =
+      if blind then both_executed first second command
+      else record { first = first; second = second; first_reply = []; second_reply = []; why = NotBlind }
 
   -- the benches are equivalent, and the slot's enclave runs on no hart
   abbrev Together : BenchState → BenchState → Type 0
-  Together a b = BenchesEquivExcept slot a b × RunsOnNoHart slot a.target
+  Together first second = BenchesEquivExcept slot first second × RunsOnNoHart slot first.target
 
-  -- the state of both benches, whether they executed the command or not
-  record Becomes (a b : BenchState) (c : Command) (after : BothExecuted) : Type 0 where
-    pub first_kept : TargetInvariant after.first.target
-    pub second_kept : TargetInvariant after.second.target
-    pub all : after.why ≡ All → (after.first_reply ≡ after.second_reply) × Together after.first after.second
-    pub blind : after.why ≡ NotBlind → Together after.first after.second
-    pub first : after.first ≡ after_commands a (done_by_both after.why c)
-    pub second : after.second ≡ after_commands b (done_by_both after.why c)
+  -- the two benches `first` and `second` after a command, whether they executed it or not
+  record CommandResult (first second : BenchState) (command : Command) (after : BothExecuted) : Type 0 where
+    pub first_invariant : TargetInvariant after.first.target
+    pub second_invariant : TargetInvariant after.second.target
+    -- if both benches executed the command and the slot was not entered, the replies are equal and the benches stay together
+    pub alike_if_executed : after.why ≡ All → (after.first_reply ≡ after.second_reply) × Together after.first after.second
+    -- if the command was blocked, since it is not blind to the slot, the benches stay together
+    pub together_if_blocked : after.why ≡ NotBlind → Together after.first after.second
+    -- each bench is in the state after the command if both executed it, and in its old state otherwise
+    pub first_state : after.first ≡ after_commands first (done_by_both after.why command)
+    pub second_state : after.second ≡ after_commands second (done_by_both after.why command)
 
-  -- after a command that both benches execute, each bench is in the state after the command
-  ended : (x : Bool) (a : BenchState) (c : Command) → (execute a c).state ≡ after_commands a (done_by_both (if x then Entered else All) c)
-  ended true a c = refl
-  ended false a c = refl
+  -- after a command that both benches execute, each bench is in the state after the command, whether or not the slot was entered
+  state_after_command : (entered : Bool) (bench : BenchState) (command : Command)
+      → (execute bench command).state ≡ after_commands bench (done_by_both (if entered then Entered else All) command)
+  state_after_command true bench command = refl
+  state_after_command false bench command = refl
 
   -- a command that both execute is not blocked
-  never_blind : (x : Bool) → (if x then Entered else All) ≡ NotBlind → ⊥
-  never_blind true is = cc
-  never_blind false is = cc
+  executed_is_not_blocked : (entered : Bool) → (if entered then Entered else All) ≡ NotBlind → ⊥
+  executed_is_not_blocked true is_blocked = cc
+  executed_is_not_blocked false is_blocked = cc
 
-  -- if neither entered, the first did not
-  not_entered : (x y : Bool) → (if x || y then Entered else All) ≡ All → x ≡ false
-  not_entered true y is = cc
-  not_entered false y is = refl
+  -- if a command entered the slot in neither bench, it did not enter it in the first
+  first_not_entered : (in_first in_second : Bool) → (if in_first || in_second then Entered else All) ≡ All → in_first ≡ false
+  first_not_entered true in_second none_entered = cc
+  first_not_entered false in_second none_entered = refl
 
-  -- one command for both keeps the benches together, or ends the list
-  becomes : (a b : BenchState) (c : Command) → TargetInvariant a.target → TargetInvariant b.target → Together a b
-      → Becomes a b c (both_execute slot a b c)
+  -- one command for both keeps the benches together, or enters the slot
+  command_result : (first second : BenchState) (command : Command) → TargetInvariant first.target → TargetInvariant second.target
+      → Together first second → CommandResult first second command (both_execute slot first second command)
   unfolding both_execute
-  becomes a b c kept kept' together = go (is_blind slot a c && is_blind slot b c) (both_alike slot a b c kept kept') where
-    -- a command keeps the benches together or ends the list, where `blind` states whether the command is blind to the slot in both benches
-    go : (blind : Bool) → StayAlike slot a b c (after_if blind a b c) → Becomes a b c (after_if blind a b c)
-    go true alike = record {
-      first_kept = keeps_monitor a c kept;
-      second_kept = keeps_monitor b c kept';
-      all = λ all_compared.
-          let stays = rest_law slot a c kept together.1 in
-          let passed = subst (λ (why : BothWhy). AlikeBy slot a b c (done a b c) why) all_compared (alike together.0 stays.by) in
-          (passed.reply, ((let state = passed.state in state.but), stays.not_running (not_entered _ _ all_compared)));
-      blind = λ blind_is. absurd (never_blind _ blind_is);
-      first = ended _ a c;
-      second = ended _ b c;
-    }
-    go false alike = record {
-      first_kept = kept;
-      second_kept = kept';
-      all = λ all_compared. cc;
-      blind = λ blind_is. together;
-      first = refl;
-      second = refl;
-    }
+  command_result first second command first_invariant second_invariant together =
+      let both_blind = is_blind slot first command && is_blind slot second command in
+      by_blindness both_blind (both_alike slot first second command first_invariant second_invariant) where
+        -- the same claim by cases on `blind`, which states whether the command is blind to the slot in both benches
+        by_blindness : (blind : Bool) → StayAlike slot first second command (executed_if_blind blind first second command)
+            → CommandResult first second command (executed_if_blind blind first second command)
+        by_blindness true alike = record {
+          first_invariant = command_keeps_invariant first command first_invariant;
+          second_invariant = command_keeps_invariant second command second_invariant;
+          alike_if_executed = λ not_entered.
+              let stays = on_no_hart_law slot first command first_invariant together.1 in
+              let AlikeFor : BothWhy → Type 0 = λ why. AlikeBy slot first second command (both_executed first second command) why in
+              let passed = subst AlikeFor not_entered (alike together.0 stays.by) in
+              (passed.reply, ((let state = passed.state in state.but), stays.not_running (first_not_entered _ _ not_entered)));
+          together_if_blocked = λ is_blocked. absurd (executed_is_not_blocked _ is_blocked);
+          first_state = state_after_command _ first command;
+          second_state = state_after_command _ second command;
+        }
+        by_blindness false alike = record {
+          first_invariant = first_invariant;
+          second_invariant = second_invariant;
+          alike_if_executed = λ not_entered. cc;
+          together_if_blocked = λ is_blocked. together;
+          first_state = refl;
+          second_state = refl;
+        }
 
   -- ---- lines
 
-  -- the benches satisfy the invariant, and are equivalent until the slot is entered
-  record Going (pair : Pair) : Type 0 where
-    pub equiv : pair.entered ≡ false → Together pair.first pair.second
+  -- both benches of the pair satisfy the invariant of the target, and they are together until the slot is entered
+  record PairInvariant (pair : Pair) : Type 0 where
+    pub together : pair.entered ≡ false → Together pair.first pair.second
     pub first : TargetInvariant pair.first.target
     pub second : TargetInvariant pair.second.target
 
   -- `of_command` is the result of a line with this command on both benches
   abbrev of_command : Command → BothExecuted → BothWhy → Pair → Replied Pair
-  of_command command after why pair = done_by (Given why (has_no_command command)) (with_line after (Given after.why (has_no_command command))) pair.ran
+  of_command command executed why pair =
+      done_by (Given why (has_no_command command)) (with_line executed (Given executed.why (has_no_command command))) pair.ran
 
-  -- after a command, the pair goes on or is entered
-  done_going : (pair : Pair) (command : Command) (after : BothExecuted) (why : BothWhy) → after.why ≡ why
-      → Becomes pair.first pair.second command after → Going (of_command command after why pair).state
-  done_going pair command after All why_is becomes = record { equiv = λ going. (becomes.all why_is).1; first = becomes.first_kept; second = becomes.second_kept }
-  done_going pair command after Entered why_is becomes = record { equiv = λ never. cc; first = becomes.first_kept; second = becomes.second_kept }
-  done_going pair command after NotBlind why_is becomes = record { equiv = λ going. becomes.blind why_is; first = becomes.first_kept; second = becomes.second_kept }
+  -- after a command, the pair has its invariant: the benches are still together, or the slot was entered
+  command_keeps_pair_invariant : (pair : Pair) (command : Command) (executed : BothExecuted) (why : BothWhy) → executed.why ≡ why
+      → CommandResult pair.first pair.second command executed → PairInvariant (of_command command executed why pair).state
+  command_keeps_pair_invariant pair command executed All why_is result =
+      record { together = λ unentered. (result.alike_if_executed why_is).1; first = result.first_invariant; second = result.second_invariant }
+  command_keeps_pair_invariant pair command executed Entered why_is result =
+      record { together = λ unentered. cc; first = result.first_invariant; second = result.second_invariant }
+  command_keeps_pair_invariant pair command executed NotBlind why_is result =
+      record { together = λ unentered. result.together_if_blocked why_is; first = result.first_invariant; second = result.second_invariant }
 
-  -- after a line, the pair goes on or is entered
-  told_going : (pair : Pair) (parsed : Result Command CommandFault) → pair.entered ≡ false → Going pair
-      → Going (pair_replied pair (both_line_executed slot pair.first pair.second parsed)).state
-  told_going pair (Ok command) unentered going =
-      done_going pair command (both_execute slot pair.first pair.second command) _ refl
-      (becomes pair.first pair.second command going.first going.second (going.equiv unentered))
-  told_going pair (Err fault) unentered going = record { equiv = λ still. going.equiv unentered; first = going.first; second = going.second }
+  -- a parsed line keeps the invariant of the pair
+  parsed_line_keeps_pair_invariant : (pair : Pair) (parsed : Result Command CommandFault) → pair.entered ≡ false → PairInvariant pair
+      → PairInvariant (pair_replied pair (both_line_executed slot pair.first pair.second parsed)).state
+  parsed_line_keeps_pair_invariant pair (Ok command) unentered invariant =
+      command_keeps_pair_invariant pair command (both_execute slot pair.first pair.second command) _ refl
+      (command_result pair.first pair.second command invariant.first invariant.second (invariant.together unentered))
+  parsed_line_keeps_pair_invariant pair (Err fault) unentered invariant =
+      record { together = λ still_unentered. invariant.together unentered; first = invariant.first; second = invariant.second }
 
-  -- a line keeps a pair that goes on
-  line_going : (pair : Pair) (line : List ℕ) → Going pair → Going (pair_line slot pair line).state
+  -- a line keeps the invariant of the pair; it has no effect once the slot was entered
+  line_keeps_pair_invariant : (pair : Pair) (line : List ℕ) → PairInvariant pair → PairInvariant (pair_line slot pair line).state
   unfolding pair_line
-  line_going pair line going = go pair.entered refl where
-    -- a line keeps a pair that goes on, where `entered` states whether the slot was entered before the line
-    go : (entered : Bool) → pair.entered ≡ entered
-        → Going (if entered then record { state = pair; reply = [] } else pair_replied pair (both_execute_line slot pair.first pair.second line)).state
-    go true is = going
-    go false is = told_going pair (parse_of line) is going
+  line_keeps_pair_invariant pair line invariant = by_entry pair.entered refl where
+    -- the same claim by cases on `entered`, which states whether the slot was entered before the line
+    by_entry : (entered : Bool) → pair.entered ≡ entered → PairInvariant
+        (if entered then record { state = pair; reply = [] } else pair_replied pair (both_execute_line slot pair.first pair.second line)).state
+    by_entry true was_entered = invariant
+    by_entry false unentered = parsed_line_keeps_pair_invariant pair (parse_of line) unentered invariant
 
-  -- lines keep a pair that goes on
-  lines_going : (pair : Pair) (lines : List (List ℕ)) → Going pair → Going (state_after (pair_line slot) pair lines)
-  lines_going pair [] going = going
-  lines_going pair (line ∷ lines) going = lines_going (pair_line slot pair line).state lines (line_going pair line going)
+  -- lines keep the invariant of the pair, by induction over the lines
+  lines_keep_pair_invariant : (pair : Pair) (lines : List (List ℕ)) → PairInvariant pair → PairInvariant (state_after (pair_line slot) pair lines)
+  lines_keep_pair_invariant pair [] invariant = invariant
+  lines_keep_pair_invariant pair (line ∷ lines) invariant =
+      lines_keep_pair_invariant (pair_line slot pair line).state lines (line_keeps_pair_invariant pair line invariant)
 
   -- ---- noninterference
 
   -- the replies of both benches to a line are equal
-  told_alike : (pair : Pair) (line : List ℕ) → Going pair → pair.entered ≡ false → RepliesAlikeTo slot pair line
-  told_alike pair line going unentered = go (parse_of line) where
+  replies_alike : (pair : Pair) (line : List ℕ) → PairInvariant pair → pair.entered ≡ false → RepliesAlikeTo slot pair line
+  replies_alike pair line invariant unentered = by_parsed (parse_of line) where
     -- the two replies to a parsed line are equal, if both benches execute its command
-    go : (parsed : Result Command CommandFault) → IfOk parsed (λ command.
+    by_parsed : (parsed : Result Command CommandFault) → IfOk parsed (λ command.
         let after = both_execute slot pair.first pair.second command in
         after.why ≡ All → after.first_reply ≡ after.second_reply)
-    go (Ok command) = λ all. ((becomes pair.first pair.second command going.first going.second (going.equiv unentered)).all all).0
-    go (Err fault) = tt
+    by_parsed (Ok command) = λ was_executed.
+        let result = command_result pair.first pair.second command invariant.first invariant.second (invariant.together unentered) in
+        (result.alike_if_executed was_executed).0
+    by_parsed (Err fault) = tt
 
   -- the two benches of the pair stay together
-  stay_together : (start : Pair) → Going start → StayTogether slot start
-  stay_together start going lines line is =
-      let pair = lines_going start lines going in
-      let together = pair.equiv is in
-      (together.0, together.1, told_alike (state_after (pair_line slot) start lines) line pair is)
+  stay_together : (start : Pair) → PairInvariant start → StayTogether slot start
+  stay_together start start_invariant lines line unentered =
+      let invariant = lines_keep_pair_invariant start lines start_invariant in
+      let together = invariant.together unentered in
+      (together.0, together.1, replies_alike (state_after (pair_line slot) start lines) line invariant unentered)
 
   -- ---- integrity
 
-  -- each bench is in the state after its own commands
-  record Follows (pair : Pair) (commands : List Command) (end : Pair) : Type 0 where
-    pub first : end.first ≡ after_commands pair.first commands
-    pub second : end.second ≡ after_commands pair.second commands
+  -- each bench of the pair `end` is in the state after these commands, from the bench of the pair `start`
+  record Follows (start : Pair) (commands : List Command) (end : Pair) : Type 0 where
+    pub first : end.first ≡ after_commands start.first commands
+    pub second : end.second ≡ after_commands start.second commands
 
   -- after a command, the benches are in the state after the commands that both executed
-  done_follows : (pair : Pair) (command : Command) (after : BothExecuted) (why : BothWhy) → after.why ≡ why
-      → Becomes pair.first pair.second command after → Follows pair (done_by_both why command) (of_command command after why pair).state
-  done_follows pair command after why why_is becomes = record {
-    first = (left why).0 ∙ becomes.first ∙ ap (λ (why : BothWhy). after_commands pair.first (done_by_both why command)) why_is;
-    second = (left why).1 ∙ becomes.second ∙ ap (λ (why : BothWhy). after_commands pair.second (done_by_both why command)) why_is;
+  command_follows : (pair : Pair) (command : Command) (executed : BothExecuted) (why : BothWhy) → executed.why ≡ why
+      → CommandResult pair.first pair.second command executed → Follows pair (done_by_both why command) (of_command command executed why pair).state
+  command_follows pair command executed why why_is result = record {
+    first = (same_benches why).0 ∙ result.first_state ∙ ap (λ (why : BothWhy). after_commands pair.first (done_by_both why command)) why_is;
+    second = (same_benches why).1 ∙ result.second_state ∙ ap (λ (why : BothWhy). after_commands pair.second (done_by_both why command)) why_is;
   } where
-    -- the benches of the pair after a line are those after the command, for each reason
-    left : (why : BothWhy) → (let end = (of_command command after why pair).state in (end.first ≡ after.first) × (end.second ≡ after.second))
-    left All = (refl, refl)
-    left Entered = (refl, refl)
-    left NotBlind = (refl, refl)
+    -- the benches of the pair after a line are those after the command, in each of the three cases
+    same_benches : (why : BothWhy)
+        → (let end = (of_command command executed why pair).state in (end.first ≡ executed.first) × (end.second ≡ executed.second))
+    same_benches All = (refl, refl)
+    same_benches Entered = (refl, refl)
+    same_benches NotBlind = (refl, refl)
 
   -- after a line, the benches are in the state after the commands that both executed
-  line_follows : (pair : Pair) (line : List ℕ) → Going pair → Follows pair (done_in_line slot pair line) (pair_line slot pair line).state
+  line_follows : (pair : Pair) (line : List ℕ) → PairInvariant pair → Follows pair (done_in_line slot pair line) (pair_line slot pair line).state
   unfolding pair_line
-  line_follows pair line going = go pair.entered refl (parse_of line) where
-    -- the benches after a parsed line are those after the commands that both executed, where `entered` states whether the slot was entered before
-    go : (entered : Bool) → pair.entered ≡ entered → (parsed : Result Command CommandFault)
-        → Follows pair
-        (if entered then [] else result_case parsed (λ command. done_by_both (both_execute slot pair.first pair.second command).why command) (λ _. []))
+  line_follows pair line invariant = by_entry pair.entered refl (parse_of line) where
+    -- the same claim for a parsed line, by cases on `entered`, which states whether the slot was entered before the line
+    by_entry : (entered : Bool) → pair.entered ≡ entered → (parsed : Result Command CommandFault) → Follows pair
+        (if entered then []
+        else result_case parsed (λ command. done_by_both (both_execute slot pair.first pair.second command).why command) (λ _. []))
         (if entered then record { state = pair; reply = [] } else pair_replied pair (both_line_executed slot pair.first pair.second parsed)).state
-    go true is parsed = record { first = refl; second = refl }
-    go false is (Ok command) =
-        done_follows pair command (both_execute slot pair.first pair.second command) _ refl
-        (becomes pair.first pair.second command going.first going.second (going.equiv is))
-    go false is (Err fault) = record { first = refl; second = refl }
+    by_entry true was_entered parsed = record { first = refl; second = refl }
+    by_entry false unentered (Ok command) =
+        command_follows pair command (both_execute slot pair.first pair.second command) _ refl
+        (command_result pair.first pair.second command invariant.first invariant.second (invariant.together unentered))
+    by_entry false unentered (Err fault) = record { first = refl; second = refl }
 
   -- the bench after two lists of commands is the bench after the second, from the bench after the first
   commands-append : (bench : BenchState) (xs ys : List Command) → after_commands bench (xs ++ ys) ≡ after_commands (after_commands bench xs) ys
   commands-append bench [] ys = refl
   commands-append bench (x ∷ xs) ys = commands-append (execute bench x).state xs ys
 
-  -- after lines, the benches are in the state after the commands that both executed
-  lines_follow : (pair : Pair) (lines : List (List ℕ)) → Going pair
+  -- after lines, the benches are in the state after the commands that both executed, by induction over the lines
+  lines_follow : (pair : Pair) (lines : List (List ℕ)) → PairInvariant pair
       → Follows pair (commands_done slot pair lines) (state_after (pair_line slot) pair lines)
-  lines_follow pair [] going = record { first = refl; second = refl }
-  lines_follow pair (line ∷ lines) going =
-      let one = line_follows pair line going in
+  lines_follow pair [] invariant = record { first = refl; second = refl }
+  lines_follow pair (line ∷ lines) invariant =
+      let first_line = line_follows pair line invariant in
       let next = (pair_line slot pair line).state in
-      let rest = lines_follow next lines (line_going pair line going) in
+      let other_lines = lines_follow next lines (line_keeps_pair_invariant pair line invariant) in
       let commands = commands_done slot next lines in
       record {
-        first = rest.first ∙ ap (λ (bench : BenchState). after_commands bench commands) one.first
+        first = other_lines.first ∙ ap (λ (bench : BenchState). after_commands bench commands) first_line.first
             ∙ sym (commands-append pair.first (done_in_line slot pair line) commands);
-        second = rest.second ∙ ap (λ (bench : BenchState). after_commands bench commands) one.second
+        second = other_lines.second ∙ ap (λ (bench : BenchState). after_commands bench commands) first_line.second
             ∙ sym (commands-append pair.second (done_in_line slot pair line) commands);
       }
 
-  -- both benches preserve the enclaves that the commands leave undisturbed
-  both_spare : (start : Pair) → Going start → BothPreserve slot start
-  both_spare start going k before part =
+  -- both benches preserve the enclaves that the commands leave undisturbed, by the law of integrity for the commands that both executed
+  both_preserve : (start : Pair) → PairInvariant start → BothPreserve slot start
+  both_preserve start start_invariant k before part =
       let pair = state_after (pair_line slot) start before in
-      let there = lines_going start before going in
-      let follows = lines_follow pair part there in
+      let invariant = lines_keep_pair_invariant start before start_invariant in
+      let follows = lines_follow pair part invariant in
       let commands = commands_done slot pair part in
-      let whole = state_after-append (pair_line slot) start before part in (
-        λ not_running. subst (λ (bench : BenchState). IsPreservedIn k pair.first.target bench.target) (sym (ap (λ (end : Pair). end.first) whole
-            ∙ follows.first)) (integrity k pair.first commands there.first not_running),
-        λ not_running. subst (λ (bench : BenchState). IsPreservedIn k pair.second.target bench.target) (sym (ap (λ (end : Pair). end.second) whole
-            ∙ follows.second)) (integrity k pair.second commands there.second not_running),
+      let end_is = state_after-append (pair_line slot) start before part in (
+        λ undisturbed. subst (λ (bench : BenchState). IsPreservedIn k pair.first.target bench.target)
+            (sym (ap (λ (end : Pair). end.first) end_is ∙ follows.first)) (integrity k pair.first commands invariant.first undisturbed),
+        λ undisturbed. subst (λ (bench : BenchState). IsPreservedIn k pair.second.target bench.target)
+            (sym (ap (λ (end : Pair). end.second) end_is ∙ follows.second)) (integrity k pair.second commands invariant.second undisturbed),
       )
 
   -- ---- the two benches at the start of the second script
 
-  -- a target is equivalent to its scrambled copy, which has the invariant
-  targets_pair : (target : Target) → TargetInvariant target → can_scramble_in slot target ≡ true
+  -- a target is equivalent to its scrambled copy, which satisfies the invariant
+  scrambled_target_equiv : (target : Target) → TargetInvariant target → can_scramble_in slot target ≡ true
       → TargetsEquivExcept slot target (scrambled_in slot target) × TargetInvariant (scrambled_in slot target)
-  targets_pair (Bare machine) kept may = cc
-  targets_pair (Monitored selected) kept may =
-      (record { hart = refl; state = scramble_equiv selected.state slot kept may }, scramble_invariant selected.state slot kept may)
+  scrambled_target_equiv (Bare machine) invariant is_scramblable = cc
+  scrambled_target_equiv (Monitored selected) invariant is_scramblable = (
+    record { hart = refl; state = scramble_equiv selected.state slot invariant is_scramblable },
+    scramble_invariant selected.state slot invariant is_scramblable,
+  )
 
-  -- the pair of a bench and its scrambled copy goes on
-  start_going : (bench : BenchState) → TargetInvariant bench.target → IfSome (make_pair slot bench) Going
-  start_going bench kept = go (can_scramble slot bench) refl where
-    -- the pair of the slot goes on, if the slot can be scrambled
-    go : (may : Bool) → can_scramble slot bench ≡ may
-        → IfSome (if may then Some (record { first = bench; second = scrambled slot bench; ran = 0; entered = false }) else None) Going
-    go true is =
-        let pair = targets_pair bench.target kept is in
+  -- a bench and its scrambled copy have the invariant of a pair
+  start_pair_invariant : (bench : BenchState) → TargetInvariant bench.target → IfSome (make_pair slot bench) PairInvariant
+  start_pair_invariant bench invariant = by_test (can_scramble slot bench) refl where
+    -- the same claim by cases on `can`, which states whether the slot can be scrambled
+    by_test : (can : Bool) → can_scramble slot bench ≡ can
+        → IfSome (if can then Some (record { first = bench; second = scrambled slot bench; ran = 0; entered = false }) else None) PairInvariant
+    by_test true is_scramblable =
+        let copy = scrambled_target_equiv bench.target invariant is_scramblable in
         record {
-          equiv = λ going. (record { target = pair.0; breaks = refl; watches = refl }, scramble_rests slot bench.target kept is);
-          first = kept;
-          second = pair.1;
+          together = λ unentered.
+              (record { target = copy.0; breaks = refl; watches = refl }, scrambled_on_no_hart slot bench.target invariant is_scramblable);
+          first = invariant;
+          second = copy.1;
         }
-    go false is = tt
+    by_test false not_scramblable = tt
 
 -- ---- whole inputs
 
--- a law of each pair that goes on holds of the pair of an input
-of_pair : (Law : Pair → Type 0) (slot : ℕ) → ((pair : Pair) → Going slot pair → Law pair) → (setup : Setup) (input : List ℕ)
+-- a law of each pair with the invariant holds of the pair of an input
+law_of_pair : (Law : Pair → Type 0) (slot : ℕ) → ((pair : Pair) → PairInvariant slot pair → Law pair) → (setup : Setup) (input : List ℕ)
     → OfPair setup slot input Law
-of_pair Law slot law setup input = go (bench_in (monitored_setup setup) input) (bench_keeps (monitored_setup setup) input) where
+law_of_pair Law slot law setup input = by_bench (bench_in (monitored_setup setup) input) (bench_in_invariant (monitored_setup setup) input) where
   -- the law holds for the pair of the slot, if there is one
-  some : (pair : Option Pair) → IfSome pair (Going slot) → IfSome pair Law
-  some (Some pair) going = law pair going
-  some None going = tt
+  by_pair : (pair : Option Pair) → IfSome pair (PairInvariant slot) → IfSome pair Law
+  by_pair (Some pair) invariant = law pair invariant
+  by_pair None invariant = tt
 
-  -- the law holds of the pair of the bench that the input starts
-  go : (bench : Result BenchState BenchFault) → IfOk bench (λ state. TargetInvariant state.target)
+  -- the law holds for the pair of the bench that the input starts
+  by_bench : (bench : Result BenchState BenchFault) → StartInvariant bench
       → IfOk bench (λ bench. IfSome (make_pair slot (after_first_script bench (after_separator input))) Law)
-  go (Ok bench) kept =
-      some (make_pair slot (after_first_script bench (after_separator input)))
-      (start_going slot (after_first_script bench (after_separator input)) (keeps_lines bench (before_separator (lines_of (after_separator input))) kept))
-  go (Err fault) kept = tt
+  by_bench (Ok bench) invariant =
+      let after_first = after_first_script bench (after_separator input) in
+      let first_script = before_separator (lines_of (after_separator input)) in
+      by_pair (make_pair slot after_first) (start_pair_invariant slot after_first (lines_keep_invariant bench first_script invariant))
+  by_bench (Err fault) invariant = tt
 
 -- proves that the benches of a twin run stay equivalent and reply the same
 pub twin_noninterference : (setup : Setup) (slot : ℕ) (input : List ℕ) → TwinNoninterference setup slot input
-twin_noninterference setup slot input = of_pair (StayTogether slot) slot (stay_together slot) setup input
+twin_noninterference setup slot input = law_of_pair (StayTogether slot) slot (stay_together slot) setup input
 
 -- proves that both benches of a twin run preserve the enclaves that the commands leave undisturbed
 pub twin_integrity : (setup : Setup) (slot : ℕ) (input : List ℕ) → TwinIntegrity setup slot input
 twin_integrity setup slot input = record {
   first = stream_integrity (monitored_setup setup) input;
-  second = of_pair (BothPreserve slot) slot (both_spare slot) setup input;
+  second = law_of_pair (BothPreserve slot) slot (both_preserve slot) setup input;
 }

@@ -34,8 +34,7 @@ use Rattle.rv_bench.specs.declared.pair.PairOnSlot.{PairOnSlot}
 use Rattle.rv_bench.specs.Pair.{make_pair, both_benches}
 use Rattle.rv_bench.specs.Loaded.{Starts, started}
 use Rattle.rv_bench.specs.Output.{bench_in}
-use Rattle.rv_bench.specs.Replies.{one_bench}
-use Rattle.rv_bench.specs.Run.{RunsLines, StopsAtRead, StopsAtWrite}
+use Rattle.rv_bench.specs.Run.{RunsLines, StopsAtRead}
 use Rattle.rv_bench.specs.Twin.{IsNeverEntered, IsOver, RunsSecond, RunsTwin, StopsInScripts, StopsInScriptsAtWrite, StopsSecondAtWrite}
 use Rattle.rv_bench.specs.Twin.{after_first_script, first_text, monitored_setup, scripts_text, second_text, twin_output}
 use Rattle.rv_bench.proofs.PairLemmas.{prefix_after, prefix_more}
@@ -44,42 +43,51 @@ use Rattle.rv_bench.proofs.Starts.{no_ram, has_ram, fault_has_ram}
 
 -- ---- the pair after the scramble
 
--- no enclave can be scrambled, or that of the slot is; there is no slot above 12
-pub not_pair : (slot : ℕ) (bench : BenchState) → can_scramble slot bench ≡ false → None ≡ make_pair slot bench
-not_pair slot bench none = rw none refl
+-- if the slot cannot be scrambled, there is no pair
+pub no_pair_if_unscramblable : (slot : ℕ) (bench : BenchState) → can_scramble slot bench ≡ false → None ≡ make_pair slot bench
+no_pair_if_unscramblable slot bench not_scramblable = rw not_scramblable refl
 
--- the bench and its scrambled copy are the pair of the slot, if the slot can be scrambled
-pub are_pair : (slot : ℕ) (bench second : BenchState) → can_scramble slot bench ≡ true → second ≡ scrambled slot bench
+-- if the slot can be scrambled, the pair consists of the bench and its scrambled copy
+pub pair_if_scramblable : (slot : ℕ) (bench second : BenchState) → can_scramble slot bench ≡ true → second ≡ scrambled slot bench
     → Some (record { first = bench; second = second; ran = 0; entered = false }) ≡ make_pair slot bench
-are_pair slot bench second can second_is = rw can (ap (λ (second : BenchState). Some (record { first = bench; second = second; ran = 0; entered = false })) second_is)
+pair_if_scramblable slot bench second is_scramblable second_is =
+    let pair_with : BenchState → Option Pair = λ second. Some (record { first = bench; second = second; ran = 0; entered = false }) in
+    rw is_scramblable (ap pair_with second_is)
 
 -- a number that is not the number of a slot cannot be scrambled
-none_numbered : (number : ℕ) (target : Target) → TargetInvariant target → slot_numbered number ≡ None → can_scramble_in number target ≡ false
-none_numbered number (Bare machine) kept none = refl
-none_numbered number (Monitored selected) kept none = ap is_held (none_past selected.state.shared.table number kept.shared.valid.count none)
+unnumbered_not_scramblable : (number : ℕ) (target : Target) → TargetInvariant target → slot_numbered number ≡ None
+    → can_scramble_in number target ≡ false
+unnumbered_not_scramblable number (Bare machine) invariant no_slot = refl
+unnumbered_not_scramblable number (Monitored selected) invariant no_slot =
+    ap is_held (none_past selected.state.shared.table number invariant.shared.valid.count no_slot)
 
--- a property of the pair holds of the given slot number
-pub make_pair_at : (P : ℕ → Option Pair → Type 0) (number : ℕ) (bench : BenchState) (found : PairOnSlot)
-    → (found.slot ≡ number) × (make_pair number bench ≡ Some found.pair) → P found.slot (Some found.pair) → P number (make_pair number bench)
-make_pair_at P number bench found is holds =
-    subst (λ (slot : ℕ). P slot (make_pair number bench)) is.0 (subst (P found.slot) (sym is.1) holds)
+-- a property P of a slot and its pair holds of a slot number and its made pair, if it holds of a made slot with this number
+pub holds_of_made_pair : (P : ℕ → Option Pair → Type 0) (number : ℕ) (bench : BenchState) (made : PairOnSlot)
+    → (made.slot ≡ number) × (make_pair number bench ≡ Some made.pair) → P made.slot (Some made.pair) → P number (make_pair number bench)
+holds_of_made_pair P number bench made (slot_is, pair_is) holds =
+    subst (λ (slot : ℕ). P slot (make_pair number bench)) slot_is (subst (P made.slot) (sym pair_is) holds)
 
 -- a number that is not the number of a slot has no pair
 pub not_numbered : (number : ℕ) (bench : BenchState) → TargetInvariant bench.target → slot_numbered number ≡ None → make_pair number bench ≡ None
-not_numbered number bench kept none = sym (not_pair number bench (none_numbered number bench.target kept none))
+not_numbered number bench invariant no_slot =
+    sym (no_pair_if_unscramblable number bench (unnumbered_not_scramblable number bench.target invariant no_slot))
 
 -- ---- the image, and the first script
 
--- the image was read, and the text after it, through the separator
+-- the image was read, and the separator after it, where `mid` has the unread text after the separator
 pub record ReadsImage {S : Type 0} {g : SourceGhosts S} (old mid : Lines S g) (image : List ℕ) : Type 0 where
   pub through : ReadsThroughSeparator old mid
+  -- the text before the separator describes this image
   pub gives : g.follows_input mid.source → image_in (unread old) ≡ Ok image
   pub ends : EndsWithSource old mid
 
 -- the first script was run on the bench of the image, whose state it changed
 pub record RunsFirst {S W : Type 0} {g : SourceGhosts S} (h : SinkGhosts W) (bench : BenchState) (mid : Lines S g) (before : W) : Type 0 where
+  -- the lines after the first script
   pub next : Lines S g
+  -- the sink after the replies to the first script
   pub between : W
+  -- the bench after the first script
   pub then : BenchState
   pub runs : RunsLines h Separator bench mid next before between (Ok tt)
   pub state : g.follows_input next.source → then ≡ after_first_script bench (unread mid)
@@ -87,70 +95,77 @@ pub record RunsFirst {S W : Type 0} {g : SourceGhosts S} (h : SinkGhosts W) (ben
 
 module _ {S W : Type 0} {g : SourceGhosts S} (h : SinkGhosts W) (setup : Setup) (slot : ℕ) (image : List ℕ) (old mid : Lines S g) (before : W)
     (read : ReadsImage old mid image) where
-  -- the bench of the input is that of the image
-  bench_is : (r : Result BenchState BenchFault) → started image (monitored_setup setup) ≡ r → g.follows_input mid.source → bench_in (monitored_setup setup) (unread old) ≡ r
-  bench_is r starts follows = rw (read.gives follows) starts
+  -- the input starts the bench of the image, or has its error
+  bench_is : (bench : Result BenchState BenchFault) → started image (monitored_setup setup) ≡ bench → g.follows_input mid.source
+      → bench_in (monitored_setup setup) (unread old) ≡ bench
+  bench_is bench starts follows = rw (read.gives follows) starts
 
-  -- the error of an input is that of the start
-  fault_is : (fault : BenchFault) → started image (monitored_setup setup) ≡ Err fault → g.follows_input mid.source → twin_output setup slot (unread old) ≡ Err fault
-  fault_is fault starts follows =
-      ap (λ (m : Result BenchState BenchFault). result_case m (λ bench. Ok (scripts_text slot bench (after_separator (unread old)))) Err)
-      (bench_is (Err fault) starts follows)
+  -- the output for the input, if its text before the separator starts this bench
+  abbrev output_from : Result BenchState BenchFault → Result (List ℕ) BenchFault
+  output_from bench = result_case bench (λ bench. Ok (scripts_text slot bench (after_separator (unread old)))) Err
 
-  -- the output of an input is that of both scripts
+  -- the error of the input is the error of the start
+  fault_is : (fault : BenchFault) → started image (monitored_setup setup) ≡ Err fault → g.follows_input mid.source
+      → twin_output setup slot (unread old) ≡ Err fault
+  fault_is fault starts follows = ap output_from (bench_is (Err fault) starts follows)
+
+  -- the output for the input is the text of both scripts
   output_is : (bench : BenchState) → started image (monitored_setup setup) ≡ Ok bench → g.follows_input mid.source
       → twin_output setup slot (unread old) ≡ Ok (scripts_text slot bench (unread mid))
   output_is bench starts follows =
-      ap (λ (m : Result BenchState BenchFault). result_case m (λ bench. Ok (scripts_text slot bench (after_separator (unread old)))) Err)
-      (bench_is (Ok bench) starts follows)
-      ∙ ap (λ (t : List ℕ). Ok (scripts_text slot bench t)) (sym (read.through.rest follows))
+      ap output_from (bench_is (Ok bench) starts follows)
+      ∙ ap (λ (scripts : List ℕ). Ok (scripts_text slot bench scripts)) (sym (read.through.rest follows))
 
-  -- the bench does not start
+  -- if no bench starts, the error of the start is the result of the twin run
   pub not_started : (fault : BenchFault) → Starts image (monitored_setup setup) (Err fault) → RunsTwin h setup slot old mid before before (Err fault)
-  not_started (Ram BadSize) none = (none, read.through, fault_is (Ram BadSize) (no_ram image (monitored_setup setup) none), refl)
-  not_started (Ram (NoRamMemory refused)) some = (some.0, some.1, read.through, λ follows. rw (read.gives follows) refl, refl)
-  not_started (Image fault) faulty = (fault_has_ram image (monitored_setup setup) fault faulty, read.through, fault_is (Image fault) faulty, refl)
-  not_started _ never = absurd never
+  not_started (Ram BadSize) bad_size =
+      (bad_size, read.through, fault_is (Ram BadSize) (no_ram image (monitored_setup setup) bad_size), refl)
+  not_started (Ram (NoRamMemory refused)) (valid_size, bytes_are) =
+      (valid_size, bytes_are, read.through, λ follows. rw (read.gives follows) refl, refl)
+  not_started (Image fault) bad_image =
+      (fault_has_ram image (monitored_setup setup) fault bad_image, read.through, fault_is (Image fault) bad_image, refl)
+  not_started _ impossible = absurd impossible
 
   module _ (bench : BenchState) (starts : started image (monitored_setup setup) ≡ Ok bench) where
     -- the RAM has a permitted size, since the bench starts
     has_size : is_ram_size setup.ram ≡ true
     has_size = has_ram image (monitored_setup setup) bench starts
 
+    -- a property of the bench and of the text of both scripts holds of the bench that the whole input starts
+    of_input : (P : List ℕ → BenchState → Type 0) → g.follows_input mid.source → P (unread mid) bench
+        → IsOkAnd (bench_in (monitored_setup setup) (unread old)) (P (after_separator (unread old)))
+    of_input P follows holds =
+        subst (λ (start : Result BenchState BenchFault). IsOkAnd start (P (after_separator (unread old))))
+        (sym (bench_is (Ok bench) starts follows))
+        (subst (λ (scripts : List ℕ). P scripts bench) (read.through.rest follows) holds)
+
     module _ (new : Lines S g) (after : W) (script_end : EndsWithSource mid new) where
       -- a failure of the source in the first script is the read error of the twin run
       first_read : RunsLines h Separator bench mid new before after (Err Read) → RunsTwin h setup slot old new before after (Err Read)
-      first_read run =
-          let same = read.through.source in
-          let risen = run.0.source in
-          let failed : SourceFailed g old.source new.source = omega (arith, risen, same) in (
-            record { source = failed; sink = run.0.sink; going = run.0.going },
+      first_read (fails, stops) =
+          let image_source = read.through.source in
+          let script_source = fails.source in
+          let source_failed : SourceFailed g old.source new.source = omega (arith, script_source, image_source) in (
+            record { source = source_failed; sink = fails.sink; going = fails.going },
             λ follows. inr (
-              separator_read old mid new read.through script_end run.0.going follows,
-              subst (λ (m : Result BenchState BenchFault). IsOkAnd m (StopsInScripts h setup slot old new before after (after_separator (unread old))))
-                  (sym (bench_is (Ok bench) starts (script_end.before follows)))
-                  (inl (subst (λ (t : List ℕ). StopsAtRead one_bench Separator bench t (g.remaining new.source) (held new)
-                  (h.taken before) (h.taken after)) (read.through.rest (script_end.before follows)) (run.1 follows))),
+              separator_read old mid new read.through script_end fails.going follows,
+              of_input (StopsInScripts h setup slot old new before after) (script_end.before follows) (inl (stops follows)),
             ),
           )
 
       -- a failure of the sink in the first script is the write error of the twin run
       first_write : RunsLines h Separator bench mid new before after (Err Write) → RunsTwin h setup slot old new before after (Err Write)
-      first_write run = (
+      first_write (fails, stops) = (
         has_size,
         record {
-          source = run.0.source ∙ read.through.source;
-          sink = run.0.sink;
-          emptied = run.0.emptied;
-          prefix = λ follows. subst (λ o. IsOkAnd o (λ text. WritesPrefix (h.taken before) (h.taken after) text))
+          source = fails.source ∙ read.through.source;
+          sink = fails.sink;
+          emptied = fails.emptied;
+          prefix = λ follows. subst (λ output. IsOkAnd output (λ text. WritesPrefix (h.taken before) (h.taken after) text))
               (sym (output_is bench starts (script_end.before follows)))
-              (prefix_more (h.taken before) (h.taken after) (first_text bench (unread mid)) _ (run.0.prefix follows));
+              (prefix_more (h.taken before) (h.taken after) (first_text bench (unread mid)) _ (fails.prefix follows));
         },
-        λ follows.
-            subst (λ (m : Result BenchState BenchFault). IsOkAnd m (StopsInScriptsAtWrite h setup slot old new before after (after_separator (unread old))))
-            (sym (bench_is (Ok bench) starts (script_end.before follows)))
-            (inl (subst (λ (t : List ℕ). StopsAtWrite one_bench Separator bench t (unread new) (h.taken before) (h.taken after))
-            (read.through.rest (script_end.before follows)) (run.1 follows))),
+        λ follows. of_input (StopsInScriptsAtWrite h setup slot old new before after) (script_end.before follows) (inl (stops follows)),
       )
 
       -- an error in the first script is the error of the twin run
@@ -158,7 +173,7 @@ module _ {S W : Type 0} {g : SourceGhosts S} (h : SinkGhosts W) (setup : Setup) 
           → RunsTwin h setup slot old new before after (Err fault)
       first_fails Read run = first_read run
       first_fails Write run = first_write run
-      first_fails _ run = absurd run
+      first_fails _ impossible = absurd impossible
 
     -- ---- after the first script, the slot is scrambled in the second bench
 
@@ -179,37 +194,35 @@ module _ {S W : Type 0} {g : SourceGhosts S} (h : SinkGhosts W) (setup : Setup) 
       abbrev pair_at : List ℕ → Option Pair
       pair_at scripts = make_pair slot (after_first_script bench scripts)
 
-      -- the pair after the first script is that of the text
+      -- the pair after the first script is the pair that the text of the first script leads to
       pair_is : g.follows_input next.source → make_pair slot then ≡ pair_at (unread mid)
       pair_is follows = ap (make_pair slot) (ran.state follows)
 
       -- the replies to the first script and the text of the second script are the text of both scripts
       text_is : (text : List ℕ) → (follows : g.follows_input next.source) → second_text slot (make_pair slot then) (unread next) ≡ text
           → first_text bench (unread mid) ++ text ≡ scripts_text slot bench (unread mid)
-      text_is text follows same =
-          ap (λ (t : List ℕ). first_text bench (unread mid) ++ t)
-          (sym same ∙ (ap (λ (pair : Option Pair). second_text slot pair (unread next)) (pair_is follows)
+      text_is text follows second_is =
+          ap (λ (second : List ℕ). first_text bench (unread mid) ++ second)
+          (sym second_is ∙ (ap (λ (pair : Option Pair). second_text slot pair (unread next)) (pair_is follows)
           ∙ ap (second_text slot (pair_at (unread mid))) (first.reads.rest follows)))
 
-      -- the source ended after both scripts, or has more
-      rest_end : EndsWithSource mid new
-      rest_end = EndsWithSource-more mid next new ran.ends second_end
+      -- the end of the lines after both scripts is the end that the source reported
+      both_end : EndsWithSource mid new
+      both_end = EndsWithSource-more mid next new ran.ends second_end
 
-      -- a property of the second script and the pair holds of both scripts
-      of_rest : g.follows_input next.source → (P : Option Pair → List ℕ → Type 0) → P (make_pair slot then) (unread next)
+      -- a property of the pair and of the text of the second script holds if both are taken from the text of both scripts
+      of_scripts : g.follows_input next.source → (P : Option Pair → List ℕ → Type 0) → P (make_pair slot then) (unread next)
           → P (pair_at (unread mid)) (after_separator (unread mid))
-      of_rest follows P holds =
+      of_scripts follows P holds =
           subst (P (pair_at (unread mid))) (first.reads.rest follows) (subst (λ (pair : Option Pair). P pair (unread next)) (pair_is follows) holds)
 
-      -- a property of the second script and its pair is a property of the whole input
-      of_scripts : g.follows_input next.source → (P : Option Pair → List ℕ → Type 0) → P (make_pair slot then) (unread next)
+      -- a property of the pair and of the text of the second script holds if both are taken from the whole input
+      second_of_input : g.follows_input next.source → (P : Option Pair → List ℕ → Type 0) → P (make_pair slot then) (unread next)
           → IsOkAnd (bench_in (monitored_setup setup) (unread old))
           (λ bench. P (make_pair slot (after_first_script bench (after_separator (unread old)))) (after_separator (after_separator (unread old))))
-      of_scripts follows P holds =
-          subst (λ (m : Result BenchState BenchFault). IsOkAnd m
-          (λ bench. P (make_pair slot (after_first_script bench (after_separator (unread old)))) (after_separator (after_separator (unread old))))) (sym
-          (bench_is (Ok bench) starts (ran.ends.before follows)))
-          (subst (λ (t : List ℕ). P (pair_at t) (after_separator t)) (read.through.rest (ran.ends.before follows)) (of_rest follows P holds))
+      second_of_input follows P holds =
+          of_input (λ scripts bench. P (make_pair slot (after_first_script bench scripts)) (after_separator scripts)) (ran.ends.before follows)
+          (of_scripts follows P holds)
 
       -- the result of the second script is the result of the twin run
       pub second_part : (outcome : Outcome) → RunsSecond h slot (make_pair slot then) next new ran.between after outcome
@@ -223,40 +236,37 @@ module _ {S W : Type 0} {g : SourceGhosts S} (h : SinkGhosts W) (setup : Setup) 
           read = elim run.read [
             | inl ended ↦ inl (record {
               at_end = ended.at_end;
-              ended = (EndsWithSource-more old mid new read.ends rest_end).ended ended.at_end;
+              ended = (EndsWithSource-more old mid new read.ends both_end).ended ended.at_end;
               used_up = ended.used_up;
-              going = λ follows. of_scripts (second_end.before follows) (IsNeverEntered slot) (ended.going follows);
+              going = λ follows. second_of_input (second_end.before follows) (IsNeverEntered slot) (ended.going follows);
               told = ended.told;
             })
-            | inr (over, told) ↦ inr (
-              λ follows. of_scripts (second_end.before follows) (λ pair script. IsOver slot pair script (unread new) new.is_at_end)
-                  (over follows),
+            | inr (is_over, told) ↦ inr (
+              λ follows. second_of_input (second_end.before follows) (λ pair script. IsOver slot pair script (unread new) new.is_at_end)
+                  (is_over follows),
               told,
             )
           ];
-          written = λ follows. subst (λ o. IsOkAnd o (λ text. h.taken after ≡ h.taken before ++ text))
-              (sym (output_is bench starts (rest_end.before follows)))
+          written = λ follows. subst (λ output. IsOkAnd output (λ text. h.taken after ≡ h.taken before ++ text))
+              (sym (output_is bench starts (both_end.before follows)))
               (run.written follows
-              ∙ (ap (λ (t : List ℕ). t ++ second_text slot (make_pair slot then) (unread next)) (first.written (second_end.before follows))
+              ∙ (ap (λ (taken : List ℕ). taken ++ second_text slot (make_pair slot then) (unread next)) (first.written (second_end.before follows))
               ∙ (append_assoc (h.taken before) (first_text bench (unread mid)) (second_text slot (make_pair slot then) (unread next))
-              ∙ ap (λ (t : List ℕ). h.taken before ++ t) (text_is _ (second_end.before follows) refl))));
+              ∙ ap (λ (text : List ℕ). h.taken before ++ text) (text_is _ (second_end.before follows) refl))));
         },
       )
-      second_part (Err Read) run =
-          let same = first.reads.source ∙ read.through.source in
-          let risen = run.0.source in
-          let failed : SourceFailed g old.source new.source = omega (arith, risen, same) in (
-            record { source = failed; sink = SinkWorked-more h first.sink run.0.sink; going = run.0.going },
+      second_part (Err Read) (fails, stops) =
+          let first_sources = first.reads.source ∙ read.through.source in
+          let second_source = fails.source in
+          let source_failed : SourceFailed g old.source new.source = omega (arith, second_source, first_sources) in (
+            record { source = source_failed; sink = SinkWorked-more h first.sink fails.sink; going = fails.going },
             λ follows. inr (
-              separator_read old mid new read.through rest_end run.0.going follows,
-              subst (λ (m : Result BenchState BenchFault). IsOkAnd m (StopsInScripts h setup slot old new before after (after_separator (unread old))))
-                  (sym (bench_is (Ok bench) starts (rest_end.before follows)))
-                  (subst (λ (scripts : List ℕ). StopsInScripts h setup slot old new before after scripts bench) (read.through.rest (rest_end.before follows))
-                  (inr (
-                    separator_read mid next new first.reads second_end run.0.going follows,
-                    of_rest (second_end.before follows) Stops
-                        (read_after slot (make_pair slot then) _ _ _ _ _ _ (first.written (second_end.before follows)) (run.1 follows)),
-                  ))),
+              separator_read old mid new read.through both_end fails.going follows,
+              of_input (StopsInScripts h setup slot old new before after) (both_end.before follows) (inr (
+                separator_read mid next new first.reads second_end fails.going follows,
+                of_scripts (second_end.before follows) Stops
+                    (read_after slot (make_pair slot then) _ _ _ _ _ _ (first.written (second_end.before follows)) (stops follows)),
+              )),
             ),
           ) where
             -- a read in the second script has failed, where the arguments are the pair and the unread text
@@ -264,27 +274,23 @@ module _ {S W : Type 0} {g : SourceGhosts S} (h : SinkGhosts W) (setup : Setup) 
             Stops pair script = IsSomeAnd pair
                 (λ pair. StopsAtRead (both_benches slot) Input pair script (g.remaining new.source) (held new)
                 (h.taken before ++ first_text bench (unread mid)) (h.taken after))
-      second_part (Err Write) run = (
+      second_part (Err Write) (fails, stops) = (
         has_size,
         record {
-          source = run.0.source ∙ (first.reads.source ∙ read.through.source);
-          sink = SinkFailed-after h first.sink run.0.sink;
-          emptied = run.0.emptied;
-          prefix = λ follows. subst (λ o. IsOkAnd o (λ text. WritesPrefix (h.taken before) (h.taken after) text))
-              (sym (output_is bench starts (rest_end.before follows)))
+          source = fails.source ∙ (first.reads.source ∙ read.through.source);
+          sink = SinkFailed-after h first.sink fails.sink;
+          emptied = fails.emptied;
+          prefix = λ follows. subst (λ output. IsOkAnd output (λ text. WritesPrefix (h.taken before) (h.taken after) text))
+              (sym (output_is bench starts (both_end.before follows)))
               (subst (WritesPrefix (h.taken before) (h.taken after)) (text_is _ (second_end.before follows) refl)
               (prefix_after (h.taken before) (h.taken ran.between) (h.taken after) (first_text bench (unread mid)) _
-              (first.written (second_end.before follows)) (run.0.prefix follows)));
+              (first.written (second_end.before follows)) (fails.prefix follows)));
         },
-        λ follows.
-            subst (λ (m : Result BenchState BenchFault). IsOkAnd m (StopsInScriptsAtWrite h setup slot old new before after (after_separator (unread old))))
-            (sym (bench_is (Ok bench) starts (rest_end.before follows)))
-            (subst (λ (scripts : List ℕ). StopsInScriptsAtWrite h setup slot old new before after scripts bench)
-            (read.through.rest (rest_end.before follows))
-            (inr (of_rest (second_end.before follows) Stops
-            (write_after slot (make_pair slot then) _ _ _ _ _ (first.written (second_end.before follows)) (run.1 follows))))),
+        λ follows. of_input (StopsInScriptsAtWrite h setup slot old new before after) (both_end.before follows)
+            (inr (of_scripts (second_end.before follows) Stops
+            (write_after slot (make_pair slot then) _ _ _ _ _ (first.written (second_end.before follows)) (stops follows)))),
       ) where
         -- a write in the second script has failed, where the arguments are the pair and the unread text
         Stops : Option Pair → List ℕ → Type 0
         Stops pair script = StopsSecondAtWrite slot pair script (unread new) (h.taken before ++ first_text bench (unread mid)) (h.taken after)
-      second_part (Err _) run = absurd run
+      second_part (Err _) impossible = absurd impossible

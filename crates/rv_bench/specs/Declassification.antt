@@ -37,11 +37,11 @@ observed_output e setup input =
 
 -- two lines, one for each bench: their commands are alike, or both have the same error
 abbrev pub ParsedAlike : ℕ → BenchState → BenchState → Result Command CommandFault → Result Command CommandFault → Type 0
-ParsedAlike e first second (Ok here) (Ok there) = CommandsAlike e first second here there
+ParsedAlike e first second (Ok command) (Ok other_command) = CommandsAlike e first second command other_command
 ParsedAlike e first second (Err here) (Err there) = here ≡ there
 ParsedAlike e first second _ _ = ⊥
 
--- two lists of lines, line by line
+-- two lists of lines of the same length, one for each bench, are alike line by line
 abbrev pub LinesAlike : ℕ → BenchState → BenchState → List (List ℕ) → List (List ℕ) → Type 0
 LinesAlike e first second [] [] = Unit {0}
 LinesAlike e first second (line ∷ lines) (other ∷ others) =

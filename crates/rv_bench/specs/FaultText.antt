@@ -6,7 +6,7 @@ use Rattle.rv_memory.specs.Faults.{ram_fault_number}
 use Rattle.rv_streams.specs.declared.fault.BenchFault.{BenchFault}
 use Rattle.rv_streams.specs.declared.fault.BenchFault.TheVariants.{Image, Ram, Read, Write, Hex, TooLong, NoMemory, Asm}
 
--- an error of the output has no line
+-- `fault_text` is the line for an error of a job; an error of the output has none
 unfoldable pub fault_text : BenchFault → List ℕ
 fault_text (Image fault) = codes "rvbench: image " ++ (decimal (elf_fault_number fault) ++ codes "\n")
 fault_text (Ram fault) = codes "rvbench: ram " ++ (decimal (ram_fault_number fault) ++ codes "\n")

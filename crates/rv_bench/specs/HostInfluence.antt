@@ -1,6 +1,6 @@
 -- The host's influence on an enclave, over two scripts with unlike images, setups and lines; and the lines of a script that are a list of events.
 -- (Laws of this project's own monitor and debugger.)
-use Rattle.std.specs.Prelude.{◌≡◌, ◌==◌, ℕ, Bool, true, false, List, [], ◌∷◌, codes, Some, IfOk, IfSome, if◌then◌else◌}
+use Rattle.std.specs.Prelude.{◌≡◌, ◌==◌, ℕ, Bool, true, List, [], ◌∷◌, codes, Some, IfOk, IfSome, if◌then◌else◌}
 use Rattle.rv_monitor.specs.Events.{Event, LineOf, StepOf, events}
 use Rattle.rv_monitor.specs.MonitoredMachine.{count_of}
 use Rattle.rv_debug.specs.BenchState.{BenchState}
@@ -38,11 +38,11 @@ hart_line hart = if hart == 0 then codes "hart 0" else codes "hart 1"
 abbrev pub timer_line : Bool → List ℕ
 timer_line raised = if raised then codes "timer on" else codes "timer off"
 
--- each event has two lines
+-- `lines_for` has two lines for each event: one that selects a hart, and one that steps it or sets its timer line
 abbrev pub lines_for : List Event → List (List ℕ)
 lines_for [] = []
-lines_for (StepOf hart ∷ more) = hart_line hart ∷ codes "step 1" ∷ lines_for more
-lines_for (LineOf hart raised ∷ more) = hart_line hart ∷ timer_line raised ∷ lines_for more
+lines_for (StepOf hart ∷ later) = hart_line hart ∷ codes "step 1" ∷ lines_for later
+lines_for (LineOf hart raised ∷ later) = hart_line hart ∷ timer_line raised ∷ lines_for later
 
 -- After any lines, every list of events of harts 0 and 1, as far as they exist, is that of lines.
 abbrev pub ScriptEventsLaw : Type 0

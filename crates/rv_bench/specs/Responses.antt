@@ -39,8 +39,8 @@ module _ {A : Type 0} (by : Responding A) (end : ScriptEnd) (start : A) (unread 
     pub inside : ends_script end shown ≡ false
     pub responds : RespondsToLine by now shown (record { state = after; reply = reply })
 
-module _ {S W : Type 0} {g : SourceGhosts S} (h : SinkGhosts W) {A : Type 0} (by : Responding A) (end : ScriptEnd) (start now : A) (old new : Lines S g)
-    (before after : W) where
+module _ {S W : Type 0} {g : SourceGhosts S} (h : SinkGhosts W) {A : Type 0} (by : Responding A) (end : ScriptEnd) (start now : A)
+    (old new : Lines S g) (before after : W) where
   -- All lines of the script have their responses, and the responder is not over.
   pub record RespondsToEnd : Type 0 where
     pub last : Lines S g

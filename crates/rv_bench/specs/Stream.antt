@@ -43,12 +43,14 @@ module _ {S W : Type 0} {g : SourceGhosts S} (h : SinkGhosts W) (setup : Setup) 
   RunsStream (Ok _) = (is_ram_size setup.ram ≡ true) × RunsToEnd h (output setup (unread old)) old new before after
   RunsStream (Err Read) = FailsToRead h old new before after × (g.follows_input new.source → StopsStreamAtRead)
   RunsStream (Err Write) =
-      (is_ram_size setup.ram ≡ true) × FailsToWrite h (output setup (unread old)) old new before after × (g.follows_input new.source → StopsStreamAtWrite)
+      (is_ram_size setup.ram ≡ true) × FailsToWrite h (output setup (unread old)) old new before after
+      × (g.follows_input new.source → StopsStreamAtWrite)
   RunsStream (Err Hex) = FindsFault Hex old new × IsFault Hex × (after ≡ before)
   RunsStream (Err TooLong) = FindsFault TooLong old new × IsFault TooLong × (after ≡ before)
   RunsStream (Err NoMemory) = RunsOutOfMemory old new × (after ≡ before)
   RunsStream (Err (Ram BadSize)) = (is_ram_size setup.ram ≡ false) × ReadsThroughSeparator old new × IsFault (Ram BadSize) × (after ≡ before)
   RunsStream (Err (Ram (NoRamMemory refused))) =
-      (is_ram_size setup.ram ≡ true) × (refused.bytes ≡ setup.ram) × ReadsThroughSeparator old new × (g.follows_input new.source → IsOk (image_in (unread old))) × (after ≡ before)
+      (is_ram_size setup.ram ≡ true) × (refused.bytes ≡ setup.ram) × ReadsThroughSeparator old new
+      × (g.follows_input new.source → IsOk (image_in (unread old))) × (after ≡ before)
   RunsStream (Err (Image fault)) = (is_ram_size setup.ram ≡ true) × ReadsThroughSeparator old new × IsFault (Image fault) × (after ≡ before)
   RunsStream (Err _) = ⊥

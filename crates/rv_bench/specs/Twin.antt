@@ -80,7 +80,8 @@ IsNeverEntered slot pair input = IsSomeAnd pair (λ pair. (state_after (pair_lin
 pub record StopsInEnd (slot : ℕ) (pair : Pair) (unread left old new : List ℕ) : Type 0 where
   pub used_up : left ≡ []
   pub going : (state_after (pair_line slot) pair (lines_of unread)).entered ≡ false
-  pub written : WritesPrefix (old ++ replies (pair_line slot) pair (lines_of unread)) new (end_text (state_after (pair_line slot) pair (lines_of unread)).ran)
+  pub written : WritesPrefix (old ++ replies (pair_line slot) pair (lines_of unread)) new
+      (end_text (state_after (pair_line slot) pair (lines_of unread)).ran)
 
 -- the sink failed in the second script, or in the line `twin no slot`
 abbrev pub StopsSecondAtWrite : ℕ → Option Pair → List ℕ → List ℕ → List ℕ → List ℕ → Type 0
@@ -116,8 +117,8 @@ module _ {S W : Type 0} {g : SourceGhosts S} (h : SinkGhosts W) where
   -- The meaning of each result of the second part, for the pair after the scramble.
   abbrev pub RunsSecond : ℕ → Option Pair → Lines S g → Lines S g → W → W → Outcome → Type 0
   RunsSecond slot pair old new before after (Ok _) =
-      TellsTwin (Ok (second_text slot pair (unread old))) (IsNeverEntered slot pair (unread old)) (IsOver slot pair (unread old) (unread new) new.is_at_end)
-      old new before after
+      TellsTwin (Ok (second_text slot pair (unread old))) (IsNeverEntered slot pair (unread old))
+      (IsOver slot pair (unread old) (unread new) new.is_at_end) old new before after
   RunsSecond slot pair old new before after (Err Read) =
       FailsToRead h old new before after
       × (g.follows_input new.source → IsSomeAnd pair (λ pair.
@@ -144,7 +145,8 @@ module _ {S W : Type 0} {g : SourceGhosts S} (h : SinkGhosts W) (setup : Setup) 
   abbrev pub StopsTwinAtRead : Type 0
   StopsTwinAtRead =
       (ReadsInImage (unread old) (g.remaining new.source) (held new) × (after ≡ before))
-      ⊎ (IsTrue (has_separator (unread old)) × IsOkAnd (bench_in (monitored_setup setup) (unread old)) (StopsInScripts (after_separator (unread old))))
+      ⊎ (IsTrue (has_separator (unread old))
+      × IsOkAnd (bench_in (monitored_setup setup) (unread old)) (StopsInScripts (after_separator (unread old))))
 
   -- the sink failed in the first script, or after it
   abbrev pub StopsInScriptsAtWrite : List ℕ → BenchState → Type 0
@@ -174,15 +176,18 @@ module _ {S W : Type 0} {g : SourceGhosts S} (h : SinkGhosts W) (setup : Setup) 
   -- The meaning of each result of `run_twin`. The text of the image, the size of the RAM and the image are checked in this order, before a byte
   -- is written.
   abbrev pub RunsTwin : Outcome → Type 0
-  RunsTwin (Ok _) = (is_ram_size setup.ram ≡ true) × TellsTwin h (twin_output setup slot (unread old)) IsTwinNeverEntered IsTwinOver old new before after
+  RunsTwin (Ok _) =
+      (is_ram_size setup.ram ≡ true) × TellsTwin h (twin_output setup slot (unread old)) IsTwinNeverEntered IsTwinOver old new before after
   RunsTwin (Err Read) = FailsToRead h old new before after × (g.follows_input new.source → StopsTwinAtRead)
   RunsTwin (Err Write) =
-      (is_ram_size setup.ram ≡ true) × FailsToWrite h (twin_output setup slot (unread old)) old new before after × (g.follows_input new.source → StopsTwinAtWrite)
+      (is_ram_size setup.ram ≡ true) × FailsToWrite h (twin_output setup slot (unread old)) old new before after
+      × (g.follows_input new.source → StopsTwinAtWrite)
   RunsTwin (Err Hex) = FindsFault Hex old new × HasFault Hex × (after ≡ before)
   RunsTwin (Err TooLong) = FindsFault TooLong old new × HasFault TooLong × (after ≡ before)
   RunsTwin (Err NoMemory) = RunsOutOfMemory old new × (after ≡ before)
   RunsTwin (Err (Ram BadSize)) = (is_ram_size setup.ram ≡ false) × ReadsThroughSeparator old new × HasFault (Ram BadSize) × (after ≡ before)
   RunsTwin (Err (Ram (NoRamMemory refused))) =
-      (is_ram_size setup.ram ≡ true) × (refused.bytes ≡ setup.ram) × ReadsThroughSeparator old new × (g.follows_input new.source → IsOk (image_in (unread old))) × (after ≡ before)
+      (is_ram_size setup.ram ≡ true) × (refused.bytes ≡ setup.ram) × ReadsThroughSeparator old new
+      × (g.follows_input new.source → IsOk (image_in (unread old))) × (after ≡ before)
   RunsTwin (Err (Image fault)) = (is_ram_size setup.ram ≡ true) × ReadsThroughSeparator old new × HasFault (Image fault) × (after ≡ before)
   RunsTwin (Err _) = ⊥

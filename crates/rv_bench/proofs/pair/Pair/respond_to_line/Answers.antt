@@ -3,6 +3,6 @@
 use Rattle.rv_bench.proofs.PairLemmas.{pair_line-prefix}
 use Rattle.rv_bench.proofs.pair.Pair.respond_to_line.Goals as goal
 
--- `Pair::respond_to_line` meets clause `prefix` of its contract
+-- every line that begins with the same significant bytes has the same response (clause `prefix`)
 pub returns-clause-prefix : goal.returns-clause-prefix
-returns-clause-prefix c = λ other same. pair_line-prefix _ _ other _ same
+returns-clause-prefix c = λ other same_prefix. pair_line-prefix _ _ other _ same_prefix
