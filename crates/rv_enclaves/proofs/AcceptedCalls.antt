@@ -59,8 +59,8 @@ any_of p (x ∷ xs) each_fails =
 -- ---- the conditions
 
 -- a block that the numbers of a create describe passes the test of a valid block
-block_is : (memory : List ℕ) (block : Block) → IsBlockOf memory block → is_block_of memory block ≡ true
-block_is memory block valid_block =
+is_block_of-passes : (memory : List ℕ) (block : Block) → IsBlockOf memory block → is_block_of memory block ≡ true
+is_block_of-passes memory block valid_block =
     let size =
     any_in (λ k. block.size == 2 ^ k) 12 20 valid_block.exponent valid_block.at_least (omega (arith, valid_block.below))
     (eq-eqb block.size (2 ^ valid_block.exponent) valid_block.size) in
@@ -73,7 +73,8 @@ block_is memory block valid_block =
 window_is : (memory : List ℕ) (regs : List ℕ) → (register regs 13 ≡ 0) ⊎ IsBlockOf memory (window_named regs)
     → (register regs 13 == 0 || is_block_of memory (window_named regs)) ≡ true
 window_is memory regs (inl size_is_0) = let test_is = eq-eqb (register regs 13) 0 size_is_0 in rw test_is refl
-window_is memory regs (inr block) = let is_valid = block_is memory (window_named regs) block in rw is_valid (or-true (register regs 13 == 0))
+window_is memory regs (inr block) =
+    let is_valid = is_block_of-passes memory (window_named regs) block in rw is_valid (or-true (register regs 13 == 0))
 
 -- a slot with a record is not free
 live : (o : Option SlotInfo) → is_some o ≡ true → is_none o ≡ false
@@ -87,9 +88,9 @@ free_is shared regs slot creatable =
     (λ j from to. live (record_at shared.table j) (creatable.lowest j to)) (ap (λ (o : Option SlotInfo). is_none o) creatable.free)
 
 -- a create has status 0 if none of its five refusals applies
-no_row : (c1 c2 c3 c4 c5 : Bool) → c1 ≡ true → c2 ≡ true → c3 ≡ false → c4 ≡ true → c5 ≡ false
+no_condition_holds : (c1 c2 c3 c4 c5 : Bool) → c1 ≡ true → c2 ≡ true → c3 ≡ false → c4 ≡ true → c5 ≡ false
     → first_status ((not c1, 0xFFFFFFFE) ∷ (not c2, 0xFFFFFFFD) ∷ (c3, 0xFFFFFFFC) ∷ (not c4, 0xFFFFFFFB) ∷ (c5, 0xFFFFFFFA) ∷ []) ≡ 0
-no_row c1 c2 c3 c4 c5 holds_1 holds_2 fails_3 holds_4 fails_5 = rw (holds_1, holds_2, fails_3, holds_4, fails_5) refl
+no_condition_holds c1 c2 c3 c4 c5 holds_1 holds_2 fails_3 holds_4 fails_5 = rw (holds_1, holds_2, fails_3, holds_4, fails_5) refl
 
 -- a disjunction of four tests fails if each of the four tests fails
 none_of : (a b c d : Bool) → a ≡ false → b ≡ false → c ≡ false → d ≡ false → (a || (b || (c || d))) ≡ false
@@ -103,7 +104,8 @@ all_of a b c a_holds b_holds c_holds = rw (a_holds, b_holds, c_holds) refl
 create_passes : (shared : Shared) (regs : List ℕ) (slot : ℕ) → IsCreatable shared regs slot → first_status (create_rows shared regs) ≡ 0
 unfolding create_rows
 create_passes shared regs slot creatable =
-    no_row _ _ _ _ _ (block_is shared.memory (region_named regs) creatable.region) (window_is shared.memory regs creatable.window)
+    no_condition_holds _ _ _ _ _ (is_block_of-passes shared.memory (region_named regs) creatable.region)
+    (window_is shared.memory regs creatable.window)
     (none_of _ _ _ _ creatable.monitor creatable.monitor_too creatable.own
     (any_of (overlap_enclave (region_named regs) (window_named regs)) shared.table creatable.others))
     (all_of _ _ _ (eq-eqb (register regs 14 % 4) 0 creatable.aligned) (le-leb (register regs 10) (register regs 14) creatable.entry_from)

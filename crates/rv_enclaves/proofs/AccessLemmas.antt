@@ -21,10 +21,10 @@ use Rattle.rv_enclaves.specs.AccessibleMemory.{is_accessible, host_has, LayoutAc
 use Rattle.rv_enclaves.specs.SlotNumbers.{slot_count}
 use Rattle.rv_word.specs.declared.width.Width.{Width}
 use Rattle.rv_word.specs.declared.width.Width.TheVariants.{Byte, Half, Word}
-use Rattle.rv_enclaves.proofs.Napots.{same_test}
+use Rattle.rv_enclaves.proofs.Napots.{equal_if_equivalent}
 use Rattle.rv_enclaves.proofs.Owners.{cfg_of-layout, entry_at-monitor, entry_at-slot, entry_at-window, entry_at-host, world_window, covers_monitor}
 use Rattle.rv_enclaves.proofs.Owners.{covers_slot, covers_window, covers_host, has_nothing, IsApart, apart}
-use Rattle.rv_enclaves.proofs.EqualMemory.{inside-is}
+use Rattle.rv_enclaves.proofs.EqualMemory.{inside-bounds}
 
 -- ---- verdicts in S and U
 
@@ -122,15 +122,15 @@ window_gives (Some s) access b no_fetch in_window =
 -- ---- accessible memory, by world
 
 -- a world that passes the test `is_world_of k` is enclave k
-pub world_is : (k : ℕ) (w : World) → is_world_of k w ≡ true → w ≡ Enclave k
-world_is k Host runs_enclave = absurd (false≢true runs_enclave)
-world_is k (Enclave j) runs_enclave = ap Enclave (eqb-true j k runs_enclave)
+pub world_is_enclave : (k : ℕ) (w : World) → is_world_of k w ≡ true → w ≡ Enclave k
+world_is_enclave k Host runs_enclave = absurd (false≢true runs_enclave)
+world_is_enclave k (Enclave j) runs_enclave = ap Enclave (eqb-true j k runs_enclave)
 
 -- the bytes of a region are accessible to the enclave of this region
 region_reaches : (memory : List ℕ) (t : Slots) (w : World) (access : Access) (bytes : List ℕ) (k : ℕ) → is_world_of k w ≡ true
     → list_all (has (region t k)) bytes ≡ true → is_accessible memory t w access bytes ≡ true
 unfolding is_accessible
-region_reaches memory t w access bytes k runs_enclave all_in_region = rw (world_is k w runs_enclave) (or_left _ _ all_in_region)
+region_reaches memory t w access bytes k runs_enclave all_in_region = rw (world_is_enclave k w runs_enclave) (or_left _ _ all_in_region)
 
 -- the bytes of a window are accessible to the enclave of this window, if PMP entry 14 has the permission for the access
 window_reaches : (memory : List ℕ) (t : Slots) (w : World) (access : Access) (bytes : List ℕ)
@@ -433,7 +433,7 @@ module _ (memory : List ℕ) (t : Slots) (w : World) (mode : Mode) (access : Acc
 
   -- the layout permits an access in S or U if and only if the accessed bytes are accessible to the world
   pub reach_from : permits (verdict entries mode access bytes) ≡ is_accessible memory t w access bytes
-  reach_from = same_test _ _ accessible_if_permitted permitted_if_accessible
+  reach_from = equal_if_equivalent _ _ accessible_if_permitted permitted_if_accessible
 
   -- if the layout permits a world an access, then no accessed byte is in the region of another enclave
   pub permitted_apart : (k : ℕ) → is_world_of k w ≡ false → permits (verdict entries mode access bytes) ≡ true → (b : ℕ) → a ≤ b
@@ -458,12 +458,12 @@ small_ram memory ram_size =
 pub reach_law : LayoutAccessLaw
 reach_law memory slots world mode access address width valid below inside =
     reach_from memory slots world mode access address (bytes_in width) (small_ram memory valid.ram) valid below (some_bytes width)
-    (inside-is memory address (bytes_in width) inside)
+    (inside-bounds memory address (bytes_in width) inside)
 
 -- proves that no permitted access of S or U has a byte in the region of another enclave
 pub apart_law : ApartLaw
 apart_law memory slots world mode access address width k byte valid below inside other permitted low high =
     let outside_other_regions =
     permitted_apart memory slots world mode access address (bytes_in width) (small_ram memory valid.ram) valid below (some_bytes width)
-    (inside-is memory address (bytes_in width) inside) in
+    (inside-bounds memory address (bytes_in width) inside) in
     outside_other_regions k other permitted byte low high

@@ -17,11 +17,11 @@ use Rattle.rv_enclaves.proofs.Prelude.{SharedEquivExcept, SlotInfo}
 use Rattle.rv_enclaves.proofs.Prelude.{Slots, context_at, created, destroyed, first_context, has, is_block_size, is_inside, is_valid_block, is_live, is_private}
 use Rattle.rv_enclaves.proofs.Prelude.{measured, measurement_at, measurement_of, meets, new_slot, option_case, recorded, region, region_of, slot_at}
 use Rattle.rv_enclaves.proofs.Prelude.{with_bytes_at, with_context, with_slot, with_state, zeroed}
-use Rattle.rv_enclaves.proofs.EqualMemory.{IsSeen, inside-is, same_read, read-none, write-alike, zeros-alike}
+use Rattle.rv_enclaves.proofs.EqualMemory.{IsSeen, inside-bounds, same_read, read-none, write-alike, zeros-alike}
 use Rattle.rv_memory.proofs.BlockLaws.{meets_at}
 use Rattle.rv_enclaves.proofs.SavedLists.{same_at_set, same_after_set, length_after}
-use Rattle.rv_enclaves.proofs.Refusals.{MayCreate, IsTaken}
-use Rattle.rv_enclaves.proofs.Slots.{at_other, at_same, free_from}
+use Rattle.rv_enclaves.proofs.Refusals.{MayCreate, SlotIsAccepted}
+use Rattle.rv_enclaves.proofs.Slots.{at_other_slot, at_written_slot, free_from}
 use Rattle.rv_enclaves.proofs.SharedInvariantLemmas.{free_slot_from, live_in_range}
 
 -- ---- equivalence
@@ -138,7 +138,8 @@ module _ (e : ℕ) (table : Slots) (m n : List ℕ) (contexts_m contexts_n : Con
   put_alike k info slot_is_free =
       equiv_with_slot (with_slot table k (Some info)) m n (with_context contexts_m k (Some (first_context info)))
       (with_context contexts_n k (Some (first_context info)))
-      (at_other table k e (Some info) (not_free k slot_is_free)) equiv (contexts_with e contexts_m contexts_n k (Some (first_context info)) saved)
+      (at_other_slot table k e (Some info) (not_free k slot_is_free)) equiv
+      (contexts_with e contexts_m contexts_n k (Some (first_context info)) saved)
 
   -- a create that the monitor does not refuse leaves two equivalent shared states equivalent except e
   pub created_alike : (new : CreateArgs) → MayCreate shared_m new → SharedEquivExcept e (created shared_m new) (created shared_n new)
@@ -153,7 +154,7 @@ module _ (e : ℕ) (table : Slots) (m n : List ℕ) (contexts_m contexts_n : Con
   gone_alike : (block : Block) → region table e ≡ block → is_inside m block.base block.size ≡ true
       → without shared_m e block ≡ without shared_n e block
   gone_alike block region_is inside =
-      let at = inside-is m block.base block.size inside in
+      let at = inside-bounds m block.base block.size inside in
       let covers : (b : ℕ) → is_private table e b ≡ true → (block.base ≤ b) × (b < block.base + block.size) =
       λ b hidden. let parts =
       and_parts (nat_le block.base b) (nat_lt b (block.base + block.size)) (sym (ap (λ (r : Block). has r b) region_is) ∙ hidden) in
@@ -174,7 +175,7 @@ module _ (e : ℕ) (table : Slots) (m n : List ℕ) (contexts_m contexts_n : Con
     | inr distinct ↦
         let block = region table k in
         equiv_with_slot (with_slot table k None) (zeroed m block) (zeroed n block) (with_context contexts_m k None) (with_context contexts_n k None)
-        (at_other table k e None (λ same. distinct (sym same))) (write-alike (is_private table e) m n block.base (replicate block.size 0) equiv)
+        (at_other_slot table k e None (λ same. distinct (sym same))) (write-alike (is_private table e) m n block.base (replicate block.size 0) equiv)
         (contexts_with e contexts_m contexts_n k None saved)
   ]
 
@@ -185,7 +186,8 @@ module _ (e : ℕ) (table : Slots) (m n : List ℕ) (contexts_m contexts_n : Con
   region_inside (Some info) slot_valid is_present = (and_parts _ _ (and_parts (is_block_size info.region.size) _ slot_valid.region).1).1
 
   -- a destroy that the monitor does not refuse leaves two equivalent shared states equivalent except e
-  pub destroyed_alike : (k : ℕ) → IsValid m table → IsTaken table calls.Destroy k → SharedEquivExcept e (destroyed shared_m k) (destroyed shared_n k)
+  pub destroyed_alike : (k : ℕ) → IsValid m table → SlotIsAccepted table calls.Destroy k
+      → SharedEquivExcept e (destroyed shared_m k) (destroyed shared_n k)
   unfolding destroyed
   destroyed_alike k table_valid is_taken =
       without_alike k (region_inside (slot_at table k) (table_valid.well_formed k) (ap (λ (o : Option SlotInfo). is_some o) is_taken.is))
@@ -216,10 +218,10 @@ module _ (e : ℕ) (table : Slots) (m n : List ℕ) (contexts_m contexts_n : Con
           let new = Some (record info { state = state }) in
           elim (cases_eq e k) [
             | inl equal ↦
-                let at_k = at_same table k new (omega (arith, table_length, live_in_range table k info table_length slot_is)) in
+                let at_k = at_written_slot table k new (omega (arith, table_length, live_in_range table k info table_length slot_is)) in
                 rw equal (ap region_of at_k ∙ sym (ap region_of slot_is), ap (λ (o : Option SlotInfo). is_some o) at_k)
             | inr distinct ↦
-                let same = at_other table k e new distinct in (ap region_of same, ap (λ (o : Option SlotInfo). is_some o) same ∙ live)
+                let same = at_other_slot table k e new distinct in (ap region_of same, ap (λ (o : Option SlotInfo). is_some o) same ∙ live)
           ]
 
   -- the same new state and saved context for slot k leave two equivalent shared states equivalent except e

@@ -9,17 +9,17 @@ use Rattle.rv_memory.proofs.MemoryLaws.{index-below, index-above, write-is}
 use Rattle.rv_enclaves.proofs.Prelude.{EqualOutside, is_inside, length-write, option_case, ram_base, write}
 
 -- the memory after a write, or the old memory if the write fails
-abbrev pub or_same : List ℕ → Option (List ℕ) → List ℕ
-or_same memory after = option_case after memory (λ bytes. bytes)
+abbrev pub or_unchanged : List ℕ → Option (List ℕ) → List ℕ
+or_unchanged memory after = option_case after memory (λ bytes. bytes)
 
 -- no byte of an access is hidden
 abbrev pub IsSeen : (ℕ → Bool) → ℕ → ℕ → Type 0
 IsSeen hidden address count = (b : ℕ) → address ≤ b → b < address + count → hidden b ≡ false
 
 -- an access inside memory begins at or above the base of RAM and ends at or below the end of RAM
-pub inside-is : (m : List ℕ) (address count : ℕ) → is_inside m address count ≡ true
+pub inside-bounds : (m : List ℕ) (address count : ℕ) → is_inside m address count ≡ true
     → (ram_base ≤ address) × (address + count ≤ ram_base + length m)
-inside-is m address count inside =
+inside-bounds m address count inside =
     let parts = and_parts _ _ inside in
     (leb-true _ _ parts.0, leb-true _ _ parts.1)
 
@@ -40,7 +40,7 @@ pub same_read : (hidden : ℕ → Bool) (m n : List ℕ) (address count : ℕ) �
     → IsSeen hidden address count → read m address count ≡ read n address count
 unfolding read
 same_read hidden m n address count equiv inside not_hidden =
-    let bounds = inside-is m address count inside in
+    let bounds = inside-bounds m address count inside in
     let address_is : ram_base + (address - ram_base) ≡ address = omega (arith, bounds.0) in
     let parts = same_part hidden m n (address - ram_base) count equiv (rw address_is not_hidden) (omega (arith, bounds.0, bounds.1)) in
     let same_size = equiv.size in
@@ -93,7 +93,7 @@ write-some m address bytes inside = rw inside refl
 
 -- the same write succeeds for both memories or for neither, and leaves the memories equal outside the hidden bytes
 pub write-alike : (hidden : ℕ → Bool) (m n : List ℕ) (address : ℕ) (bytes : List ℕ) → EqualOutside hidden m n
-    → EqualOutside hidden (or_same m (write m address bytes)) (or_same n (write n address bytes))
+    → EqualOutside hidden (or_unchanged m (write m address bytes)) (or_unchanged n (write n address bytes))
 write-alike hidden m n address bytes equiv =
     let same_size = equiv.size in
     elim (cases_Bool (is_inside m address (length bytes))) [
@@ -110,7 +110,7 @@ write-alike hidden m n address bytes equiv =
 -- zeroing a range that has all hidden bytes makes the two memories equal everywhere
 pub zeros-alike : (hidden hidden' : ℕ → Bool) (m n : List ℕ) (base count : ℕ) → EqualOutside hidden m n
     → (ram_base ≤ base) × (base + count ≤ ram_base + length m) → ((b : ℕ) → hidden b ≡ true → (base ≤ b) × (b < base + count))
-    → EqualOutside hidden' (or_same m (write m base (replicate count 0))) (or_same n (write n base (replicate count 0)))
+    → EqualOutside hidden' (or_unchanged m (write m base (replicate count 0))) (or_unchanged n (write n base (replicate count 0)))
 zeros-alike hidden hidden' m n base count equiv in_memory hidden_in_range =
     let bytes = replicate count 0 in
     let long : length bytes ≡ count = length-replicate {A = ℕ} count 0 in

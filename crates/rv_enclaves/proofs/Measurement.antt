@@ -16,7 +16,7 @@ use Rattle.rv_enclaves.specs.ValidBlocks.{is_valid_block}
 use Rattle.rv_enclaves.specs.declared.create_args.CreateArgs.{CreateArgs}
 use Rattle.rv_enclaves.specs.declared.slot_info.SlotInfo.{SlotInfo}
 use Rattle.rv_enclaves.proofs.AccessLemmas.{small_ram}
-use Rattle.rv_enclaves.proofs.EqualMemory.{inside-is}
+use Rattle.rv_enclaves.proofs.EqualMemory.{inside-bounds}
 use Rattle.rv_enclaves.proofs.Owners.{valid_block}
 
 -- ---- the measurement depends on nothing but its input
@@ -62,7 +62,7 @@ pub record AreWords (args : CreateArgs) : Type 0 where
 
 -- a valid block ends below 2 ^ 32
 block_words : (m : List ℕ) (block : Block) → length m ≤ 0x1000000 → is_valid_block m block ≡ true → block.base + block.size < 2 ^ 32
-block_words m block ram_size is_valid = let block_is = valid_block m block is_valid in omega (arith, block_is.high, ram_size)
+block_words m block ram_size is_valid = let is_block_of-passes = valid_block m block is_valid in omega (arith, is_block_of-passes.high, ram_size)
 
 -- a valid window ends below 2 ^ 32
 window_words : (m : List ℕ) (block : Block) → length m ≤ 0x1000000 → is_window m block ≡ true → block.base + block.size < 2 ^ 32
@@ -98,7 +98,7 @@ block_byte : (m : List ℕ) (block : Block) (i : ℕ) → is_inside m block.base
     → ram_base + i < block.base + block.size → slice_index (bytes_of_block m block) (ram_base + i - block.base) ≡ slice_index m i
 unfolding read
 block_byte m block i inside low high =
-    let bounds = inside-is m block.base block.size inside in
+    let bounds = inside-bounds m block.base block.size inside in
     let k = ram_base + i - block.base in
     let short : k < block.size = omega (arith, low, high) in
     let at : block.base - ram_base + k ≡ i = omega (arith, bounds.0, low) in

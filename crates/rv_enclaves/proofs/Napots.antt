@@ -20,11 +20,11 @@ abbrev pub is_within : ℕ → ℕ → ℕ → Bool
 is_within base size b = nat_le base b && nat_lt b (base + size)
 
 -- two tests that imply each other are equal
-pub same_test : (x y : Bool) → (x ≡ true → y ≡ true) → (y ≡ true → x ≡ true) → x ≡ y
-same_test true true y_if_x x_if_y = refl
-same_test true false y_if_x x_if_y = sym (y_if_x refl)
-same_test false true y_if_x x_if_y = x_if_y refl
-same_test false false y_if_x x_if_y = refl
+pub equal_if_equivalent : (x y : Bool) → (x ≡ true → y ≡ true) → (y ≡ true → x ≡ true) → x ≡ y
+equal_if_equivalent true true y_if_x x_if_y = refl
+equal_if_equivalent true false y_if_x x_if_y = sym (y_if_x refl)
+equal_if_equivalent false true y_if_x x_if_y = x_if_y refl
+equal_if_equivalent false false y_if_x x_if_y = refl
 
 -- a number that ends in a 0 and k ones has k trailing ones
 pub trailing_ones-block : (half k : ℕ) → k < 32 → 2 * half * 2 ^ k + (2 ^ k - 1) + 1 < 2 ^ 32 → trailing_ones w32 (2 * half * 2 ^ k + (2 ^ k - 1)) ≡ k
@@ -72,7 +72,7 @@ module _ (q k : ℕ) (below_32 : k < 32) (fits : q * (8 * 2 ^ k) + 8 * 2 ^ k ≤
   block_matches before b =
       let same = same_quotient (8 * 2 ^ k) q b (omega (arith, pow_pos k)) in
       rw (napot_size_is, quotient_is)
-      (same_test _ _
+      (equal_if_equivalent _ _
       (λ test_holds. let bounds = same.0 test_holds in and_from _ _ (le-leb _ _ bounds.0) (lt-ltb _ _ bounds.1))
       (λ test_holds. let bounds = and_parts _ _ test_holds in same.1 (leb-true _ _ bounds.0, ltb-true _ _ bounds.1)))
 

@@ -74,13 +74,13 @@ valid_block memory block is_valid =
 block_covers : (memory : List ℕ) (block : Block) (before b : ℕ) → length memory ≤ 0x1000000 → is_valid_block memory block ≡ true
     → matches (matching_of 0x18) before (napot_addr block.base block.size) b ≡ has block b
 block_covers memory block before b ram_size is_valid =
-    let block_is = valid_block memory block is_valid in
-    let m = block_is.power.0 in
-    let at_least : 12 ≤ m = block_is.power.1 in
-    let below : m < 32 = block_is.power.2 in
+    let is_block_of-passes = valid_block memory block is_valid in
+    let m = is_block_of-passes.power.0 in
+    let at_least : 12 ≤ m = is_block_of-passes.power.1 in
+    let below : m < 32 = is_block_of-passes.power.2 in
     let same : m ≡ (m - 3) + 3 = omega arith in
-    let power : block.size ≡ 2 ^ ((m - 3) + 3) = block_is.power.3 ∙ ap (λ n. 2 ^ n) same in
-    napot_matches block.base block.size (m - 3) before b (omega arith) power block_is.aligned (omega (arith, block_is.high))
+    let power : block.size ≡ 2 ^ ((m - 3) + 3) = is_block_of-passes.power.3 ∙ ap (λ n. 2 ^ n) same in
+    napot_matches block.base block.size (m - 3) before b (omega arith) power is_block_of-passes.aligned (omega (arith, is_block_of-passes.high))
 
 -- the PMP entry of a slot matches exactly the bytes of the slot's region
 region_covers : (memory : List ℕ) (w : World) (k : ℕ) (o : Option SlotInfo) (before b : ℕ) → length memory ≤ 0x1000000
@@ -95,9 +95,9 @@ region_covers memory w k (Some info) before b ram_size slot_valid =
     ]
 
 -- a window with at least one byte is a valid block
-some_window : (memory : List ℕ) (block : Block) → is_window memory block ≡ true → block.size ≢ 0 → is_valid_block memory block ≡ true
+nonempty_window_is_block : (memory : List ℕ) (block : Block) → is_window memory block ≡ true → block.size ≢ 0 → is_valid_block memory block ≡ true
 unfolding is_window
-some_window memory block is_window_valid nonempty = elim (or_cases (block.base == 0 && block.size == 0) _ is_window_valid) [
+nonempty_window_is_block memory block is_window_valid nonempty = elim (or_cases (block.base == 0 && block.size == 0) _ is_window_valid) [
   | inl is_empty ↦ absurd (nonempty (eqb-true _ _ (and_parts (block.base == 0) _ is_empty).1))
   | inr well_formed ↦ well_formed
 ]
@@ -110,7 +110,7 @@ window_covers memory (Some info) before b ram_size slot_valid = elim (cases_eq i
   | inl window_empty ↦ rw (eq-eqb _ _ window_empty) (sym (empty_has info.window.base info.window.size b window_empty))
   | inr window_nonempty ↦
       rw (ne_eqb _ _ window_nonempty)
-      (block_covers memory info.window before b ram_size (some_window memory info.window slot_valid.window window_nonempty))
+      (block_covers memory info.window before b ram_size (nonempty_window_is_block memory info.window slot_valid.window window_nonempty))
 ]
 
 -- ---- the entries of the layout

@@ -16,10 +16,10 @@ use Rattle.rv_enclaves.proofs.Prelude.{first_refusal, is_valid_block, is_live, i
 use Rattle.rv_enclaves.proofs.Valid.{well_formed_by_size, window_by_size}
 
 -- if no condition of a table holds, then the first condition is false, and no condition of the rest holds
-pub no_row : (condition : Bool) (refusal : Refusal) (rows : List (Bool × Refusal)) → first_refusal ((condition, refusal) ∷ rows) ≡ None
+pub no_condition_holds : (condition : Bool) (refusal : Refusal) (rows : List (Bool × Refusal)) → first_refusal ((condition, refusal) ∷ rows) ≡ None
     → (condition ≡ false) × (first_refusal rows ≡ None)
-no_row true refusal rows no_refusal = cc
-no_row false refusal rows no_refusal = (refl, no_refusal)
+no_condition_holds true refusal rows no_refusal = cc
+no_condition_holds false refusal rows no_refusal = (refl, no_refusal)
 
 -- ---- create
 
@@ -40,11 +40,11 @@ is_slot (Some k) is_present = refl
 pub may_create : (shared : Shared) (new : CreateArgs) → first_refusal (create_refusals shared new) ≡ None → MayCreate shared new
 unfolding create_refusals
 may_create shared new no_refusal =
-    let region = no_row _ _ _ no_refusal in
-    let window = no_row _ _ _ region.1 in
-    let no_overlap = no_row _ _ _ window.1 in
-    let entry = no_row _ _ _ no_overlap.1 in
-    let slot = no_row _ _ _ entry.1 in
+    let region = no_condition_holds _ _ _ no_refusal in
+    let window = no_condition_holds _ _ _ region.1 in
+    let no_overlap = no_condition_holds _ _ _ window.1 in
+    let entry = no_condition_holds _ _ _ no_overlap.1 in
+    let slot = no_condition_holds _ _ _ entry.1 in
     record {
       well_formed = not-false _ region.0;
       window = not-false _ window.0;
@@ -56,23 +56,23 @@ may_create shared new no_refusal =
 -- ---- destroy, run and resume
 
 -- slot k has an enclave in a state that the call accepts
-pub record IsTaken (slots : Slots) (call : Call) (k : ℕ) : Type 0 where
+pub record SlotIsAccepted (slots : Slots) (call : Call) (k : ℕ) : Type 0 where
   pub info : SlotInfo
   pub is : slot_at slots k ≡ Some info
   pub taken : takes call info.state ≡ true
 
 -- a slot that passes the test for a call's state has an enclave in a state that the call accepts
 taken_at : (slots : Slots) (call : Call) (k : ℕ) (o : Option SlotInfo) → slot_at slots k ≡ o
-    → option_case o false (λ info. takes call info.state) ≡ true → IsTaken slots call k
+    → option_case o false (λ info. takes call info.state) ≡ true → SlotIsAccepted slots call k
 taken_at slots call k None slot_is taken = absurd (false≢true taken)
 taken_at slots call k (Some info) slot_is taken = record { info = info; is = slot_is; taken = taken }
 
 -- a destroy, run or resume without a refusal names an enclave in a state that the call accepts
-pub may_take : (slots : Slots) (call : Call) (k : ℕ) → first_refusal (state_refusals slots call k) ≡ None → IsTaken slots call k
+pub may_take : (slots : Slots) (call : Call) (k : ℕ) → first_refusal (state_refusals slots call k) ≡ None → SlotIsAccepted slots call k
 unfolding state_refusals
 may_take slots call k no_refusal =
-    let live = no_row (not (is_live slots k)) _ _ no_refusal in
-    let taken = no_row (not (has_state_for slots call k)) _ _ live.1 in
+    let live = no_condition_holds (not (is_live slots k)) _ _ no_refusal in
+    let taken = no_condition_holds (not (has_state_for slots call k)) _ _ live.1 in
     taken_at slots call k (slot_at slots k) refl (not-false (has_state_for slots call k) taken.0)
 
 -- No call accepts an enclave that runs. Each case holds by computation, or has a false premise.
@@ -94,8 +94,8 @@ pub may_measure : (shared : Shared) (entries : Entries) (k address : ℕ) → fi
     → MayMeasure shared entries k address
 unfolding measure_refusals
 may_measure shared entries k address no_refusal =
-    let live = no_row (not (is_live shared.table k)) _ _ no_refusal in
-    let stores = no_row (not (may_store_all shared.memory entries address)) _ _ live.1 in
+    let live = no_condition_holds (not (is_live shared.table k)) _ _ no_refusal in
+    let stores = no_condition_holds (not (may_store_all shared.memory entries address)) _ _ live.1 in
     record { live = not-false (is_live shared.table k) live.0; stores = not-false (may_store_all shared.memory entries address) stores.0 }
 
 -- ---- the rows depend on memory only by its size

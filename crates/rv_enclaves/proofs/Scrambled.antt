@@ -11,8 +11,8 @@ use Rattle.rv_enclaves.specs.SlotNumbers.{slot_count}
 use Rattle.rv_enclaves.proofs.Prelude.{EqualOutside, Block, Context, Contexts, SharedInvariant, Shared, SharedEquivExcept, SlotInfo, World}
 use Rattle.rv_enclaves.proofs.Prelude.{can_go_on, context_at, has}
 use Rattle.rv_enclaves.proofs.Prelude.{is_held, is_inside, is_live, is_running, option_case, ram_base, region, runs, slot_at, with_context}
-use Rattle.rv_enclaves.proofs.EqualMemory.{inside-is, read-none}
-use Rattle.rv_enclaves.proofs.Slots.{at_same, at_other}
+use Rattle.rv_enclaves.proofs.EqualMemory.{inside-bounds, read-none}
+use Rattle.rv_enclaves.proofs.Slots.{at_written_slot, at_other_slot}
 use Rattle.rv_enclaves.proofs.SharedInvariantLemmas.{live_in_range}
 use Rattle.rv_enclaves.proofs.Valid.{valid_by_size}
 
@@ -22,7 +22,7 @@ use Rattle.rv_enclaves.proofs.Valid.{valid_by_size}
 inside_agrees : (memory : List ℕ) (block : Block) → is_inside memory block.base block.size ≡ true
     → EqualOutside (has block) memory (with_complements memory (block.base - ram_base) block.size)
 inside_agrees memory block inside =
-    let bounds = inside-is memory block.base block.size inside in
+    let bounds = inside-bounds memory block.base block.size inside in
     let index = block.base - ram_base in
     let fits = inside-index memory block.base block.size inside in
     record {
@@ -103,7 +103,7 @@ module _ (shared : Shared) (worlds : List World) (k : ℕ) (shared_invariant : S
   -- the context of slot k after the scramble is the complement of the old context
   context_of_k : context_at new_contexts k ≡ option_map complemented_context kept_one
   context_of_k =
-      at_same shared.contexts k (option_map complemented_context kept_one)
+      at_written_slot shared.contexts k (option_map complemented_context kept_one)
       (let range = may_be.in_range in omega (arith, shared_invariant.contexts.count, range))
 
   -- the scrambled shared state satisfies the invariant
@@ -116,13 +116,13 @@ module _ (shared : Shared) (worlds : List World) (k : ℕ) (shared_invariant : S
       count = length-set shared.contexts k (option_map complemented_context kept_one) ∙ shared_invariant.contexts.count;
       kept = λ j. elim (cases_eq j k) [
         | inl equal ↦ rw equal (ap (λ (x : Option Context). is_some x) context_of_k ∙ some_after kept_one ∙ shared_invariant.contexts.kept k)
-        | inr distinct ↦ ap (λ (x : Option Context). is_some x) (at_other shared.contexts k j _ distinct) ∙ shared_invariant.contexts.kept j
+        | inr distinct ↦ ap (λ (x : Option Context). is_some x) (at_other_slot shared.contexts k j _ distinct) ∙ shared_invariant.contexts.kept j
       ];
       held = λ j.
           let P : Option Context → Type 0 = λ x. IfSome x (λ context. can_go_on context ≡ true) in
           elim (cases_eq j k) [
             | inl equal ↦ rw equal (subst P (sym context_of_k) (goes_on_after kept_one (shared_invariant.contexts.held k)))
-            | inr distinct ↦ subst P (sym (at_other shared.contexts k j _ distinct)) (shared_invariant.contexts.held j)
+            | inr distinct ↦ subst P (sym (at_other_slot shared.contexts k j _ distinct)) (shared_invariant.contexts.held j)
           ];
     };
     running = shared_invariant.running;
@@ -137,7 +137,7 @@ module _ (shared : Shared) (worlds : List World) (k : ℕ) (shared_invariant : S
     memory = block_agrees shared.memory (region shared.table k);
     contexts = record {
       size = sym (length-set shared.contexts k (option_map complemented_context kept_one));
-      others = λ j distinct. sym (at_other shared.contexts k j _ distinct);
+      others = λ j distinct. sym (at_other_slot shared.contexts k j _ distinct);
     };
     gone = λ dead. let contradiction : true ≡ false = sym may_be.live ∙ dead in cc;
   }

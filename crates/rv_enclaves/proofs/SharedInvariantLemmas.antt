@@ -21,9 +21,9 @@ use Rattle.rv_enclaves.proofs.Prelude.{region, running_slot, runs}
 use Rattle.rv_enclaves.proofs.Prelude.{slot_at, with_bytes_at, with_context, with_slot, with_state, write, zeroed}
 use Rattle.rv_enclaves.specs.CallLaws.{CallsKeepLaw}
 use Rattle.rv_enclaves.specs.SlotNumbers.{slot_count}
-use Rattle.rv_enclaves.proofs.Refusals.{MayCreate, IsTaken, may_create, may_take, takes_rests}
-use Rattle.rv_enclaves.proofs.Slots.{at_same, at_other, context_past, IsFree, free_from, state_past}
-use Rattle.rv_enclaves.proofs.Valid.{Fits, valid_with, nothing_fits, own_fits, valid_by_size}
+use Rattle.rv_enclaves.proofs.Refusals.{MayCreate, SlotIsAccepted, may_create, may_take, takes_rests}
+use Rattle.rv_enclaves.proofs.Slots.{at_written_slot, at_other_slot, context_past, IsFree, free_from, state_past}
+use Rattle.rv_enclaves.proofs.Valid.{FitsInSlot, valid_with, nothing_fits, own_fits, valid_by_size}
 
 -- whether a record has the state Running
 abbrev running_in : Option SlotInfo → Bool
@@ -35,26 +35,26 @@ running_in o = option_case o false (λ info. is_running info.state)
 -- premises say that the record fits, and that slot k and the new worlds agree.
 module _ (shared : Shared) (worlds after_worlds : List World) (k : ℕ) (o : Option SlotInfo) (c : Option Context) (memory : List ℕ)
     (shared_invariant : SharedInvariant shared worlds) (in_range : k < slot_count) (same_length : length shared.memory ≡ length memory)
-    (fits : Fits shared.memory shared.table k o) (saved_if_held : is_some c ≡ is_held o)
+    (fits : FitsInSlot shared.memory shared.table k o) (saved_if_held : is_some c ≡ is_held o)
     (can_continue : IfSome c (λ context. can_go_on context ≡ true))
     (here_runs : running_in o ≡ list_any (is_world_of k) after_worlds)
     (others_run : (j : ℕ) → j ≢ k → list_any (is_world_of j) worlds ≡ list_any (is_world_of j) after_worlds)
     (worlds_apart : AreApart after_worlds) where
   -- slot k of the new table has the new record
   table_here : slot_at (with_slot shared.table k o) k ≡ o
-  table_here = at_same shared.table k o (omega (arith, shared_invariant.valid.count))
+  table_here = at_written_slot shared.table k o (omega (arith, shared_invariant.valid.count))
 
   -- slot k of the new contexts has the new context
   context_here : context_at (with_context shared.contexts k c) k ≡ c
-  context_here = at_same shared.contexts k c (omega (arith, shared_invariant.contexts.count))
+  context_here = at_written_slot shared.contexts k c (omega (arith, shared_invariant.contexts.count))
 
   -- each other slot of the new table is unchanged
   table_there : (j : ℕ) → j ≢ k → slot_at (with_slot shared.table k o) j ≡ slot_at shared.table j
-  table_there j distinct = at_other shared.table k j o distinct
+  table_there j distinct = at_other_slot shared.table k j o distinct
 
   -- each other slot of the new contexts is unchanged
   context_there : (j : ℕ) → j ≢ k → context_at (with_context shared.contexts k c) j ≡ context_at shared.contexts j
-  context_there j distinct = at_other shared.contexts k j c distinct
+  context_there j distinct = at_other_slot shared.contexts k j c distinct
 
   -- after the change, a slot has a saved context if and only if its enclave is live and does not run
   saved_after : (j : ℕ) → is_some (context_at (with_context shared.contexts k c) j) ≡ is_held (slot_at (with_slot shared.table k o) j)
@@ -82,9 +82,9 @@ module _ (shared : Shared) (worlds after_worlds : List World) (k : ℕ) (o : Opt
   ]
 
   -- a change of the record and the saved context of slot k that agrees with the worlds preserves the invariant
-  pub sound_with : SharedInvariant
+  pub shared_invariant-with_slot : SharedInvariant
       (record { memory = memory; table = with_slot shared.table k o; contexts = with_context shared.contexts k c }) after_worlds
-  sound_with = record {
+  shared_invariant-with_slot = record {
     valid =
         valid_by_size shared.memory memory (with_slot shared.table k o) same_length
         (valid_with shared.memory shared.table k o shared_invariant.valid in_range fits);
@@ -154,7 +154,7 @@ entry_inside new entry_passes = (and_parts (new.entry % 4 == 0) (has new.region 
 
 -- the record of a create that passes every check fits into a free slot: it is valid, and apart from the other enclaves
 new_fits : (shared : Shared) (new : CreateArgs) (k : ℕ) → is_valid_block shared.memory new.region ≡ true → is_window shared.memory new.window ≡ true
-    → is_entry new ≡ true → IsFree shared.table new → Fits shared.memory shared.table k (Some (recorded shared.memory new))
+    → is_entry new ≡ true → IsFree shared.table new → FitsInSlot shared.memory shared.table k (Some (recorded shared.memory new))
 new_fits shared new k is_valid is_window_valid entry_valid free = record {
   well_formed = record {
     region = is_valid;
@@ -185,7 +185,7 @@ created_at_sound shared worlds new k shared_invariant is_valid is_window_valid n
     let slot = free_slot_from shared.table k free_slot_is in
     let info = recorded shared.memory new in
     let before : false ≡ list_any (is_world_of k) worlds = sym (ap running_in slot.free) ∙ shared_invariant.running k in
-    sound_with shared worlds worlds k (Some info) (Some (first_context info)) shared.memory shared_invariant slot.in_range refl
+    shared_invariant-with_slot shared worlds worlds k (Some info) (Some (first_context info)) shared.memory shared_invariant slot.in_range refl
     (new_fits shared new k is_valid is_window_valid entry_valid (free_from shared.table new no_overlap)) refl
     (first_goes_on info (entry_aligned new entry_valid)) before
     (λ j other. refl) shared_invariant.apart
@@ -235,13 +235,13 @@ removed_sound : (shared : Shared) (worlds : List World) (k : ℕ) (info : SlotIn
 removed_sound shared worlds k info shared_invariant slot_is not_running =
     let before : false ≡ list_any (is_world_of k) worlds = sym not_running ∙ sym (ap running_in slot_is) ∙ shared_invariant.running k in
     let block = region shared.table k in
-    sound_with shared worlds worlds k None None (zeroed shared.memory block) shared_invariant
+    shared_invariant-with_slot shared worlds worlds k None None (zeroed shared.memory block) shared_invariant
     (live_in_range shared.table k info shared_invariant.valid.count slot_is)
     (size_zeroed shared.memory block (write shared.memory block.base (replicate block.size 0)) refl)
     (nothing_fits shared.memory shared.table k) refl tt before (λ j other. refl) shared_invariant.apart
 
 -- a destroy that the monitor does not refuse preserves the invariant
-pub destroyed_sound : (shared : Shared) (worlds : List World) (k : ℕ) → IsTaken shared.table calls.Destroy k → SharedInvariant shared worlds
+pub destroyed_sound : (shared : Shared) (worlds : List World) (k : ℕ) → SlotIsAccepted shared.table calls.Destroy k → SharedInvariant shared worlds
     → SharedInvariant (destroyed shared k) worlds
 unfolding destroyed
 destroyed_sound shared worlds k is_taken shared_invariant =
@@ -285,7 +285,8 @@ module _ (beside : List World) where
       let is_among : true ≡ list_any (is_world_of k) (Enclave k ∷ beside) = rw k_is_k refl in
       let runs_on_no_other : list_any (is_world_of k) beside ≡ false = sym (shared_invariant.running k) ∙ ap running_in slot_is ∙ not_running in
       rw (with_state_is shared.table k info Running slot_is)
-      (sound_with shared (Host ∷ beside) (Enclave k ∷ beside) k (Some (record info { state = Running })) None shared.memory shared_invariant
+      (shared_invariant-with_slot shared (Host ∷ beside) (Enclave k ∷ beside) k (Some (record info { state = Running })) None
+      shared.memory shared_invariant
       (live_in_range shared.table k info shared_invariant.valid.count slot_is) refl
       (own_fits shared.memory shared.table k info Running shared_invariant.valid slot_is) refl tt is_among
       (λ j other. other_worlds_unchanged j k other)
@@ -315,7 +316,8 @@ module _ (beside : List World) where
       let kept_is : true ≡ is_held (Some (record info { state = state })) = rw not_running refl in
       let runs_on_no_other : list_any (is_world_of k) beside ≡ false = shared_invariant.apart.0 k k_is_k in
       rw (with_state_is shared.table k info state live.1)
-      (sound_with shared (Enclave k ∷ beside) (Host ∷ beside) k (Some (record info { state = state })) (Some kept) shared.memory shared_invariant
+      (shared_invariant-with_slot shared (Enclave k ∷ beside) (Host ∷ beside) k (Some (record info { state = state })) (Some kept)
+      shared.memory shared_invariant
       (live_in_range shared.table k info shared_invariant.valid.count live.1) refl
       (own_fits shared.memory shared.table k info state shared_invariant.valid live.1) kept_is can_continue
       (not_running ∙ sym runs_on_no_other) (λ j other. sym (other_worlds_unchanged j k other))

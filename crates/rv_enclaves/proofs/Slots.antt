@@ -14,13 +14,13 @@ use Rattle.rv_enclaves.proofs.Prelude.{CreateArgs, SlotInfo, Slots, meets, monit
 -- ---- lists of options
 
 -- after a write to slot k of a list, slot k has the new entry
-pub at_same : {A : Type 0} (xs : List (Option A)) (k : ℕ) (x : Option A) → k < length xs → slice_index_or (slice_set xs k x) k None ≡ x
-at_same {A} xs k x inside = get_or-set_same {A = Option A} xs k x None inside
+pub at_written_slot : {A : Type 0} (xs : List (Option A)) (k : ℕ) (x : Option A) → k < length xs → slice_index_or (slice_set xs k x) k None ≡ x
+at_written_slot {A} xs k x inside = get_or-set_same {A = Option A} xs k x None inside
 
 -- after a write to another slot of a list, slot j has its old entry
-pub at_other : {A : Type 0} (xs : List (Option A)) (k j : ℕ) (x : Option A) → j ≢ k
+pub at_other_slot : {A : Type 0} (xs : List (Option A)) (k j : ℕ) (x : Option A) → j ≢ k
     → slice_index_or (slice_set xs k x) j None ≡ slice_index_or xs j None
-at_other {A} xs k j x distinct = get_or-set_other {A = Option A} xs k j x None distinct
+at_other_slot {A} xs k j x distinct = get_or-set_other {A = Option A} xs k j x None distinct
 
 -- a new state for the number after the last slot leaves the table unchanged
 pub state_past : (slots : Slots) (state : EnclaveState) → length slots ≡ slot_count → with_state slots slot_count state ≡ slots

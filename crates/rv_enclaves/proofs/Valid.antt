@@ -5,11 +5,11 @@ use Rattle.std.proofs.lemmas.Bool.{cases_eq}
 use Rattle.rv_enclaves.proofs.Prelude.{Block, EnclaveState, IsValidSlot, IsValid, SlotInfo, Slots, is_block_size, is_valid_block, is_ram_size, is_window, meets}
 use Rattle.rv_enclaves.proofs.Prelude.{monitor_block, ram_base, region, region_of, slot_at, window, window_of, with_slot}
 use Rattle.rv_memory.proofs.BlockLaws.{meets_symmetric, meets_nothing, nothing_meets}
-use Rattle.rv_enclaves.proofs.Slots.{at_same, at_other}
+use Rattle.rv_enclaves.proofs.Slots.{at_written_slot, at_other_slot}
 use Rattle.rv_enclaves.specs.SlotNumbers.{slot_count}
 
 -- a record fits into slot k if it is valid, and its region and window do not meet the blocks of other slots that they must not meet
-pub record Fits (memory : List ℕ) (slots : Slots) (k : ℕ) (o : Option SlotInfo) : Type 0 where
+pub record FitsInSlot (memory : List ℕ) (slots : Slots) (k : ℕ) (o : Option SlotInfo) : Type 0 where
   pub well_formed : IfSome o (IsValidSlot memory)
   pub regions : (j : ℕ) → j ≢ k → meets (region_of o) (region slots j) ≡ false
   pub windows : (j : ℕ) → j ≢ k → meets (region_of o) (window slots j) ≡ false
@@ -20,18 +20,18 @@ pub record Fits (memory : List ℕ) (slots : Slots) (k : ℕ) (o : Option SlotIn
 
 -- slot k of a valid table gets the record o, which fits
 module _ (memory : List ℕ) (slots : Slots) (k : ℕ) (o : Option SlotInfo) (table_valid : IsValid memory slots) (inside : k < slot_count)
-    (fits : Fits memory slots k o) where
+    (fits : FitsInSlot memory slots k o) where
   -- the table after the change: slot k has the new record
   abbrev after : Slots
   after = with_slot slots k o
 
   -- slot k of the new table has the new record
   slot_k_after : slot_at after k ≡ o
-  slot_k_after = at_same slots k o (omega (arith, table_valid.count))
+  slot_k_after = at_written_slot slots k o (omega (arith, table_valid.count))
 
   -- each other slot of the new table is unchanged
   other_slot_after : (j : ℕ) → j ≢ k → slot_at after j ≡ slot_at slots j
-  other_slot_after j distinct = at_other slots k j o distinct
+  other_slot_after j distinct = at_other_slot slots k j o distinct
 
   -- the region of slot k of the new table is the region of the new record
   region_here : region after k ≡ region_of o
@@ -121,7 +121,7 @@ module _ (memory : List ℕ) (slots : Slots) (k : ℕ) (o : Option SlotInfo) (ta
   }
 
 -- the absence of a record fits into each slot
-pub nothing_fits : (memory : List ℕ) (slots : Slots) (k : ℕ) → Fits memory slots k None
+pub nothing_fits : (memory : List ℕ) (slots : Slots) (k : ℕ) → FitsInSlot memory slots k None
 nothing_fits memory slots k = record {
   well_formed = tt;
   regions = λ j distinct. nothing_meets (region slots j);
@@ -134,7 +134,7 @@ nothing_fits memory slots k = record {
 
 -- the record of a live enclave fits into its own slot with any state
 pub own_fits : (memory : List ℕ) (slots : Slots) (k : ℕ) (info : SlotInfo) (state : EnclaveState) → IsValid memory slots → slot_at slots k ≡ Some info
-    → Fits memory slots k (Some (record info { state = state }))
+    → FitsInSlot memory slots k (Some (record info { state = state }))
 own_fits memory slots k info state table_valid slot_is =
     let region_is : region slots k ≡ info.region = ap region_of slot_is in
     let window_is : window slots k ≡ info.window = ap window_of slot_is in

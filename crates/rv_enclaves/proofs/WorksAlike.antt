@@ -8,7 +8,7 @@ use Rattle.rv_enclaves.proofs.Prelude.{EqualOutside, Context, Contexts, Destroy,
 use Rattle.rv_enclaves.proofs.Prelude.{SharedEquivExcept, Slots, World, created}
 use Rattle.rv_enclaves.proofs.Prelude.{destroyed, is_live, is_private, saved_context, measured, with_context, with_state}
 use Rattle.rv_enclaves.proofs.Alike.{itself, equiv_before, created_alike, destroyed_alike, measured_alike, switched_alike}
-use Rattle.rv_enclaves.proofs.Refusals.{MayCreate, IsTaken, may_create, may_take}
+use Rattle.rv_enclaves.proofs.Refusals.{MayCreate, SlotIsAccepted, may_create, may_take}
 
 -- the shared state with this table, memory and saved contexts
 abbrev over : Slots → List ℕ → Contexts → Shared
@@ -22,7 +22,7 @@ switched shared k state c = record shared { table = with_state shared.table k st
 pub record WorksAlike (e : ℕ) (one other : Shared) : Type 0 where
   pub before : SharedEquivExcept e one other
   pub creates : (new : CreateArgs) → MayCreate one new → SharedEquivExcept e (created one new) (created other new)
-  pub destroys : (k : ℕ) → IsTaken one.table Destroy k → SharedEquivExcept e (destroyed one k) (destroyed other k)
+  pub destroys : (k : ℕ) → SlotIsAccepted one.table Destroy k → SharedEquivExcept e (destroyed one k) (destroyed other k)
   pub measures : (k address : ℕ) → SharedEquivExcept e (measured one k address) (measured other k address)
   pub contexts : (k : ℕ) → k ≢ e → saved_context one.contexts k ≡ saved_context other.contexts k
   pub switches : (k : ℕ) (state : EnclaveState) (c : Option Context) → SharedEquivExcept e (switched one k state c) (switched other k state c)

@@ -11,11 +11,13 @@ use crate::world::World;
 use rv_memory::{Block, monitor_block};
 use rv_pmp::Pmp;
 
-/// cfg bytes: NAPOT without permissions, with R and W, and with R, W and X.
+/// The cfg byte of a NAPOT entry without permissions.
 const NOTHING: u8 = 0x18;
 
+/// The cfg byte of a NAPOT entry with R and W.
 const READ_WRITE: u8 = 0x1B;
 
+/// The cfg byte of a NAPOT entry with R, W and X.
 const ALL: u8 = 0x1F;
 
 /// A cfg byte and a pmpaddr value.

@@ -21,7 +21,7 @@ use Rattle.rv_monitor.specs.Integrity.{enters}
 use Rattle.rv_monitor.specs.Prelude.{Context, CsrState, Destroy, EnclaveState, EnvironmentCallFromS, EqualOutside, HartState, IsValid, IsValidSlot, Running}
 use Rattle.rv_monitor.specs.Prelude.{Shared, Slots, Trap, byte_at, bytes_of_block, is_inside, context_at, create_args_of, created, destroyed, first_context, has, is_live}
 use Rattle.rv_monitor.specs.Prelude.{measured, new_slot, option_case, ram_base, recorded, region, region_of, running_slot, slot_at, step, with_state, write}
-use Rattle.rv_monitor.proofs.Prelude.{Handled, HartInvariant, HartView, Invariant, IsTaken, MayCreate, MonitoredMachine, SlotInfo, at_other, at_same, eq-eqb}
+use Rattle.rv_monitor.proofs.Prelude.{Handled, HartInvariant, HartView, Invariant, SlotIsAccepted, MayCreate, MonitoredMachine, SlotInfo, at_other_slot, at_written_slot, eq-eqb}
 use Rattle.rv_monitor.proofs.Prelude.{bare_machine, both_ways, cases_eq, and_from, confined, enclave_state_after, le-leb, lt-ltb, entered_slot, free_slot_from, get_or-set_at, handled, hart_state_at_start}
 use Rattle.rv_monitor.proofs.Prelude.{hart_state_of, hart_view, left, length-map, reprogrammed, runs_on, step_of, a0}
 use Rattle.rv_monitor.proofs.Beside.{runs_among}
@@ -92,24 +92,26 @@ module _ (k : ℕ) (shared : Shared) (valid : IsValid shared.memory shared.table
         let info = recorded shared.memory new in
         rw equal (record {
           info = info;
-          is = at_same shared.table (new_slot shared.table) (Some info) (omega (arith, within, valid.count));
+          is = at_written_slot shared.table (new_slot shared.table) (Some info) (omega (arith, within, valid.count));
           fresh = refl;
-          context = at_same shared.contexts (new_slot shared.table) (Some (first_context info)) (omega (arith, within, contexts));
+          context = at_written_slot shared.contexts (new_slot shared.table) (Some (first_context info)) (omega (arith, within, contexts));
           measurement = refl;
         })
     | inr distinct ↦
         still_dead (created shared new)
-        (ap (λ (o : Option SlotInfo). is_some o) (at_other shared.table (new_slot shared.table) k _ distinct)) live_after
+        (ap (λ (o : Option SlotInfo). is_some o) (at_other_slot shared.table (new_slot shared.table) k _ distinct)) live_after
   ]
 
   -- no slot becomes live by a destroy
-  destroyed_is : (j : ℕ) → IsTaken shared.table Destroy j → is_live (destroyed shared j).table k ≡ true → IsAsCreated k (destroyed shared j)
+  destroyed_is : (j : ℕ) → SlotIsAccepted shared.table Destroy j → is_live (destroyed shared j).table k ≡ true → IsAsCreated k (destroyed shared j)
   unfolding destroyed
   destroyed_is j is_taken live_after = elim (cases_eq k j) [
     | inl equal ↦
         let was_live : is_live shared.table j ≡ true = ap (λ (o : Option SlotInfo). is_some o) is_taken.is in
         absurd (both_ways _ dead (rw equal was_live))
-    | inr distinct ↦ still_dead (destroyed shared j) (ap (λ (o : Option SlotInfo). is_some o) (at_other shared.table j k None distinct)) live_after
+    | inr distinct ↦
+        still_dead (destroyed shared j)
+        (ap (λ (o : Option SlotInfo). is_some o) (at_other_slot shared.table j k None distinct)) live_after
   ]
 
   -- no slot becomes live by a change of the state of some slot

@@ -8,14 +8,14 @@ use Rattle.rv_monitor.specs.Availability.{TimerExits, timer_trap}
 use Rattle.rv_monitor.specs.Prelude.{Destroy, Enclave, Host}
 use Rattle.rv_monitor.specs.Prelude.{HartState, Slots, Machine, StepOutcome, Stopped, World, first_refusal, is_host, is_live}
 use Rattle.rv_monitor.specs.Prelude.{mie_of, option_case, slot_at, state_refusals, step, with_slot, is_world_of}
-use Rattle.rv_monitor.proofs.Prelude.{Invariant, MonitoredMachine, HartViewStepped, SlotInfo, at_same}
+use Rattle.rv_monitor.proofs.Prelude.{Invariant, MonitoredMachine, HartViewStepped, SlotInfo, at_written_slot}
 use Rattle.rv_monitor.proofs.Prelude.{bare_machine, live_in_range, hart_state_of}
 use Rattle.rv_monitor.proofs.Prelude.{eq-eqb, hart_view, step_of}
 use Rattle.rv_monitor.proofs.Exits.{exits_law, runs_here, timer_or_none, waits}
 use Rattle.rv_monitor.proofs.Beside.{running_is_live}
 use Rattle.rv_monitor.proofs.InvariantLemmas.{hart_view_invariant}
 use Rattle.rv_monitor.proofs.Leaving.{leave_law, left_hart_state}
-use Rattle.rv_monitor.proofs.HartCases.{step_seen}
+use Rattle.rv_monitor.proofs.HartCases.{step_of_view}
 use Rattle.rv_monitor.proofs.TrapSteps.{same_outcome}
 use Rattle.rv_enclaves.specs.SlotNumbers.{slot_count}
 
@@ -38,7 +38,7 @@ unfolding state_refusals
 stopped_ends slots k None table_length slot_is is_present = cc
 stopped_ends slots k (Some info) table_length slot_is is_present =
     let slot_in_range = live_in_range slots k info table_length slot_is in
-    let at_k = at_same slots k (Some (record info { state = Stopped })) (omega (arith, table_length, slot_in_range)) in
+    let at_k = at_written_slot slots k (Some (record info { state = Stopped })) (omega (arith, table_length, slot_in_range)) in
     rw at_k refl
 
 -- proves that an enclave exits by the timer interrupt if the timer line of its hart is set
@@ -51,7 +51,7 @@ timer_exits hart machine invariant k host runs host_is_saved timer_set =
     let bare = takes_timer (bare_machine state)
     (waits state.hart_state.hart.csrs state.hart_state.hart.mode view_invariant.hart.layout.mode enabled ∙ ap timer_or_none timer_set) in
     let trap_is : (step_of hart machine).outcome.step.trap ≡ Some timer_trap =
-    ap (λ (after : HartViewStepped). after.outcome.step.trap) (step_seen hart machine in_range)
+    ap (λ (after : HartViewStepped). after.outcome.step.trap) (step_of_view hart machine in_range)
     ∙ ap (λ (o : StepOutcome). o.trap) (same_outcome state) ∙ bare in
     let world = host_is _ ((exits_law hart machine invariant k runs).exits timer_trap trap_is) in
     let both = leave_law hart machine invariant k host timer_trap runs host_is_saved trap_is world in

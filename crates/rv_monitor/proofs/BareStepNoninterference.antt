@@ -2,7 +2,7 @@
 -- a step of the hart without the monitor.
 use Rattle.std.proofs.Common.{◌≡◌, ℕ, Bool, false, List, Option, Some, None}
 use Rattle.rv_enclaves.proofs.EqualMemory.{IsSeen, same_read, same_write}
-use Rattle.rv_enclaves.proofs.EqualMemory.{inside-is}
+use Rattle.rv_enclaves.proofs.EqualMemory.{inside-bounds}
 use Rattle.rv_memory.specs.declared.touched.Touched.{Touched}
 use Rattle.rv_monitor.specs.Prelude.{Access, EqualOutside, Fetch, Mode, Read, Span, Machine, bytes_in, data_mode, is_machine, is_private}
 use Rattle.rv_monitor.specs.Prelude.{is_world_of, step}
@@ -68,7 +68,7 @@ module _ (e : ℕ) (state : HartView) (view_invariant : HartViewInvariant state)
       let outside_other_regions =
       permitted_apart state.shared.memory state.shared.table state.hart_state.world mode access span.addr (bytes_in span.len)
       (small_ram state.shared.memory view_invariant.valid.ram) view_invariant.valid (below_M mode mode_below_m) (some_bytes span.len)
-      (inside-is state.shared.memory span.addr (bytes_in span.len) may_touch.0) in
+      (inside-bounds state.shared.memory span.addr (bytes_in span.len) may_touch.0) in
       outside_other_regions e runs_other (rw (← entries) may_touch.1) byte low high
 
 -- proves the bare law: a bare step depends on no byte in the region of another enclave

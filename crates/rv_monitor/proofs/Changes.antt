@@ -10,8 +10,8 @@ use Rattle.rv_monitor.specs.Prelude.{Byte, Call, Destroy, IsValidSlot, IsValid, 
 use Rattle.rv_monitor.specs.Prelude.{Write, requested_call, byte_at, bytes_from, bytes_in, created, data_mode, destroyed, first_refusal, has}
 use Rattle.rv_monitor.specs.Prelude.{is_inside, is_live, layout, may_store, may_store_all, measure_refusals, measured, measured_slot}
 use Rattle.rv_monitor.specs.Prelude.{option_case, permits, region, slot_at, step, verdict, with_bytes_at, with_slot, write, zeroed}
-use Rattle.rv_monitor.proofs.Prelude.{ByMonitor, Entries, IsChanged, IsConfined, IsMeasured, HartViewInvariant, IsStoredAccessible, IsTaken}
-use Rattle.rv_monitor.proofs.Prelude.{MayTouch, HartView, SlotInfo, Stores, TouchesPermitted, a0, a1, and_from, and_parts, at_same}
+use Rattle.rv_monitor.proofs.Prelude.{ByMonitor, Entries, IsChanged, IsConfined, IsMeasured, HartViewInvariant, IsStoredAccessible, SlotIsAccepted}
+use Rattle.rv_monitor.proofs.Prelude.{MayTouch, HartView, SlotInfo, Stores, TouchesPermitted, a0, a1, and_from, and_parts, at_written_slot}
 use Rattle.rv_monitor.proofs.Prelude.{bare_machine, both_ways, cases_Bool, cases_lt, confined, entered_slot, handled, is_call, le-leb, left}
 use Rattle.rv_monitor.proofs.Prelude.{length-replicate, live_in_range, lt-ltb, reach_law, touches_permitted, ChangesAccessible, monitored_step}
 use Rattle.rv_monitor.proofs.AccessControlLemmas.{below_M, data_below, access_control_law}
@@ -55,7 +55,8 @@ Changes world regs before byte after =
 -- a destroy changes only bytes of the region that it zeroes
 destroyed_changes : (hart_state : HartState) (shared : Shared) (byte : ℕ) → IsValid shared.memory shared.table
     → requested_call hart_state.world hart_state.hart.regs ≡ Some Destroy
-    → IsTaken shared.table Destroy (a0 hart_state) → Changes hart_state.world hart_state.hart.regs shared byte (destroyed shared (a0 hart_state))
+    → SlotIsAccepted shared.table Destroy (a0 hart_state)
+    → Changes hart_state.world hart_state.hart.regs shared byte (destroyed shared (a0 hart_state))
 unfolding destroyed
 destroyed_changes hart_state shared byte valid requested is_taken =
     let slot = a0 hart_state in
@@ -63,7 +64,8 @@ destroyed_changes hart_state shared byte valid requested is_taken =
       | inl in_region ↦
           let slot_is = is_taken.is in
           let slot_in_range = live_in_range shared.table slot is_taken.info valid.count is_taken.is in
-          let slot_is_free : slot_at (with_slot shared.table slot None) slot ≡ None = at_same shared.table slot None (omega (arith, valid.count)) in
+          let slot_is_free : slot_at (with_slot shared.table slot None) slot ≡ None = at_written_slot shared.table slot None
+          (omega (arith, valid.count)) in
           inr (inl (record { asked = requested; live = rw slot_is refl; gone = rw slot_is_free refl; own = in_region }))
       | inr outside_region ↦ inl (zeroed_integrity shared.memory (region shared.table slot) byte outside_region)
     ]

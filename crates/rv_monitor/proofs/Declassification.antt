@@ -14,7 +14,7 @@ use Rattle.rv_monitor.specs.Prelude.{Cause, Hart, Contexts, Host, HartState, Out
 use Rattle.rv_monitor.specs.Prelude.{is_world_of, ram_base, region}
 use Rattle.rv_monitor.proofs.Prelude.{Invariant, MonitoredMachine, both_ways, cases_eq, hart_state_of, runs_on, step_of}
 use Rattle.rv_monitor.proofs.Beside.{running_is_live, runs_among}
-use Rattle.rv_monitor.proofs.EnclaveMemory.{world_is}
+use Rattle.rv_monitor.proofs.EnclaveMemory.{world_is_enclave}
 use Rattle.rv_monitor.proofs.EnclaveStays.{index_same, one_unchanged}
 use Rattle.rv_monitor.proofs.EquivLemmas.{hart_states_equiv}
 use Rattle.rv_monitor.proofs.Events.{line_invariant, line_related}
@@ -94,7 +94,9 @@ module _ (e hart : ℕ) (one other : MonitoredMachine) (invariant_one : Invarian
         -- the hart of the enclave runs e before and after the step, and the other harts keep their states
         hart_states = λ j. elim (cases_eq j hart) [
           | inl equal ↦ rw equal (record {
-            world = world_is e (hart_state_of hart after).world inside.after ∙ sym (world_is e (hart_state_of hart one).world inside.before)
+            world =
+                world_is_enclave e (hart_state_of hart after).world inside.after
+                ∙ sym (world_is_enclave e (hart_state_of hart one).world inside.before)
                 ∙ (related.hart_states hart).world;
             same = λ low. absurd (both_ways _ low inside.after);
           })

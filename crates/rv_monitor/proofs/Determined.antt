@@ -11,7 +11,7 @@ use Rattle.rv_monitor.specs.Prelude.{Call, Cause, Context, Create, Destroy, Encl
 use Rattle.rv_monitor.specs.Prelude.{Resume, Run, StepOutcome, Stop, Trap, World, is_host, is_offered, register}
 use Rattle.rv_monitor.proofs.Prelude.{Invariant, MonitoredMachine, MonitoredStepped, cases_eq, count_of, hart_state_of, step_of}
 use Rattle.rv_monitor.proofs.Exits.{exits_law}
-use Rattle.rv_monitor.proofs.HandlerCases.{asked-is}
+use Rattle.rv_monitor.proofs.HandlerCases.{requested-is_offered}
 use Rattle.rv_monitor.proofs.NumberedCalls.{answers_calls, asks, interrupts_enclave}
 use Rattle.rv_monitor.proofs.PlainSteps.{host_continues, steps_plainly}
 
@@ -90,7 +90,7 @@ module _ (hart : ℕ) (machine : MonitoredMachine) (invariant : Invariant machin
     module _ (answers_a : AnswersInNumbers hart machine a trap) (answers_b : AnswersInNumbers hart machine b trap) where
       -- a call that `call_at` finds is offered to the running world
       offered : (call : Call) → call_at hart machine ≡ Some call → is_offered own_state.world call ≡ true
-      offered call requested = (asked-is own_state.world own_state.hart.regs call (asks own_state machine.shared call requested)).1
+      offered call requested = (requested-is_offered own_state.world own_state.hart.regs call (asks own_state machine.shared call requested)).1
 
       -- two results of a run or resume are equal
       by_entry : (call : Call) (world : World) → own_state.world ≡ world → is_offered own_state.world call ≡ true

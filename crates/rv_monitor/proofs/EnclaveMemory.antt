@@ -8,7 +8,7 @@ use Rattle.rv_pmp.proofs.VerdictLemmas.{each_from_all}
 use Rattle.rv_memory.proofs.MemoryLaws.{length-write}
 use Rattle.rv_memory.specs.declared.block.Block.{Block}
 use Rattle.rv_enclaves.proofs.EqualMemory.{IsSeen}
-pub use Rattle.rv_enclaves.proofs.AccessLemmas.{world_is}
+pub use Rattle.rv_enclaves.proofs.AccessLemmas.{world_is_enclave}
 use Rattle.rv_enclaves.specs.Table.{region_of, window, window_of}
 use Rattle.rv_enclaves.specs.SlotNumbers.{slot_count}
 use Rattle.rv_monitor.specs.Prelude.{Access, EqualOutside, Call, Cause, Create, Destroy, Enclave, EnclaveState, Fetch, Hart, Host, Mode, Outcome, Read}
@@ -18,13 +18,13 @@ use Rattle.rv_monitor.specs.Prelude.{option_case, region, running_slot, slot_at,
 use Rattle.rv_monitor.specs.EnclaveSteps.{is_beyond}
 use Rattle.rv_monitor.specs.declared.next.Next.{Next}
 use Rattle.rv_monitor.proofs.Prelude.{Handled, HartViewInvariant, MayTouch, HartView, HartViewStepped}
-use Rattle.rv_monitor.proofs.Prelude.{SameRead, SlotInfo, StepAlike, at_same, requested_by, bare_machine}
+use Rattle.rv_monitor.proofs.Prelude.{SameRead, SlotInfo, StepAlike, at_written_slot, requested_by, bare_machine}
 use Rattle.rv_monitor.proofs.Prelude.{enclave_state_after, handled, is_call, is_entering, left, live_in_range, monitored_step, returned}
 use Rattle.rv_monitor.proofs.Prelude.{returned_to, unhandled}
 use Rattle.rv_monitor.proofs.BareStepNoninterference.{bare_step_alike}
 use Rattle.rv_monitor.proofs.HandlerReads.{handler_reads_law}
 use Rattle.rv_monitor.proofs.AccessControlLemmas.{below_M, access_control_law}
-use Rattle.rv_monitor.proofs.HandlerCases.{asked-is, handler_cases, entered-by-host}
+use Rattle.rv_monitor.proofs.HandlerCases.{requested-is_offered, handler_cases, entered-by-host}
 
 -- two shared states have equal tables, equal contexts of slot k, and equal bytes in the region and window of slot k
 pub record SharedFor (k : ℕ) (one other : Shared) : Type 0 where
@@ -86,7 +86,7 @@ asked_offered : (cause : Cause) (hart_state : HartState) (b : Bool) (call : Call
     → is_offered hart_state.world call ≡ true
 asked_offered cause hart_state true call test_is requested =
     let request_is : requested_call hart_state.world hart_state.hart.regs ≡ Some call = rw test_is at requested in
-    (asked-is hart_state.world hart_state.hart.regs call request_is).1
+    (requested-is_offered hart_state.world hart_state.hart.regs call request_is).1
 asked_offered cause hart_state false call test_is requested = let contradiction : None ≡ Some call = rw test_is at requested in cc
 
 -- create is offered to no enclave
@@ -117,7 +117,7 @@ pub state_extent : (slots : Slots) (k : ℕ) (o : Option SlotInfo) (state : Encl
 state_extent slots k None state table_length slot_is = record { region = refl; window = refl }
 state_extent slots k (Some info) state table_length slot_is =
     let slot_in_range = live_in_range slots k info table_length slot_is in
-    let at_k = at_same slots k (Some (record info { state = state })) (omega (arith, table_length, slot_in_range)) in
+    let at_k = at_written_slot slots k (Some (record info { state = state })) (omega (arith, table_length, slot_in_range)) in
     record { region = ap region_of at_k ∙ sym (ap region_of slot_is); window = ap window_of at_k ∙ sym (ap window_of slot_is) }
 
 -- a new state of slot k changes only the state in the record of slot k
@@ -127,7 +127,7 @@ pub state_slot : (slots : Slots) (k : ℕ) (o : Option SlotInfo) (state : Enclav
 state_slot slots k None state table_length slot_is = slot_is
 state_slot slots k (Some info) state table_length slot_is =
     let slot_in_range = live_in_range slots k info table_length slot_is in
-    at_same slots k (Some (record info { state = state })) (omega (arith, table_length, slot_in_range))
+    at_written_slot slots k (Some (record info { state = state })) (omega (arith, table_length, slot_in_range))
 
 -- a write, successful or not, keeps the size of the memory
 pub put_size : (m : List ℕ) (address : ℕ) (bytes : List ℕ) (o : Option (List ℕ)) → write m address bytes ≡ o
@@ -149,9 +149,11 @@ module _ (k : ℕ) (hart_state : HartState) (runs_enclave : hart_state.world ≡
     handled_keeps = handler_cases hart_state trap shared Keeps (record {
       answers = λ status result. (record { region = refl; window = refl }, refl);
       creates =
-          λ requests no_refusal. no_create _ k hart_state.world runs_enclave (asked-is hart_state.world hart_state.hart.regs Create requests.asked).1;
+          λ requests no_refusal. no_create _ k hart_state.world runs_enclave
+          (requested-is_offered hart_state.world hart_state.hart.regs Create requests.asked).1;
       destroys =
-          λ requests is_taken. no_destroy _ k hart_state.world runs_enclave (asked-is hart_state.world hart_state.hart.regs Destroy requests.asked).1;
+          λ requests is_taken. no_destroy _ k hart_state.world runs_enclave
+          (requested-is_offered hart_state.world hart_state.hart.regs Destroy requests.asked).1;
       measures = λ requests no_refusal. (record { region = refl; window = refl }, put_size shared.memory _ _ (write shared.memory _ _) refl);
       enters = λ call requests is_entry_call from_host is_taken. not_host _ k hart_state.world runs_enclave from_host;
       leaves =

@@ -17,14 +17,14 @@ use Rattle.rv_monitor.proofs.Prelude.{reprogrammed, hart_view, step_of}
 use Rattle.rv_monitor.proofs.Beside.{runs_inside}
 use Rattle.rv_monitor.proofs.Changes.{changes}
 use Rattle.rv_monitor.proofs.InvariantLemmas.{hart_view_invariant}
-use Rattle.rv_monitor.proofs.PmpProgramming.{as_is}
-use Rattle.rv_monitor.proofs.HartCases.{past_hart_state, step_count, step_programmed, step_seen}
-use Rattle.rv_monitor.proofs.StepInvariant.{stays_if, step_size}
-use Rattle.rv_monitor.proofs.TrapSteps.{step_cases, hart_state_after, untrapped}
-use Rattle.rv_monitor.proofs.HandlerCases.{asked-is, handler_cases}
+use Rattle.rv_monitor.proofs.PmpProgramming.{reprogramming_changes_nothing}
+use Rattle.rv_monitor.proofs.HartCases.{past_hart_state, step_count, step_programmed, step_of_view}
+use Rattle.rv_monitor.proofs.StepInvariant.{without_trap, step_size}
+use Rattle.rv_monitor.proofs.TrapSteps.{step_cases, hart_state_after, view_without_trap}
+use Rattle.rv_monitor.proofs.HandlerCases.{requested-is_offered, handler_cases}
 use Rattle.rv_monitor.specs.Declassification.{SameHostOn, unswitched}
 use Rattle.rv_monitor.specs.EnclaveSteps.{is_beyond}
-use Rattle.rv_monitor.proofs.EnclaveMemory.{handled_keeps, no_create, no_destroy, not_host, not_host_by, own_seen, world_is}
+use Rattle.rv_monitor.proofs.EnclaveMemory.{handled_keeps, no_create, no_destroy, not_host, not_host_by, own_seen, world_is_enclave}
 
 -- ---- a step of the hart that runs the enclave
 
@@ -48,10 +48,10 @@ rest_parts c = refl
 -- the hart of the view runs enclave k
 module _ (k : ℕ) (state : HartView) (view_invariant : HartViewInvariant state) (runs_enclave : state.hart_state.world ≡ Enclave k) where
   -- a step of an enclave without a trap leaves unchanged what `StaysBehind` names
-  quiet_stays : (step (bare_machine state)).outcome.trap ≡ None → StaysBehind state (untrapped state)
+  quiet_stays : (step (bare_machine state)).outcome.trap ≡ None → StaysBehind state (view_without_trap state)
   quiet_stays no_trap =
       let after = step (bare_machine state) in
-      let below = stays_if after.outcome.trap (StaysBelow state.hart_state.hart after.state.hart) no_trap
+      let below = without_trap after.outcome.trap (StaysBelow state.hart_state.hart after.state.hart) no_trap
       (keeps_machine_parts (bare_machine state) view_invariant.hart.layout.mode view_invariant.hart.layout.mprv) in
       record {
         host = refl;
@@ -82,9 +82,11 @@ module _ (k : ℕ) (state : HartView) (view_invariant : HartViewInvariant state)
         handler_cases hart_state trap state.shared Stays (record {
           answers = λ status result enclave_runs_after. (refl, rw mprv refl, refl, refl);
           creates =
-              λ requests no_refusal. no_create _ k hart_state.world runs_enclave (asked-is hart_state.world hart_state.hart.regs _ requests.asked).1;
+              λ requests no_refusal. no_create _ k hart_state.world runs_enclave
+              (requested-is_offered hart_state.world hart_state.hart.regs _ requests.asked).1;
           destroys =
-              λ requests is_taken. no_destroy _ k hart_state.world runs_enclave (asked-is hart_state.world hart_state.hart.regs _ requests.asked).1;
+              λ requests is_taken. no_destroy _ k hart_state.world runs_enclave
+              (requested-is_offered hart_state.world hart_state.hart.regs _ requests.asked).1;
           measures = λ requests no_refusal enclave_runs_after. (refl, rw mprv refl, refl, refl);
           enters = λ call requests is_entry_call from_host is_taken. not_host _ k hart_state.world runs_enclave from_host;
           leaves = λ enclave_runs_after. cc;
@@ -131,7 +133,9 @@ module _ (k : ℕ) (state : HartView) (view_invariant : HartViewInvariant state)
       not_within_and_beyond byte
       (writes_within stored.span.addr (bytes_in stored.span.len) byte stored.accessible stored.low stored.high) byte_beyond _
   unchanged_beyond byte byte_beyond (inr (inr call)) = elim call.change [
-    | inl cleared ↦ no_destroy _ k state.hart_state.world runs_enclave (asked-is state.hart_state.world state.hart_state.hart.regs _ cleared.asked).1
+    | inl cleared ↦
+        no_destroy _ k state.hart_state.world runs_enclave
+        (requested-is_offered state.hart_state.world state.hart_state.hart.regs _ cleared.asked).1
     | inr put ↦ not_within_and_beyond byte (writes_within byte 1 byte put.accessible (omega arith) (omega arith)) byte_beyond _
   ]
 
@@ -160,8 +164,8 @@ one_unchanged e hart machine invariant runs_on_hart runs_after =
     let in_range = runs_inside e hart machine runs_on_hart in
     let state = hart_view hart machine in
     let view_invariant = hart_view_invariant hart machine invariant in_range in
-    let world = world_is e state.hart_state.world runs_on_hart in
-    let step_is = step_seen hart machine in_range in
+    let world = world_is_enclave e state.hart_state.world runs_on_hart in
+    let step_is = step_of_view hart machine in_range in
     let after = monitored_step state in
     let enclave_runs_after : is_host after.state.hart_state.world ≡ false =
     ap (λ (a : HartViewStepped). is_host a.state.hart_state.world) (sym step_is)
@@ -176,7 +180,7 @@ one_unchanged e hart machine invariant runs_on_hart runs_after =
       others = λ j distinct. elim (cases_lt j (count_of machine)) [
         | inl in_range ↦
             sym (step_programmed hart j machine invariant distinct in_range ∙ ap (λ (t : Slots). reprogrammed t (hart_state_of j machine)) (sym table)
-            ∙ as_is machine.shared.table (hart_state_of j machine) (invariant.hart_states j in_range))
+            ∙ reprogramming_changes_nothing machine.shared.table (hart_state_of j machine) (invariant.hart_states j in_range))
         | inr past_last ↦
             let count = step_count hart machine in
             past_hart_state machine.hart_states j past_last

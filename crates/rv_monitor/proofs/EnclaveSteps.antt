@@ -31,12 +31,12 @@ use Rattle.rv_monitor.proofs.Exits.{timer_or_none, waits, exits_law}
 use Rattle.rv_monitor.proofs.Beside.{runs_inside, running_is_live}
 use Rattle.rv_monitor.proofs.InvariantLemmas.{invariant_by_size, invariant_law, hart_view_invariant}
 use Rattle.rv_monitor.proofs.AccessControlLemmas.{below_M, access_control_law}
-use Rattle.rv_monitor.proofs.EnclaveMemory.{OwnAlike, not_host_by, step_own, world_is, KeepsExtent, beyond_again, not_host, state_extent, state_slot}
-use Rattle.rv_monitor.proofs.HartCases.{inside, step_seen}
-use Rattle.rv_monitor.proofs.TrapSteps.{step_cases, hart_state_after, trapped_to, untrapped, hart_after}
-use Rattle.rv_monitor.proofs.HandlerCases.{asked-is}
+use Rattle.rv_monitor.proofs.EnclaveMemory.{OwnAlike, not_host_by, step_own, world_is_enclave, KeepsExtent, beyond_again, not_host, state_extent, state_slot}
+use Rattle.rv_monitor.proofs.HartCases.{inside, step_of_view}
+use Rattle.rv_monitor.proofs.TrapSteps.{step_cases, hart_state_after, view_after_trap, view_without_trap, hart_after}
+use Rattle.rv_monitor.proofs.HandlerCases.{requested-is_offered}
 use Rattle.rv_monitor.specs.Prelude.{EnclaveState, EqualOutside, context_at}
-use Rattle.rv_monitor.proofs.Prelude.{false≢true, saved_after, both_ways, eq-eqb, at_same, enclave_state_after, reason, value}
+use Rattle.rv_monitor.proofs.Prelude.{false≢true, saved_after, both_ways, eq-eqb, at_written_slot, enclave_state_after, reason, value}
 use Rattle.rv_monitor.proofs.Leaving.{leave_law, left_hart_state}
 use Rattle.rv_monitor.proofs.Availability.{host_is}
 
@@ -57,12 +57,12 @@ same_value None v w f e same_verdicts = refl
 same_value (Some bytes) v w f e same_verdicts = same_value_by_tests (permits v) (permits w) _ _ (f bytes) (same_verdicts refl)
 
 -- the same bytes are accessible to the enclaves of two slots with equal records
-reach_same : (memory : List ℕ) (t s : Slots) (i j : ℕ) (access : Access) (bytes : List ℕ) → slot_at t i ≡ slot_at s j
+same_access : (memory : List ℕ) (t s : Slots) (i j : ℕ) (access : Access) (bytes : List ℕ) → slot_at t i ≡ slot_at s j
     → is_accessible memory t (Enclave i) access bytes ≡ is_accessible memory s (Enclave j) access bytes
 unfolding is_accessible
-reach_same memory t s i j Fetch bytes same_slot = rw same_slot refl
-reach_same memory t s i j Read bytes same_slot = rw same_slot refl
-reach_same memory t s i j Write bytes same_slot = rw same_slot refl
+same_access memory t s i j Fetch bytes same_slot = rw same_slot refl
+same_access memory t s i j Read bytes same_slot = rw same_slot refl
+same_access memory t s i j Write bytes same_slot = rw same_slot refl
 
 -- two tests that are equal for each number hold for all numbers of the same lists
 list_all_same : (p q : ℕ → Bool) (xs : List ℕ) → ((x : ℕ) → p x ≡ q x) → list_all p xs ≡ list_all q xs
@@ -122,7 +122,7 @@ module _ (i j : ℕ) (s t : HartState) (one two : Shared) (view_invariant_one : 
       ap (λ (m : List ℕ). is_inside m address (bytes_in width)) (sym alike.memory) ∙ inside in
       access_control_law (on s one) mode access address width view_invariant_one (below_M mode mode_below_m) inside
       ∙ ap (λ (w : World). is_accessible one.memory one.table w access bytes) alike.first
-      ∙ reach_same one.memory one.table two.table i j access bytes alike.slot
+      ∙ same_access one.memory one.table two.table i j access bytes alike.slot
       ∙ ap (λ (m : List ℕ). is_accessible m two.table (Enclave j) access bytes) alike.memory
       ∙ ap (λ (w : World). is_accessible two.memory two.table w access bytes) (sym alike.second)
       ∙ sym (access_control_law (on t two) mode access address width view_invariant_two (below_M mode mode_below_m) inside_too)
@@ -290,7 +290,7 @@ module _ (i j : ℕ) (hart : Hart) (d : CsrState) (pc : ℕ) (g h : Option Conte
       → WorkAlike (option_case x (refused hart_state_i one NotSupported) (called hart_state_i one))
       (option_case x (refused hart_state_j two NotSupported) (called hart_state_j two))
   asked_too None requested = answers one two (status_of NotSupported) 0 memory slot
-  asked_too (Some call) requested = called_too call (asked-is (Enclave i) hart.regs call requested).1
+  asked_too (Some call) requested = called_too call (requested-is_offered (Enclave i) hart.regs call requested).1
 
   -- both enclaves request the same call
   same_request : requested_call (Enclave i) hart.regs ≡ requested_call (Enclave j) hart.regs
@@ -372,7 +372,7 @@ module _ (i j : ℕ) (s t : HartState) (one two : Shared) (view_invariant_one : 
       sym (ap (λ (x : Hart). hart_after x trap) parts) ∙ parts_after ∙ ap F parts
 
   -- the steps of both views with a trap are alike
-  trapped_alike : (trap : Trap) → StepAlike i j (trapped_to (on s one) trap) (trapped_to (on t two) trap)
+  trapped_alike : (trap : Trap) → StepAlike i j (view_after_trap (on s one) trap) (view_after_trap (on t two) trap)
   trapped_alike trap =
       let bare_outcome = (step (bare_machine (on s one))).outcome in
       let put : Option Context → Hart → World → HartState = λ host hart world. record { hart = hart; host_context = host; world = world } in
@@ -393,7 +393,7 @@ module _ (i j : ℕ) (s t : HartState) (one two : Shared) (view_invariant_one : 
       (may_all_same i j s t one two view_invariant_one view_invariant_two alike (register s.hart.regs 11)) trap)))
 
   -- the steps of both views without a trap are alike
-  untrapped_alike : (step (bare_machine (on s one))).outcome.trap ≡ None → StepAlike i j (untrapped (on s one)) (untrapped (on t two))
+  untrapped_alike : (step (bare_machine (on s one))).outcome.trap ≡ None → StepAlike i j (view_without_trap (on s one)) (view_without_trap (on t two))
   untrapped_alike no_trap = record {
     outcome = ap (λ (x : StepOutcome). let o : Outcome = record { step = x; entered = None } in o) bare.outcome;
     hosts = ap is_host alike.first ∙ sym (ap is_host alike.second);
@@ -405,14 +405,14 @@ module _ (i j : ℕ) (s t : HartState) (one two : Shared) (view_invariant_one : 
   step_alike =
       let traps = ap (λ (o : StepOutcome). o.trap) bare.outcome in
       step_cases (on s one) (λ after. StepAlike i j after (monitored_step (on t two)))
-      (λ no_trap. step_cases (on t two) (λ after. StepAlike i j (untrapped (on s one)) after) (λ no_trap_too. untrapped_alike no_trap)
+      (λ no_trap. step_cases (on t two) (λ after. StepAlike i j (view_without_trap (on s one)) after) (λ no_trap_too. untrapped_alike no_trap)
       (λ trap trapped. let contradiction : None ≡ Some trap = sym no_trap ∙ traps ∙ trapped in cc))
-      (λ trap trapped. step_cases (on t two) (λ after. StepAlike i j (trapped_to (on s one) trap) after)
+      (λ trap trapped. step_cases (on t two) (λ after. StepAlike i j (view_after_trap (on s one) trap) after)
       (λ no_trap. let contradiction : Some trap ≡ None = sym trapped ∙ traps ∙ no_trap in cc)
       (λ trap_too trapped_too.
       let equal : Some trap ≡ Some trap_too = sym trapped ∙ traps ∙ trapped_too in
       let same_trap : trap ≡ trap_too = cc in
-      subst (λ (x : Trap). StepAlike i j (trapped_to (on s one) trap) (trapped_to (on t two) x)) same_trap (trapped_alike trap)))
+      subst (λ (x : Trap). StepAlike i j (view_after_trap (on s one) trap) (view_after_trap (on t two) x)) same_trap (trapped_alike trap)))
 
 -- ---- the exit of an enclave
 
@@ -437,7 +437,7 @@ pub exited : (p : Place) (machine : MonitoredMachine) (trap : Trap) → Invarian
 -- a hart that runs an enclave has a saved context of the host
 exited p machine trap invariant runs trapped host_runs_after None host_context_is =
     let in_range = runs_inside p.slot p.hart machine runs in
-    let world = world_is p.slot (hart_state_of p.hart machine).world runs in
+    let world = world_is_enclave p.slot (hart_state_of p.hart machine).world runs in
     let contradiction : false ≡ true =
     ap (λ (o : Option Context). is_some o) (sym host_context_is) ∙ (invariant.hart_states p.hart in_range).host.kept
     ∙ ap (λ (w : World). not (is_host w)) world in
@@ -445,7 +445,7 @@ exited p machine trap invariant runs trapped host_runs_after None host_context_i
 -- the machine after the step is the machine that `leave_law` gives
 exited p machine trap invariant runs trapped host_runs_after (Some host) host_context_is =
     let in_range = runs_inside p.slot p.hart machine runs in
-    let world = world_is p.slot (hart_state_of p.hart machine).world runs in
+    let world = world_is_enclave p.slot (hart_state_of p.hart machine).world runs in
     let hart = (hart_state_of p.hart machine).hart in
     let table = machine.shared.table in
     let slot = slot_at table p.slot in
@@ -463,7 +463,7 @@ exited p machine trap invariant runs trapped host_runs_after (Some host) host_co
         regs = ap (λ (s : HartState). s.hart.regs) hart_state_is;
       };
       slot = state_slot table p.slot slot after count refl;
-      context = at_same machine.shared.contexts p.slot (Some (saved_after trap.cause hart)) (omega (arith, slot_in_range, contexts));
+      context = at_written_slot machine.shared.contexts p.slot (Some (saved_after trap.cause hart)) (omega (arith, slot_in_range, contexts));
       memory = refl;
       extent = state_extent table p.slot slot after count refl;
     })
@@ -500,11 +500,11 @@ module _ (p q : Place) (one other : MonitoredMachine) (invariant_one : Invariant
 
   -- the hart of place p runs the enclave of place p in the first machine
   pub world_one : (hart_state_of p.hart one).world ≡ Enclave p.slot
-  world_one = world_is p.slot (hart_state_of p.hart one).world same_enclave.first
+  world_one = world_is_enclave p.slot (hart_state_of p.hart one).world same_enclave.first
 
   -- the hart of place q runs the enclave of place q in the second machine
   pub world_other : (hart_state_of q.hart other).world ≡ Enclave q.slot
-  world_other = world_is q.slot (hart_state_of q.hart other).world same_enclave.second
+  world_other = world_is_enclave q.slot (hart_state_of q.hart other).world same_enclave.second
 
   -- the steps of the first machine and of the machine in between are alike
   first : StepAlike p.slot q.slot (monitored_step (hart_view p.hart one)) (monitored_step (hart_view q.hart mid))
@@ -531,25 +531,25 @@ module _ (p q : Place) (one other : MonitoredMachine) (invariant_one : Invariant
 
   -- the state of the first hart after the step of the machine is its state after the step of the view
   seen_one : hart_state_of p.hart (step_at p one).state ≡ (monitored_step (hart_view p.hart one)).state.hart_state
-  seen_one = ap (λ (a : HartViewStepped). a.state.hart_state) (step_seen p.hart one has_one)
+  seen_one = ap (λ (a : HartViewStepped). a.state.hart_state) (step_of_view p.hart one has_one)
 
   -- the state of the second hart after the step of the machine is its state after the step of the machine in between
   seen_other : (monitored_step (hart_view q.hart mid)).state.hart_state ≡ hart_state_of q.hart (step_at q other).state
-  seen_other = own.hart_state ∙ sym (ap (λ (a : HartViewStepped). a.state.hart_state) (step_seen q.hart other has_other))
+  seen_other = own.hart_state ∙ sym (ap (λ (a : HartViewStepped). a.state.hart_state) (step_of_view q.hart other has_other))
 
   -- the steps of both machines have equal outcomes
   same_outcome : (step_at p one).outcome ≡ (step_at q other).outcome
   same_outcome =
-      ap (λ (a : HartViewStepped). a.outcome) (step_seen p.hart one has_one) ∙ first.outcome ∙ own.outcome
-      ∙ sym (ap (λ (a : HartViewStepped). a.outcome) (step_seen q.hart other has_other))
+      ap (λ (a : HartViewStepped). a.outcome) (step_of_view p.hart one has_one) ∙ first.outcome ∙ own.outcome
+      ∙ sym (ap (λ (a : HartViewStepped). a.outcome) (step_of_view q.hart other has_other))
 
   -- if the first enclave still runs after the step, then both enclaves have the same state after the step
   still_runs : runs_at p (step_at p one).state ≡ true → SameEnclave p q (step_at p one).state (step_at q other).state
   still_runs runs_after =
       let after_one = (monitored_step (hart_view p.hart one)).state in
       let after_mid = (monitored_step (hart_view q.hart mid)).state in
-      let shared_one = ap (λ (x : HartViewStepped). x.state.shared) (step_seen p.hart one has_one) in
-      let shared_other = ap (λ (x : HartViewStepped). x.state.shared) (step_seen q.hart other has_other) in
+      let shared_one = ap (λ (x : HartViewStepped). x.state.shared) (step_of_view p.hart one has_one) in
+      let shared_other = ap (λ (x : HartViewStepped). x.state.shared) (step_of_view q.hart other has_other) in
       let alike = first.runs (sym (ap (λ (x : HartState). is_host x.world) seen_one)
       ∙ not_host_by p.slot (hart_state_of p.hart (step_at p one).state).world runs_after) in
       let bytes : EqualOutside (is_beyond after_one.shared.table p.slot) after_one.shared.memory

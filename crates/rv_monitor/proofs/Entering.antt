@@ -9,10 +9,10 @@ use Rattle.rv_monitor.specs.Entering.{EntersOnly, HasEntered}
 use Rattle.rv_monitor.specs.NumberedCalls.{entered_by_call, slots_with_state, switched_hart}
 use Rattle.rv_monitor.specs.Prelude.{Call, Context, Enclave, Host, Outcome, Running, S, HartState, StepOutcome, Trap, World, can_go_on, context_at, is_set, step}
 use Rattle.rv_monitor.specs.TrapReturns.{past_ecall}
-use Rattle.rv_monitor.proofs.Prelude.{Handled, HartViewInvariant, Invariant, IsTaken, MonitoredMachine, MonitoredStepped, HartView, HartViewStepped, a0, bare_machine, cases_lt, count_of, entered_slot, handled, left}
+use Rattle.rv_monitor.proofs.Prelude.{Handled, HartViewInvariant, Invariant, SlotIsAccepted, MonitoredMachine, MonitoredStepped, HartView, HartViewStepped, a0, bare_machine, cases_lt, count_of, entered_slot, handled, left}
 use Rattle.rv_monitor.proofs.Prelude.{monitored_step, returned, saved, hart_state_of, hart_view, step_of, with_reprogrammed_hart}
 use Rattle.rv_monitor.proofs.InvariantLemmas.{hart_view_invariant}
-use Rattle.rv_monitor.proofs.HartCases.{is_trapping, outside, programmed_by, step_seen}
+use Rattle.rv_monitor.proofs.HartCases.{is_trapping, outside, programmed_by, step_of_view}
 use Rattle.rv_monitor.proofs.Switched.{aligned_again}
 use Rattle.rv_monitor.proofs.TrapSteps.{hart_state_after, quiet_world, trapped_step}
 use Rattle.rv_monitor.proofs.HandlerCases.{handler_cases, entering}
@@ -114,7 +114,7 @@ module _ (before : HartView) (saves : SavedContextsInvariant before.shared) (run
   no_entry world from_host k enclave_runs_after = let contradiction : Host ≡ Enclave k = sym from_host ∙ enclave_runs_after in cc
 
   -- a slot with an enclave in a state that the call accepts has a saved context
-  named_had : (call : Call) (j : ℕ) → IsTaken before.shared.table call j → (k : ℕ) → Enclave j ≡ Enclave k
+  named_had : (call : Call) (j : ℕ) → SlotIsAccepted before.shared.table call j → (k : ℕ) → Enclave j ≡ Enclave k
       → is_some (context_at before.shared.contexts k) ≡ true
   named_had call j is_taken k same_enclave =
       let same : j ≡ k = cc in
@@ -151,7 +151,7 @@ enters_from : (hart : ℕ) (machine : MonitoredMachine) → Invariant machine �
 enters_from hart machine invariant k context trap from_host kept_one trapped enclave_runs_after =
     let trapping = is_trapping hart machine trap trapped in
     let view_ends_in_k =
-    sym (ap (λ (after : HartViewStepped). after.state.hart_state.world) (step_seen hart machine trapping.has)) ∙ enclave_runs_after in
+    sym (ap (λ (after : HartViewStepped). after.state.hart_state.world) (step_of_view hart machine trapping.has)) ∙ enclave_runs_after in
     let P : Option Context → Type 0 = λ o. IfSome o (λ c. can_go_on c ≡ true) in
     let can_continue : can_go_on context ≡ true = subst P kept_one (invariant.shared.contexts.held k) in
     let view_enters =
@@ -165,7 +165,7 @@ module _ (hart k : ℕ) (machine : MonitoredMachine) (invariant : Invariant mach
   -- the step of the hart's view ends in slot k
   view_ends_in_k : hart < count_of machine → (monitored_step (hart_view hart machine)).state.hart_state.world ≡ Enclave k
   view_ends_in_k in_range =
-      sym (ap (λ (after : HartViewStepped). after.state.hart_state.world) (step_seen hart machine in_range)) ∙ enclave_runs_after
+      sym (ap (λ (after : HartViewStepped). after.state.hart_state.world) (step_of_view hart machine in_range)) ∙ enclave_runs_after
 
   -- if a step without a trap ended in slot k, then the host would be an enclave
   never_quiet : (step_of hart machine).outcome.step.trap ≡ None → Host ≡ Enclave k
@@ -174,7 +174,7 @@ module _ (hart k : ℕ) (machine : MonitoredMachine) (invariant : Invariant mach
         sym (ap (λ (after : MonitoredStepped). (hart_state_of hart after.state).world) (outside hart machine past_last) ∙ from_host)
         ∙ enclave_runs_after
     | inl in_range ↦
-        let view_step = step_seen hart machine in_range in
+        let view_step = step_of_view hart machine in_range in
         let quiet = sym (ap (λ (after : HartViewStepped). after.outcome.step.trap) view_step) ∙ no_trap in
         sym from_host ∙ sym (quiet_world (hart_view hart machine) quiet) ∙ view_ends_in_k in_range
   ]

@@ -11,9 +11,9 @@ use Rattle.rv_monitor.proofs.Prelude.{hart_state_of, reprogrammed, runs_on, step
 use Rattle.rv_monitor.proofs.Beside.{running_is_live, runs_inside}
 use Rattle.rv_monitor.proofs.HartCases.{hart_cases_of_both}
 use Rattle.rv_monitor.proofs.Integrity.{integrity}
-use Rattle.rv_monitor.proofs.InvariantLemmas.{changed_of, invariant_law, past_as_is, written_invariant}
+use Rattle.rv_monitor.proofs.InvariantLemmas.{change_preserves, invariant_law, past_as_is, written_invariant}
 use Rattle.rv_monitor.proofs.MonitoredAlike.{noninterference}
-use Rattle.rv_monitor.proofs.PmpProgramming.{as_is}
+use Rattle.rv_monitor.proofs.PmpProgramming.{reprogramming_changes_nothing}
 use Rattle.rv_monitor.proofs.RelatedChanges.{changed_related}
 use Rattle.rv_monitor.proofs.SchedIntegrity.{go_on_law, preserved_twice}
 use Rattle.rv_monitor.proofs.SchedNoninterference.{entry_law}
@@ -98,9 +98,9 @@ pub line_only : (k hart : ℕ) (raised : Bool) (machine : MonitoredMachine) → 
 line_only k hart raised machine invariant = record {
   preserved = record { slot = refl; bytes = λ byte in_region. refl; context = refl };
   hart_state = λ j runs.
-      changed_of (timer_line_set false) (timer_line_set raised) (λ s. refl) hart j machine
+      change_preserves (timer_line_set false) (timer_line_set raised) (λ s. refl) hart j machine
       ∙ ap (timer_line_set false)
-      (sym (as_is machine.shared.table (hart_state_of j machine) (invariant.hart_states j (runs_inside k j machine runs))));
+      (sym (reprogramming_changes_nothing machine.shared.table (hart_state_of j machine) (invariant.hart_states j (runs_inside k j machine runs))));
 }
 
 -- an enclave that is untouched is untouched except for the timer line
@@ -119,7 +119,7 @@ event_integrity k [] machine invariant undisturbed = record {
   preserved = record { slot = refl; bytes = λ byte in_region. refl; context = refl };
   hart_state = λ j runs.
       ap (timer_line_set false)
-      (sym (as_is machine.shared.table (hart_state_of j machine) (invariant.hart_states j (runs_inside k j machine runs))));
+      (sym (reprogramming_changes_nothing machine.shared.table (hart_state_of j machine) (invariant.hart_states j (runs_inside k j machine runs))));
 }
 event_integrity k (StepOf hart ∷ more) machine invariant undisturbed =
     let after = (step_of hart machine).state in
@@ -136,7 +136,7 @@ event_integrity k (LineOf hart raised ∷ more) machine invariant undisturbed =
 
 -- a change of a timer line does not change which enclave runs on which hart
 pub line_worlds : (k hart j : ℕ) (raised : Bool) (machine : MonitoredMachine) → runs_on k j (with_timer hart machine raised) ≡ runs_on k j machine
-line_worlds k hart j raised machine = changed_of (λ (s : HartState). is_world_of k s.world) (timer_line_set raised) (λ s. refl) hart j machine
+line_worlds k hart j raised machine = change_preserves (λ (s : HartState). is_world_of k s.world) (timer_line_set raised) (λ s. refl) hart j machine
 
 -- if no event of a list steps a hart that runs the enclave, then this also holds after a change of a timer line
 none_after_line : (k hart : ℕ) (raised : Bool) (list : List Event) (machine : MonitoredMachine) → StepsNone k list machine

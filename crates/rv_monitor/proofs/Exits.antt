@@ -20,9 +20,9 @@ use Rattle.rv_monitor.specs.Step.{is_supervisor}
 use Rattle.rv_monitor.proofs.Beside.{runs_inside}
 use Rattle.rv_monitor.proofs.InvariantLemmas.{hart_view_invariant}
 use Rattle.rv_monitor.proofs.PmpProgramming.{all_as_are}
-use Rattle.rv_monitor.proofs.HartCases.{is_trapping, programmed_by, step_seen}
+use Rattle.rv_monitor.proofs.HartCases.{is_trapping, programmed_by, step_of_view}
 use Rattle.rv_monitor.proofs.TrapSteps.{same_outcome, hart_state_after, quiet_world, trapped_step}
-use Rattle.rv_monitor.proofs.HandlerCases.{asked-is}
+use Rattle.rv_monitor.proofs.HandlerCases.{requested-is_offered}
 use Rattle.rv_monitor.proofs.Alignment.{aligned_twice}
 
 -- ---- the world after the trap handler
@@ -59,7 +59,7 @@ module _ (k : ℕ) (hart_state : HartState) (shared : Shared) (runs_enclave : ha
   by_asked : (o : Option Call) → requested_call hart_state.world hart_state.hart.regs ≡ o
       → is_host (option_case o (refused hart_state shared NotSupported) (called hart_state shared)).hart_state.world ≡ is_exit_call o
   by_asked None requested = ap is_host runs_enclave
-  by_asked (Some call) requested = by_call call (asked-is hart_state.world hart_state.hart.regs call requested).1
+  by_asked (Some call) requested = by_call call (requested-is_offered hart_state.world hart_state.hart.regs call requested).1
 
   -- after an exception, the host runs if and only if the exception is an ecall that requests stop or exit
   by_exception : (trap : Trap) (exception : Exception)
@@ -187,7 +187,7 @@ runs_here k hart machine runs = runs_inside k hart machine (ap (is_world_of k) r
 -- the world of the hart after the step is the world in the hart's view after its step
 seen_world : (hart : ℕ) (machine : MonitoredMachine) → hart < count_of machine
     → (hart_state_of hart (step_of hart machine).state).world ≡ (monitored_step (hart_view hart machine)).state.hart_state.world
-seen_world hart machine in_range = ap (λ (after : HartViewStepped). after.state.hart_state.world) (step_seen hart machine in_range)
+seen_world hart machine in_range = ap (λ (after : HartViewStepped). after.state.hart_state.world) (step_of_view hart machine in_range)
 
 -- proves that an enclave exits only by stop, by exit or by the timer interrupt
 pub exits_law : (hart : ℕ) (machine : MonitoredMachine) → Invariant machine → ExitsOnRequest hart machine (step_of hart machine)
@@ -196,7 +196,7 @@ exits_law hart machine invariant k runs = record {
       let in_range = runs_here k hart machine runs in
       seen_world hart machine in_range
       ∙ quiet_world (hart_view hart machine)
-      (sym (ap (λ (after : HartViewStepped). after.outcome.step.trap) (step_seen hart machine in_range)) ∙ no_trap) ∙ runs;
+      (sym (ap (λ (after : HartViewStepped). after.outcome.step.trap) (step_of_view hart machine in_range)) ∙ no_trap) ∙ runs;
   exits = λ trap trapped.
       let trapping = is_trapping hart machine trap trapped in
       let state = hart_view hart machine in

@@ -18,8 +18,8 @@ use Rattle.rv_monitor.proofs.Beside.{runs_inside}
 use Rattle.rv_monitor.proofs.GuestView.{guest_hart_state, guest_step_of}
 use Rattle.rv_monitor.proofs.InvariantLemmas.{hart_view_invariant}
 use Rattle.rv_monitor.proofs.MonitoredAlike.{noninterference}
-use Rattle.rv_monitor.proofs.HartCases.{step_count, step_seen, step_beside}
-use Rattle.rv_monitor.proofs.TrapSteps.{step_cases, hart_state_after, trapped_to, untrapped}
+use Rattle.rv_monitor.proofs.HartCases.{step_count, step_of_view, other_harts_keep}
+use Rattle.rv_monitor.proofs.TrapSteps.{step_cases, hart_state_after, view_after_trap, view_without_trap}
 use Rattle.rv_monitor.proofs.HandlerCases.{handler_cases_of_both, over}
 use Rattle.rv_monitor.proofs.BareStepNoninterference.{bare_law}
 use Rattle.rv_monitor.specs.Declassification.{EquivToGuests, SameHost, SameHostOn, unswitched}
@@ -141,7 +141,7 @@ module _ (e : ℕ) (hart_state : HartState) (one two : Shared) (view_invariant_o
     (runs_other : is_world_of e hart_state.world ≡ false)
     (shared_equiv : SharedEquivExcept e one two) where
   -- a step with a trap leaves the same host over both shared states
-  trapped_host : (trap : Trap) → SameHostAfter (trapped_to (on hart_state one) trap) (trapped_to (on hart_state two) trap)
+  trapped_host : (trap : Trap) → SameHostAfter (view_after_trap (on hart_state one) trap) (view_after_trap (on hart_state two) trap)
   trapped_host trap =
       let handled_one = handled (hart_state_after hart_state trap) one trap in
       let same_host =
@@ -157,15 +157,16 @@ module _ (e : ℕ) (hart_state : HartState) (one two : Shared) (view_invariant_o
       let bare_steps_alike = bare_law e (on hart_state one) two.memory view_invariant_one runs_other shared_equiv.memory in
       let traps = ap (λ (o : StepOutcome). o.trap) bare_steps_alike.outcome in
       step_cases (on hart_state one) (λ after. SameHostAfter after (monitored_step (on hart_state two)))
-      (λ no_trap. step_cases (on hart_state two) (λ after. SameHostAfter (untrapped (on hart_state one)) after)
+      (λ no_trap. step_cases (on hart_state two) (λ after. SameHostAfter (view_without_trap (on hart_state one)) after)
       (λ no_trap_too. record { host = refl; rest = ap (λ (h : Hart). unswitched (guest_csrs h.csrs)) (sym bare_steps_alike.hart) })
       (λ trap trapped. let contradiction : None ≡ Some trap = sym no_trap ∙ sym traps ∙ trapped in cc))
-      (λ trap trapped. step_cases (on hart_state two) (λ after. SameHostAfter (trapped_to (on hart_state one) trap) after)
+      (λ trap trapped. step_cases (on hart_state two) (λ after. SameHostAfter (view_after_trap (on hart_state one) trap) after)
       (λ no_trap. let contradiction : Some trap ≡ None = sym trapped ∙ sym traps ∙ no_trap in cc)
       (λ trap_too trapped_too.
       let equal : Some trap ≡ Some trap_too = sym trapped ∙ sym traps ∙ trapped_too in
       let same : trap ≡ trap_too = cc in
-      subst (λ (t : Trap). SameHostAfter (trapped_to (on hart_state one) trap) (trapped_to (on hart_state two) t)) same (trapped_host trap)))
+      subst (λ (t : Trap). SameHostAfter (view_after_trap (on hart_state one) trap) (view_after_trap (on hart_state two) t)) same
+      (trapped_host trap)))
 
 -- ---- a low step
 
@@ -175,15 +176,15 @@ guest_state_after : (hart : ℕ) (machine : MonitoredMachine) → Invariant mach
     ≡ guest_state (monitored_step (hart_view hart (guest_view machine))).state.hart_state
 guest_state_after hart machine invariant in_range =
     let same_length = length-map machine.hart_states guest_state in
-    let view_step = step_seen hart (guest_view machine) (omega (arith, same_length, in_range)) in
+    let view_step = step_of_view hart (guest_view machine) (omega (arith, same_length, in_range)) in
     sym (guest_hart_state hart (step_of hart machine).state) ∙ ap (hart_state_of hart) (guest_step_of hart machine invariant).state
     ∙ guest_hart_state hart (step_of hart (guest_view machine)).state ∙ ap (λ (s : HartViewStepped). guest_state s.state.hart_state) view_step
 
 -- a step of one hart keeps the saved host of each other hart
 pub beside_same : (hart j : ℕ) (machine : MonitoredMachine) → j ≢ hart → SameHostOn j (step_of hart machine).state machine
 beside_same hart j machine distinct = record {
-  host = step_beside (λ (s : HartState). s.host_context) (λ slots hart_state. refl) hart j machine distinct;
-  rest = step_beside rest_of (λ slots hart_state. refl) hart j machine distinct;
+  host = other_harts_keep (λ (s : HartState). s.host_context) (λ slots hart_state. refl) hart j machine distinct;
+  rest = other_harts_keep rest_of (λ slots hart_state. refl) hart j machine distinct;
 }
 
 -- if a and one, one and other, and other and b have the same host on hart j, then so have a and b
@@ -198,7 +199,7 @@ same_host_chain j a one other b same_at_one same_between same_at_b = record {
 pub runs_before : (e hart j : ℕ) (machine : MonitoredMachine) → j ≢ hart → runs_on e j (step_of hart machine).state ≡ true
     → runs_on e j machine ≡ true
 runs_before e hart j machine distinct runs_after =
-    sym (step_beside (λ (s : HartState). is_world_of e s.world) (λ slots hart_state. refl) hart j machine distinct) ∙ runs_after
+    sym (other_harts_keep (λ (s : HartState). is_world_of e s.world) (λ slots hart_state. refl) hart j machine distinct) ∙ runs_after
 
 -- Two machines are equivalent except e in the guest view, and each hart that runs e has the same saved host in both. A hart that does not run e makes
 -- a step in both.
@@ -207,8 +208,8 @@ module _ (e hart : ℕ) (one other : MonitoredMachine) (invariant_one : Invarian
     (hosts : (j : ℕ) → runs_on e j one ≡ true → SameHostOn j one other)
     (not_running : runs_on e hart one ≡ false) where
   -- the hart that steps has the same host in both machines after the step
-  own_host : hart < count_of one → SameHostOn hart (step_of hart one).state (step_of hart other).state
-  own_host in_range =
+  stepped_hart_keeps_host : hart < count_of one → SameHostOn hart (step_of hart one).state (step_of hart other).state
+  stepped_hart_keeps_host in_range =
       let view_one = guest_view one in
       let view_other = guest_view other in
       let size_one = length-map one.hart_states guest_state in
@@ -235,7 +236,7 @@ module _ (e hart : ℕ) (one other : MonitoredMachine) (invariant_one : Invarian
       let in_range = runs_inside e j (step_of hart one).state runs_after in
       let count = step_count hart one in
       elim (cases_eq j hart) [
-        | inl equal ↦ rw equal (own_host (omega (arith, in_range, count, equal)))
+        | inl equal ↦ rw equal (stepped_hart_keeps_host (omega (arith, in_range, count, equal)))
         | inr distinct ↦
             same_host_chain j (step_of hart one).state one other (step_of hart other).state (beside_same hart j one distinct)
             (hosts j (runs_before e hart j one distinct runs_after)) (beside_same hart j other distinct)

@@ -15,7 +15,7 @@ use Rattle.rv_monitor.proofs.Prelude.{handled_exception, left, length-map, map-s
 use Rattle.rv_monitor.proofs.Prelude.{hart_state_of, reprogrammed, hart_states_reprogrammed, hart_view, step_of, stepped_by, timer_stopped, with_reprogrammed_hart}
 use Rattle.rv_monitor.proofs.InvariantLemmas.{hart_view_invariant}
 use Rattle.rv_monitor.proofs.HartCases.{inside, outside, past_hart_state}
-use Rattle.rv_monitor.proofs.TrapSteps.{step_cases, hart_state_after, trapped_to, untrapped}
+use Rattle.rv_monitor.proofs.TrapSteps.{step_cases, hart_state_after, view_after_trap, view_without_trap}
 
 -- ---- the trap handler does not depend on the counters
 
@@ -106,7 +106,7 @@ module _ (state : HartView) (alike : SameToGuests (step (bare_machine state)) (s
   other = record state { hart_state = guest_state state.hart_state }
 
   -- a step without a trap is the same to guests from the view and from the view with the guest state
-  untrapped_same : SameShown (untrapped state) (untrapped other)
+  untrapped_same : SameShown (view_without_trap state) (view_without_trap other)
   untrapped_same = record {
     outcome = ap (λ (o : StepOutcome). let shown : Outcome = record { step = o; entered = None } in shown) alike.outcome;
     shared = ap (λ (m : List ℕ). record state.shared { memory = m }) alike.memory;
@@ -114,7 +114,7 @@ module _ (state : HartView) (alike : SameToGuests (step (bare_machine state)) (s
   }
 
   -- a step with a trap is the same to guests from the view and from the view with the guest state
-  trapped_same : (trap : Trap) → SameShown (trapped_to state trap) (trapped_to other trap)
+  trapped_same : (trap : Trap) → SameShown (view_after_trap state trap) (view_after_trap other trap)
   trapped_same trap =
       let hart_state = hart_state_after state.hart_state trap in
       let guest_at_trap = hart_state_after (guest_state state.hart_state) trap in
@@ -132,14 +132,14 @@ module _ (state : HartView) (alike : SameToGuests (step (bare_machine state)) (s
   same_shown =
       let traps = ap (λ (o : StepOutcome). o.trap) alike.outcome in
       step_cases state (λ after. SameShown after (monitored_step other))
-      (λ no_trap. step_cases other (λ after. SameShown (untrapped state) after) (λ no_trap_too. untrapped_same)
+      (λ no_trap. step_cases other (λ after. SameShown (view_without_trap state) after) (λ no_trap_too. untrapped_same)
       (λ trap trapped. let contradiction : None ≡ Some trap = sym no_trap ∙ traps ∙ trapped in cc))
-      (λ trap trapped. step_cases other (λ after. SameShown (trapped_to state trap) after)
+      (λ trap trapped. step_cases other (λ after. SameShown (view_after_trap state trap) after)
       (λ no_trap. let contradiction : Some trap ≡ None = sym trapped ∙ traps ∙ no_trap in cc)
       (λ trap_too trapped_too.
       let equal : Some trap ≡ Some trap_too = sym trapped ∙ traps ∙ trapped_too in
       let same : trap ≡ trap_too = cc in
-      subst (λ (t : Trap). SameShown (trapped_to state trap) (trapped_to other t)) same (trapped_same trap)))
+      subst (λ (t : Trap). SameShown (view_after_trap state trap) (view_after_trap other t)) same (trapped_same trap)))
 
 -- ---- the step of the machine
 

@@ -7,7 +7,7 @@ use Rattle.rv_monitor.specs.Prelude.{Contexts, Running, HartState, Shared, Share
 use Rattle.rv_monitor.specs.Prelude.{measured_slot, new_slot, create_args_of, running_slot}
 use Rattle.rv_monitor.proofs.Prelude.{HandledAlike, HandlerLaw, a0, a1, returned_to_caller, both_ways, cases_eq, enclave_state_after, entered_slot}
 use Rattle.rv_monitor.proofs.Prelude.{eq-eqb, continuing_from, handled, left, with_reprogrammed_hart}
-use Rattle.rv_monitor.proofs.HandlerCases.{handler_cases_of_both, entering, saved_by, leaving, over}
+use Rattle.rv_monitor.proofs.HandlerCases.{handler_cases_of_both, entering, context_saved_by, leaving, over}
 
 -- ---- the trap handler
 
@@ -72,7 +72,8 @@ module _ (e : ℕ) (table : Slots) (m n : List ℕ) (contexts_m contexts_n : Con
     entered = refl;
     hart_state = record { world = refl; same = λ not_running. refl };
     shared =
-        cases.switches (running_slot hart_state.world) (enclave_state_after trap.cause hart_state.hart.regs) (Some (saved_by trap.cause hart_state));
+        cases.switches (running_slot hart_state.world) (enclave_state_after trap.cause hart_state.hart.regs)
+        (Some (context_saved_by trap.cause hart_state));
   }
 
   -- the trap handler gives equivalent results over both shared states

@@ -9,7 +9,7 @@ use Rattle.rv_monitor.specs.Prelude.{Measure, NotSupported, Refusal, Resume, Run
 use Rattle.rv_monitor.specs.Prelude.{requested_call, call_key, call_number, calls, created, destroyed, exited_context, first_refusal, is_offered}
 use Rattle.rv_monitor.specs.Prelude.{saved_context, measured, measured_slot, new_slot, option_case, create_args_of, register, status_of}
 use Rattle.rv_monitor.specs.declared.enclave_exit.EnclaveExit.{EnclaveExit}
-use Rattle.rv_monitor.proofs.Prelude.{Handled, IsTaken, MayCreate, MayMeasure, a0, a1, and_parts, returned_to_caller, call_handled, call_refusals}
+use Rattle.rv_monitor.proofs.Prelude.{Handled, SlotIsAccepted, MayCreate, MayMeasure, a0, a1, and_parts, returned_to_caller, call_handled, call_refusals}
 use Rattle.rv_monitor.proofs.Prelude.{called, cases_Bool, cond-false, cond-true, entered_slot, find, redirected, handled, handled_cause}
 use Rattle.rv_monitor.proofs.Prelude.{handled_exception, is_entering, left, line_after, may_create, may_measure, may_take}
 use Rattle.rv_monitor.proofs.Prelude.{nat_tests, past_call, performed, reason, refused, same_create_refusals, same_measure_refusals, saved}
@@ -39,10 +39,10 @@ found-call world a7 a6 true call test_is =
 found-call world a7 a6 false call test_is = cc
 
 -- a requested call has its number in a6, and is offered to the world
-pub asked-is : (world : World) (regs : List ℕ) (call : Call) → requested_call world regs ≡ Some call
+pub requested-is_offered : (world : World) (regs : List ℕ) (call : Call) → requested_call world regs ≡ Some call
     → ((call_number call == register regs 16) ≡ true) × (is_offered world call ≡ true)
 unfolding call_requested
-asked-is world regs call requested = found-call world (register regs 17) (register regs 16) (register regs 17 == call_key) call requested
+requested-is_offered world regs call requested = found-call world (register regs 17) (register regs 16) (register regs 17 == call_key) call requested
 
 -- A call that enters an enclave is offered only to the host. Each case holds by computation, or has a false premise.
 pub entered-by-host : (world : World) (call : Call) → is_entering (Some call) ≡ true → is_offered world call ≡ true → world ≡ Host
@@ -71,9 +71,9 @@ pub record Requests (hart_state : HartState) (cause : Cause) (call : Call) : Typ
   pub asked : requested_call hart_state.world hart_state.hart.regs ≡ Some call
 
 -- the context that the monitor saves when an enclave exits by this cause, from the state of the hart at the trap
-abbrev pub saved_by : Cause → HartState → Context
-saved_by (causes.Interrupt interrupt) hart_state = saved hart_state.hart (trapped_pc hart_state) (trapped_mode hart_state)
-saved_by (causes.Exception exception) hart_state =
+abbrev pub context_saved_by : Cause → HartState → Context
+context_saved_by (causes.Interrupt interrupt) hart_state = saved hart_state.hart (trapped_pc hart_state) (trapped_mode hart_state)
+context_saved_by (causes.Exception exception) hart_state =
     if register hart_state.hart.regs 16 == call_number Exit then exited_context else stopped_context hart_state
 
 -- the hart state at the trap, with the timer line cleared if the cause is the timer interrupt
@@ -85,7 +85,7 @@ lowered_by cause hart_state =
 abbrev pub enclave_exit_of : Cause → HartState → EnclaveExit
 enclave_exit_of cause hart_state = record {
   state = enclave_state_after cause hart_state.hart.regs;
-  kept = saved_by cause hart_state;
+  kept = context_saved_by cause hart_state;
   reason = reason cause hart_state.hart.regs;
   value = value cause hart_state.hart.regs;
 }
@@ -110,52 +110,53 @@ module _ (hart_state : HartState) (trap : Trap) (table : Slots) (m n : List ℕ)
   shared_n = over table n contexts_n
 
   -- the claim P about one case, for both shared states
-  abbrev Both : (Shared → Handled) → Type 0
-  Both work = P (work shared_m) (work shared_n)
+  abbrev HoldsForBoth : (Shared → Handled) → Type 0
+  HoldsForBoth work = P (work shared_m) (work shared_n)
 
   -- the proof obligations of a proof by cases: the claim P for each case of the trap handler on both shared states
   pub record CauseCases : Type 0 where
     -- a refusal, or a call that changes nothing in the shared state
-    pub answers : (status result : ℕ) → Both (λ shared. returned_to_caller hart_state shared status result)
+    pub answers : (status result : ℕ) → HoldsForBoth (λ shared. returned_to_caller hart_state shared status result)
     pub creates : Requests hart_state trap.cause Create → MayCreate shared_m (create_args_of hart_state.hart.regs)
-        → Both (λ shared. returned_to_caller hart_state (created shared (create_args_of hart_state.hart.regs)) 0 (new_slot shared.table))
-    pub destroys : Requests hart_state trap.cause Destroy → IsTaken table Destroy (a0 hart_state)
-        → Both (λ shared. returned_to_caller hart_state (destroyed shared (a0 hart_state)) 0 0)
+        → HoldsForBoth (λ shared. returned_to_caller hart_state (created shared (create_args_of hart_state.hart.regs)) 0 (new_slot shared.table))
+    pub destroys : Requests hart_state trap.cause Destroy → SlotIsAccepted table Destroy (a0 hart_state)
+        → HoldsForBoth (λ shared. returned_to_caller hart_state (destroyed shared (a0 hart_state)) 0 0)
     pub measures : Requests hart_state trap.cause Measure
         → MayMeasure shared_m hart_state.hart.csrs.pmp (measured_slot hart_state.world (a0 hart_state)) (a1 hart_state)
-        → Both (λ shared. returned_to_caller hart_state (measured shared (measured_slot hart_state.world (a0 hart_state)) (a1 hart_state)) 0 0)
+        → HoldsForBoth (λ shared.
+        returned_to_caller hart_state (measured shared (measured_slot hart_state.world (a0 hart_state)) (a1 hart_state)) 0 0)
     pub enters : (call : Call) → Requests hart_state trap.cause call → is_entering (Some call) ≡ true → hart_state.world ≡ Host
-        → IsTaken table call (a0 hart_state)
-        → Both (entering hart_state)
-    pub leaves : Both (leaving trap.cause hart_state)
-    pub redirects : Both (λ shared. redirected hart_state shared trap)
+        → SlotIsAccepted table call (a0 hart_state)
+        → HoldsForBoth (entering hart_state)
+    pub leaves : HoldsForBoth (leaving trap.cause hart_state)
+    pub redirects : HoldsForBoth (λ shared. redirected hart_state shared trap)
 
   -- the claim P holds in each case, and the memories have the same size
   module _ (cases : CauseCases) (same_length : length m ≡ length n) where
     -- the claim holds for an exit by each cause
-    by-leaving : (cause : Cause) → trap.cause ≡ cause → Both (leaving cause hart_state)
-    by-leaving cause cause_is = subst (λ (c : Cause). Both (leaving c hart_state)) cause_is cases.leaves
+    by-leaving : (cause : Cause) → trap.cause ≡ cause → HoldsForBoth (leaving cause hart_state)
+    by-leaving cause cause_is = subst (λ (c : Cause). HoldsForBoth (leaving c hart_state)) cause_is cases.leaves
 
     -- the claim holds for each requested call that is not refused
     by-accepted : (call : Call) → Requests hart_state trap.cause call → first_refusal (call_refusals hart_state shared_m call) ≡ None
-        → Both (λ shared. performed hart_state shared call)
+        → HoldsForBoth (λ shared. performed hart_state shared call)
     unfolding performed
     by-accepted Create requests no_refusal = cases.creates requests (may_create shared_m (create_args_of hart_state.hart.regs) no_refusal)
     by-accepted Destroy requests no_refusal = cases.destroys requests (may_take table Destroy (a0 hart_state) no_refusal)
     by-accepted Run requests no_refusal =
-        let asked = asked-is hart_state.world hart_state.hart.regs Run requests.asked in
+        let asked = requested-is_offered hart_state.world hart_state.hart.regs Run requests.asked in
         cases.enters Run requests refl (entered-by-host hart_state.world Run refl asked.1) (may_take table Run (a0 hart_state) no_refusal)
     by-accepted Resume requests no_refusal =
-        let asked = asked-is hart_state.world hart_state.hart.regs Resume requests.asked in
+        let asked = requested-is_offered hart_state.world hart_state.hart.regs Resume requests.asked in
         cases.enters Resume requests refl (entered-by-host hart_state.world Resume refl asked.1) (may_take table Resume (a0 hart_state) no_refusal)
     by-accepted Measure requests no_refusal =
         cases.measures requests
         (may_measure shared_m hart_state.hart.csrs.pmp (measured_slot hart_state.world (a0 hart_state)) (a1 hart_state) no_refusal)
     by-accepted Stop requests no_refusal =
-        let test = not_exit (register hart_state.hart.regs 16) (asked-is hart_state.world hart_state.hart.regs Stop requests.asked).0 in
+        let test = not_exit (register hart_state.hart.regs 16) (requested-is_offered hart_state.world hart_state.hart.regs Stop requests.asked).0 in
         rw test at (by-leaving (causes.Exception EnvironmentCallFromS) requests.is_call)
     by-accepted Exit requests no_refusal =
-        let test = is_exit (register hart_state.hart.regs 16) (asked-is hart_state.world hart_state.hart.regs Exit requests.asked).0 in
+        let test = is_exit (register hart_state.hart.regs 16) (requested-is_offered hart_state.world hart_state.hart.regs Exit requests.asked).0 in
         rw test at (by-leaving (causes.Exception EnvironmentCallFromS) requests.is_call)
 
     -- a call has the same refusals in both shared states
@@ -173,7 +174,7 @@ module _ (hart_state : HartState) (trap : Trap) (table : Slots) (m n : List ℕ)
     by-refusal (Some refusal) one other claim = cases.answers (status_of refusal) 0
 
     -- the claim holds for a requested call with its refusals
-    by-called : (call : Call) → Requests hart_state trap.cause call → Both (λ shared. called hart_state shared call)
+    by-called : (call : Call) → Requests hart_state trap.cause call → HoldsForBoth (λ shared. called hart_state shared call)
     unfolding called
     by-called call requests =
         let rows = same-refusals call in
@@ -181,19 +182,19 @@ module _ (hart_state : HartState) (trap : Trap) (table : Slots) (m n : List ℕ)
 
     -- the claim holds for an ecall from S, whether it requests a call or not
     by-call : (o : Option Call) → requested_call hart_state.world hart_state.hart.regs ≡ o → trap.cause ≡ causes.Exception EnvironmentCallFromS
-        → Both (λ shared. option_case o (refused hart_state shared NotSupported) (called hart_state shared))
+        → HoldsForBoth (λ shared. option_case o (refused hart_state shared NotSupported) (called hart_state shared))
     by-call None requested by_ecall = cases.answers (status_of NotSupported) 0
     by-call (Some call) requested by_ecall = by-called call (record { is_call = by_ecall; asked = requested })
 
     -- the claim holds for each exception
     by-exception : (exception : Exception) → trap.cause ≡ causes.Exception exception
-        → Both (λ shared. handled_exception hart_state shared trap exception)
+        → HoldsForBoth (λ shared. handled_exception hart_state shared trap exception)
     unfolding call_handled
     by-exception EnvironmentCallFromS cause_is = by-call (requested_call hart_state.world hart_state.hart.regs) refl cause_is
     by-exception _ cause_is = cases.redirects
 
     -- the claim holds for each cause
-    by-cause : (cause : Cause) → trap.cause ≡ cause → Both (λ shared. handled_cause hart_state shared trap cause)
+    by-cause : (cause : Cause) → trap.cause ≡ cause → HoldsForBoth (λ shared. handled_cause hart_state shared trap cause)
     unfolding timer_stopped
     by-cause (causes.Interrupt interrupt) cause_is = by-leaving (causes.Interrupt interrupt) cause_is
     by-cause (causes.Exception exception) cause_is = by-exception exception cause_is

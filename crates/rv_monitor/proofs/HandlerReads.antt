@@ -3,7 +3,7 @@
 use Rattle.std.proofs.Common.{◌≡◌, ℕ, ◌+◌, ◌==◌, Bool, true, false, List, length, replicate, Option, Some, None, refl, sym, ◌∙◌, ap, ap₂}
 use Rattle.std.proofs.Common.{subst, inl, inr, arith}
 use Rattle.std.specs.Prelude.{map, not, slice_index, slice_index_or, slice_set}
-use Rattle.rv_enclaves.proofs.EqualMemory.{or_same, write-alike}
+use Rattle.rv_enclaves.proofs.EqualMemory.{or_unchanged, write-alike}
 use Rattle.rv_enclaves.proofs.SavedLists.{same_after_set}
 use Rattle.rv_enclaves.specs.declared.create_args.CreateArgs.{CreateArgs}
 use Rattle.rv_monitor.specs.Prelude.{EqualOutside, Call, Cause, Context, Contexts, Create, Outcome, Running, HartState, Shared, Slots}
@@ -18,11 +18,11 @@ use Rattle.rv_monitor.proofs.Prelude.{is_entering, left, monitored_step, ne_eqb,
 use Rattle.rv_monitor.proofs.Prelude.{hart_view, enclave_state_after, step_of, with_reprogrammed_hart}
 use Rattle.rv_monitor.proofs.HartCases.{is_trapping}
 use Rattle.rv_monitor.proofs.TrapSteps.{hart_state_after, trapped_step}
-use Rattle.rv_monitor.proofs.HandlerCases.{Requests, handler_cases_of_both, entering, saved_by, over}
+use Rattle.rv_monitor.proofs.HandlerCases.{Requests, handler_cases_of_both, entering, context_saved_by, over}
 
 -- after the same write to two memories of equal size, the memories have equal bytes at each index at which they had equal bytes
 same_byte : (m n : List ℕ) (address : ℕ) (bytes : List ℕ) (i : ℕ) → length m ≡ length n → slice_index m i ≡ slice_index n i
-    → slice_index (or_same m (write m address bytes)) i ≡ slice_index (or_same n (write n address bytes)) i
+    → slice_index (or_unchanged m (write m address bytes)) i ≡ slice_index (or_unchanged n (write n address bytes)) i
 same_byte m n address bytes i same_length same_element =
     let other : ℕ → Bool = λ b. not (b == ram_base + i) in
     let equiv : EqualOutside other m n = record {
@@ -59,7 +59,7 @@ module _ (table : Slots) (m n : List ℕ) (contexts_m contexts_n : Contexts) (sa
 
   -- equal bytes and contexts stay equal after the same write to both memories
   with_put : (after : Slots) (address : ℕ) (bytes : List ℕ)
-      → Same (over after (or_same m (write m address bytes)) contexts_m) (over after (or_same n (write n address bytes)) contexts_n)
+      → Same (over after (or_unchanged m (write m address bytes)) contexts_m) (over after (or_unchanged n (write n address bytes)) contexts_n)
   with_put after address bytes = record { table = refl; bytes = λ i same. same_byte m n address bytes i same_length same; contexts = λ k same. same }
 
   -- equal bytes and contexts stay equal after the same new context in both lists
@@ -148,7 +148,7 @@ module _ (table : Slots) (m n : List ℕ) (contexts_m contexts_n : Contexts) (sa
       leaves =
           let k = running_slot hart_state.world in
           let after = with_state table k (enclave_state_after trap.cause hart_state.hart.regs) in
-          record { hart_state = refl; next = refl; shared = with_kept after k (Some (saved_by trap.cause hart_state)) };
+          record { hart_state = refl; next = refl; shared = with_kept after k (Some (context_saved_by trap.cause hart_state)) };
       redirects = record { hart_state = refl; next = refl; shared = same_if_unchanged };
     }) same_length
 

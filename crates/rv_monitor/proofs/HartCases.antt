@@ -7,7 +7,7 @@ use Rattle.rv_monitor.proofs.Prelude.{count_of, get_or-map, get_or-set_at, get_o
 use Rattle.rv_monitor.proofs.Prelude.{monitored_step, nat_tests, not_stepped, hart_state_at_start, hart_state_of, reprogrammed}
 use Rattle.rv_monitor.proofs.Prelude.{hart_states_reprogrammed, hart_view_after}
 use Rattle.rv_monitor.proofs.Prelude.{hart_view, step_of, stepped_by}
-use Rattle.rv_monitor.proofs.PmpProgramming.{as_is}
+use Rattle.rv_monitor.proofs.PmpProgramming.{reprogramming_changes_nothing}
 use Rattle.rv_monitor.proofs.TrapSteps.{step_cases}
 
 -- a number that is not the number of a hart has the state of the host at reset
@@ -119,19 +119,20 @@ step_count hart machine = by_hart hart machine (λ after. count_of after.state �
     (λ in_range. count_behind hart machine (monitored_step (hart_view hart machine)))
 
 -- the view of the hart after its step is the view after the step of the view
-pub step_seen : (hart : ℕ) (machine : MonitoredMachine) → hart < count_of machine
+pub step_of_view : (hart : ℕ) (machine : MonitoredMachine) → hart < count_of machine
     → hart_view_after hart (step_of hart machine) ≡ monitored_step (hart_view hart machine)
-step_seen hart machine in_range =
+step_of_view hart machine in_range =
     let after = monitored_step (hart_view hart machine) in
     let seen : HartState → HartViewStepped =
     λ hart_state. record { state = record { hart_state = hart_state; shared = after.state.shared }; outcome = after.outcome } in
     ap (hart_view_after hart) (inside hart machine in_range) ∙ ap seen (own_hart_state hart machine after hart refl in_range)
 
 -- a step of one hart preserves each property of the other harts that does not depend on the PMP entries and mie
-pub step_beside : {X : Type 0} (of : HartState → X) → ((slots : Slots) (hart_state : HartState) → of (reprogrammed slots hart_state) ≡ of hart_state)
+pub other_harts_keep : {X : Type 0} (of : HartState → X)
+    → ((slots : Slots) (hart_state : HartState) → of (reprogrammed slots hart_state) ≡ of hart_state)
     → (hart j : ℕ) (machine : MonitoredMachine)
     → j ≢ hart → of (hart_state_of j (step_of hart machine).state) ≡ of (hart_state_of j machine)
-step_beside of preserved hart j machine distinct =
+other_harts_keep of preserved hart j machine distinct =
     by_hart hart machine (λ after. of (hart_state_of j after.state) ≡ of (hart_state_of j machine)) refl
     (λ in_range.
     let after = monitored_step (hart_view hart machine) in
@@ -156,7 +157,8 @@ quiet_table state = step_cases state (λ after. after.outcome.step.trap ≡ None
 behind_is : (o : Option Trap) (before after : Slots) (hart_state : HartState) → (o ≡ None → after ≡ before) → HartInvariant before hart_state
     → hart_state_reprogrammed o after hart_state ≡ reprogrammed after hart_state
 behind_is None before after hart_state same_if_untrapped hart_invariant =
-    sym (ap (λ (slots : Slots). reprogrammed slots hart_state) (same_if_untrapped refl) ∙ as_is before hart_state hart_invariant)
+    sym (ap (λ (slots : Slots). reprogrammed slots hart_state) (same_if_untrapped refl)
+    ∙ reprogramming_changes_nothing before hart_state hart_invariant)
 behind_is (Some trap) before after hart_state same_if_untrapped hart_invariant = refl
 
 -- after a step of another hart, each hart has the state that a reprogramming for the new table gives
@@ -174,7 +176,7 @@ pub step_programmed : (hart j : ℕ) (machine : MonitoredMachine) → Invariant 
     → hart_state_of j (step_of hart machine).state ≡ reprogrammed (step_of hart machine).state.shared.table (hart_state_of j machine)
 step_programmed hart j machine invariant distinct j_in_range =
     by_hart hart machine (λ after. hart_state_of j after.state ≡ reprogrammed after.state.shared.table (hart_state_of j machine))
-    (sym (as_is machine.shared.table (hart_state_of j machine) (invariant.hart_states j j_in_range)))
+    (sym (reprogramming_changes_nothing machine.shared.table (hart_state_of j machine) (invariant.hart_states j j_in_range)))
     (λ in_range. other_hart_state hart machine (monitored_step (hart_view hart machine)) j distinct j_in_range
     ∙ behind_seated hart j machine invariant j_in_range)
 

@@ -10,8 +10,8 @@ use Rattle.rv_monitor.specs.Prelude.{context_at, created, destroyed, first_conte
 use Rattle.rv_monitor.specs.Prelude.{World, create_args_of, recorded, region, register, running_slot, slot_at, with_context, with_slot}
 use Rattle.rv_monitor.specs.Prelude.{with_state}
 use Rattle.rv_monitor.specs.Integrity.{PreservesOthers}
-use Rattle.rv_monitor.proofs.Prelude.{Handled, HartViewInvariant, IsPreserved, IsTaken, MayCreate, HartView, SlotInfo, a0, at_other}
-use Rattle.rv_monitor.proofs.Prelude.{at_same, both_ways, cases_eq, entered_slot, enters, eq-eqb, free_slot_from, handled, left}
+use Rattle.rv_monitor.proofs.Prelude.{Handled, HartViewInvariant, IsPreserved, SlotIsAccepted, MayCreate, HartView, SlotInfo, a0, at_other_slot}
+use Rattle.rv_monitor.proofs.Prelude.{at_written_slot, both_ways, cases_eq, entered_slot, enters, eq-eqb, free_slot_from, handled, left}
 use Rattle.rv_monitor.proofs.Prelude.{live_in_range, monitored_step, ne_eqb, accessible_apart, hart_view, enclave_state_after}
 use Rattle.rv_monitor.proofs.Prelude.{MonitoredMachine, Invariant, step_of}
 use Rattle.rv_monitor.proofs.Beside.{hart_state_preserved}
@@ -19,7 +19,7 @@ use Rattle.rv_monitor.proofs.Changes.{changes}
 use Rattle.rv_monitor.proofs.InvariantLemmas.{hart_view_invariant}
 use Rattle.rv_monitor.proofs.HartCases.{by_hart}
 use Rattle.rv_monitor.proofs.TrapSteps.{step_cases, hart_state_after}
-use Rattle.rv_monitor.proofs.HandlerCases.{handler_cases, saved_by}
+use Rattle.rv_monitor.proofs.HandlerCases.{handler_cases, context_saved_by}
 use Rattle.rv_monitor.proofs.Records.{state_other}
 
 -- ---- the record and the saved context of the enclave
@@ -34,7 +34,7 @@ other_state : (k j : ℕ) (shared : Shared) (state : EnclaveState) (c : Option C
     → KeepsSlot k shared (record shared { table = with_state shared.table j state; contexts = with_context shared.contexts j c })
 other_state k j shared state c distinct =
     let other : k ≢ j = λ same. both_ways _ distinct (eq-eqb j k (sym same)) in
-    record { slot = state_other shared.table k j (slot_at shared.table j) state other; context = at_other shared.contexts j k c other }
+    record { slot = state_other shared.table k j (slot_at shared.table j) state other; context = at_other_slot shared.contexts j k c other }
 
 -- the slot of the running world is not slot k
 running_slot_is_other : (k : ℕ) (world : World) → k < slot_count → is_world_of k world ≡ false → (running_slot world == k) ≡ false
@@ -57,19 +57,20 @@ module _ (k : ℕ) (hart_state : HartState) (shared : Shared) (valid : IsValid s
       let distinct : k ≢ new_slot shared.table = λ same. both_ways _ (ap (λ (o : Option SlotInfo). is_some o) free) (rw (← same) live) in
       let info = recorded shared.memory new in
       record {
-        slot = at_other shared.table (new_slot shared.table) k (Some info) distinct;
-        context = at_other shared.contexts (new_slot shared.table) k (Some (first_context info)) distinct;
+        slot = at_other_slot shared.table (new_slot shared.table) k (Some info) distinct;
+        context = at_other_slot shared.contexts (new_slot shared.table) k (Some (first_context info)) distinct;
       }
 
   -- a destroy after which slot k is live leaves slot k unchanged
-  destroyed_keeps : (j : ℕ) → IsTaken shared.table Destroy j → is_live (destroyed shared j).table k ≡ true → KeepsSlot k shared (destroyed shared j)
+  destroyed_keeps : (j : ℕ) → SlotIsAccepted shared.table Destroy j → is_live (destroyed shared j).table k ≡ true
+      → KeepsSlot k shared (destroyed shared j)
   unfolding destroyed
   destroyed_keeps j is_taken live_after = elim (cases_eq k j) [
     | inl equal ↦
         let slot_in_range = live_in_range shared.table j is_taken.info valid.count is_taken.is in
-        let slot_is_free : slot_at (with_slot shared.table j None) j ≡ None = at_same shared.table j None (omega (arith, valid.count)) in
+        let slot_is_free : slot_at (with_slot shared.table j None) j ≡ None = at_written_slot shared.table j None (omega (arith, valid.count)) in
         absurd (both_ways _ (ap (λ (o : Option SlotInfo). is_some o) slot_is_free) (rw equal at live_after))
-    | inr distinct ↦ record { slot = at_other shared.table j k None distinct; context = at_other shared.contexts j k None distinct }
+    | inr distinct ↦ record { slot = at_other_slot shared.table j k None distinct; context = at_other_slot shared.contexts j k None distinct }
   ]
 
   -- the trap handler satisfies `Keeps` for slot k
@@ -83,7 +84,7 @@ module _ (k : ℕ) (hart_state : HartState) (shared : Shared) (valid : IsValid s
     enters = λ call requests is_entry_call from_host is_taken not_entered live_after. other_state k (a0 hart_state) shared Running None not_entered;
     leaves = λ not_entered live_after.
         other_state k (running_slot hart_state.world) shared (enclave_state_after trap.cause hart_state.hart.regs)
-        (Some (saved_by trap.cause hart_state))
+        (Some (context_saved_by trap.cause hart_state))
         (running_slot_is_other k hart_state.world (live_slot_in_range shared.table k (slot_at shared.table k) valid.count refl live) not_running);
     redirects = λ not_entered live_after. record { slot = refl; context = refl };
   })

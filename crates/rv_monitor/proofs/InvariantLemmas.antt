@@ -9,7 +9,7 @@ use Rattle.rv_monitor.proofs.Prelude.{changed, count_of, get_or-map, length-map,
 use Rattle.rv_monitor.proofs.Prelude.{hart_state_of, reprogrammed, hart_states_reprogrammed, hart_view, set-get_or, set_past, sound_by_size}
 use Rattle.rv_monitor.proofs.Prelude.{step_of, stepped_by}
 use Rattle.rv_monitor.proofs.Prelude.{with_hart_state, worlds}
-use Rattle.rv_monitor.proofs.Others.{sound_back, sound_prefix, without}
+use Rattle.rv_monitor.proofs.Others.{sound_back, shared_invariant-moved_to_front, without}
 use Rattle.rv_monitor.proofs.HartCases.{behind_seated, by_hart, hart_cases, count_behind, other_hart_state, own_hart_state}
 use Rattle.rv_monitor.proofs.StepInvariant.{KeptBeside, laid_seated, hart_view_of, reprogrammed_by, step_invariant}
 
@@ -44,7 +44,7 @@ worlds_are hart machine in_range =
 pub own_sound : (hart : ℕ) (machine : MonitoredMachine) → Invariant machine → hart < count_of machine
     → SharedInvariant machine.shared ((hart_state_of hart machine).world ∷ beside hart machine)
 own_sound hart machine invariant in_range =
-    sound_prefix machine.shared (worlds machine) hart (hart_state_of hart machine).world (has_world hart machine in_range)
+    shared_invariant-moved_to_front machine.shared (worlds machine) hart (hart_state_of hart machine).world (has_world hart machine in_range)
     (subst (SharedInvariant machine.shared) (sym (worlds_are hart machine in_range)) invariant.shared)
 
 -- the view of each hart of a machine with the invariant has the invariant
@@ -158,11 +158,11 @@ hart_state_stored hart hart_state machine legal in_range own =
     hart_cases machine.hart_states hart hart_state (λ j s. HostContextIsLegal s) in_range own (λ j other. legal j)
 
 -- a property of hart states that a change preserves is the same for each hart before and after the change of one hart
-pub changed_of : {X : Type 0} (of : HartState → X) (change : HartState → HartState)
+pub change_preserves : {X : Type 0} (of : HartState → X) (change : HartState → HartState)
     → ((hart_state : HartState) → of (change hart_state) ≡ of hart_state)
     → (hart j : ℕ) (machine : MonitoredMachine)
     → of (hart_state_of j (changed hart change machine)) ≡ of (hart_state_of j machine)
-changed_of of change preserved hart j machine = elim (cases_lt hart (count_of machine)) [
+change_preserves of change preserved hart j machine = elim (cases_lt hart (count_of machine)) [
   | inr past_last ↦ ap (λ (m : MonitoredMachine). of (hart_state_of j m)) (past_as_is hart (change (hart_state_of hart machine)) machine past_last)
   | inl in_range ↦
       hart_cases machine.hart_states hart (change (hart_state_of hart machine)) (λ i s. of s ≡ of (hart_state_of i machine)) in_range

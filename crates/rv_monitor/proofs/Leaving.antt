@@ -7,10 +7,10 @@ use Rattle.rv_monitor.proofs.LeftMachine.{left_machine}
 use Rattle.rv_monitor.proofs.Prelude.{Handled, HartViewInvariant, HartView, HartViewStepped, bare_machine, handled, saved_after, left_hart, count_of}
 use Rattle.rv_monitor.proofs.Prelude.{left, left_shared, monitored_step, returned, hart_view, with_reprogrammed_hart, Invariant, MonitoredMachine, step_of}
 use Rattle.rv_monitor.proofs.InvariantLemmas.{hart_view_invariant}
-use Rattle.rv_monitor.proofs.HartCases.{is_trapping, programmed_by, step_seen}
+use Rattle.rv_monitor.proofs.HartCases.{is_trapping, programmed_by, step_of_view}
 use Rattle.rv_monitor.proofs.Switched.{aligned_again}
 use Rattle.rv_monitor.proofs.TrapSteps.{hart_state_after, trapped_step}
-use Rattle.rv_monitor.proofs.HandlerCases.{handler_cases, saved_by, enclave_exit_of, lowered_by}
+use Rattle.rv_monitor.proofs.HandlerCases.{handler_cases, context_saved_by, enclave_exit_of, lowered_by}
 use Rattle.std.specs.Prelude.{map}
 use Rattle.rv_monitor.proofs.Prelude.{get_or-set_at, hart_state_at_start, hart_state_of, length-map, reprogrammed}
 
@@ -33,7 +33,7 @@ module _ (before : HartView) (k : ℕ) (host : Context) (runs_enclave : before.h
   leaving_now = leaving_with (saved_after trap.cause before.hart_state.hart)
 
   -- the context of the enclave that the exit saves, from the hart before the trap
-  kept_is : (cause : Cause) → saved_by cause hart_state ≡ saved_after cause before.hart_state.hart
+  kept_is : (cause : Cause) → context_saved_by cause hart_state ≡ saved_after cause before.hart_state.hart
   kept_is (causes.Interrupt interrupt) = refl
   kept_is (causes.Exception exception) = refl
 
@@ -104,7 +104,7 @@ pub leave_law : (hart : ℕ) (machine : MonitoredMachine) → Invariant machine 
     → ((step_of hart machine).state ≡ left_machine hart machine k trap host) × ((step_of hart machine).outcome.entered ≡ None)
 leave_law hart machine invariant k host trap runs saved_host trapped host_runs_after =
     let trapping = is_trapping hart machine trap trapped in
-    let view_host = sym (ap (λ (after : HartViewStepped). after.state.hart_state.world) (step_seen hart machine trapping.has)) ∙ host_runs_after in
+    let view_host = sym (ap (λ (after : HartViewStepped). after.state.hart_state.world) (step_of_view hart machine trapping.has)) ∙ host_runs_after in
     let one =
     step_is_exit (hart_view hart machine) k host runs saved_host trap
     (hart_view_invariant hart machine invariant trapping.has) trapping.trapped view_host in

@@ -15,16 +15,16 @@ use Rattle.rv_monitor.specs.MonitoredMachine.{timer_line_set}
 use Rattle.rv_monitor.specs.LegalMachine.{IsLegalHartState, IsLegalMachine, LegalLaw}
 use Rattle.rv_monitor.specs.Prelude.{Cause, Context, Contexts, CsrState, Exit, HartState, IsLegal, Shared, Trap, aligned_to_4, call_number, context_at}
 use Rattle.rv_monitor.specs.Prelude.{create_args_of, created, destroyed, exited_context, first_context, measured, recorded, register, s_context, saved_context, with_context, with_s_context}
-use Rattle.rv_monitor.proofs.Prelude.{Handled, HartView, HartViewInvariant, HartViewStepped, Invariant, MonitoredMachine, MonitoredStepped, a0, at_other, at_same}
+use Rattle.rv_monitor.proofs.Prelude.{Handled, HartView, HartViewInvariant, HartViewStepped, Invariant, MonitoredMachine, MonitoredStepped, a0, at_other_slot, at_written_slot}
 use Rattle.rv_monitor.proofs.Prelude.{at_start, bare_machine, cases_eq, cases_lt, count_of, entered_slot, with_redirected_trap, handled, hart_state_at_start, hart_state_of}
 use Rattle.rv_monitor.proofs.Prelude.{hart_view, left, monitored_step, saved_host, set_past, step_of, stopped_context}
-use Rattle.rv_monitor.proofs.HandlerCases.{handler_cases, saved_by}
-use Rattle.rv_monitor.proofs.HartCases.{outside, step_beside, step_seen}
-use Rattle.rv_monitor.proofs.InvariantLemmas.{changed_of, hart_view_invariant}
-use Rattle.rv_monitor.proofs.Start.{start_cases}
+use Rattle.rv_monitor.proofs.HandlerCases.{handler_cases, context_saved_by}
+use Rattle.rv_monitor.proofs.HartCases.{outside, other_harts_keep, step_of_view}
+use Rattle.rv_monitor.proofs.InvariantLemmas.{change_preserves, hart_view_invariant}
+use Rattle.rv_monitor.proofs.Start.{start_state_cases}
 use Rattle.rv_monitor.proofs.TrapSteps.{hart_state_after, step_cases}
 use Rattle.rv_monitor.proofs.Alignment.{aligned_twice}
-use Rattle.rv_monitor.proofs.StepInvariant.{stays_if}
+use Rattle.rv_monitor.proofs.StepInvariant.{without_trap}
 
 -- the S-mode registers of the hart are legal in a context
 abbrev Legal : CsrState → Type 0
@@ -46,8 +46,8 @@ legal_set saved_contexts j o all_legal legal k =
       | inl in_range ↦ elim (cases_eq k j) [
         | inl equal ↦
             subst (λ (i : ℕ). P (context_at (with_context saved_contexts j o) i)) (sym equal)
-            (subst P (sym (at_same saved_contexts j o in_range)) legal)
-        | inr distinct ↦ subst P (sym (at_other saved_contexts j k o distinct)) (all_legal k)
+            (subst P (sym (at_written_slot saved_contexts j o in_range)) legal)
+        | inr distinct ↦ subst P (sym (at_other_slot saved_contexts j k o distinct)) (all_legal k)
       ]
     ]
 
@@ -63,7 +63,7 @@ nothing_legal c stvec sepc =
     record { stvec = ap vector_of stvec ∙ zero_vector ∙ sym stvec; sepc = ap aligned_to_4 sepc ∙ zero_aligned ∙ sym sepc }
 
 -- the context that an exit saves is legal
-saved_legal : (cause : Cause) (hart_state : HartState) → Legal hart_state.hart.csrs → IsLegal (saved_by cause hart_state).supervisor
+saved_legal : (cause : Cause) (hart_state : HartState) → Legal hart_state.hart.csrs → IsLegal (context_saved_by cause hart_state).supervisor
 saved_legal (causes.Interrupt interrupt) hart_state legal = legal
 saved_legal (causes.Exception exception) hart_state legal =
     stopped_or_exited_legal (register hart_state.hart.regs 16 == call_number Exit) where
@@ -120,7 +120,7 @@ record ViewStored (state : HartView) : Type 0 where
 view_stored : (state : HartView) → HartViewInvariant state → ViewStored state → ViewStored (monitored_step state).state
 view_stored state view_invariant legal = step_cases state (λ after. ViewStored after.state)
     (λ no_trap.
-    let hart = stays_if _ _ no_trap (keeps_stored (bare_machine state) view_invariant.hart.layout.mode (record {
+    let hart = without_trap _ _ no_trap (keeps_stored (bare_machine state) view_invariant.hart.layout.mode (record {
       pc = legal.pc;
       csrs = record { stvec = legal.supervisor.stvec; sepc = legal.supervisor.sepc };
     })) in
@@ -146,15 +146,15 @@ step_stored hart machine invariant legal = elim (cases_lt hart (count_of machine
       let legal_hart = legal.harts hart in
       let after = view_stored state (hart_view_invariant hart machine invariant in_range)
       (record { pc = legal_hart.pc; supervisor = legal_hart.supervisor; contexts = legal.contexts }) in
-      let view_legal = subst (λ (a : HartViewStepped). ViewStored a.state) (sym (step_seen hart machine in_range)) after in
+      let view_legal = subst (λ (a : HartViewStepped). ViewStored a.state) (sym (step_of_view hart machine in_range)) after in
       record {
         harts = λ j. elim (cases_eq j hart) [
           | inl equal ↦
               subst (λ (i : ℕ). IsLegalHartState (hart_state_of i (step_of hart machine).state)) (sym equal)
               (record { pc = view_legal.pc; supervisor = view_legal.supervisor })
           | inr distinct ↦
-              let pc = step_beside (λ (s : HartState). s.hart.pc) (λ slots s. refl) hart j machine distinct in
-              let supervisor = step_beside (λ (s : HartState). s_context s.hart.csrs) (λ slots s. refl) hart j machine distinct in
+              let pc = other_harts_keep (λ (s : HartState). s.hart.pc) (λ slots s. refl) hart j machine distinct in
+              let supervisor = other_harts_keep (λ (s : HartState). s_context s.hart.csrs) (λ slots s. refl) hart j machine distinct in
               record {
                 pc = ap aligned_to_4 pc ∙ (legal.harts j).pc ∙ sym pc;
                 supervisor = subst IsLegal (sym supervisor) (legal.harts j).supervisor;
@@ -170,8 +170,8 @@ pub event_stored : (event : Event) (machine : MonitoredMachine) → Invariant ma
 event_stored (StepOf hart) machine invariant legal = step_stored hart machine invariant legal
 event_stored (LineOf hart raised) machine invariant legal = record {
   harts = λ j.
-      let pc = changed_of (λ (s : HartState). s.hart.pc) (timer_line_set raised) (λ s. refl) hart j machine in
-      let supervisor = changed_of (λ (s : HartState). s_context s.hart.csrs) (timer_line_set raised) (λ s. refl) hart j machine in
+      let pc = change_preserves (λ (s : HartState). s.hart.pc) (timer_line_set raised) (λ s. refl) hart j machine in
+      let supervisor = change_preserves (λ (s : HartState). s_context s.hart.csrs) (timer_line_set raised) (λ s. refl) hart j machine in
       record {
         pc = ap aligned_to_4 pc ∙ (legal.harts j).pc ∙ sym pc;
         supervisor = subst IsLegal (sym supervisor) (legal.harts j).supervisor;
@@ -206,7 +206,7 @@ starts_stored memory entry harts aligned =
     let reset_state = reset_stored entry aligned in
     record {
       harts = λ hart.
-          start_cases harts entry hart IsLegalHartState (λ n. record { pc = reset_state.pc; supervisor = reset_state.supervisor })
+          start_state_cases harts entry hart IsLegalHartState (λ n. record { pc = reset_state.pc; supervisor = reset_state.supervisor })
           (reset_stored 0 refl);
       contexts = none_legal;
     }

@@ -37,21 +37,21 @@ use Rattle.rv_monitor.proofs.Prelude.{hart_view, length-map, monitored_step, rep
 use Rattle.rv_monitor.proofs.Attestation.{same_info, same_size, some_identity, valid_slot}
 use Rattle.rv_monitor.proofs.Availability.{timer_exits}
 use Rattle.rv_monitor.proofs.Beside.{running_is_live, runs_among, runs_inside}
-use Rattle.rv_monitor.proofs.EnclaveMemory.{not_host_by, own_seen, world_is}
+use Rattle.rv_monitor.proofs.EnclaveMemory.{not_host_by, own_seen, world_is_enclave}
 use Rattle.rv_monitor.proofs.EnclaveStays.{index_same, own_bytes}
 use Rattle.rv_monitor.proofs.EnclaveSteps.{enclave_step, exited}
 use Rattle.rv_monitor.proofs.Entering.{enter_law}
 use Rattle.rv_monitor.proofs.Events.{event_invariant, line_worlds}
-use Rattle.rv_monitor.proofs.HartCases.{is_trapping, outside, step_seen}
+use Rattle.rv_monitor.proofs.HartCases.{is_trapping, outside, step_of_view}
 use Rattle.rv_monitor.specs.MonitoredMachine.{hart_state_in}
 use Rattle.rv_monitor.proofs.Integrity.{integrity}
-use Rattle.rv_monitor.proofs.InvariantLemmas.{changed_of, hart_view_invariant, invariant_by_size, invariant_law, world_at}
+use Rattle.rv_monitor.proofs.InvariantLemmas.{change_preserves, hart_view_invariant, invariant_by_size, invariant_law, world_at}
 use Rattle.rv_monitor.proofs.LowSteps.{differs, same_does_not_differ, equal_outside_differing}
 use Rattle.rv_monitor.proofs.Records.{record_law}
 use Rattle.rv_monitor.proofs.SchedNoninterference.{entered_some, entry_law}
 use Rattle.rv_monitor.proofs.SteppedOver.{MachineOver, MeasuresSeen, ReadsSeen, machine_over, over_bytes}
 use Rattle.rv_monitor.proofs.LegalMachine.{event_stored}
-use Rattle.rv_monitor.proofs.Switched.{Turns, handled_turns, legal_again}
+use Rattle.rv_monitor.proofs.Switched.{Turns, handled_stays_or_switches, legal_again}
 use Rattle.rv_monitor.proofs.Touched.{touch_law}
 use Rattle.rv_monitor.proofs.TrapSteps.{hart_state_after, step_cases}
 use Rattle.std.proofs.lemmas.Bool.{leb-true, ltb-true, not-false, not-true}
@@ -226,7 +226,7 @@ line_stays : (k hart : ℕ) (raised : Bool) (machine : MonitoredMachine) (contex
 line_stays k hart raised machine context continues live = record {
   continues = record {
     running = λ j runs_on_j.
-        changed_of (λ (s : HartState). continuation s.hart) (timer_line_set raised) (λ s. refl) hart j machine
+        change_preserves (λ (s : HartState). continuation s.hart) (timer_line_set raised) (λ s. refl) hart j machine
         ∙ continues.running j (sym (line_worlds k hart j raised machine) ∙ runs_on_j);
     resting = continues.resting;
   };
@@ -255,7 +255,7 @@ entered_here : (k : ℕ) (state : HartView) → EntersHere k state (monitored_st
 entered_here k state = step_cases state (EntersHere k state) (λ no_trap enters_slot. cc)
     (λ trap traps enters_slot.
     entered_turn k (hart_state_after state.hart_state trap) trap (handled (hart_state_after state.hart_state trap) state.shared trap)
-    (handled_turns (hart_state_after state.hart_state trap) state.shared trap) enters_slot)
+    (handled_stays_or_switches (hart_state_after state.hart_state trap) state.shared trap) enters_slot)
 
 -- if a step of the machine enters slot k, then its hart ran the host before the step, and runs enclave k after it
 entered_worlds : (k hart : ℕ) (machine : MonitoredMachine) → (step_of hart machine).outcome.entered ≡ Some k
@@ -265,7 +265,7 @@ entered_worlds k hart machine enters_slot = elim (cases_lt hart (count_of machin
       let contradiction : None ≡ Some k = sym (ap (λ (a : MonitoredStepped). a.outcome.entered) (outside hart machine past_last)) ∙ enters_slot in
       cc
   | inl in_range ↦
-      let step_is = step_seen hart machine in_range in
+      let step_is = step_of_view hart machine in_range in
       let worlds_are = entered_here k (hart_view hart machine) (sym (ap (λ (a : HartViewStepped). a.outcome.entered) step_is) ∙ enters_slot) in
       (worlds_are.0, ap (λ (a : HartViewStepped). a.state.hart_state.world) step_is ∙ worlds_are.1)
 ]
@@ -342,13 +342,13 @@ module _ (k hart : ℕ) (machine : MonitoredMachine) (context : Context) (invari
   timer_exit : (o : Option Context) → (hart_state_of hart machine).host_context ≡ o → runs_on k hart machine ≡ true
       → (hart_state_of hart machine).hart.csrs.timer ≡ true → (host : Context) × ExitsByTimer hart k host machine (step_of hart machine)
   timer_exit None host_context_is runs_on_hart timer_set =
-      let world = world_is k (hart_state_of hart machine).world runs_on_hart in
+      let world = world_is_enclave k (hart_state_of hart machine).world runs_on_hart in
       let contradiction : false ≡ true =
       ap (λ (o : Option Context). is_some o) (sym host_context_is) ∙ (invariant.hart_states hart (runs_inside k hart machine runs_on_hart)).host.kept
       ∙ ap (λ (w : World). not (is_host w)) world in
       cc
   timer_exit (Some host) host_context_is runs_on_hart timer_set =
-      (host, timer_exits hart machine invariant k host (world_is k (hart_state_of hart machine).world runs_on_hart) host_context_is timer_set)
+      (host, timer_exits hart machine invariant k host (world_is_enclave k (hart_state_of hart machine).world runs_on_hart) host_context_is timer_set)
 
   -- a timer interrupt leaves the enclave at its point: its saved context is the context with which it would have continued
   interrupted_stays : runs_on k hart machine ≡ true → (hart_state_of hart machine).hart.csrs.timer ≡ true
@@ -444,10 +444,10 @@ reads_own : (p : Place) (machine : MonitoredMachine) → Invariant machine → r
     → reads_byte (step_at p machine).outcome.step.touched byte ≡ true → is_beyond machine.shared.table p.slot byte ≡ false
 reads_own p machine invariant runs byte byte_read =
     let in_range = runs_inside p.slot p.hart machine runs in
-    let world = world_is p.slot (hart_state_of p.hart machine).world runs in
+    let world = world_is_enclave p.slot (hart_state_of p.hart machine).world runs in
     let state = hart_view p.hart machine in
     let step_is : (step_at p machine).outcome.step ≡ (monitored_step state).outcome.step =
-    ap (λ (a : HartViewStepped). a.outcome.step) (step_seen p.hart machine in_range) in
+    ap (λ (a : HartViewStepped). a.outcome.step) (step_of_view p.hart machine in_range) in
     let accessed = subst (IsTouchedAccessible state) (sym step_is) (touch_law state (hart_view_invariant p.hart machine invariant in_range)) in
     let touched = (step_at p machine).outcome.step.touched in
     elim (cases_Bool (in_span touched.fetched byte)) [
@@ -461,9 +461,9 @@ own_only : (p : Place) (machine : MonitoredMachine) → Invariant machine → ru
     → slice_index (step_at p machine).state.shared.memory i ≡ slice_index machine.shared.memory i
 own_only p machine invariant runs i byte_beyond =
     let in_range = runs_inside p.slot p.hart machine runs in
-    let world = world_is p.slot (hart_state_of p.hart machine).world runs in
+    let world = world_is_enclave p.slot (hart_state_of p.hart machine).world runs in
     let state = hart_view p.hart machine in
-    let shared = ap (λ (a : HartViewStepped). a.state.shared.memory) (step_seen p.hart machine in_range) in
+    let shared = ap (λ (a : HartViewStepped). a.state.shared.memory) (step_of_view p.hart machine in_range) in
     let same = own_bytes p.slot state (hart_view_invariant p.hart machine invariant in_range) world (ram_base + i) byte_beyond in
     let same_length = same_size p.hart machine in
     sym (index_same machine.shared.memory (step_at p machine).state.shared.memory i (sym same_length)

@@ -17,7 +17,7 @@ use Rattle.rv_monitor.proofs.Prelude.{and_parts, both_ways, cases_Bool, cases_lt
 use Rattle.rv_monitor.proofs.Prelude.{list_any, monitored_step, runs_on, step_of}
 use Rattle.rv_monitor.proofs.Beside.{running_is_live}
 use Rattle.rv_monitor.proofs.GuestEquiv.{GuestStepEquiv, guest_step_equiv, hosts_after}
-use Rattle.rv_monitor.proofs.HartCases.{outside, step_seen}
+use Rattle.rv_monitor.proofs.HartCases.{outside, step_of_view}
 use Rattle.rv_monitor.specs.MonitoredMachine.{hart_state_in}
 use Rattle.rv_monitor.proofs.Integrity.{integrity}
 use Rattle.rv_monitor.proofs.InvariantLemmas.{hart_view_invariant, invariant_by_size}
@@ -95,7 +95,7 @@ reads_apart e hart machine invariant not_running byte byte_read = elim (cases_lt
   | inl in_range ↦
       let state = hart_view hart machine in
       let step_is : (step_of hart machine).outcome.step ≡ (monitored_step state).outcome.step =
-      ap (λ (a : HartViewStepped). a.outcome.step) (step_seen hart machine in_range) in
+      ap (λ (a : HartViewStepped). a.outcome.step) (step_of_view hart machine in_range) in
       let accessed = subst (IsTouchedAccessible state) (sym step_is) (touch_law state (hart_view_invariant hart machine invariant in_range)) in
       let touched = (step_of hart machine).outcome.step.touched in
       elim (cases_Bool (in_span touched.fetched byte)) [

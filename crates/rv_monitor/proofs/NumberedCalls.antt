@@ -27,7 +27,7 @@ use Rattle.rv_monitor.proofs.Entering.{enter_law}
 use Rattle.rv_monitor.proofs.Exits.{exits_law}
 use Rattle.rv_monitor.proofs.InvariantLemmas.{hart_view_invariant}
 use Rattle.rv_monitor.proofs.Leaving.{leave_law}
-use Rattle.rv_monitor.proofs.HartCases.{IsTrapping, is_trapping, programmed_by, step_seen}
+use Rattle.rv_monitor.proofs.HartCases.{IsTrapping, is_trapping, programmed_by, step_of_view}
 use Rattle.rv_monitor.proofs.TrapSteps.{hart_state_after, trapped_step}
 use Rattle.rv_monitor.proofs.Alignment.{next_is_aligned}
 
@@ -227,7 +227,7 @@ module _ (hart : ℕ) (machine : MonitoredMachine) (invariant : Invariant machin
   unfolding handled entered_slot
   slot_runs_after_entry handled_is =
       ap (λ (after : HartViewStepped). after.state.hart_state.world)
-      (step_seen hart machine trapping.has ∙ trapped_step view_before trap trapping.trapped)
+      (step_of_view hart machine trapping.has ∙ trapped_step view_before trap trapping.trapped)
       ∙ ap (λ (h : Handled). h.hart_state.world) handled_is
 
   -- a step of the host after which enclave k runs is an entry of slot k by a call
@@ -273,14 +273,14 @@ six_not_seven : (a6 : ℕ) → (a6 == 6) ≡ true → (a6 == 7) ≡ false
 six_not_seven a6 is_six = grind (arith, nat_tests)
 
 -- if an enclave requests stop, then a6 does not have the number of exit
-stop_test : (k a7 a6 : ℕ) → call_numbered (Enclave k) a7 a6 ≡ Some Stop → (a6 == call_number Exit) ≡ false
+requests_stop-a6 : (k a7 a6 : ℕ) → call_numbered (Enclave k) a7 a6 ≡ Some Stop → (a6 == call_number Exit) ≡ false
 unfolding call_numbered
-stop_test k a7 a6 call_numbered_is = six_not_seven a6 (stop_numbered (a7 == 0x0A454E43) (a6 == 5) (a6 == 6) (a6 == 7) call_numbered_is)
+requests_stop-a6 k a7 a6 call_numbered_is = six_not_seven a6 (stop_numbered (a7 == 0x0A454E43) (a6 == 5) (a6 == 6) (a6 == 7) call_numbered_is)
 
 -- if an enclave requests exit, then a6 has the number of exit
-exit_test : (k a7 a6 : ℕ) → call_numbered (Enclave k) a7 a6 ≡ Some Exit → (a6 == call_number Exit) ≡ true
+requests_exit-a6 : (k a7 a6 : ℕ) → call_numbered (Enclave k) a7 a6 ≡ Some Exit → (a6 == call_number Exit) ≡ true
 unfolding call_numbered
-exit_test k a7 a6 call_numbered_is = exit_numbered (a7 == 0x0A454E43) (a6 == 5) (a6 == 6) (a6 == 7) call_numbered_is
+requests_exit-a6 k a7 a6 call_numbered_is = exit_numbered (a7 == 0x0A454E43) (a6 == 5) (a6 == 6) (a6 == 7) call_numbered_is
 
 -- an ecall that requests stop or exit is a cause that exits
 leaves_by : (hart_state : HartState) (cause : Cause) (call : Call) → cause ≡ causes.Exception EnvironmentCallFromS
@@ -361,11 +361,11 @@ answers_calls hart machine invariant trap traps by_ecall =
           enters_with hart machine invariant trap trapping Resume (performs_resume hart_state shared) (done Resume call_is status_is_0) host traps;
       stops = λ k host runs host_is_saved call_is.
           let left = leaves k host Stop runs host_is_saved call_is refl in
-          let test = stop_test k (register before.hart.regs 17) (register before.hart.regs 16) (asked k Stop runs call_is) in
+          let test = requests_stop-a6 k (register before.hart.regs 17) (register before.hart.regs 16) (asked k Stop runs call_is) in
           (left.0 ∙ stopped_is hart machine k trap host by_ecall test, left.1);
       exits = λ k host runs host_is_saved call_is.
           let left = leaves k host Exit runs host_is_saved call_is refl in
-          let test = exit_test k (register before.hart.regs 17) (register before.hart.regs 16) (asked k Exit runs call_is) in
+          let test = requests_exit-a6 k (register before.hart.regs 17) (register before.hart.regs 16) (asked k Exit runs call_is) in
           (left.0 ∙ exited_is hart machine k trap host by_ecall test, left.1);
     }
 
@@ -379,7 +379,7 @@ calls_succeed hart machine invariant trap traps by_ecall =
     -- `At world call`: the monitor accepts this call of this world
     let At : World → Call → Type 0 = λ world call. IsAccepted world machine.shared before.hart.csrs.pmp regs call in
     let of : (world : World) (call : Call) → before.world ≡ world → At world call → At before.world call =
-    λ world call world_is. subst (λ (w : World). At w call) (sym world_is) in
+    λ world call world_is_enclave. subst (λ (w : World). At w call) (sym world_is_enclave) in
     record {
       create = λ slot host asks conditions.
           let accepted_create = accepts.create slot asks conditions in

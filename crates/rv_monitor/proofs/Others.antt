@@ -55,9 +55,10 @@ apart_back (x ∷ xs) (suc i) w in_range worlds_apart =
     )
 
 -- the shared invariant for a list of worlds holds for the list with the world at index i moved to the front
-pub sound_prefix : (shared : Shared) (ws : List World) (i : ℕ) (w : World) → i < length ws → SharedInvariant shared (slice_set ws i w)
+pub shared_invariant-moved_to_front : (shared : Shared) (ws : List World) (i : ℕ) (w : World) → i < length ws
+    → SharedInvariant shared (slice_set ws i w)
     → SharedInvariant shared (w ∷ without ws i)
-sound_prefix shared ws i w in_range shared_invariant = record {
+shared_invariant-moved_to_front shared ws i w in_range shared_invariant = record {
   valid = shared_invariant.valid;
   contexts = shared_invariant.contexts;
   running = λ k. shared_invariant.running k ∙ any_prefix (is_world_of k) ws i w in_range;

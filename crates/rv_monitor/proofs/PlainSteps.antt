@@ -12,14 +12,14 @@ use Rattle.rv_monitor.proofs.Prelude.{HartViewStepped, HartView, Invariant, Moni
 use Rattle.rv_monitor.proofs.Prelude.{monitored_step, step_of, stepped_by}
 use Rattle.rv_monitor.proofs.Exits.{redirects_step}
 use Rattle.rv_monitor.proofs.InvariantLemmas.{hart_view_invariant}
-use Rattle.rv_monitor.proofs.HartCases.{inside, is_trapping, step_seen}
-use Rattle.rv_monitor.proofs.TrapSteps.{same_outcome, step_cases, untrapped}
+use Rattle.rv_monitor.proofs.HartCases.{inside, is_trapping, step_of_view}
+use Rattle.rv_monitor.proofs.TrapSteps.{same_outcome, step_cases, view_without_trap}
 
 -- ---- without a trap
 
 -- a step of a view without a trap is the bare step
-quiet_step : (state : HartView) → (monitored_step state).outcome.step.trap ≡ None → monitored_step state ≡ untrapped state
-quiet_step state = step_cases state (λ after. after.outcome.step.trap ≡ None → after ≡ untrapped state) (λ no_trap quiet. refl)
+quiet_step : (state : HartView) → (monitored_step state).outcome.step.trap ≡ None → monitored_step state ≡ view_without_trap state
+quiet_step state = step_cases state (λ after. after.outcome.step.trap ≡ None → after ≡ view_without_trap state) (λ no_trap quiet. refl)
     (λ trap traps quiet. let contradiction : None ≡ Some trap = sym quiet ∙ traps in cc)
 
 -- ---- no interrupt
@@ -46,17 +46,18 @@ pub steps_plainly : (hart : ℕ) (machine : MonitoredMachine) → StepsPlainly h
 steps_plainly hart machine in_range =
     let state = hart_view hart machine in
     let outcome : (step_of hart machine).outcome.step ≡ (step (bare_machine state)).outcome =
-    ap (λ (after : HartViewStepped). after.outcome.step) (step_seen hart machine in_range) ∙ same_outcome state in
+    ap (λ (after : HartViewStepped). after.outcome.step) (step_of_view hart machine in_range) ∙ same_outcome state in
     record {
       outcome = outcome;
       quiet = λ no_trap.
           let bare : (step (bare_machine state)).outcome.trap ≡ None = sym (ap (λ (o : StepOutcome). o.trap) outcome) ∙ no_trap in
           let one = quiet_step state (ap (λ (o : StepOutcome). o.trap) (same_outcome state) ∙ bare) in
-          let step_is : step_of hart machine ≡ stepped_by hart machine (untrapped state) =
+          let step_is : step_of hart machine ≡ stepped_by hart machine (view_without_trap state) =
           inside hart machine in_range ∙ ap (stepped_by hart machine) one in
           let put : Option Trap → MonitoredMachine = λ o. record {
-            hart_states = slice_set (hart_states_reprogrammed o machine.shared.table machine.hart_states) hart (untrapped state).state.hart_state;
-            shared = (untrapped state).state.shared;
+            hart_states =
+                slice_set (hart_states_reprogrammed o machine.shared.table machine.hart_states) hart (view_without_trap state).state.hart_state;
+            shared = (view_without_trap state).state.shared;
           } in
           (ap (λ (after : MonitoredStepped). after.state) step_is ∙ ap put bare, ap (λ (after : MonitoredStepped). after.outcome.entered) step_is);
     }

@@ -10,8 +10,9 @@ use Rattle.rv_monitor.proofs.HandlerCases.{by_cause_cases}
 -- ---- a hart whose PMP entries and mie are already programmed
 
 -- reprogramming does not change a hart with the invariant
-pub as_is : (slots : Slots) (hart_state : HartState) → HartInvariant slots hart_state → reprogrammed slots hart_state ≡ hart_state
-as_is slots hart_state hart_invariant =
+pub reprogramming_changes_nothing : (slots : Slots) (hart_state : HartState) → HartInvariant slots hart_state
+    → reprogrammed slots hart_state ≡ hart_state
+reprogramming_changes_nothing slots hart_state hart_invariant =
     let entries = hart_invariant.layout.entries in
     let mie = hart_invariant.layout.mie in
     rw (← entries, ← mie) refl
@@ -23,7 +24,7 @@ pub all_as_are : (slots : Slots) (hart_states : List HartState)
 all_as_are slots [] each = refl
 all_as_are slots (hart_state ∷ hart_states) each =
     let rest = all_as_are slots hart_states (λ j in_range. each (suc j) (omega (arith, in_range))) in
-    ap (λ (s : HartState). s ∷ map (reprogrammed slots) hart_states) (as_is slots hart_state (each 0 (omega arith))) ∙ ap
+    ap (λ (s : HartState). s ∷ map (reprogrammed slots) hart_states) (reprogramming_changes_nothing slots hart_state (each 0 (omega arith))) ∙ ap
     (λ (ss : List HartState). hart_state ∷ ss) rest
 
 -- after a redirected trap, reprogramming does not change a hart that was programmed before the trap

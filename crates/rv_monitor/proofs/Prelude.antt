@@ -1,8 +1,8 @@
 -- Names that the proofs use in addition to those of specs/Prelude, re-exported from one place. Declares nothing.
 pub use Rattle.rv_enclaves.proofs.AccessLemmas.{permitted_apart, reach_law, accessible_apart, small_ram, some_bytes}
-pub use Rattle.rv_enclaves.proofs.Refusals.{IsTaken, MayCreate, MayMeasure, may_create, may_measure, may_take, same_create_refusals}
+pub use Rattle.rv_enclaves.proofs.Refusals.{SlotIsAccepted, MayCreate, MayMeasure, may_create, may_measure, may_take, same_create_refusals}
 pub use Rattle.rv_enclaves.proofs.Refusals.{same_measure_refusals, takes_rests}
-pub use Rattle.rv_enclaves.proofs.Slots.{at_other, at_same}
+pub use Rattle.rv_enclaves.proofs.Slots.{at_other_slot, at_written_slot}
 pub use Rattle.rv_enclaves.proofs.SharedInvariantLemmas.{created_sound, destroyed_sound, entered_sound, free_slot_from, left_sound, live_in_range}
 pub use Rattle.rv_enclaves.proofs.SharedInvariantLemmas.{measured_sound, sound_by_size}
 pub use Rattle.rv_enclaves.specs.Unlocked.{IsUnlocked}

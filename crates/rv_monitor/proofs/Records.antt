@@ -7,7 +7,7 @@ use Rattle.rv_enclaves.specs.SlotNumbers.{slot_count}
 use Rattle.rv_monitor.specs.Prelude.{Destroy, EnclaveState, IsValid, Running, HartState, Shared, Slots, Trap, created, destroyed, is_live, measured}
 use Rattle.rv_monitor.specs.Prelude.{new_slot, option_case, create_args_of, recorded, running_slot, slot_at, with_slot, with_state}
 use Rattle.rv_monitor.specs.Records.{PreservesRecords, identity_at, identity_of}
-use Rattle.rv_monitor.proofs.Prelude.{Handled, Invariant, IsTaken, MayCreate, MonitoredMachine, HartView, SlotInfo, a0, at_other, at_same, both_ways, cases_eq}
+use Rattle.rv_monitor.proofs.Prelude.{Handled, Invariant, SlotIsAccepted, MayCreate, MonitoredMachine, HartView, SlotInfo, a0, at_other_slot, at_written_slot, both_ways, cases_eq}
 use Rattle.rv_monitor.proofs.Prelude.{enclave_state_after, entered_slot, free_slot_from, handled, left, live_in_range, hart_view, step_of}
 use Rattle.rv_monitor.proofs.InvariantLemmas.{hart_view_invariant}
 use Rattle.rv_monitor.proofs.HartCases.{by_hart}
@@ -18,7 +18,7 @@ use Rattle.rv_monitor.proofs.HandlerCases.{handler_cases}
 pub state_other : (slots : Slots) (k j : ℕ) (o : Option SlotInfo) (state : EnclaveState) → k ≢ j
     → slot_at (option_case o slots (λ info. with_slot slots j (Some (record info { state = state })))) k ≡ slot_at slots k
 state_other slots k j None state distinct = refl
-state_other slots k j (Some info) state distinct = at_other slots j k (Some (record info { state = state })) distinct
+state_other slots k j (Some info) state distinct = at_other_slot slots j k (Some (record info { state = state })) distinct
 
 -- a new state of slot k leaves the identity of slot k unchanged
 state_same : (slots : Slots) (k : ℕ) (o : Option SlotInfo) (state : EnclaveState) → length slots ≡ slot_count → slot_at slots k ≡ o
@@ -26,7 +26,7 @@ state_same : (slots : Slots) (k : ℕ) (o : Option SlotInfo) (state : EnclaveSta
 state_same slots k None state table_length slot_is = refl
 state_same slots k (Some info) state table_length slot_is =
     let slot_in_range = live_in_range slots k info table_length slot_is in
-    let at_k = at_same slots k (Some (record info { state = state })) (omega (arith, table_length, slot_in_range)) in
+    let at_k = at_written_slot slots k (Some (record info { state = state })) (omega (arith, table_length, slot_in_range)) in
     ap (option_map identity_of) at_k ∙ sym (ap (option_map identity_of) slot_is)
 
 -- a new state of slot j leaves the identity of each slot unchanged
@@ -45,18 +45,18 @@ module _ (k : ℕ) (hart_state : HartState) (shared : Shared) (valid : IsValid s
   created_keeps new no_refusal =
       let free = (free_slot_from shared.table (new_slot shared.table) no_refusal.free).free in
       let distinct : k ≢ new_slot shared.table = λ same. both_ways _ (ap (λ (o : Option SlotInfo). is_some o) free) (rw (← same) live) in
-      ap (option_map identity_of) (at_other shared.table (new_slot shared.table) k (Some (recorded shared.memory new)) distinct)
+      ap (option_map identity_of) (at_other_slot shared.table (new_slot shared.table) k (Some (recorded shared.memory new)) distinct)
 
   -- a destroy after which slot k is live leaves the identity of slot k unchanged
-  destroyed_keeps : (j : ℕ) → IsTaken shared.table Destroy j → is_live (destroyed shared j).table k ≡ true
+  destroyed_keeps : (j : ℕ) → SlotIsAccepted shared.table Destroy j → is_live (destroyed shared j).table k ≡ true
       → identity_at (destroyed shared j).table k ≡ identity_at shared.table k
   unfolding destroyed
   destroyed_keeps j is_taken live_after = elim (cases_eq k j) [
     | inl equal ↦
         let slot_in_range = live_in_range shared.table j is_taken.info valid.count is_taken.is in
-        let slot_is_free : slot_at (with_slot shared.table j None) j ≡ None = at_same shared.table j None (omega (arith, valid.count)) in
+        let slot_is_free : slot_at (with_slot shared.table j None) j ≡ None = at_written_slot shared.table j None (omega (arith, valid.count)) in
         absurd (both_ways _ (ap (λ (o : Option SlotInfo). is_some o) slot_is_free) (rw equal at live_after))
-    | inr distinct ↦ ap (option_map identity_of) (at_other shared.table j k None distinct)
+    | inr distinct ↦ ap (option_map identity_of) (at_other_slot shared.table j k None distinct)
   ]
 
   -- if slot k is live after the trap handler, then its identity is unchanged

@@ -7,12 +7,12 @@ use Rattle.rv_monitor.specs.Prelude.{Cause, Context, CsrState, EnclaveState, Har
 use Rattle.rv_monitor.specs.Prelude.{is_live, option_case, ram_base, slot_at, with_return_values, with_slot, with_state}
 use Rattle.rv_monitor.proofs.LeftMachine.{left_csrs, left_machine}
 use Rattle.rv_monitor.specs.Declassification.{SameHandoverBy, SameHost, unswitched}
-use Rattle.rv_monitor.proofs.Prelude.{EquivExcept, Invariant, MonitoredMachine, HartStatesEquivExcept, SlotInfo, at_other, at_same, both_ways, cases_lt, count_of}
+use Rattle.rv_monitor.proofs.Prelude.{EquivExcept, Invariant, MonitoredMachine, HartStatesEquivExcept, SlotInfo, at_other_slot, at_written_slot, both_ways, cases_lt, count_of}
 use Rattle.rv_monitor.proofs.Prelude.{enclave_state_after, get_or-map, saved_after, left_hart, length-map, length-set, live_in_range}
 use Rattle.rv_monitor.proofs.Prelude.{reason, runs_on, hart_state_at_start, hart_state_of, reprogrammed, step_of, value}
 use Rattle.rv_monitor.proofs.Beside.{running_is_live, runs_inside}
 use Rattle.rv_monitor.proofs.Leaving.{leave_law}
-use Rattle.rv_monitor.proofs.EnclaveMemory.{state_extent, world_is}
+use Rattle.rv_monitor.proofs.EnclaveMemory.{state_extent, world_is_enclave}
 use Rattle.rv_monitor.proofs.HartCases.{hart_cases_of_both, past_hart_state}
 use Rattle.rv_monitor.specs.MonitoredMachine.{hart_state_in}
 use Rattle.rv_enclaves.specs.SlotNumbers.{slot_count}
@@ -39,7 +39,8 @@ state_live : (slots : Slots) (k : ℕ) (o : Option SlotInfo) (state : EnclaveSta
 state_live slots k None state table_length slot_is = ap (λ (o : Option SlotInfo). is_some o) slot_is
 state_live slots k (Some info) state table_length slot_is =
     let slot_in_range = live_in_range slots k info table_length slot_is in
-    ap (λ (o : Option SlotInfo). is_some o) (at_same slots k (Some (record info { state = state })) (omega (arith, table_length, slot_in_range)))
+    ap (λ (o : Option SlotInfo). is_some o)
+    (at_written_slot slots k (Some (record info { state = state })) (omega (arith, table_length, slot_in_range)))
 
 -- Enclave e exits by the same trap from the same hart of two machines that are equivalent except e. The enclave hands over the same, and both harts
 -- have the same saved host.
@@ -155,8 +156,8 @@ module _ (e hart : ℕ) (one other : MonitoredMachine) (trap : Trap) (host : Con
           contexts = record {
             size = length-set contexts_one e saved_one ∙ equiv.shared.contexts.size ∙ sym (length-set contexts_other e saved_other);
             others =
-                λ k distinct. at_other contexts_one e k saved_one distinct ∙ equiv.shared.contexts.others k distinct
-                ∙ sym (at_other contexts_other e k saved_other distinct);
+                λ k distinct. at_other_slot contexts_one e k saved_one distinct ∙ equiv.shared.contexts.others k distinct
+                ∙ sym (at_other_slot contexts_other e k saved_other distinct);
           };
           gone = λ dead. absurd (both_ways _ dead (state_live one.shared.table e (slot_at one.shared.table e) state_after table_length refl ∙ live));
         };
@@ -173,13 +174,13 @@ with_host : (e hart : ℕ) (one other : MonitoredMachine) (trap : Trap) (o : Opt
     → EquivExcept e (step_of hart one).state (step_of hart other).state
 with_host e hart one other trap None saved invariant_one invariant_other equiv runs_e same_host handed traps traps_too one_exits other_exits =
     let in_range = runs_inside e hart one runs_e in
-    let world = world_is e (hart_state_of hart one).world runs_e in
+    let world = world_is_enclave e (hart_state_of hart one).world runs_e in
     let kept = (invariant_one.hart_states hart in_range).host.kept in
     let contradiction : false ≡ true = ap (λ (o : Option Context). is_some o) (sym saved) ∙ kept ∙ ap (λ w. not (is_host w)) world in
     cc
 with_host e hart one other trap (Some host) saved invariant_one invariant_other equiv runs_e same_host handed traps traps_too one_exits other_exits =
     let in_range = runs_inside e hart one runs_e in
-    let world = world_is e (hart_state_of hart one).world runs_e in
+    let world = world_is_enclave e (hart_state_of hart one).world runs_e in
     let left_one = (leave_law hart one invariant_one e host trap world saved traps one_exits).0 in
     let left_other =
     (leave_law hart other invariant_other e host trap (sym (equiv.hart_states hart).world ∙ world)

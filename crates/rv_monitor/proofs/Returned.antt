@@ -9,7 +9,7 @@ use Rattle.rv_monitor.proofs.Prelude.{HostContextIsLegal, Invariant, HostContext
 use Rattle.rv_monitor.proofs.Prelude.{both_ways, cases_eq, cases_lt, count_of, monitored_step, reason, saved, sched, hart_state_of, hart_view}
 use Rattle.rv_monitor.proofs.Prelude.{step_of, value}
 use Rattle.rv_monitor.proofs.InvariantLemmas.{invariant_law, sched_invariant}
-use Rattle.rv_monitor.proofs.HartCases.{past_hart_state, step_beside, step_count, step_seen}
+use Rattle.rv_monitor.proofs.HartCases.{past_hart_state, other_harts_keep, step_count, step_of_view}
 use Rattle.rv_monitor.proofs.Switched.{KeptStored, kept_between, switch_law}
 
 -- no saved context of the host is a legal saved context of the host
@@ -70,7 +70,7 @@ runs_there hart machine enclave_runs = elim (cases_lt hart (count_of machine)) [
 own_keeps : (hart : ℕ) (machine : MonitoredMachine) → is_host (hart_state_of hart machine).world ≡ false
     → is_host (hart_state_of hart (step_of hart machine).state).world ≡ false → host_on hart (step_of hart machine).state ≡ host_on hart machine
 own_keeps hart machine enclave_runs enclave_runs_after =
-    let step_is = step_seen hart machine (runs_there hart machine enclave_runs) in
+    let step_is = step_of_view hart machine (runs_there hart machine enclave_runs) in
     ap (λ (after : HartViewStepped). after.state.hart_state.host_context) step_is
     ∙ kept_between (hart_view hart machine) enclave_runs
     (sym (ap (λ (after : HartViewStepped). is_host after.state.hart_state.world) step_is) ∙ enclave_runs_after)
@@ -84,7 +84,7 @@ step_keeps hart named machine enclave_runs enclave_runs_after = elim (cases_eq h
       (λ (h : ℕ). is_host (hart_state_of hart (step_of h machine).state).world ≡ false → host_on hart
       (step_of h machine).state ≡ host_on hart machine)
       equal (own_keeps hart machine enclave_runs) enclave_runs_after
-  | inr distinct ↦ step_beside (λ (hart_state : HartState). hart_state.host_context) (λ slots hart_state. refl) named hart machine distinct
+  | inr distinct ↦ other_harts_keep (λ (hart_state : HartState). hart_state.host_context) (λ slots hart_state. refl) named hart machine distinct
 ]
 
 -- ---- steps of the harts in order
@@ -112,9 +112,9 @@ last_runs hart (named ∷ harts) machine runs_through = last_runs hart harts (st
 -- ---- from entry to exit
 
 -- a hart that runs an enclave after its step is a hart of the machine
-enters_there : (hart : ℕ) (machine : MonitoredMachine) → is_host (hart_state_of hart (step_of hart machine).state).world ≡ false
+entering_hart_in_range : (hart : ℕ) (machine : MonitoredMachine) → is_host (hart_state_of hart (step_of hart machine).state).world ≡ false
     → hart < count_of machine
-enters_there hart machine enclave_runs_after =
+entering_hart_in_range hart machine enclave_runs_after =
     let after = (step_of hart machine).state in
     let in_range = runs_there hart after enclave_runs_after in
     subst (λ (n : ℕ). hart < n) (step_count hart machine) in_range
@@ -124,8 +124,8 @@ pub entered_is : (hart : ℕ) (machine : MonitoredMachine) → Invariant machine
     → is_host (hart_state_of hart (step_of hart machine).state).world ≡ false
     → host_on hart (step_of hart machine).state ≡ Some (saved (hart_state_of hart machine).hart (past_ecall (hart_state_of hart machine).hart) S)
 entered_is hart machine invariant host_runs enclave_runs_after =
-    let in_range = enters_there hart machine enclave_runs_after in
-    let step_is = step_seen hart machine in_range in
+    let in_range = entering_hart_in_range hart machine enclave_runs_after in
+    let step_is = step_of_view hart machine in_range in
     let view = hart_view hart machine in
     let keeps = (invariant.hart_states hart in_range).host in
     ap (λ (after : HartViewStepped). after.state.hart_state.host_context) step_is

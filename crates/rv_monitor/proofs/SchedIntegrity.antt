@@ -11,8 +11,8 @@ use Rattle.rv_monitor.proofs.Changes.{changes}
 use Rattle.rv_monitor.proofs.SchedNoninterference.{entered_by, is_entered, none_again}
 use Rattle.rv_monitor.proofs.Integrity.{integrity}
 use Rattle.rv_monitor.proofs.InvariantLemmas.{invariant_of_others, invariant_law, hart_view_invariant}
-use Rattle.rv_monitor.proofs.PmpProgramming.{as_is}
-use Rattle.rv_monitor.proofs.HartCases.{by_hart, outside, step_seen}
+use Rattle.rv_monitor.proofs.PmpProgramming.{reprogramming_changes_nothing}
+use Rattle.rv_monitor.proofs.HartCases.{by_hart, outside, step_of_view}
 
 -- ---- two changes in turn
 
@@ -40,7 +40,8 @@ untouched_itself : (k : ℕ) (machine : MonitoredMachine) → Invariant machine 
 untouched_itself k machine invariant = record {
   preserved = record { slot = refl; bytes = λ byte in_region. refl; context = refl };
   hart_state =
-      λ hart runs. sym (as_is machine.shared.table (hart_state_of hart machine) (invariant.hart_states hart (runs_inside k hart machine runs)));
+      λ hart runs. sym (reprogramming_changes_nothing machine.shared.table (hart_state_of hart machine)
+      (invariant.hart_states hart (runs_inside k hart machine runs)));
 }
 
 -- ---- every order of steps
@@ -101,7 +102,7 @@ step_changes hart machine byte invariant = elim (cases_lt hart (count_of machine
   | inr past_last ↦ inl (ap (λ (after : MonitoredStepped). byte_at after.state.shared.memory byte) (outside hart machine past_last))
   | inl in_range ↦
       subst (λ (after : HartViewStepped). byte_at after.state.shared.memory byte ≡ byte_at machine.shared.memory byte
-      ⊎ IsChanged (hart_view hart machine) after byte) (sym (step_seen hart machine in_range))
+      ⊎ IsChanged (hart_view hart machine) after byte) (sym (step_of_view hart machine in_range))
       (changes (hart_view hart machine) (hart_view_invariant hart machine invariant in_range) byte)
 ]
 

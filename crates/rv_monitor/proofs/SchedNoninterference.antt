@@ -6,8 +6,8 @@ use Rattle.rv_monitor.proofs.Prelude.{SchedLaw, cases_Bool, cases_eq, cases_lt, 
 use Rattle.rv_monitor.proofs.Prelude.{monitored_step, runs_on, hart_view, step_of}
 use Rattle.rv_monitor.proofs.InvariantLemmas.{invariant_law}
 use Rattle.rv_monitor.proofs.MonitoredAlike.{noninterference}
-use Rattle.rv_monitor.proofs.HartCases.{outside, step_beside, step_seen}
-use Rattle.rv_monitor.proofs.Switched.{Turns, handled_turns}
+use Rattle.rv_monitor.proofs.HartCases.{outside, other_harts_keep, step_of_view}
+use Rattle.rv_monitor.proofs.Switched.{Turns, handled_stays_or_switches}
 use Rattle.rv_monitor.proofs.TrapSteps.{step_cases, hart_state_after}
 
 -- ---- steps in any order of two equivalent machines
@@ -48,7 +48,7 @@ is_entered e state = step_cases state (λ after. after.outcome.entered ≡ Some 
     (λ no_trap enters_slot. cc)
     (λ trap traps enters_slot.
     let hart_state = hart_state_after state.hart_state trap in
-    entered_world e hart_state trap (handled hart_state state.shared trap) (handled_turns hart_state state.shared trap) enters_slot)
+    entered_world e hart_state trap (handled hart_state state.shared trap) (handled_stays_or_switches hart_state state.shared trap) enters_slot)
 
 -- an outcome that names no entry of slot k passes the test `enters k` with false
 pub entered_by : (k : ℕ) (o : Option ℕ) → (o ≡ Some k → ⊥) → enters k o ≡ false
@@ -79,7 +79,8 @@ own_apart e state not_running =
     (λ no_trap not_entered. not_running)
     (λ trap traps not_entered.
     let hart_state = hart_state_after state.hart_state trap in
-    other_world e hart_state trap (handled hart_state state.shared trap) (handled_turns hart_state state.shared trap) not_running not_entered)
+    other_world e hart_state trap (handled hart_state state.shared trap)
+    (handled_stays_or_switches hart_state state.shared trap) not_running not_entered)
 
 -- the hart that steps does not run e after the step, if it did not run e before and the step does not enter e
 own_still : (e hart : ℕ) (machine : MonitoredMachine) → runs_on e hart machine ≡ false → enters e (step_of hart machine).outcome.entered ≡ false
@@ -87,7 +88,7 @@ own_still : (e hart : ℕ) (machine : MonitoredMachine) → runs_on e hart machi
 own_still e hart machine not_running not_entered = elim (cases_lt hart (count_of machine)) [
   | inr past_last ↦ ap (λ (after : MonitoredStepped). runs_on e hart after.state) (outside hart machine past_last) ∙ not_running
   | inl in_range ↦
-      let step_is = step_seen hart machine in_range in
+      let step_is = step_of_view hart machine in_range in
       ap (λ (after : HartViewStepped). is_world_of e after.state.hart_state.world) step_is
       ∙ own_apart e (hart_view hart machine) not_running
       (sym (ap (λ (after : HartViewStepped). enters e after.outcome.entered) step_is) ∙ not_entered)
@@ -100,7 +101,7 @@ entry_law e hart own machine not_running not_entered = elim (cases_eq own hart) 
       subst (λ (h : ℕ). enters e (step_of h machine).outcome.entered ≡ false → runs_on e own (step_of h machine).state ≡ false) equal
       (own_still e own machine not_running) not_entered
   | inr distinct ↦
-      step_beside (λ (hart_state : HartState). is_world_of e hart_state.world) (λ slots hart_state. refl) hart own machine distinct ∙ not_running
+      other_harts_keep (λ (hart_state : HartState). is_world_of e hart_state.world) (λ slots hart_state. refl) hart own machine distinct ∙ not_running
 ]
 
 -- if none of the harts in a list runs e, then this also holds after a step that does not enter e

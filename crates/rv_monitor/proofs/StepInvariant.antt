@@ -15,7 +15,7 @@ use Rattle.rv_monitor.proofs.Prelude.{EqualOn, Handled, HasPmpLayout, IsUnlocked
 use Rattle.rv_monitor.proofs.Prelude.{HartViewStepped, SameIn, Stores, bare_machine, cases_lt, cfg_of, confined, get_or_past, handled}
 use Rattle.rv_monitor.proofs.Prelude.{keeps_machine_parts, keeps_mprv_clear, monitored_step, returned, returned_to, reprogrammed, sound_by_size}
 use Rattle.rv_monitor.proofs.Prelude.{unhandled}
-use Rattle.rv_monitor.proofs.Ready.{IsTrapped, IsDone, IsLaidOut, handled_done, handled_laid_out}
+use Rattle.rv_monitor.proofs.Ready.{IsTrapped, InvariantAfterHandler, IsLaidOut, handled_done, handled_laid_out}
 use Rattle.rv_monitor.proofs.TrapSteps.{step_cases, hart_after, hart_state_after}
 use Rattle.rv_monitor.proofs.Alignment.{aligned_is_multiple}
 
@@ -91,9 +91,9 @@ same_parts a b machine_parts_is = (
 )
 
 -- a claim that holds if there is no trap holds for a step without a trap
-pub stays_if : (o : Option Trap) (P : Type 0) → o ≡ None → IfNone o P → P
-stays_if None P no_trap p = p
-stays_if (Some t) P no_trap p = cc
+pub without_trap : (o : Option Trap) (P : Type 0) → o ≡ None → IfNone o P → P
+without_trap None P no_trap p = p
+without_trap (Some t) P no_trap p = cc
 
 -- ---- the state of a hart
 
@@ -185,8 +185,8 @@ module _ (beside : List World) (hart_state : HartState) (shared : Shared) (share
         }),
       )
 
-  -- the return from a result of the trap handler that satisfies `IsDone` satisfies `KeptBeside`
-  worked_kept : (outcome : StepOutcome) (h : Handled) → IsDone beside h → IsLaidOut h.shared.table h.hart_state
+  -- the return from a result of the trap handler that satisfies `InvariantAfterHandler` satisfies `KeptBeside`
+  worked_kept : (outcome : StepOutcome) (h : Handled) → InvariantAfterHandler beside h → IsLaidOut h.shared.table h.hart_state
       → KeptBeside beside (returned outcome h)
   worked_kept outcome h is_done is_laid_out =
       let ready = is_done.ready in (
@@ -211,7 +211,7 @@ module _ (beside : List World) (hart_state : HartState) (shared : Shared) (share
       step_cases state (KeptBeside beside)
       (λ no_trap.
       let below =
-      stays_if after.outcome.trap (StaysBelow hart_state.hart after.state.hart) no_trap
+      without_trap after.outcome.trap (StaysBelow hart_state.hart after.state.hart) no_trap
       (keeps_machine_parts (bare_machine state) layout.mode layout.mprv) in
       quiet_kept after (confined (bare_machine state)) below (keeps_mprv_clear (bare_machine state) (λ b. layout.mprv) below.1))
       (λ trap traps.

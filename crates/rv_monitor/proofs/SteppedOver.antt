@@ -6,7 +6,7 @@ use Rattle.std.proofs.lemmas.Bool.{or_right}
 use Rattle.std.specs.Prelude.{slice_set}
 use Rattle.rv_memory.specs.declared.touched.Touched.{Touched}
 use Rattle.rv_memory.proofs.MemoryLaws.{index-above, index-below, length-write}
-use Rattle.rv_enclaves.proofs.EqualMemory.{index-within, inside-is, or_same, same_read, write-none, write-some}
+use Rattle.rv_enclaves.proofs.EqualMemory.{index-within, inside-bounds, or_unchanged, same_read, write-none, write-some}
 use Rattle.rv_enclaves.proofs.Measurement.{valid_inside}
 use Rattle.rv_enclaves.specs.declared.create_args.CreateArgs.{CreateArgs}
 use Rattle.rv_monitor.specs.Reads.{ChangeAlike, in_span, reads_byte}
@@ -19,7 +19,7 @@ use Rattle.rv_monitor.proofs.Prelude.{EqualOn, Handled, HartView, HartViewSteppe
 use Rattle.rv_monitor.proofs.Prelude.{SameIn, SlotInfo, Stores, a0, a1, and_from, bare_machine, cases_Bool, cases_lt, confined, count_of, entered_slot, hart_state_of}
 use Rattle.rv_monitor.proofs.Prelude.{handled, hart_states_reprogrammed, hart_view, le-leb, left, lt-ltb, monitored_step, reprogrammed, returned}
 use Rattle.rv_monitor.proofs.Prelude.{returned_to, returned_to_caller, step_of, touches_permitted, unhandled, with_reprogrammed_hart}
-use Rattle.rv_monitor.proofs.HandlerCases.{asked-is, handler_cases_of_both, over}
+use Rattle.rv_monitor.proofs.HandlerCases.{requested-is_offered, handler_cases_of_both, over}
 use Rattle.rv_monitor.proofs.HartCases.{inside, outside}
 use Rattle.rv_monitor.proofs.EnclaveMemory.{put_size}
 use Rattle.rv_monitor.proofs.TrapSteps.{same_outcome}
@@ -28,7 +28,7 @@ use Rattle.rv_monitor.proofs.TrapSteps.{same_outcome}
 
 -- the same write changes two memories alike
 pub put_alike : (m n : List ℕ) (address : ℕ) (bytes : List ℕ) → length m ≡ length n
-    → ChangeAlike m n (or_same m (write m address bytes)) (or_same n (write n address bytes))
+    → ChangeAlike m n (or_unchanged m (write m address bytes)) (or_unchanged n (write n address bytes))
 put_alike m n address bytes same_length i = elim (cases_Bool (is_inside m address (length bytes))) [
   | inr outside ↦
       let one = write-none m address bytes outside in
@@ -37,7 +37,7 @@ put_alike m n address bytes same_length i = elim (cases_Bool (is_inside m addres
   | inl inner ↦
       let one = write-some m address bytes inner in
       let other = write-some n address bytes (rw (← same_length) inner) in
-      let bounds = inside-is m address (length bytes) inner in
+      let bounds = inside-bounds m address (length bytes) inner in
       let index = address - ram_base in
       let fits : index + length bytes ≤ length m = omega (arith, bounds.0, bounds.1) in
       let fits_too : index + length bytes ≤ length n = omega (arith, bounds.0, bounds.1, same_length) in
@@ -83,8 +83,8 @@ stored_alike : (stored : Option Span) (bytes m n m1 n1 : List ℕ) → length m 
     → ChangeAlike m n m1 n1
 stored_alike None bytes m n m1 n1 same_length stores_m stores_n = rw (stores_m, stores_n) (unchanged m n)
 stored_alike (Some span) bytes m n m1 n1 same_length stores_m stores_n =
-    subst (λ (o : Option (List ℕ)). ChangeAlike m n (or_same m o) n1) stores_m.1
-    (subst (λ (o : Option (List ℕ)). ChangeAlike m n (or_same m (write m span.addr bytes)) (or_same n o)) stores_n.1
+    subst (λ (o : Option (List ℕ)). ChangeAlike m n (or_unchanged m o) n1) stores_m.1
+    (subst (λ (o : Option (List ℕ)). ChangeAlike m n (or_unchanged m (write m span.addr bytes)) (or_unchanged n o)) stores_n.1
     (put_alike m n span.addr bytes same_length))
 
 -- a store does not change the size of the memory
@@ -150,7 +150,7 @@ module _ (hidden : ℕ → Bool) (hart_state : HartState) (trap : Trap) (table :
 
   -- the same write to both memories gives shared states that satisfy `SharedOver`
   put_over : (after : Slots) (contexts : Contexts) (address : ℕ) (bytes : List ℕ)
-      → SharedOver m n (over after (or_same m (write m address bytes)) contexts) (over after (or_same n (write n address bytes)) contexts)
+      → SharedOver m n (over after (or_unchanged m (write m address bytes)) contexts) (over after (or_unchanged n (write n address bytes)) contexts)
   put_over after contexts address bytes = record {
     table = refl;
     contexts = refl;
@@ -163,7 +163,7 @@ module _ (hidden : ℕ → Bool) (hart_state : HartState) (trap : Trap) (table :
       → bytes_of_block m new.region ≡ bytes_of_block n new.region
   block_same new host_runs no_refusal =
       let inner = valid_inside m new.region no_refusal.well_formed in
-      let low = (inside-is m new.region.base new.region.size inner).0 in
+      let low = (inside-bounds m new.region.base new.region.size inner).0 in
       ap (λ (o : Option (List ℕ)). option_case o [] (λ bytes. bytes))
       (same_read hidden m n new.region.base new.region.size equal inner (λ byte above below.
       let address_is : ram_base + (byte - ram_base) ≡ byte = omega (arith, low, above) in
@@ -203,7 +203,7 @@ module _ (hidden : ℕ → Bool) (hart_state : HartState) (trap : Trap) (table :
   handled_over = handler_cases_of_both hart_state trap table m n saved_contexts saved_contexts Over (record {
     answers = λ status result. caller_over shared_m shared_n status result same_shared;
     creates = λ requests no_refusal.
-        let host = offered_host hart_state.world (asked-is hart_state.world hart_state.hart.regs Create requests.asked).1 in
+        let host = offered_host hart_state.world (requested-is_offered hart_state.world hart_state.hart.regs Create requests.asked).1 in
         caller_over _ _ 0 (new_slot table)
         (created_over (create_args_of hart_state.hart.regs) (block_same (create_args_of hart_state.hart.regs) host no_refusal));
     destroys = λ requests is_taken. caller_over _ _ 0 0 (destroyed_over (a0 hart_state));
@@ -282,7 +282,7 @@ module _ (hidden : ℕ → Bool) (hart_state : HartState) (shared : Shared) (n :
       → ((i : ℕ) → in_span touched (ram_base + i) ≡ true → hidden (ram_base + i) ≡ false) → SameIn before.memory n touched
   span_same mode access None may_touch not_hidden = tt
   span_same mode access (Some span) may_touch not_hidden =
-      let low = (inside-is shared.memory span.addr (bytes_in span.len) may_touch.0).0 in
+      let low = (inside-bounds shared.memory span.addr (bytes_in span.len) may_touch.0).0 in
       same_read hidden before.memory n span.addr (bytes_in span.len) equal may_touch.0 (λ byte above below.
       let address_is : ram_base + (byte - ram_base) ≡ byte = omega (arith, low, above) in
       let byte_in_span : in_span (Some span) byte ≡ true =

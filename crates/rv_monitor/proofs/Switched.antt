@@ -43,9 +43,9 @@ abbrev pub Turns : HartState → Trap → Handled → Type 0
 Turns hart_state trap h = StaysIn hart_state h ⊎ (EntersFrom hart_state h ⊎ LeavesFor hart_state trap h)
 
 -- each trap continues the world, enters an enclave, or exits to the host
-pub handled_turns : (hart_state : HartState) (shared : Shared) (trap : Trap) → Turns hart_state trap (handled hart_state shared trap)
+pub handled_stays_or_switches : (hart_state : HartState) (shared : Shared) (trap : Trap) → Turns hart_state trap (handled hart_state shared trap)
 unfolding entered_slot left
-handled_turns hart_state shared trap = handler_cases hart_state trap shared (Turns hart_state trap) (record {
+handled_stays_or_switches hart_state shared trap = handler_cases hart_state trap shared (Turns hart_state trap) (record {
   answers = λ status result. inl (record { world = refl; host = refl; entered = refl });
   creates = λ requests no_refusal. inl (record { world = refl; host = refl; entered = refl });
   destroys = λ requests is_taken. inl (record { world = refl; host = refl; entered = refl });
@@ -79,7 +79,7 @@ stored_by hart_state trap h (inr (inr leaves)) legal keeps_own = subst KeptStore
 pub handled_stored : (hart_state : HartState) (shared : Shared) (trap : Trap) → HostContextIsLegal hart_state → KeepsOwn hart_state.hart.csrs
     → HostContextIsLegal (handled hart_state shared trap).hart_state
 handled_stored hart_state shared trap legal keeps_own =
-    stored_by hart_state trap (handled hart_state shared trap) (handled_turns hart_state shared trap) legal keeps_own
+    stored_by hart_state trap (handled hart_state shared trap) (handled_stays_or_switches hart_state shared trap) legal keeps_own
 
 -- ---- if an enclave runs before and after, the host's saved context is unchanged
 
@@ -100,7 +100,8 @@ kept_between state enclave_runs =
     (λ no_trap enclave_runs_after. refl)
     (λ trap trapped enclave_runs_after.
     let hart_state = hart_state_after state.hart_state trap in
-    runs_on hart_state trap (handled hart_state state.shared trap) (handled_turns hart_state state.shared trap) enclave_runs enclave_runs_after)
+    runs_on hart_state trap (handled hart_state state.shared trap)
+    (handled_stays_or_switches hart_state state.shared trap) enclave_runs enclave_runs_after)
 
 -- ---- the step
 
@@ -167,4 +168,4 @@ pub switch_law : (state : HartView) → HostContextInvariant state.hart_state �
 switch_law state host_invariant legal = step_cases state (StaysOrSwitches state)
     (λ no_trap. inl (record { world = refl; host = refl; entered = refl }))
     (λ trap trapped. returned_turns state host_invariant legal trap (step (bare_machine state)).outcome _ trapped
-    (handled_turns (hart_state_after state.hart_state trap) state.shared trap))
+    (handled_stays_or_switches (hart_state_after state.hart_state trap) state.shared trap))

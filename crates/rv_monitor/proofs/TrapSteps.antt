@@ -16,14 +16,14 @@ hart_state_after hart_state trap = record hart_state { hart = hart_after hart_st
 -- ---- the two cases of a step
 
 -- the view after a step without a trap
-abbrev pub untrapped : HartView → HartViewStepped
-untrapped state =
+abbrev pub view_without_trap : HartView → HartViewStepped
+view_without_trap state =
     let after = step (bare_machine state) in
     unhandled after.outcome (record state.hart_state { hart = after.state.hart }) (record state.shared { memory = after.state.memory })
 
 -- the view after a step with a trap, which the trap handler handles
-abbrev pub trapped_to : HartView → Trap → HartViewStepped
-trapped_to state trap = returned (step (bare_machine state)).outcome (handled (hart_state_after state.hart_state trap) state.shared trap)
+abbrev pub view_after_trap : HartView → Trap → HartViewStepped
+view_after_trap state trap = returned (step (bare_machine state)).outcome (handled (hart_state_after state.hart_state trap) state.shared trap)
 
 -- the claim holds for the end of a step, with a trap or without
 by-end : (state : HartView) (P : HartViewStepped → Type 0) (o : Option Trap) (outcome : StepOutcome) (hart : Hart) (memory : List ℕ)
@@ -40,8 +40,8 @@ by-end state P (Some trap) outcome hart memory keeps quiet traps =
     rw (hart_is, memory_is) (traps trap refl)
 
 -- Case analysis of a step of a view. A claim holds for the step if it holds for a step without a trap, and for a step with each trap.
-pub step_cases : (state : HartView) (P : HartViewStepped → Type 0) → ((step (bare_machine state)).outcome.trap ≡ None → P (untrapped state))
-    → ((trap : Trap) → (step (bare_machine state)).outcome.trap ≡ Some trap → P (trapped_to state trap)) → P (monitored_step state)
+pub step_cases : (state : HartView) (P : HartViewStepped → Type 0) → ((step (bare_machine state)).outcome.trap ≡ None → P (view_without_trap state))
+    → ((trap : Trap) → (step (bare_machine state)).outcome.trap ≡ Some trap → P (view_after_trap state trap)) → P (monitored_step state)
 unfolding monitored_step
 step_cases state P quiet traps =
     let after = step (bare_machine state) in
@@ -54,14 +54,14 @@ same_outcome state =
 
 -- a step with a trap is the trap handler on the hart state at the trap, followed by the return
 pub trapped_step : (state : HartView) (trap : Trap) → (monitored_step state).outcome.step.trap ≡ Some trap
-    → monitored_step state ≡ trapped_to state trap
+    → monitored_step state ≡ view_after_trap state trap
 trapped_step state trap =
-    step_cases state (λ after. after.outcome.step.trap ≡ Some trap → after ≡ trapped_to state trap)
+    step_cases state (λ after. after.outcome.step.trap ≡ Some trap → after ≡ view_after_trap state trap)
     (λ no_trap trapped. let contradiction : None ≡ Some trap = sym no_trap ∙ trapped in cc)
     (λ other trapped_other trapped.
     let traps : Some other ≡ Some trap = sym trapped_other ∙ trapped in
     let same : other ≡ trap = cc in
-    ap (trapped_to state) same)
+    ap (view_after_trap state) same)
 
 -- a step without a trap keeps the world
 pub quiet_world : (state : HartView) → (monitored_step state).outcome.step.trap ≡ None
