@@ -67,6 +67,7 @@ fn expect_runs(rt: &impl Abort, alloc: Global, rows: &[RunRow]) {
     }
 }
 
+/// The rows of the test `names_jobs`.
 const NAMES_JOBS: &[RunRow] = &[
     (&[], ImageKind::Auto, 1_048_576, false),
     (&["rvbench"], ImageKind::Auto, 1_048_576, false),
@@ -114,6 +115,7 @@ fn names_jobs(rt: HostRuntime) {
     expect_answer(&rt, rt.alloc(), &["./another/name", "dis"], dis);
 }
 
+/// The rows of the test `names_kinds`.
 const NAMES_KINDS: &[RunRow] = &[
     (
         &["rvbench", "run", "--kind", "auto"],
@@ -230,6 +232,7 @@ fn names_kinds(rt: HostRuntime) {
     expect_runs(&rt, rt.alloc(), NAMES_KINDS);
 }
 
+/// The rows of the test `names_the_monitor`.
 const NAMES_THE_MONITOR: &[RunRow] = &[
     (
         &["rvbench", "run", "--monitor"],
@@ -280,6 +283,7 @@ fn names_the_monitor(rt: HostRuntime) {
     expect_runs(&rt, rt.alloc(), NAMES_THE_MONITOR);
 }
 
+/// The inputs of the test `refuses_the_monitor`.
 const REFUSES_THE_MONITOR: &[&[&str]] = &[
     &["rvbench", "--monitor"],
     &["rvbench", "--monitor", "run"],
@@ -312,6 +316,7 @@ fn refuses_the_monitor(rt: HostRuntime) {
 /// Arguments of a twin run, and its image format, the size of its RAM in bytes, and the slot of the enclave that differs.
 type TwinRow = (&'static [&'static str], ImageKind, u32, u8);
 
+/// The rows of the test `names_twins`.
 const NAMES_TWINS: &[TwinRow] = &[
     (&["rvbench", "twin"], ImageKind::Auto, 1_048_576, 0),
     (
@@ -398,6 +403,7 @@ fn names_twins(rt: HostRuntime) {
     }
 }
 
+/// The inputs of the test `refuses_twins`.
 const REFUSES_TWINS: &[&[&str]] = &[
     &["rvbench", "twin", "--slot"],
     &["rvbench", "twin", "--slot="],
@@ -440,6 +446,7 @@ fn refuses_twins(rt: HostRuntime) {
 /// Arguments of a bench, and the number of its harts, whether it has the monitor, and the slot of a twin run. Other values are the defaults.
 type HartsRow = (&'static [&'static str], Harts, bool, Option<u8>);
 
+/// The rows of the test `names_harts`.
 const NAMES_HARTS: &[HartsRow] = &[
     (&["rvbench", "run", "--harts", "1"], Harts::One, false, None),
     (&["rvbench", "run", "--harts=1"], Harts::One, false, None),
@@ -543,6 +550,7 @@ fn names_harts(rt: HostRuntime) {
     }
 }
 
+/// The inputs of the test `refuses_two_harts_without_the_monitor`.
 const REFUSES_TWO_HARTS: &[&[&str]] = &[
     &["rvbench", "run", "--harts", "2"],
     &["rvbench", "run", "--harts=2"],
@@ -559,6 +567,7 @@ fn refuses_two_harts_without_the_monitor(rt: HostRuntime) {
     expect_refusals(&rt, rt.alloc(), REFUSES_TWO_HARTS);
 }
 
+/// The inputs of the test `refuses_harts`.
 const REFUSES_HARTS: &[&[&str]] = &[
     &["rvbench", "run", "--monitor", "--harts"],
     &["rvbench", "run", "--harts", "--monitor"],
@@ -605,6 +614,7 @@ fn refuses_harts(rt: HostRuntime) {
     expect_refusals(&rt, rt.alloc(), REFUSES_HARTS);
 }
 
+/// The inputs of the test `refuses_kinds`.
 const REFUSES_KINDS: &[&[&str]] = &[
     &["rvbench", "run", "--kind"],
     &["rvbench", "run", "--kind="],
@@ -633,6 +643,7 @@ fn refuses_kinds(rt: HostRuntime) {
     expect_refusals(&rt, rt.alloc(), REFUSES_KINDS);
 }
 
+/// The inputs of the test `refuses_values`.
 const REFUSES_VALUES: &[&[&str]] = &[
     &["rvbench", "run", "--ram"],
     &["rvbench", "run", "--ram="],
@@ -655,6 +666,7 @@ fn refuses_values(rt: HostRuntime) {
     expect_refusals(&rt, rt.alloc(), REFUSES_VALUES);
 }
 
+/// The inputs of the test `refuses_other_words`.
 const REFUSES_OTHER_WORDS: &[&[&str]] = &[
     &["rvbench", "fly"],
     &["rvbench", ""],
@@ -680,6 +692,7 @@ fn refuses_other_words(rt: HostRuntime) {
     expect_refusals(&rt, rt.alloc(), REFUSES_OTHER_WORDS);
 }
 
+/// The inputs of the test `gives_help`.
 const GIVES_HELP: &[&[&str]] = &[
     &["rvbench", "--help"],
     &["rvbench", "-h"],

@@ -13,6 +13,7 @@ const FILE: [u8; 88] =
     \x01\0\0\0\x54\0\0\0\0\0\0\x80\0\0\0\x80\x04\0\0\0\x08\0\0\0\x05\0\0\0\x04\0\0\0\
     \x93\0\xf0\xff";
 
+/// The script after each image.
 const SCRIPT: &[u8] = b"step 1\nmem 80000000 8\n";
 
 /// The replies if the file is loaded.

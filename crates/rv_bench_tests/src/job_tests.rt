@@ -10,12 +10,16 @@ use rv_memory::RamFault;
 use std::alloc::Global;
 use std::process::Abort;
 
+/// A program with a label.
 const PROGRAM: &[u8] = b"loop: addi x1, x1, -1\n bne x1, x0, loop\n";
 
+/// The image of the program, a word in each line.
 const IMAGE: &[u8] = b"9380f0ff\ne39e00fe\n";
 
+/// An image and a script.
 const INPUT: &[u8] = b"9300f0ff\n--\nstep 1\nreg 1\n";
 
+/// The replies to the script.
 const OUTPUT: &[u8] = b"ran 1 pc=80000004 mode=M world=bare why=done trap=-\nx1=ffffffff\n";
 
 /// The number of words of the long image. Their lines are written in several parts.

@@ -5,8 +5,10 @@ use rv_bench::{MemorySink, MemorySource, WordsFault, perform, refuse, run_progra
 use std::alloc::Global;
 use std::process::Abort;
 
+/// An image and a script.
 const INPUT: &[u8] = b"9300f0ff\n--\nstep 1\nreg 1\n";
 
+/// The replies to the script.
 const OUTPUT: &[u8] = b"ran 1 pc=80000004 mode=M world=bare why=done trap=-\nx1=ffffffff\n";
 
 /// Executes the job of arguments over memory, and expects its output and exit status.

@@ -8,10 +8,13 @@ use rv_memory::{Ram, RamFault};
 use std::alloc::Global;
 use std::process::Abort;
 
+/// An image and a script.
 const INPUT: &[u8] = b"9300f0ff\n--\nstep 1\nreg 1\n";
 
+/// The reply to the first line of the script.
 const STEPPED: &[u8] = b"ran 1 pc=80000004 mode=M world=bare why=done trap=-\n";
 
+/// The replies to the script.
 const OUTPUT: &[u8] = b"ran 1 pc=80000004 mode=M world=bare why=done trap=-\nx1=ffffffff\n";
 
 /// Returns the replies to the lines that are complete in the first bytes of the input.

@@ -79,6 +79,7 @@ fn reads_harts_and_schedules(rt: HostRuntime) {
     );
 }
 
+/// The inputs of the test `refuses_operands_of_hart_and_sched`.
 const BAD_OPERANDS_OF_HARTS: &[&[u8]] = &[
     b"hart",
     b"hart 2",
@@ -103,6 +104,7 @@ fn refuses_operands_of_hart_and_sched(rt: HostRuntime) {
     assert!(rt; Schedule::new(b"").is_none());
 }
 
+/// The inputs of the test `reads_accesses`.
 const ACCESSES: &[(&[u8], Mode, Access, Width)] = &[
     (b"access M r 8000000e 4", Mode::M, Access::Read, Width::Word),
     (
@@ -139,6 +141,7 @@ fn reads_accesses(rt: HostRuntime) {
     }
 }
 
+/// The inputs of the test `refuses_operands_of_pmp_and_access`.
 const BAD_OPERANDS: &[&[u8]] = &[
     b"pmp 0",
     b"access",
@@ -163,6 +166,7 @@ fn refuses_operands_of_pmp_and_access(rt: HostRuntime) {
     expect_fault(&rt, b"Access M r 0 4", CommandFault::UnknownCommand);
 }
 
+/// The inputs of the test `finds_the_first_fault`.
 const BAD_OPERANDS_OF_OTHERS: &[&[u8]] = &[
     b"step 0",
     b"reg 32",

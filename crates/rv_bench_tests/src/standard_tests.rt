@@ -232,6 +232,7 @@ const WITH_A_KEY: &[u8] = b"73000000730000007300000073000000\n--\n\
     enclaves\nsetreg 16 2\nsetreg 10 0\nstep 1\nmem 80020000 4\n\
     setreg 16 1\nsetreg 10 80020000\nsetreg 11 1000\nsetreg 14 80020000\nstep 1\nsetreg 16 3\nsetreg 10 0\nstep 1\nregs\n";
 
+/// The same script with another key at another place.
 const WITH_ANOTHER: &[u8] = b"73000000730000007300000073000000\n--\n\
     setreg 17 0a454e43\nsetreg 16 1\nsetreg 10 80020000\nsetreg 11 1000\nsetreg 14 80020000\nstep 1\n\
     poke 80020abc 5a\n# between\nreg 10\npoke 80020000 0\n\

@@ -15,12 +15,16 @@ use std::alloc::Global;
 use std::collections::VecDeque;
 use std::process::Abort;
 
+/// A text whose lines end in several ways.
 const TEXT: &[u8] = b"00ff\r\n\n\r\nstep 1\rx\n--\nlast\r";
 
+/// A program with a label.
 const PROGRAM: &[u8] = b"loop: addi x1, x1, -1\n bne x1, x0, loop\n";
 
+/// The image of the program, a word in each line.
 const IMAGE: &[u8] = b"9380f0ff\ne39e00fe\n";
 
+/// The lines of the text.
 const LINES: &[&[u8]] = &[b"00ff", b"", b"", b"step 1\rx", b"--", b"last\r"];
 
 /// Expects the lines of the text, which is read in parts of at most `most` bytes.

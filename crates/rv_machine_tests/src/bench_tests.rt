@@ -20,6 +20,7 @@ fn expect_len(rt: &impl Abort, bench: &mut Bench, command: &Command, len: usize)
     assert!(rt; reply.len() == len);
 }
 
+/// The lines of the test `ends_at_watches_and_breaks`.
 const ENDS_AT_WATCHES_AND_BREAKS: &[Line] = &[
     (b"setreg 2 80000100", b"ok\n", 0),
     (b"break 80000000", b"ok\n", 0),
@@ -77,6 +78,7 @@ fn ends_at_watches_and_breaks(rt: HostRuntime) {
     );
 }
 
+/// The lines of the test `watches_what_is_accessed`.
 const WATCHES_WHAT_IS_ACCESSED: &[Line] = &[
     (b"setreg 2 80000100", b"ok\n", 0),
     (b"watch 80000000", b"ok\n", 0),
@@ -113,6 +115,7 @@ fn watches_what_is_accessed(rt: HostRuntime) {
     );
 }
 
+/// The lines of the test `holds_32_breaks_and_32_watches`.
 const HOLDS_32_BREAKS_AND_32_WATCHES: &[Line] = &[
     (b"break 20", b"error full\n", 0),
     (b"watch ffffffff", b"error full\n", 0),
@@ -137,6 +140,7 @@ fn holds_32_breaks_and_32_watches(rt: HostRuntime) {
     expect(&rt, &mut bench, HOLDS_32_BREAKS_AND_32_WATCHES);
 }
 
+/// The lines of the test `shows_and_changes_the_machine`.
 const SHOWS_AND_CHANGES_THE_MACHINE: &[Line] = &[
     (b"", b"", 0),
     (b"# run 1", b"", 0),
@@ -169,6 +173,7 @@ fn shows_and_changes_the_machine(rt: HostRuntime) {
     expect_len(&rt, &mut bench, &Command::Pmp, 438);
 }
 
+/// The lines of the test `has_hart_0_alone`.
 const HAS_HART_0_ALONE: &[Line] = &[
     (b"hart 0", b"ok\n", 0),
     (b"hart 1", b"error hart\n", 0),
@@ -202,6 +207,7 @@ fn has_hart_0_alone(rt: HostRuntime) {
     expect_lines(&rt, rt.alloc(), words, HAS_HART_0_ALONE);
 }
 
+/// The lines of the test `reports_the_errors_of_lines`.
 const TELLS_THE_FAULTS_OF_LINES: &[Line] = &[
     (b"fly", b"error command\n", 0),
     (b"break", b"error operand\n", 0),

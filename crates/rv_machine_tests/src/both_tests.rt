@@ -181,9 +181,11 @@ fn expect_scrambled(
     }
 }
 
+/// The line of `enclaves` for a new enclave with the region 80020000 of 4096 bytes.
 const FRESH: &[u8] = b"enclave 0 Fresh 80020000 00001000 00000000 00000000 80020000 \
     b72e8d278cd05a0f5288f8ada3f430f62d4995d24f5198d6495796bbbcb97390\n";
 
+/// The rows of the test `alike_benches_reply_alike`.
 const ALIKE: &[Row] = &[
     (b"enclaves", BothWhy::All, FRESH, FRESH),
     (
@@ -212,6 +214,7 @@ fn alike_benches_reply_alike(rt: HostRuntime) {
     expect_both(&rt, rt.alloc(), PAIR, &[], 0, ALIKE, &[]);
 }
 
+/// The rows of the test `a_command_next_to_the_region_is_blind`.
 const BESIDE: &[Row] = &[
     (b"poke 8001ffff 5a", BothWhy::All, b"ok\n", b"ok\n"),
     (
@@ -247,6 +250,7 @@ fn a_command_next_to_the_region_is_blind(rt: HostRuntime) {
     expect_both(&rt, rt.alloc(), PAIR, &[], 0, BESIDE, &[]);
 }
 
+/// The rows of the test `what_names_a_byte_of_the_region_is_not_blind`.
 const INSIDE: &[Row] = &[
     (b"mem 80020000 1", BothWhy::NotBlind, b"", b""),
     (b"mem 8001ffff 2", BothWhy::NotBlind, b"", b""),
@@ -268,6 +272,7 @@ fn what_names_a_byte_of_the_region_is_not_blind(rt: HostRuntime) {
     expect_both(&rt, rt.alloc(), PAIR, &[], 0, INSIDE, SECRETS);
 }
 
+/// The rows of the test `a_free_slot_hides_nothing`.
 const SHOWN: &[Row] = &[(
     b"mem 80020000 1",
     BothWhy::All,
@@ -283,6 +288,7 @@ fn a_free_slot_hides_nothing(rt: HostRuntime) {
     }
 }
 
+/// The rows of the test `a_command_must_be_blind_in_both_benches`.
 const IN_ONE: &[Row] = &[
     (b"mem 80020000 1", BothWhy::NotBlind, b"", b""),
     (b"poke 80020000 11", BothWhy::NotBlind, b"", b""),
@@ -298,6 +304,7 @@ fn a_command_must_be_blind_in_both_benches(rt: HostRuntime) {
     }
 }
 
+/// The rows of the test `faults_and_blanks_are_replies`.
 const FAULTS: &[Row] = &[
     (b"csr 7a0", BothWhy::All, b"error csr\n", b"error csr\n"),
     (
@@ -316,8 +323,10 @@ fn faults_and_blanks_are_replies(rt: HostRuntime) {
     expect_both(&rt, rt.alloc(), PAIR, &[], 0, FAULTS, &[]);
 }
 
+/// The inputs of the test `faults_and_blanks_are_replies`.
 const BARE_RAN: &[u8] = b"ran 1 pc=80000004 mode=M world=bare why=done trap=-\n";
 
+/// The rows of the test `bare_benches_do_all`.
 const ALL_BARE: &[Row] = &[
     (b"step 1", BothWhy::All, BARE_RAN, BARE_RAN),
     (b"reg 1", BothWhy::All, b"x1=ffffffff\n", b"x1=ffffffff\n"),
@@ -338,6 +347,7 @@ fn bare_benches_do_all(rt: HostRuntime) {
 
 const ENTERED: &[u8] = b"ran 1 pc=80020000 mode=S world=e0 why=done trap=00000009:00000000\n";
 
+/// The rows of the test `an_entry_is_reported`.
 const ENTERS: &[Row] = &[(b"step 1", BothWhy::Entered, ENTERED, ENTERED)];
 
 /// The step of the call ends in the enclave, at its entry, in both benches.
@@ -346,8 +356,10 @@ fn an_entry_is_reported(rt: HostRuntime) {
     expect_both(&rt, rt.alloc(), PAIR, RUN, 0, ENTERS, &[]);
 }
 
+/// The inputs of the test `an_entry_is_reported`.
 const LEFT: &[u8] = b"ran 2 pc=80010008 mode=S world=host why=done trap=80000007:00000000\n";
 
+/// The rows of the test `an_entry_within_a_command_is_reported`.
 const ENTERS_AND_LEAVES: &[Row] = &[
     (b"timer on", BothWhy::All, b"ok\n", b"ok\n"),
     (b"step 2", BothWhy::Entered, LEFT, LEFT),
@@ -367,9 +379,11 @@ const RUN_BESIDE: &[&[u8]] = &[
     b"hart 1",
 ];
 
+/// The inputs of the test `an_entry_within_a_command_is_reported`.
 const ENTERED_BESIDE: &[u8] = b"hart 0 1 pc=80020000 mode=S world=e0 trap=00000009:00000000\n\
     hart 1 1 pc=80010004 mode=S world=host trap=00000009:00000000\n";
 
+/// The rows of the test `an_entry_on_the_other_hart_is_reported`.
 const ENTERS_BESIDE: &[Row] = &[(
     b"sched 01",
     BothWhy::Entered,
@@ -377,6 +391,7 @@ const ENTERS_BESIDE: &[Row] = &[(
     ENTERED_BESIDE,
 )];
 
+/// The rows of the test `an_entry_on_the_other_hart_is_reported`.
 const ON_HART_1: &[After] = &[(b"csr f14", b"csr f14=00000001\n", b"csr f14=00000001\n")];
 
 /// A step of the hart that is not selected enters the slot, and the next step does not.
@@ -394,6 +409,7 @@ fn an_entry_on_the_other_hart_is_reported(rt: HostRuntime) {
     );
 }
 
+/// The rows of the test `an_entry_of_another_slot_is_none`.
 const ENTERS_ANOTHER: &[Row] = &[(b"step 1", BothWhy::All, ENTERED, ENTERED)];
 
 /// Only the given slot counts.
@@ -405,10 +421,13 @@ fn an_entry_of_another_slot_is_none(rt: HostRuntime) {
     }
 }
 
+/// The inputs of the test `an_entry_of_another_slot_is_none`.
 const REFUSED: &[u8] = b"ran 1 pc=80010004 mode=S world=host why=done trap=00000009:00000000\n";
 
+/// The rows of the test `an_entry_in_either_bench_counts`.
 const FIRST_ENTERS: &[Row] = &[(b"step 1", BothWhy::Entered, ENTERED, REFUSED)];
 
+/// The rows of the test `an_entry_in_either_bench_counts`.
 const SECOND_ENTERS: &[Row] = &[(b"step 1", BothWhy::Entered, REFUSED, ENTERED)];
 
 /// An entry in one bench is enough. The other bench has no enclave to run; it refuses the call and continues after it.
@@ -420,8 +439,10 @@ fn an_entry_in_either_bench_counts(rt: HostRuntime) {
     expect_both(&rt, rt.alloc(), made, RUN, 0, SECOND_ENTERS, &[]);
 }
 
+/// The inputs of the test `a_list_passes_by`.
 const PASSING: &[&[u8]] = &[b"setreg 5 7", b"", b"csr 7a0", b"poke 80021000 a5"];
 
+/// The rows of the test `a_list_passes_by`.
 const PASSED: &[After] = &[
     (b"reg 5", b"x5=00000007\n", b"x5=00000007\n"),
     (b"mem 80021000 1", b"80021000: a5\n", b"80021000: a5\n"),
@@ -436,8 +457,10 @@ fn a_list_passes_by(rt: HostRuntime) {
     expect_list(&rt, rt.alloc(), PASSING, Both { ran: 4, why }, PASSED);
 }
 
+/// The inputs of the test `a_list_stops_before_one_that_is_not_blind`.
 const SEEING: &[&[u8]] = &[b"setreg 5 7", b"poke 80020000 11", b"setreg 5 8"];
 
+/// The rows of the test `a_list_stops_before_one_that_is_not_blind`.
 const STOPPED: &[After] = &[
     (b"reg 5", b"x5=00000007\n", b"x5=00000007\n"),
     (b"mem 80020000 1", b"80020000: 00\n", b"80020000: ff\n"),
@@ -450,8 +473,10 @@ fn a_list_stops_before_one_that_is_not_blind(rt: HostRuntime) {
     expect_list(&rt, rt.alloc(), SEEING, Both { ran: 1, why }, STOPPED);
 }
 
+/// The inputs of the test `a_list_stops_at_the_entry`.
 const ENTERING: &[&[u8]] = &[b"setreg 16 3", b"setreg 10 0", b"step 1", b"setreg 10 8"];
 
+/// The rows of the test `a_list_stops_at_the_entry`.
 const IN_THE_ENCLAVE: &[After] = &[
     (b"reg 10", b"x10=80020000\n", b"x10=7ffdffff\n"),
     (b"reg 5", b"x5=00000000\n", b"x5=ffffffff\n"),
@@ -471,8 +496,10 @@ fn a_list_stops_at_the_entry(rt: HostRuntime) {
     );
 }
 
+/// The inputs of the test `a_list_may_end_the_enclave`.
 const ENDING: &[&[u8]] = &[b"setreg 16 2", b"setreg 10 0", b"step 1", b"mem 80020000 4"];
 
+/// The rows of the test `a_list_may_end_the_enclave`.
 const ENDED: &[After] = &[
     (b"enclaves", b"", b""),
     (
@@ -489,13 +516,16 @@ fn a_list_may_end_the_enclave(rt: HostRuntime) {
     expect_list(&rt, rt.alloc(), ENDING, Both { ran: 4, why }, ENDED);
 }
 
+/// The inputs of the test `scramble_complements_the_region`.
 const POKES: &[&[u8]] = &[b"poke 80020000 5a", b"poke 80021000 5a"];
 
+/// The rows of the test `scramble_complements_the_region`.
 const ONCE: &[After] = &[
     (b"mem 8001ffff 3", b"8001ffff: 00 a5 ff\n", b""),
     (b"mem 80020fff 2", b"80020fff: ff 5a\n", b""),
 ];
 
+/// The rows of the test `scramble_complements_the_region`.
 const TWICE: &[After] = &[
     (b"mem 8001ffff 3", b"8001ffff: 00 5a 00\n", b""),
     (b"mem 80020fff 2", b"80020fff: 00 5a\n", b""),
@@ -508,6 +538,7 @@ fn scramble_complements_the_region(rt: HostRuntime) {
     expect_scrambled(&rt, rt.alloc(), (Made::Live, POKES), 0, (2, true), TWICE);
 }
 
+/// The inputs of the test `scramble_complements_what_is_kept`.
 const STOP: &[&[u8]] = &[
     b"setreg 16 3",
     b"setreg 10 0",
@@ -516,6 +547,7 @@ const STOP: &[&[u8]] = &[
     b"setreg 5 7",
 ];
 
+/// The rows of the test `scramble_complements_what_is_kept`.
 const KEPT: &[After] = &[
     (b"reg 5", b"x5=00000007\n", b""),
     (
@@ -538,6 +570,7 @@ fn scramble_complements_what_is_kept(rt: HostRuntime) {
     expect_scrambled(&rt, rt.alloc(), (Made::Live, STOP), 0, (1, true), KEPT);
 }
 
+/// The rows of the test `scramble_refuses_a_slot_that_is_not_live`.
 const BARE_CODE: &[After] = &[(b"mem 80000000 4", b"80000000: 93 00 f0 ff\n", b"")];
 
 /// A bench without the monitor, and a free slot: nothing changes.
@@ -557,8 +590,10 @@ fn scramble_refuses_a_slot_that_is_not_live(rt: HostRuntime) {
     }
 }
 
+/// The inputs of the test `scramble_refuses_the_slot_that_runs`.
 const ENTER: &[&[u8]] = &[b"setreg 16 3", b"setreg 10 0", b"step 1"];
 
+/// The rows of the test `scramble_refuses_the_slot_that_runs`.
 const RUNNING: &[After] = &[
     (b"mem 80020000 1", b"80020000: 00\n", b""),
     (b"reg 10", b"x10=80020000\n", b""),
@@ -570,8 +605,10 @@ fn scramble_refuses_the_slot_that_runs(rt: HostRuntime) {
     expect_scrambled(&rt, rt.alloc(), (Made::Live, ENTER), 0, (1, false), RUNNING);
 }
 
+/// The inputs of the test `scramble_refuses_the_slot_that_runs_on_the_other_hart`.
 const ENTER_BESIDE: &[&[u8]] = &[b"setreg 16 3", b"setreg 10 0", b"step 1", b"hart 1"];
 
+/// The rows of the test `scramble_refuses_the_slot_that_runs_on_the_other_hart`.
 const RUNNING_BESIDE: &[After] = &[
     (b"mem 80020000 1", b"80020000: 00\n", b""),
     (b"hart 0", b"ok\n", b""),
@@ -603,6 +640,7 @@ const SKIPPED: BothLine = BothLine::Given {
     is_blank: false,
 };
 
+/// The lines of the test `a_line_is_given_to_both`.
 const LINES: &[LineRow] = &[
     (b"fly", BothLine::Faulty, b"error command\n", b""),
     (b"reg 99", BothLine::Faulty, b"error operand\n", b""),

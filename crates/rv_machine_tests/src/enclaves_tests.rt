@@ -9,20 +9,28 @@ use std::test::Fail;
 /// The value of a7 in a call.
 const KEY: u32 = 0x0a45_4e43;
 
+/// The status of a create whose region is not a valid block.
 const BAD_REGION: u32 = 0xffff_fffe;
 
+/// The status of a create whose window is not a valid block.
 const BAD_WINDOW: u32 = 0xffff_fffd;
 
+/// The status of a create whose region or window overlaps a block that it must not overlap.
 const OVERLAP: u32 = 0xffff_fffc;
 
+/// The status of a create whose entry point is not a multiple of 4, or not in the region.
 const BAD_ENTRY: u32 = 0xffff_fffb;
 
+/// The status of a create if every slot has an enclave.
 const NO_SLOT: u32 = 0xffff_fffa;
 
+/// The status of a call for a slot without an enclave.
 const NO_ENCLAVE: u32 = 0xffff_fff9;
 
+/// The status of a call that the state of the enclave does not permit.
 const BAD_STATE: u32 = 0xffff_fff8;
 
+/// The status of a measure if the caller may not store one of the 32 bytes.
 const BAD_ADDRESS: u32 = 0xffff_fff7;
 
 /// a0 to a4 for the region 80020000 of 4096 bytes, the window 80030000 of 4096 bytes, and the entry 80020010.
@@ -90,6 +98,7 @@ fn each_world_has_its_calls() -> Result<(), Fail> {
     Ok(())
 }
 
+/// The lines of the test `creates_in_the_lowest_free_slot`.
 const CREATED: [Line; 12] = [
     Line::Create(WITH_WINDOW, Ok(0)),
     Line::State(0, Some(EnclaveState::Fresh)),
@@ -161,6 +170,7 @@ fn has_thirteen_slots(rt: HostRuntime) -> Result<(), Fail> {
     run(rt, &lines)
 }
 
+/// The lines of the test `destroy_zeroes`.
 const DESTROYED: [Line; 12] = [
     Line::Poke(0x8002_0000, 0x11),
     Line::Poke(0x8002_0fff, 0x22),
@@ -181,6 +191,7 @@ fn destroy_zeroes(rt: HostRuntime) -> Result<(), Fail> {
     run(rt, &DESTROYED)
 }
 
+/// The lines of the test `refuses_what_is_not_live`.
 const NOBODY: [Line; 3] = [
     Line::Destroy(0, Err(NO_ENCLAVE)),
     Line::Destroy(13, Err(NO_ENCLAVE)),
@@ -209,6 +220,7 @@ fn measures_where_the_world_may_store(rt: HostRuntime) -> Result<(), Fail> {
     run(rt, &MEASURED)
 }
 
+/// The lines of the test `what_is_private_is_scrambled`.
 const SCRAMBLED: [Line; 11] = [
     Line::Scramble(0, false),
     Line::Poke(0x8002_0000, 0x0f),

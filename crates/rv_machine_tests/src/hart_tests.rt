@@ -200,6 +200,7 @@ fn keeps_modes_apart(rt: HostRuntime) -> Result<(), Fail> {
     Ok(())
 }
 
+/// The lines of the test `changes_a_register_by_another`.
 const EXCHANGE: [Line; 6] = [
     Line::Set(2, 0x1234),
     Line::Trap(None),
@@ -264,6 +265,7 @@ fn jumps_through_the_register_it_writes(rt: HostRuntime) -> Result<(), Fail> {
     Ok(())
 }
 
+/// The lines of the test `lends_its_memory`.
 const PATCHED: [Line; 3] = [
     Line::Patch([0x93, 0x00, 0xf0, 0xff]),
     Line::Trap(None),
@@ -299,6 +301,7 @@ fn judges_by_the_entries(rt: HostRuntime) -> Result<(), Fail> {
 /// The end of the address space.
 const END: u64 = 0x1_0000_0000;
 
+/// The lines of the test `goes_on_fast`.
 const COUNTED: [Line; 18] = [
     Line::Set(2, RAM_BASE),
     Line::Step,
@@ -331,6 +334,7 @@ fn goes_on_fast(rt: HostRuntime) -> Result<(), Fail> {
     )
 }
 
+/// The lines of the test `leaves_to_the_step_what_may_trap`.
 const STOPPED: [Line; 14] = [
     Line::Step,
     Line::Set(1, 6),

@@ -37,6 +37,7 @@ fn numbers_of_faults(rt: HostRuntime) {
     assert_eq!(rt; (of_memory, of_access), (1, [1, 2]));
 }
 
+/// The lines of the test `loads_what_was_stored`.
 const STORED: [Line; 8] = [
     Line::Store(Mode::M, RAM_BASE + 1, Width::Word, 0x8765_4321, Ok(())),
     Line::Store(Mode::M, RAM_BASE + 2, Width::Half, 0xabcd_1234, Ok(())),
@@ -53,6 +54,7 @@ fn loads_what_was_stored(rt: HostRuntime) -> Result<(), Fail> {
     run(rt, &STORED)
 }
 
+/// The lines of the test `refuses_what_is_outside`.
 const OUTSIDE: [Line; 5] = [
     Line::Edges(Width::Byte, END - 1),
     Line::Edges(Width::Half, END - 2),
@@ -66,6 +68,7 @@ fn refuses_what_is_outside(rt: HostRuntime) -> Result<(), Fail> {
     run(rt, &OUTSIDE)
 }
 
+/// The lines of the test `changes_named_bytes_alone`.
 const CHANGED: [Line; 10] = [
     Line::WriteFirst([1, 2, 3, 4, 5]),
     Line::Zero(RAM_BASE + 1, 2),
@@ -132,6 +135,7 @@ fn checks_the_entries_after_the_bounds(rt: HostRuntime) -> Result<(), Fail> {
     run(rt, &asked(PmpIndex::new(0)))
 }
 
+/// The lines of the test `complements_a_part`.
 const COMPLEMENTED: [Line; 8] = [
     Line::WriteLast([0x11, 0x22, 0x80, 0xff]),
     Line::Complement(END - 3, 2),

@@ -12,6 +12,7 @@ const WITH_WINDOW: [u32; 5] = [0x8002_0000, 0x1000, 0x8003_0000, 0x1000, 0x8002_
 /// The arguments of create for a region without a window, whose first word is the entry.
 const ALONE: [u32; 5] = [0x8002_0000, 0x1000, 0, 0, 0x8002_0000];
 
+/// The lines of the test `an_enclave_runs`.
 const ENCLAVE: [Line; 57] = [
     // create
     Line::Ask(1, WITH_WINDOW),
@@ -83,6 +84,7 @@ fn an_enclave_runs(rt: HostRuntime) -> Result<(), Fail> {
     run(rt, &[0x73; 4], &ENCLAVE)
 }
 
+/// The lines of the test `the_timer_stops`.
 const TIMER: [Line; 21] = [
     Line::Ask(1, ALONE),
     Line::Step,
@@ -113,6 +115,7 @@ fn the_timer_stops(rt: HostRuntime) -> Result<(), Fail> {
     run(rt, &[0x73; 3], &TIMER)
 }
 
+/// The lines of the test `a_region_is_shut`.
 const ACROSS: [Line; 8] = [
     Line::Ask(1, ALONE),
     Line::Step,
@@ -130,6 +133,7 @@ fn a_region_is_shut(rt: HostRuntime) -> Result<(), Fail> {
     run(rt, &[0x73, 0x0003_2283], &ACROSS)
 }
 
+/// The lines of the test `measure_checks_each_byte`.
 const MEASURED: [Line; 22] = [
     Line::Ask(1, ALONE),
     Line::Step,
@@ -203,6 +207,7 @@ fn refusals_of_create(rt: HostRuntime) -> Result<(), Fail> {
     Ok(())
 }
 
+/// The lines of the test `slots_are_taken_and_freed`.
 const SLOTS: [Line; 25] = [
     Line::Create(0x8002_0000, 0, 0),
     Line::Create(0x8002_1000, 0, 1),
@@ -237,6 +242,7 @@ fn slots_are_taken_and_freed(rt: HostRuntime) -> Result<(), Fail> {
     run(rt, &[0x73; 20], &SLOTS)
 }
 
+/// The lines of the test `destroy_zeroes`.
 const DESTROYED: [Line; 14] = [
     Line::Ask(1, ALONE),
     Line::Step,
@@ -278,6 +284,7 @@ const INFO: SlotInfo = SlotInfo {
     state: EnclaveState::Fresh,
 };
 
+/// The lines of the test `a_measurement_is_taken_at_create`.
 const DIGESTED: [Line; 10] = [
     Line::Poke(0x8002_0000, 0x73),
     Line::Ask(1, [0x8002_0000, 0x1000, 7, 0, 0x8002_0004]),
@@ -297,6 +304,7 @@ fn a_measurement_is_taken_at_create(rt: HostRuntime) -> Result<(), Fail> {
     run(rt, &[0x73; 2], &DIGESTED)
 }
 
+/// The lines of the test `calls_of_nobody`.
 const NOBODY: [Line; 17] = [
     Line::Nobody(0, 1),
     Line::Nobody(0x0a45_4e42, 1),
@@ -323,6 +331,7 @@ fn calls_of_nobody(rt: HostRuntime) -> Result<(), Fail> {
     run(rt, &[0x73; 20], &NOBODY)
 }
 
+/// The lines of the test `an_exception_stays_in_its_world`.
 const ILLEGAL: [Line; 11] = [
     Line::Ask(1, ALONE),
     Line::Step,
@@ -343,6 +352,7 @@ fn an_exception_stays_in_its_world(rt: HostRuntime) -> Result<(), Fail> {
     run(rt, &[0x73; 2], &ILLEGAL)
 }
 
+/// The lines of the test `what_is_private_is_scrambled`.
 const SCRAMBLED: [Line; 37] = [
     // no live enclave to scramble; then an enclave that never ran, in which only the region changes
     Line::Scramble(0, false),
@@ -392,6 +402,7 @@ fn what_is_private_is_scrambled(rt: HostRuntime) -> Result<(), Fail> {
     run(rt, &[0x73; 4], &SCRAMBLED)
 }
 
+/// The lines of the test `two_harts`.
 const TWO_HARTS: [Line; 51] = [
     Line::See(Shown::Harts, Some(2)),
     // hart 1 starts as hart 0 does, but with a0 = 1
@@ -456,6 +467,7 @@ fn two_harts(rt: HostRuntime) -> Result<(), Fail> {
     run_two(rt, &[0x73, 0x73, 0x0003_2283], &TWO_HARTS)
 }
 
+/// The lines of the test `the_first_of_two_harts_has_its_way`.
 const DESTROY_FIRST: [Line; 14] = [
     Line::Ask(1, ALONE),
     Line::Step,
@@ -473,6 +485,7 @@ const DESTROY_FIRST: [Line; 14] = [
     Line::See(Shown::X(A0), Some(0xffff_fff9)),
 ];
 
+/// The lines of the test `the_first_of_two_harts_has_its_way`.
 const RUN_FIRST: [Line; 15] = [
     Line::Ask(1, ALONE),
     Line::Step,
@@ -498,6 +511,7 @@ fn the_first_of_two_harts_has_its_way(rt: HostRuntime) -> Result<(), Fail> {
     run_two(rt, &[0x73; 2], &RUN_FIRST)
 }
 
+/// The lines of the test `an_enclave_goes_on_on_the_other_hart`.
 const ON_THE_OTHER: [Line; 35] = [
     Line::Ask(1, ALONE),
     Line::Step,
@@ -544,6 +558,7 @@ fn an_enclave_goes_on_on_the_other_hart(rt: HostRuntime) -> Result<(), Fail> {
     run_two(rt, &[0x73; 5], &ON_THE_OTHER)
 }
 
+/// The lines of the test `a_step_leaves_the_other_hart`.
 const LEAVES: [Line; 17] = [
     Line::Set(T0, 7),
     Line::On(1),

@@ -49,6 +49,7 @@ const CREATE: &[Line] = &[
     ),
 ];
 
+/// The lines of the test `shows_the_world_and_the_enclaves`.
 const SHOWS_THE_WORLD_AND_THE_ENCLAVES: &[Line] = &[
     (
         b"enclaves",
@@ -89,6 +90,7 @@ fn shows_the_world_and_the_enclaves(rt: HostRuntime) {
     expect_created(&rt, rt.alloc(), SHOWS_THE_WORLD_AND_THE_ENCLAVES);
 }
 
+/// The lines of the test `reports_the_slots_entered_in_one_command`.
 const TELLS_THE_SLOTS_ENTERED_IN_ONE_COMMAND: &[Line] = &[
     (b"setreg 10 80022000", b"ok\n", 0),
     (b"setreg 11 2000", b"ok\n", 0),
@@ -131,6 +133,7 @@ fn reports_the_slots_entered_in_one_command(rt: HostRuntime) {
     expect_created(&rt, rt.alloc(), TELLS_THE_SLOTS_ENTERED_IN_ONE_COMMAND);
 }
 
+/// The lines of the test `watches_no_writes_of_the_monitor`.
 const WATCHES_NO_WRITES_OF_THE_MONITOR: &[Line] = &[
     (b"poke 80020000 5a", b"ok\n", 0),
     (b"watch 80020000", b"ok\n", 0),
@@ -162,6 +165,7 @@ fn watches_no_writes_of_the_monitor(rt: HostRuntime) {
     expect_created(&rt, rt.alloc(), WATCHES_NO_WRITES_OF_THE_MONITOR);
 }
 
+/// The lines of the test `shows_what_is_accessible`.
 const TELLS_WHAT_IS_IN_REACH: &[Line] = &[
     (b"access S r 8001fffc 4", b"allowed entry 15\n", 0),
     (b"access S r 8001fffe 4", b"denied partial 1\n", 0),
@@ -177,6 +181,7 @@ fn shows_what_is_accessible(rt: HostRuntime) {
     expect_created(&rt, rt.alloc(), TELLS_WHAT_IS_IN_REACH);
 }
 
+/// The lines of the test `has_one_hart`.
 const HAS_ONE_HART: &[Line] = &[
     (b"hart 1", b"error hart\n", 0),
     (b"sched 010", b"error hart\n", 0),
@@ -195,6 +200,7 @@ fn has_one_hart(rt: HostRuntime) {
     expect_created(&rt, rt.alloc(), HAS_ONE_HART);
 }
 
+/// The lines of the test `has_two_harts`.
 const HAS_TWO_HARTS: &[Line] = &[
     (b"poke 80020000 13", b"ok\n", 0),
     (b"setreg 16 3", b"ok\n", 0),
@@ -249,6 +255,7 @@ const BOTH_CALL: &[Line] = &[
     (b"hart 0", b"ok\n", 0),
 ];
 
+/// The lines of the test `steps_harts_in_their_order`.
 const ENDS_AND_RUNS: &[Line] = &[
     (
         b"sched 10",
@@ -261,6 +268,7 @@ const ENDS_AND_RUNS: &[Line] = &[
     (b"reg 10", b"x10=00000000\n", 0),
 ];
 
+/// The lines of the test `steps_harts_in_their_order`.
 const RUNS_AND_ENDS: &[Line] = &[
     (
         b"sched 01",

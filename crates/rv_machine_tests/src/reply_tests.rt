@@ -22,12 +22,14 @@ fn expect_of(rt: &impl Abort, alloc: Global, mode: Mode, words: &[(u16, u32)], l
     expect(rt, &mut bench, lines);
 }
 
+/// The lines of the test `prints_modes`.
 const IN_U: &[Line] = &[(
     b"step 1",
     b"ran 1 pc=80000004 mode=U world=bare why=done trap=-\n",
     0,
 )];
 
+/// The lines of the test `prints_modes`.
 const IN_S: &[Line] = &[(
     b"step 1",
     b"ran 1 pc=80000004 mode=S world=bare why=done trap=-\n",
@@ -42,6 +44,7 @@ fn prints_modes(rt: HostRuntime) {
     expect_of(&rt, rt.alloc(), Mode::S, &words, IN_S);
 }
 
+/// The lines of the test `prints_all_registers`.
 const PRINTS_ALL_REGISTERS: &[Line] = &[
     (b"setreg 0 1", b"ok\n", 0),
     (b"setreg 7 abcd", b"ok\n", 0),
@@ -67,6 +70,7 @@ fn prints_all_registers(rt: HostRuntime) {
     expect_lines(&rt, rt.alloc(), &[0xfff0_0093], PRINTS_ALL_REGISTERS);
 }
 
+/// The lines of the test `prints_entries`.
 const PRINTS_ENTRIES: &[Line] = &[(
     b"pmp",
     b"pmp 0 cfg=17 addr=20000040\n\
@@ -100,6 +104,7 @@ fn prints_entries(rt: HostRuntime) {
     expect_of(&rt, rt.alloc(), Mode::M, &words, PRINTS_ENTRIES);
 }
 
+/// The lines of the test `prints_verdicts`.
 const PRINTS_VERDICTS: &[Line] = &[
     (b"access U r 80000ffc 4", b"allowed entry 0\n", 0),
     (b"access M r 80002000 4", b"allowed free\n", 0),

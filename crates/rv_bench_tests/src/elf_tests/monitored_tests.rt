@@ -8,12 +8,13 @@ use rv_elf::{ElfFault, load, plan, plan_raw};
 use rv_memory::{RAM_BASE, Ram};
 use std::process::Abort;
 
-/// The address after the range.
+/// The address after the monitor's range.
 const FIRST: u32 = 0x8001_0000;
 
-/// The size of RAM in these tests, and the address after its last byte.
+/// The bytes of RAM in these tests.
 const RAM_SIZE: u32 = 0x2_0000;
 
+/// The address after the last byte of RAM.
 const END: u32 = RAM_BASE + RAM_SIZE;
 
 /// Returns the number of the error of a file, or 0 if there is none.

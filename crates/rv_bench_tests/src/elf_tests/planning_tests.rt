@@ -8,9 +8,10 @@ use rv_elf::{ElfFault, Segment, is_elf, plan};
 use rv_memory::RAM_BASE;
 use std::process::Abort;
 
-/// The size of RAM in these tests, and the address after its last byte.
+/// The bytes of RAM in these tests.
 const RAM_SIZE: u32 = 65_536;
 
+/// The address after the last byte of RAM.
 const END: u32 = RAM_BASE + RAM_SIZE;
 
 /// Expects the number of the error of a file, or 0 if there is none.

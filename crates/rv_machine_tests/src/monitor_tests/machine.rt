@@ -9,34 +9,46 @@ use rv_pmp::{Mode, PmpIndex};
 use rv_word::{Reg, le_bytes};
 use std::test::Fail;
 
+/// The address after the monitor's range.
 const FIRST: u32 = 0x8001_0000;
 
 /// The value of a7 in a call.
 pub const KEY: u32 = 0x0a45_4e43;
 
-// the registers, by their names in the calling convention
+/// The number of x0.
 pub const X0: u8 = 0;
 
+/// The number of register ra.
 pub const RA: u8 = 1;
 
+/// The number of register t0.
 pub const T0: u8 = 5;
 
+/// The number of register t1.
 pub const T1: u8 = 6;
 
+/// The number of register a0.
 pub const A0: u8 = 10;
 
+/// The number of register a1.
 pub const A1: u8 = 11;
 
+/// The number of register a2.
 pub const A2: u8 = 12;
 
+/// The number of register a3.
 pub const A3: u8 = 13;
 
+/// The number of register a4.
 pub const A4: u8 = 14;
 
+/// The number of register a6.
 pub const A6: u8 = 16;
 
+/// The number of register a7.
 pub const A7: u8 = 17;
 
+/// The number of register t6.
 pub const T6: u8 = 31;
 
 /// The parts of a machine that a line can show. With two harts, they are those of the hart that the lines select.

@@ -142,6 +142,7 @@ fn every_number_is_written_in_every_mode_as_listed() -> Result<(), Fail> {
     Ok(())
 }
 
+/// The lines of the test `keeps_fields_and_halves`.
 const FIELDS: [Line; 10] = [
     Line::Put(0x300, 0x1000),
     Line::Reads(0x300, 0),

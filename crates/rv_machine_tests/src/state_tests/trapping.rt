@@ -5,12 +5,16 @@ use rv_pmp::Mode;
 use rv_state::{Cause, Csrs, Exception, Interrupt, SContext};
 use std::test::Fail;
 
+/// The timer interrupt.
 const TIMER: Cause = Cause::Interrupt(Interrupt::MachineTimer);
 
+/// The exception of an ebreak.
 const BREAKPOINT: Cause = Cause::Exception(Exception::Breakpoint);
 
+/// The access fault of a fetch.
 const FETCH: Cause = Cause::Exception(Exception::InstructionAccessFault);
 
+/// Writes of CSRs, two traps, and the CSRs after each of them.
 const TRAPS: [Line; 12] = [
     Line::Put(0x305, 0x401),
     Line::Put(0x304, 0x80),
@@ -44,6 +48,7 @@ fn taken(words: [u32; 3], timer: bool, mode: Mode, interrupt: Option<Interrupt>)
     ]
 }
 
+/// The inputs of the test `takes_interrupts_in_order`.
 const TAKEN: [([u32; 3], bool, Mode, Option<Interrupt>); 7] = [
     (
         [0, 0xAAA, 0x222],
@@ -83,6 +88,7 @@ fn takes_interrupts_in_order() -> Result<(), Fail> {
     Ok(())
 }
 
+/// The lines of the test `traps_from_mode_u_to_mode_m`.
 const FROM_USER: [Line; 4] = [
     Line::Sret(Mode::U, 0),
     Line::Trap(Mode::U, 0, FETCH, 0, 0),
@@ -96,6 +102,7 @@ fn traps_from_mode_u_to_mode_m() -> Result<(), Fail> {
     run(&FROM_USER)
 }
 
+/// The lines of the test `returns_to_the_mode_before`.
 const RETURNS: [Line; 12] = [
     Line::Put(0x300, 0x0002_0188), // MPRV, SPP, MPIE, MIE
     Line::Put(0x141, 0x8000_0020), // sepc
@@ -117,6 +124,7 @@ fn returns_to_the_mode_before() -> Result<(), Fail> {
     run(&RETURNS)
 }
 
+/// The lines of the test `counts_steps`.
 const COUNTS: [Line; 16] = [
     Line::Put(0xB00, 0xFFFF_FFFF),
     Line::Put(0xB80, 0xFFFF_FFFF),
