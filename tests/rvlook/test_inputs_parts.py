@@ -7,6 +7,7 @@ import types
 import pytest
 
 from conftest import BUILD, EXAMPLES, ROOT
+from support.race_programs import assembled
 
 sys.path.insert(0, str(ROOT / "python"))
 from rvlook.access.fields import WindowFields  # noqa: E402
@@ -43,6 +44,29 @@ def search(bench, monkeypatch, tmp_path):
         found.start(None, False)
         return found
     return of
+
+
+HOST = ("li x17, 0x0a454e43", "li x16, 1", "li x10, 0x80020000", "li x11, 0x1000", "li x12, 0x80030000", "li x13, 0x1000", "li x14, 0x80020000",
+        "ecall", "li x16, 3", "li x10, 0", "ecall", "li x16, 2", "li x10, 0", "ecall", "halt: jal x0, halt")  # create, run and destroy
+DIVIDED = ("li x17, 0x0a454e43", "li x16, 6", "lw x10, 0(x12)", "bne x10, x0, other", "ecall", "other: addi x10, x10, 1", "ecall")  # an enclave
+
+
+def test_code_is_decoded_before_a_destroy_within_a_few_steps(bench, monkeypatch, tmp_path):
+    monkeypatch.setenv("RVBENCH", bench)
+    image, script = tmp_path / "image", tmp_path / "script"
+    image.write_text("".join("%s\n" % word.hex() for word in words(assembled(bench, HOST))))
+    script.write_text("".join("poke %x %02x\n" % it for it in enumerate(assembled(bench, DIVIDED), 0x80020000)))
+    run, symbols, _ = opened(read(["inputs", "--monitor", str(image), "--script", str(script)]))
+    found = InputSearch(run, symbols, Variables(), 0, 0)
+    found.start(None, False)
+    traces = [found.tracer.child(found.base, it.index, it.changes) for it in list(found.root.children)[:8]]
+    assert any(len(trace) > len(found.base) for trace in traces)
+    texts = {pc: code.text for pc, code in found.tracer.code.items()}
+    assert texts[0x80020018] == "addi x10, x10, 1" and all(texts.values())
+
+
+def words(data):
+    return [data[at:at + 4] for at in range(0, len(data), 4)]
 
 
 @pytest.mark.parametrize("task", [5, 14, 15])

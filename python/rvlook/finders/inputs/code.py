@@ -60,6 +60,11 @@ class Code:
         return bool(self.probes) and self.probes[0] == SP
 
     @cached_property
+    def stored_bits(self) -> int:
+        """Returns the mask of the bits of a register that a store writes."""
+        return (1 << 8 * self.width) - 1
+
+    @cached_property
     def is_saving(self) -> bool:
         """Returns whether the instruction may save a register of the caller in the frame."""
         return self.kind is Kind.STORE and self.probes[0] == SP and self.probes[1] in SAVED

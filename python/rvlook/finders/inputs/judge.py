@@ -116,6 +116,8 @@ class TraceJudge:
                     unsure.append((other.context, pc))
                 if other.place is FAULT or other.what in (What.CALL, What.RETURN):
                     return False
+            elif self.code(trace, index).kind in JUMPS and index not in trace.traps:
+                self.usual.add(self.way_of(trace, index))
         if found or trace.end == "waits":
             return False
         if trace.end == "stuck":
@@ -131,14 +133,14 @@ class TraceJudge:
         if self.version != self.tracer.contexts.version:
             self.version = self.tracer.contexts.version
             self.usual.clear()
-        plain, pcs, traps = self.tracer.plain, trace.pcs, trace.traps
-        for index in trace.differences():
-            if index in traps:
-                yield index
-            elif pcs[index] in plain:
-                self.seen.pcs.add(pcs[index])
-            elif self.way_of(trace, index) not in self.usual:
-                yield index
+        indices, plain, traps, begin = trace.differences(), self.tracer.plain, trace.traps, 0
+        pcs = list(map(trace.pcs.__getitem__, indices))
+        for n in [n for n, pc in enumerate(pcs) if pc not in plain or indices[n] in traps]:
+            self.seen.pcs.update(pcs[begin:n])
+            begin = n + 1
+            if indices[n] in traps or self.way_of(trace, indices[n]) not in self.usual:
+                yield indices[n]
+        self.seen.pcs.update(pcs[begin:])
 
     def way_of(self, trace: Trace, index: int) -> Way:
         """Returns the pc and the context of a step, and its address or the pc after it. For some kinds these decide whether the step is a finding."""

@@ -3,7 +3,7 @@ finding is replayed before it is reported. Ctrl-C ends the search too, and its r
 from __future__ import annotations
 
 from dataclasses import dataclass, field
-from typing import Callable, Iterator, Optional, Sequence
+from typing import Callable, Iterator, NamedTuple, Optional, Sequence
 
 from rvlook.access.failures import Failure, FailureReport, expectation_of, failures_of
 from rvlook.errors import Unfinished
@@ -87,8 +87,7 @@ def write_scripts(folder: str, search: InputSearch, findings: Sequence[InputFind
                          for name, text in zip(("finding_%d", "finding_%d.input"), texts_of(search, finding, heading))))
 
 
-@dataclass(frozen=True)
-class InputsOptions:
+class InputsOptions(NamedTuple):
     """The options of `inputs`."""
     slot: int = 0  # of the enclave
     at: Optional[str] = None  # the place of its secret; None for no secret

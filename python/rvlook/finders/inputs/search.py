@@ -9,7 +9,7 @@ from array import array
 from collections import deque
 from dataclasses import dataclass
 from itertools import chain, islice
-from typing import Callable, Iterator, Mapping, Optional, Sequence
+from typing import Callable, Iterator, Mapping, NamedTuple, Optional, Sequence
 
 from rvlook.access.fields import WindowFields
 from rvlook.finders.inputs.code import Code
@@ -31,16 +31,14 @@ SHARE = 16  # runs from one trace before those of the next
 AHEAD = 2  # runs that are started before the one that is traced is complete
 
 
-@dataclass(frozen=True)
-class TracerKnowledge:
+class TracerKnowledge(NamedTuple):
     """The knowledge of a tracer before some runs."""
     pcs: frozenset[int]  # of decoded instructions
     contexts: int  # their number
     frames: Mapping[int, int]  # sp of each context
 
 
-@dataclass(frozen=True)
-class News:
+class News(NamedTuple):
     """The knowledge that a tracer has gained in a run."""
     code: Mapping[int, Code]  # decoded instructions, by pc
     contexts: Sequence[tuple[int, int, bool]]  # caller's context, pc of the call, whether a trap

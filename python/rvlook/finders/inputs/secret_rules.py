@@ -176,8 +176,7 @@ def first_difference(one: Trace, two: Trace) -> int:
 
 # ---- states that are given again
 
-@dataclass(frozen=True)
-class Older:
+class Older(NamedTuple):
     """An older state that the host gives again."""
     change: Change  # gives the state
     visit: int  # the activation that gets the state, from 0

@@ -33,8 +33,7 @@ class Change(NamedTuple):
 Changes = Tuple[Change, ...]
 
 
-@dataclass(frozen=True)
-class TraceVisit:
+class TraceVisit(NamedTuple):
     """An activation in a trace."""
     first: int  # index of its first step
     last: Optional[int] = None  # index of its last step; None if the trace ends inside
@@ -117,8 +116,9 @@ class Trace:
 
     def following(self, index: int) -> int:
         """Returns the pc after a step of the enclave, or LEFT if the enclave leaves with it."""
-        if index in [it.last for it in self.visits]:
-            return LEFT
+        for it in self.visits:
+            if it.last == index:
+                return LEFT
         return self.pcs[index + 1] if index + 1 < len(self.pcs) else self.next_pc
 
     @property
@@ -137,8 +137,7 @@ def runs_of(content: Mapping[int, int]) -> Iterator[tuple[int, bytes]]:
             start = n
 
 
-@dataclass(frozen=True)
-class TraceProbe:
+class TraceProbe(NamedTuple):
     """Commands of a trace, and where they are sent."""
     at: int  # index of a step of the trace
     position: int  # steps of the run before the commands

@@ -1,16 +1,18 @@
 """Traces an enclave with changed inputs.
 
 A run is replayed at full speed up to the changed input. From there it is first expected to take the steps of its parent: one list of commands reads
-the registers of loads and stores, and the pc after each branch. At the first reply that differs, single steps show the new path, and a second process
-reads the registers. If the new path joins that of the parent, the run follows it again."""
+the registers of loads and stores, and the pc after each branch. At the first reply that differs, single steps show the new path: the first few with
+all registers, since most paths join that of the parent soon. After these a second process reads the registers. If the new path joins that of the
+parent, the run follows it again."""
 from __future__ import annotations
 
 from array import array
 from bisect import bisect_left
-from collections import defaultdict
+from collections import defaultdict, deque
+from contextlib import ExitStack
 from dataclasses import dataclass
 from functools import lru_cache
-from itertools import compress
+from itertools import chain, compress
 from typing import Iterator, Mapping, Optional, Sequence, Set, Tuple
 
 from rvlook.errors import Unfinished
@@ -23,7 +25,7 @@ from rvlook.protocol.run import EQUAL, Run, equal_at_end
 from rvlook.protocol.stretch import SHARED
 from rvlook.protocol.timeline import Timeline
 
-FIRST_CHUNK, LAST_CHUNK = 256, 8192  # single steps of the first exchange, and of an exchange at most
+FEW, FIRST_CHUNK, LAST_CHUNK = 32, 256, 8192  # single steps of the first exchange, of the second one, and of an exchange at most
 MORE = 8000  # steps of a run beyond twice those up to the last one of the enclave in the run itself
 ROUND, REGISTERS = 256, 33  # the most steps of a loop that waits for the host; lines of `regs`
 PATIENCE, PART = 1000000, 50000  # steps in which an enclave must return, and steps after which this is checked
@@ -33,6 +35,8 @@ ENDED_BY = {0: "exit", 1: "stop", 2: "timer"}
 PLAIN = b"why=done trap=-"
 MOVES = (Kind.CALL, Kind.INDIRECT, Kind.RETURN, Kind.TRAP_RETURN)  # instructions that may change the context
 MASK = 0xFFFFFFFF
+ALL = b"regs\n"  # the command that reads all registers
+A0, A1 = 10, 11  # numbers of registers
 Joined = Tuple[int, int]  # an index of the parent, and the position of the run
 
 
@@ -198,10 +202,9 @@ class Tracer:
             probes = Probes(list(each_probe(parent, self.code, self.enclave)))
             text, counts = [], []
             with self.with_changes(parent.changes).replay() as replay:
-                for it in probes.probes:
-                    lines = advance(replay, it.position) or b"reg 0\n"
-                    counts.append(lines.count(b"\n"))
-                    text += [lines, it.question]
+                for it, lines in zip(probes.probes, advances(replay, [it.position for it in probes.probes])):
+                    counts.append(lines.count(b"\n") or 1)
+                    text += [lines or b"reg 0\n", it.question]
                 block = iter(replay.bench.block(b"".join(text), sum(counts) + len(probes.owners) - len(counts)).split(b"\n"))
             for number, (probe, count) in enumerate(zip(probes.probes, counts)):
                 place = [next(block) for _ in range(count)][-1]
@@ -217,17 +220,22 @@ class Tracer:
         """Adds the steps of a run from a position on to its trace: up to its end, to the limit, or to where it joins another trace after an index.
         Returns where it joins the other trace, or None."""
         begin = at = len(trace)
-        with run.replay() as leader, run.replay() as reader:
+        with ExitStack() as benches:
+            leader = reader = benches.enter_context(run.replay())
             pc, is_own = self.go(leader, position)
-            reader.bench.replies_to(reader.lines_to(position))
-            chunk, trace.end = FIRST_CHUNK, ""
+            chunk, trace.end = FEW, ""
             ways = ways_of(*other) if other else {}
             while not trace.end:
-                count = max(1, min(chunk, self.limit - leader.position))
-                part = self.part_of(single_steps(leader, count), self.own, pc, is_own)
+                count, first = max(1, min(chunk, self.limit - leader.position)), leader.position + 1
+                block, states = steps_with_registers(leader, count) if chunk == FEW else (single_steps(leader, count), [])
+                part = self.part_of(block, self.own, pc, is_own)
                 pc, is_own = part.next_pc, part.after[-1]
-                self.add(trace, part, leader.position - count + 1, reader)
-                trace.next_pc, chunk = pc, min(2 * chunk, LAST_CHUNK)
+                if part.inside:
+                    if reader is leader and (chunk > FEW or not self.code.keys() >= set(part.own)):
+                        reader = benches.enter_context(run.replay())  # new code is decoded before the steps: they may end with a destroy
+                    self.mark(part, first, reader)
+                    self.add(trace, part, first, iter(self.values_in(part, states) if states else self.registers(reader, part, first)))
+                trace.next_pc, chunk = pc, FIRST_CHUNK if chunk == FEW else min(2 * chunk, LAST_CHUNK)
                 joined = self.joined(trace, at, other[0], ways) if other else None
                 if joined:
                     trace.new.append((begin, len(trace)))
@@ -241,10 +249,10 @@ class Tracer:
     @staticmethod
     def joined(trace: Trace, begin: int, parent: Trace, ways: Mapping[bytes, Sequence[int]]) -> Joined | None:
         """Returns where the new steps of a trace join another's, in the same activation, and removes the steps from there on; or None."""
-        pcs = trace.pcs[begin:].tobytes()
-        width = trace.pcs.itemsize
-        for at in range(begin, len(trace) - SAME):
-            for other in ways.get(pcs[(at - begin) * width:(at - begin + SAME) * width], ()):
+        pcs, width = trace.pcs[begin:].tobytes(), trace.pcs.itemsize
+        following = [pcs[n:n + SAME * width] for n in range(0, (len(trace) - SAME - begin) * width, width)]  # the pcs from each step on
+        for at, key in compress(enumerate(following, begin), map(ways.__contains__, following)):
+            for other in ways[key]:
                 if trace.contexts[at] == parent.contexts[other] and trace.visit_at(at) == parent.visit_at(other):
                     position = trace.steps[at] - 1
                     trace.cut(at)
@@ -286,39 +294,43 @@ class Tracer:
                 return True
         return False
 
-    def add(self, trace: Trace, part: TracePart, first: int, reader: Timeline) -> None:
-        """Adds the steps of the enclave in a part to a trace. `first` is the number of the first step of the part."""
-        inside, pcs, tails, starts, plain, begin = part.inside, part.own, part.tails, part.starts, self.own + PLAIN, len(trace)
-        if not inside:
-            return
-        reader.bench.replies_to(reader.lines_to(first + inside[0] - 1))
+    def mark(self, part: TracePart, first: int, reader: Timeline) -> None:
+        """Brings a reader before the first step of the enclave in a part, and marks the steps that need more than a pc. `first` is the number of the
+        first step of the part."""
+        reader.bench.replies_to(reader.lines_to(first + part.inside[0] - 1))
         if self.enclave is None:
             self.enclave = next(it for it in map(enclave_of, reader.bench.ask("enclaves")[0]) if it.slot == self.slot)
         if part.marked is None:
-            self.decode(reader, set(pcs) - self.code.keys())
-            codes = [self.code[pc] for pc in pcs]
-            more = {at for at, tail in enumerate(tails) if tail != plain} | starts
+            self.decode(reader, set(part.own) - self.code.keys())
+            codes, plain = [self.code[pc] for pc in part.own], self.own + PLAIN
+            more = {at for at, tail in enumerate(part.tails) if tail != plain} | part.starts
             more.update(at for at, it in enumerate(codes) if it.kind in MOVES or it.moves_sp or it.is_saving)
             part.marked = [(at, it, at in more, it.is_sp_relative) for at, it in enumerate(codes) if it.probes or at in more]
-        values = iter(self.registers(reader, part, first))
+
+    def add(self, trace: Trace, part: TracePart, first: int, values: Iterator[int]) -> None:
+        """Adds the steps of the enclave in a marked part to a trace. `values` are the registers that these steps need."""
+        assert part.marked is not None
+        inside, starts, begin = part.inside, part.starts, len(trace)
         trace.steps.extend([first + n for n in inside])
-        trace.pcs += pcs
+        trace.pcs += part.own
         trace.addresses.frombytes(bytes(4 * len(inside)))
         trace.values.frombytes(bytes(4 * len(inside)))
-        frames = self.contexts.frames
-        addresses = trace.addresses
+        frames, addresses = self.contexts.frames, trace.addresses
         for at, code, is_more, is_sp in part.marked:
             index, address = begin + at, 0
             if at in starts and (not trace.visits or trace.visits[-1].last is not None):
                 trace.visits.append(TraceVisit(index))
-            if code.kind is Kind.LOAD:
-                address = addresses[index] = next(values) + code.offset & MASK
+            if code.kind is Kind.ECALL:
+                trace.values[index], addresses[index] = next(values), next(values)
             elif code.probes:
-                address, value = access_of(code, [next(values) for _ in code.probes])
-                addresses[index], trace.values[index] = address, value or 0
+                address = addresses[index] = next(values) + code.offset & MASK
+                if code.kind is Kind.STORE:
+                    trace.values[index] = next(values) & code.stored_bits
             if is_more or is_sp and frames.get(trace.context) != address - code.offset:
-                trace.contexts.extend([trace.context] * (index + 1 - len(trace.contexts)))
+                context = trace.context
                 self.add_step(trace, part, index, at, values)
+                if trace.context != context:
+                    trace.contexts.extend([context] * (index + 1 - len(trace.contexts)))
         trace.contexts.extend([trace.context] * (len(trace) - len(trace.contexts)))
 
     def decode(self, reader: Timeline, pcs: set[int]) -> None:
@@ -340,19 +352,26 @@ class Tracer:
         """Reads the registers of each step that needs any, and a0 and a1 after each step that leaves."""
         text = part.text
         if not text or reader.future:
-            asked = []
+            asked: list[tuple[int, bytes]] = []  # steps done before a question, and the commands of the question
             for n in part.inside:
                 if part.pcs[n] in self.questions:
                     asked.append((first + n - 1, self.questions[part.pcs[n]]))
                 if not part.after[n]:
                     asked.append((first + n, RESULT))
             if reader.future:
-                text = b"".join([advance(reader, position) + it for position, it in asked])
+                text = b"".join(chain.from_iterable(zip(advances(reader, [position for position, _ in asked]), [it for _, it in asked])))
                 return values_of(reader.bench.block(text, text.count(b"\n")))
             at = [reader.position, *(position for position, _ in asked), first + part.inside[-1]]
             text = part.text = b"".join([step_command(now - before) + it for before, now, (_, it) in zip(at, at[1:], [*asked, (0, b"")])])
         reader.lines_to(first + part.inside[-1])
         return values_of(reader.bench.block(text, text.count(b"\n")))
+
+    def values_in(self, part: TracePart, states: Sequence[Sequence[bytes]]) -> Iterator[int]:
+        """Yields what `registers` returns, from the replies of `regs` before each step of the part and after the last."""
+        for n in part.inside:
+            yield from (int(states[n][number][-8:], 16) for number in self.code[part.pcs[n]].probes)
+            if not part.after[n]:
+                yield from (int(line[-8:], 16) for line in states[n + 1][A0:A1 + 1])
 
     def add_step(self, trace: Trace, part: TracePart, index: int, at: int, values: Iterator[int]) -> None:
         """Adds the trap of a step of the enclave, and where it ends an activation or changes the context."""
@@ -389,22 +408,39 @@ def access_of(code: Code, values: Sequence[int]) -> tuple[int, int | None]:
     address = (values[0] + code.offset) & MASK
     if code.kind is not Kind.STORE:
         return address, 0
-    return address, values[1] & (1 << 8 * code.width) - 1 if len(values) > 1 else None
+    return address, values[1] & code.stored_bits if len(values) > 1 else None
 
 
-def advance(replay: Timeline, position: int) -> bytes:
-    """Returns the commands that bring a replay to a position."""
-    return "".join(it + "\n" for it in replay.lines_to(position)).encode()
+def advances(replay: Timeline, positions: Sequence[int], has_next: bool = False) -> Iterator[bytes]:
+    """Yields the commands that bring a replay to each of these positions, one after another; with `has_next` also those before the next step."""
+    at, left = replay.position, 0  # `left`: steps of a command that are not yet done
+    lines = deque(replay.lines_to(positions[-1]) + (replay.lines_up_to_next() if has_next else []) if positions else ())
+    for position in positions:
+        text = []
+        while at < position or has_next and not left and lines and not lines[0].startswith("step "):
+            if left:
+                done = min(left, position - at)
+                text.append(step_command(done))
+                at, left = at + done, left - done
+            elif lines[0].startswith("step "):
+                left = int(lines.popleft()[5:])
+            else:
+                text.append(lines.popleft().encode() + b"\n")
+        yield b"".join(text)
+
+
+def steps_with_registers(replay: Timeline, count: int) -> tuple[bytes, list[list[bytes]]]:
+    """Does single steps; returns the replies to them, and the replies of `regs` before each of them and after the last."""
+    lines = replay.lines_to(replay.position + count)
+    text = ALL + b"".join([(b"step 1\n" + ALL) * int(line[5:]) if line.startswith("step ") else line.encode() + b"\n" for line in lines])
+    replies = replay.bench.block(text, text.count(b"\n") + (REGISTERS - 1) * (1 + count)).split(b"\n")
+    steps = [n for n, it in enumerate(replies) if it.startswith(b"ran ")]
+    return b"".join([replies[n] + b"\n" for n in steps]), [replies[n:n + REGISTERS] for n in (0, *(n + 1 for n in steps))]
 
 
 def single_steps(replay: Timeline, count: int) -> bytes:
     """Does single steps; returns the replies to them."""
-    commands: list[str] = []
-    done = 0
-    while done < count and replay.future:
-        commands += replay.lines_to(replay.position + 1)
-        done += 1
-    replay.lines_to(replay.position + count - done)
-    text = "".join(it + "\n" for it in commands).encode() + b"step 1\n" * (count - done)
-    block = replay.bench.block(text, len(commands) + count - done)
-    return b"".join([it for it in block.splitlines(keepends=True) if it.startswith(b"ran ")]) if commands else block
+    lines = replay.lines_to(replay.position + count)
+    text = b"".join([b"step 1\n" * int(line[5:]) if line.startswith("step ") else line.encode() + b"\n" for line in lines])
+    block = replay.bench.block(text, text.count(b"\n"))
+    return b"".join([it for it in block.splitlines(keepends=True) if it.startswith(b"ran ")]) if len(lines) > 1 else block

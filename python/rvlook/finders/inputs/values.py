@@ -16,7 +16,7 @@ from rvlook.access.fields import WindowFields
 from rvlook.finders.inputs.code import A0, Code, Kind
 from rvlook.finders.inputs.objects import Objects
 from rvlook.finders.inputs.trace import Change, Changes, Trace, TraceVisit, runs_of
-from rvlook.finders.inputs.tracer import Tracer, advance
+from rvlook.finders.inputs.tracer import Tracer, advances
 from rvlook.protocol.memory_map import RAM_BASE
 
 SOURCES_BACK, DEEPEST = 64, 4  # steps that are searched, and instructions that are followed, back to where a register comes from
@@ -54,11 +54,10 @@ class DetailReader:
         questions = list(self.questions(trace))
         with self.tracer.with_changes(trace.changes).replay() as replay:
             text, count = [], 0
-            for index, lines in questions:
-                step = advance(replay, trace.steps[index] - 1)
-                ahead = "".join(it + "\n" for it in replay.lines_up_to_next()).encode()
-                text += [step, ahead, lines]
-                count += step.count(b"\n") + ahead.count(b"\n") + lines.count(b"\n")
+            steps = advances(replay, [trace.steps[index] - 1 for index, _ in questions], has_next=True)
+            for step, (_, lines) in zip(steps, questions):
+                text += [step, lines]
+                count += step.count(b"\n") + lines.count(b"\n")
             replies = [it for it in replay.bench.block(b"".join(text), count).split(b"\n") if it[:1] in (b"x", b"8") or it[8:9] == b":"]
         return self.details(trace, questions, replies)
 
