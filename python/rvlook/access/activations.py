@@ -172,20 +172,22 @@ def extend(activation: Activation, part: Stretch, reads: Reads[MemoryOperand]) -
     columns, begin_at = part.columns, len(activation.pcs)
     activation.pcs.extend(map(pc_and_mode, columns.pcs, columns.modes))
     activation.steps.extend(range(part.first, part.first + part.count))
-    activation.traps.update((begin_at + n, it) for n, it in enumerate(columns.traps) if it != NO_TRAP)
-    for n, operation in operations_of(part, reads):
-        activation.operations.append(operation)
-        activation.operations_at.append(begin_at + n)
+    if columns.traps.count(NO_TRAP) < part.count:
+        activation.traps.update([(begin_at + n, it) for n, it in enumerate(columns.traps) if it != NO_TRAP])
+    found = operations_of(part, reads)
+    activation.operations += found
+    activation.operations_at.extend([begin_at - part.first + it.step for it in found])
 
 
-def operations_of(part: Stretch, reads: Reads[MemoryOperand]) -> Iterator[tuple[int, Operation]]:
-    """Yields the operations of steps, with the index of each."""
-    pcs, traps, values, first = part.columns.pcs, part.columns.traps, reads.values, part.first
-    for n, (kind, width, _, offset, _), at in zip(reads.indices, reads.items, reads.starts):
-        trap, pc = traps[n], number_of(pcs[n])
+def operations_of(part: Stretch, reads: Reads[MemoryOperand]) -> list[Operation]:
+    """Returns the operations of steps."""
+    found, values, first = [], reads.values, part.first
+    pcs, traps = (map(column.__getitem__, reads.indices) for column in (part.columns.pcs, part.columns.traps))
+    for n, pc, trap, (kind, width, _, offset, _), at in zip(reads.indices, map(number_of, pcs), traps, reads.items, reads.starts):
         if kind == "d":
             if trap == NO_TRAP:
-                yield n, Operation(first + n, pc, kind, address=0, width=0, values=(values[at], values[at + 1]), done=True)
+                found.append(Operation(first + n, pc, kind, address=0, width=0, values=(values[at], values[at + 1]), done=True))
         elif trap == NO_TRAP or trap[:8].decode() in names.ACCESS_FAULTS:
             stored = values[at + 1].to_bytes(4, "little")[:width] if kind == "w" else b""
-            yield n, Operation(first + n, pc, kind, values[at] + offset & 0xFFFFFFFF, width, stored, trap == NO_TRAP)
+            found.append(Operation(first + n, pc, kind, values[at] + offset & 0xFFFFFFFF, width, stored, trap == NO_TRAP))
+    return found

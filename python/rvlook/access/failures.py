@@ -287,8 +287,7 @@ def failure_object(failure: Failure, symbols: Symbols) -> dict[str, Json]:
             "count": failure.count}
 
 
-@dataclass(frozen=True)
-class Expectation:
+class Expectation(NamedTuple):
     """A failure that the user expects."""
     text: str  # as the user wrote it
     name: str  # of a cause or of a status; empty: any

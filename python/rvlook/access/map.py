@@ -5,8 +5,7 @@ from __future__ import annotations
 
 import re
 from bisect import bisect_right
-from dataclasses import dataclass
-from typing import Iterator, Optional, Sequence
+from typing import Iterator, NamedTuple, Optional, Sequence
 
 from rvlook.access.failures import Failure, refused_call
 from rvlook.access.ranges import Range, Verdicts, derived_rights, meaning, table_boundaries, verdicts_of
@@ -21,8 +20,7 @@ CALLED = re.compile(rb"trap=(?:00000009|80000007):")
 ENTRY_WRITTEN = re.compile(rb" csrr\w+ x\d+, 0x3[ab][0-9a-f],")  # pmpcfg0 to pmpaddr15, by the text of dis
 
 
-@dataclass(frozen=True)
-class Column:
+class Column(NamedTuple):
     """A world whose access rights are shown."""
     name: str  # of the column
     world: str
@@ -34,16 +32,14 @@ class Column:
         return self.hart is None
 
 
-@dataclass(frozen=True)
-class Row:
+class Row(NamedTuple):
     """A range of RAM with the access rights to it."""
     range: Range
     what: str  # its meaning; empty on the bare bench
     may: dict[str, dict[str, str]]  # rights by column and mode
 
 
-@dataclass(frozen=True)
-class Event:
+class Event(NamedTuple):
     """A change of access rights, and the rights after it."""
     step: int  # number of the step that changed them; 0 for the reset
     hart: int  # that did the step
@@ -59,16 +55,14 @@ class Event:
     rows: tuple[Row, ...]  # of the ranges of RAM
 
 
-@dataclass(frozen=True)
-class RightsState:
+class RightsState(NamedTuple):
     """The state that decides access rights."""
     entries: tuple[tuple[str, ...], ...]  # for each hart the replies of `pmp`
     worlds: tuple[str, ...]  # of each hart
     enclaves: tuple[Enclave, ...]  # the enclave table
 
 
-@dataclass(frozen=True)
-class Cause:
+class Cause(NamedTuple):
     """The cause of an event. The fields that do not apply are None."""
     name: str  # reset, pmp, timer, or the name of a call
     slot: Optional[int] = None  # of the enclave

@@ -2,8 +2,7 @@
 the enclave table gives them."""
 from __future__ import annotations
 
-from dataclasses import dataclass
-from typing import Iterable, Sequence
+from typing import Iterable, NamedTuple, Sequence
 
 from rvlook.protocol.bench import Bench
 from rvlook.protocol.memory_map import MONITOR_END, RAM_BASE
@@ -14,15 +13,13 @@ TOR, NA4, NAPOT = 1, 2, 3  # values of the field A of pmpcfg
 NOTHING, ALL, DATA = "---", "rwx", "rw-"  # access rights
 
 
-@dataclass(frozen=True)
-class Range:
+class Range(NamedTuple):
     """A range of addresses."""
     first: int  # the first byte
     end: int  # the byte after the last one
 
 
-@dataclass(frozen=True)
-class Verdicts:
+class Verdicts(NamedTuple):
     """The access rights to a range."""
     range: Range
     may: dict[str, str]  # by mode, such as `rw-`

@@ -3,8 +3,7 @@
 A trap inside M, an access under MPRV or an early return would meet such a state."""
 from __future__ import annotations
 
-from dataclasses import dataclass
-from typing import Iterator, Optional, Sequence
+from typing import Iterator, NamedTuple, Optional, Sequence
 
 from rvlook.access.map import Event, events
 from rvlook.access.map_text import changed_rows, row_at
@@ -18,16 +17,14 @@ from rvlook.protocol.stretch import Stretch
 from rvlook.protocol.symbols import Symbols
 
 
-@dataclass(frozen=True)
-class Transient:
+class Transient(NamedTuple):
     """A range that S may access only while M runs."""
     event: Event  # opened it
     range: Range
     may: str  # the rights that S has neither before nor after
 
 
-@dataclass(frozen=True)
-class Return:
+class Return(NamedTuple):
     """A return from M."""
     step: int  # its number
     pc: str  # where S or U continues

@@ -13,7 +13,8 @@ from __future__ import annotations
 import re
 from dataclasses import dataclass, field
 from functools import lru_cache
-from typing import Container, NamedTuple, Optional, Sequence
+from itertools import groupby
+from typing import Container, Iterator, NamedTuple, Optional, Sequence
 
 from rvlook.errors import warn
 from rvlook.output.findings import ReportedCases
@@ -88,11 +89,9 @@ class Pointers:
         """Returns whether an operand of a computation is a pointer into the stack."""
         return any(self.is_pointer(register) for register in operation.sources)
 
-    def compute(self, operation: PointerOperation) -> None:
-        """Takes the effect of an instruction that accesses no memory."""
-        writes, (one, two), (first, second), _, _, _, is_upper = operation
-        registers = self.registers
-        registers[writes] = first * registers[one] + second * registers[two] if writes != SP else int(not is_upper)
+    def set_stack_pointer(self, operation: PointerOperation) -> None:
+        """Takes the effect of an instruction that writes sp and accesses no memory. A constant is no pointer into the stack."""
+        self.registers[SP] = int(not operation.is_upper)
 
     def access(self, memory: MemoryOperand, address: int) -> None:
         """Takes the effect of an access to an address. A load into sp makes it a pointer into the stack."""
@@ -150,6 +149,16 @@ def kind_of(world: str, mode: str, kinds: Container[str] = ()) -> str | None:
     return "runtime" if mode == "S" else "application"
 
 
+class Part(NamedTuple):
+    """Steps of a stretch with equal world, mode and trap."""
+    stretch: Stretch
+    begin: int  # index of the first step in the stretch
+    end: int  # index after the last step
+    world: bytes  # before each step
+    kind: Optional[str]  # of the stack that the world uses; None if it is not known
+    trap: bytes  # of each step, a hyphen without a trap
+
+
 class OverflowFinder:
     """Finds the first overflow of each kind of stack."""
 
@@ -161,32 +170,58 @@ class OverflowFinder:
         self.kinds: dict[tuple[bytes, bytes], Optional[str]] = {}  # of stack, by world and mode
 
     def take(self, stretch: Stretch, reads: Reads[PointerOperation]) -> None:
-        """Checks steps of one hart, one after another."""
-        columns, world = stretch.columns, b""
+        """Checks steps of one hart, one after another, in parts with equal world, mode and trap."""
+        columns, world, at = stretch.columns, b"", 0
         values = map(reads.values.__getitem__, reads.starts)
         decoded = {line: operation_of(line) for line in set(reads.lines)}
-        steps = zip(columns.pcs, columns.modes, columns.worlds, columns.traps, map(decoded.__getitem__, reads.lines))
-        for at, (pc, mode, now, trap, operation) in enumerate(steps):
+        operations = list(map(decoded.__getitem__, reads.lines))
+        for (now, mode, trap), steps in groupby(zip(columns.worlds, columns.modes, columns.traps)):
             if now != world:
                 world = now
-                pointers = self.enter(stretch.hart, world.decode(), int(pc, 16))
-            if trap != NO_TRAP:
-                if trap.startswith(TIMER) if operation else columns.after[at] != world:
-                    self.left_at[world.decode()] = int(pc, 16)
-                if trap.startswith(CALL):
-                    pointers.answer()
+                pointers = self.enter(stretch.hart, world.decode(), int(columns.pcs[at], 16))
+            part = Part(stretch, at, at + len(list(steps)), world, self.kind(world, mode), trap)
+            if trap == NO_TRAP:
+                self.follow(part, operations, values, pointers)
+            else:
+                self.take_traps(part, operations, values, pointers)
+            at = part.end
+
+    def follow(self, part: Part, operations: Sequence[Optional[PointerOperation]], values: Iterator[int], pointers: Pointers) -> None:
+        """Checks the steps of a part without traps, and follows the pointers."""
+        registers = pointers.registers
+        for at, operation in enumerate(operations[part.begin:part.end], part.begin):
             if operation is None:
                 continue
-            memory = operation.memory
-            value = 0 if operation.register is None else next(values)
-            address = value + memory.offset & MASK if memory else value
-            if (operation.writes == SP or operation.is_store) and not trap.startswith(TIMER):
-                kind = self.kind(now, mode)
-                if kind and self.is_outside(kind, operation, pointers, address):
-                    self.found[kind] = Overflow(stretch.first + at, stretch.hart, now.decode(), int(pc, 16), operation.is_store, address,
-                                                self.nearest(kind, address))
-            if trap == NO_TRAP:
-                pointers.access(memory, address) if memory else pointers.compute(operation)
+            writes, (one, two), (first, second), memory, register, is_store, _ = operation
+            if register is None:
+                registers[writes] = first * registers[one] + second * registers[two]
+                continue
+            address = next(values) + memory.offset & MASK if memory else next(values)
+            if is_store or writes == SP:
+                self.check(part, at, operation, pointers, address)
+            pointers.access(memory, address) if memory else pointers.set_stack_pointer(operation)
+
+    def take_traps(self, part: Part, operations: Sequence[Optional[PointerOperation]], values: Iterator[int], pointers: Pointers) -> None:
+        """Checks the steps of a part that trapped. None of them has an effect on the pointers, but the answer to a call has."""
+        columns, is_timer = part.stretch.columns, part.trap.startswith(TIMER)
+        for at in range(part.begin, part.end):
+            operation = operations[at]
+            if is_timer if operation else columns.after[at] != part.world:
+                self.left_at[part.world.decode()] = int(columns.pcs[at], 16)
+            if part.trap.startswith(CALL):
+                pointers.answer()
+            if operation is None or operation.register is None:
+                continue
+            address = next(values) + operation.memory.offset & MASK if operation.memory else next(values)
+            if (operation.is_store or operation.writes == SP) and not is_timer:
+                self.check(part, at, operation, pointers, address)
+
+    def check(self, part: Part, at: int, operation: PointerOperation, pointers: Pointers, address: int) -> None:
+        """Adds a write of sp or a store, if it uses a stack outside its range."""
+        if part.kind and self.is_outside(part.kind, operation, pointers, address):
+            stretch, pc = part.stretch, int(part.stretch.columns.pcs[at], 16)
+            self.found[part.kind] = Overflow(stretch.first + at, stretch.hart, part.world.decode(), pc, operation.is_store, address,
+                                             self.nearest(part.kind, address))
 
     def enter(self, hart: int, world: str, pc: int) -> Pointers:
         """Returns the pointers of a world that continues at pc. If an enclave is entered elsewhere than where it left, only sp is a pointer."""

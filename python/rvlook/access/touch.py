@@ -86,8 +86,7 @@ class Counting:
         return every
 
 
-@dataclass(frozen=True)
-class AccessKind:
+class AccessKind(NamedTuple):
     """Accesses of a world of one kind."""
     world: str  # on the bare bench it may be a mode
     kind: str  # r, w or x
@@ -102,8 +101,7 @@ class Touched:
     count: int  # number of accesses
 
 
-@dataclass(frozen=True)
-class Permitted:
+class Permitted(NamedTuple):
     """A range that a world may access, and which part it accessed."""
     what: str  # its meaning
     range: Range
