@@ -82,8 +82,17 @@ def drop(stream: TextIO) -> None:
 
 
 def run() -> NoReturn:
-    """Runs rvlook with the arguments of this process, and ends it with the exit status."""
-    sys.exit(main(sys.argv[1:]))
+    """Runs rvlook with the arguments of this process, and ends it with the exit status. Python frees no objects then, which takes up to a tenth of
+    the time. After a run with --jobs, Python ends as usual, so that it waits for the other processes."""
+    status = main(sys.argv[1:])
+    if "multiprocessing" in sys.modules:
+        sys.exit(status)
+    for stream in filter(None, (sys.stdout, sys.stderr)):
+        try:
+            stream.flush()
+        except OSError:
+            status = status or UNFINISHED
+    os._exit(status)
 
 
 if __name__ == "__main__":

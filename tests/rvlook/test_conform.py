@@ -1,5 +1,4 @@
 """`conform`: the example monitor is alike, each field that can differ is reported as itself, and the exit statuses and outputs."""
-import dataclasses
 import re
 
 import pytest
@@ -56,7 +55,7 @@ def observed(**changes):
     lines = ["x%d=%08x" % (n, n) for n in range(32)] + ["pc=80010000"] + ["csr 100=%08x" % n for n, _ in enumerate(BELOW)]
     entries = "\n".join("pmp %d cfg=%s addr=%08x" % (n, "1f" if n == 15 else "00", 0xFFFFFFFF if n == 15 else 0) for n in range(16)).encode()
     whole = SideState(0x80010000, "S", "-", "host", "\n".join(lines).encode(), (0, 0, 0, 0, 0, 0), entries)
-    return dataclasses.replace(whole, **changes)
+    return whole._replace(**changes)
 
 
 def setup_like(is_exact=False):

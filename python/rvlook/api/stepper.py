@@ -1,7 +1,6 @@
 """Moves a machine forward: to a breakpoint, a watched byte, an endless loop or a limit, by one hart or by a schedule of two."""
 from __future__ import annotations
 
-from dataclasses import replace
 from itertools import chain, islice
 from typing import Dict, Iterable, Iterator, List, NamedTuple, Optional, Sequence, Tuple
 
@@ -153,11 +152,11 @@ class Stepper(Closing):
                     break
                 continue
             if ran.why == "break" or int(ran.pc, 16) in places:  # a `run` whose last step leads to a breakpoint replies `done`
-                ran = replace(ran, why="break")
+                ran = ran._replace(why="break")
                 break
             turns, part = turns + 1, part * MORE
             if self.is_halted(ran, is_long or turns % TURNS == 0):
-                ran = replace(ran, why="halted")
+                ran = ran._replace(why="halted")
                 break
         self.read_consoles()
         return ran

@@ -25,7 +25,7 @@ import sys
 import tempfile
 from dataclasses import dataclass
 from pathlib import Path
-from typing import Any, List, NoReturn, Sequence
+from typing import Any, List, NamedTuple, NoReturn, Sequence
 
 from rvlook.build.linking import Script, install_file, install_outputs, link, report_lacking, report_stacks
 from rvlook.build.objects import Workshop
@@ -49,8 +49,7 @@ class Request:
     kept: str = ""  # the file of the ELF; empty: the default
 
 
-@dataclass(frozen=True)
-class Folders:
+class Folders(NamedTuple):
     """The absolute paths of the folders."""
     folder: str  # of the sources
     monitor: str  # empty without a monitor

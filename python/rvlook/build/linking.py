@@ -3,9 +3,8 @@ from __future__ import annotations
 
 import os
 import re
-from dataclasses import dataclass
 from pathlib import Path
-from typing import Iterator, Sequence, Tuple
+from typing import Iterator, NamedTuple, Sequence, Tuple
 
 from rvlook.build.objects import NamedSymbol, Workshop, symbols_in
 from rvlook.build.toolchain import BuildError, output_of, printable, run
@@ -27,8 +26,7 @@ CODE = re.compile(r"[0-9a-f]+:")
 DEBUGGING = "N"  # the kind of a symbol that nm shows and no program has
 
 
-@dataclass(frozen=True)
-class Script:
+class Script(NamedTuple):
     """The linker scripts of a program."""
     options: Tuple[str, ...]  # for the linker
     name: str  # of the script that a message names

@@ -4,8 +4,7 @@ from __future__ import annotations
 import os
 import shutil
 import subprocess
-from dataclasses import dataclass
-from typing import Sequence, Tuple
+from typing import NamedTuple, Sequence, Tuple
 
 from rvlook.errors import RvlookError
 from rvlook.escapes import visible
@@ -20,8 +19,7 @@ class BuildError(RvlookError):
     status = 1  # the exit status
 
 
-@dataclass(frozen=True)
-class Toolchain:
+class Toolchain(NamedTuple):
     """The commands of a toolchain, each with its fixed arguments. The first word is the path of a program."""
     compile: Tuple[str, ...]  # a source to an object
     link: Tuple[str, ...]  # objects to an ELF file

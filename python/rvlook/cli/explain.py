@@ -5,9 +5,8 @@ import re
 import subprocess
 import sys
 from argparse import Namespace
-from dataclasses import dataclass
 from difflib import get_close_matches
-from typing import Iterable, Optional, Sequence
+from typing import Iterable, NamedTuple, Optional, Sequence
 
 from rvlook.errors import RvlookError, Unfinished
 from rvlook.image.files import MOST_LINES, bounded, read_file
@@ -19,8 +18,7 @@ from rvlook.protocol.commands import COMMANDS, input_error, line_error
 MOST_ERRORS = 10000  # errors of an input that are explained
 
 
-@dataclass(frozen=True)
-class Explained:
+class Explained(NamedTuple):
     """An error of an input."""
     line: int  # its number; 0 for the whole input
     text: str  # of the line

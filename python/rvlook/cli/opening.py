@@ -2,8 +2,7 @@
 from __future__ import annotations
 
 from argparse import Namespace
-from dataclasses import fields
-from typing import Any, Callable, Iterable, TypeVar, cast
+from typing import Callable, Iterable, TypeVar
 
 from rvlook.errors import UsageError, note, warn
 from rvlook.image.detect import has_compressed, lacking_texts, reason_for_monitor
@@ -89,9 +88,9 @@ def refuse_json(arguments: Namespace, option: str) -> None:
 
 
 def options_from(kind: Callable[..., Options], arguments: Namespace, **others: object) -> Options:
-    """Returns the options of a subcommand, a dataclass: each has the value of the argument of its name, its default if that is None, or the value in
-    `others`."""
-    given = {it.name: getattr(arguments, it.name) for it in fields(cast(Any, kind)) if it.name not in others}
+    """Returns the options of a subcommand. Each field of `kind` has the value of the argument of its name, its default if that is None, or the value
+    in `others`."""
+    given = {name: getattr(arguments, name) for name in kind.__annotations__ if name not in others}
     return kind(**{name: value for name, value in given.items() if value is not None}, **others)
 
 

@@ -9,7 +9,7 @@ from bisect import bisect_left
 from collections import defaultdict
 from contextlib import closing
 from dataclasses import dataclass
-from typing import Any, Iterator, Mapping, Optional, Sequence
+from typing import Any, Iterator, Mapping, NamedTuple, Optional, Sequence
 
 from rvlook.access.activations import Activation, Activations, Operation
 from rvlook.errors import Unfinished
@@ -41,8 +41,7 @@ class Observation:
     is_cut: bool = False  # by --steps, before the enclave exited
 
 
-@dataclass(frozen=True)
-class Public:
+class Public(NamedTuple):
     """The permitted differences, of --public."""
     answer: bool = False  # whether the results may differ
     ranges: tuple[tuple[int, int], ...] = ()  # address and size: of bytes of the window, or of instructions
@@ -106,26 +105,26 @@ class Comparison:
 
     def compare_steps(self, one: Activation, two: Activation) -> None:
         """Compares two activations step by step, and after a divergence from where they converge again."""
-        theirs = dict(zip(two.operations_at, two.operations))
-        x = y = 0
+        second_operations = dict(zip(two.operations_at, two.operations))  # by index of their steps
+        x = y = 0  # indices of the next steps, in `one` and `two`
         while x < len(one.pcs) and y < len(two.pcs):
             same = common_length(one, x, two, y)
-            for index in range(bisect_left(one.operations_at, x), bisect_left(one.operations_at, x + same)):
-                other = theirs.get(one.operations_at[index] - x + y)
-                if other is not None and other != one.operations[index]:
-                    self.access(one.operations[index], other, one.enclave)
+            for number in range(bisect_left(one.operations_at, x), bisect_left(one.operations_at, x + same)):
+                first, second = one.operations[number], second_operations.get(one.operations_at[number] - x + y)
+                if second is not None and first != second:
+                    self.access(first, second, one.enclave)
             x, y = x + same, y + same
             if x == len(one.pcs) and y == len(two.pcs):
                 return
-            x, y = self.diverge(one, x, two, y, theirs)
+            x, y = self.diverge(one, x, two, y, second_operations)
 
-    def diverge(self, one: Activation, x: int, two: Activation, y: int, theirs: Mapping[int, Operation]) -> tuple[int, int]:
+    def diverge(self, one: Activation, x: int, two: Activation, y: int, second_operations: Mapping[int, Operation]) -> tuple[int, int]:
         """Adds the step by which two runs diverge before x and y; returns where they are compared again. If the pcs at x and y are equal, this
         step is the next one: it traps in one run only, or has another trap in the other. Then compares its access too."""
         if x < len(one.pcs) and y < len(two.pcs) and one.pcs[x] == two.pcs[y]:
-            mine, other = operation_at(one, x), theirs.get(y)
-            if mine and other:
-                self.access(mine, other, one.enclave)
+            first, second = operation_at(one, x), second_operations.get(y)
+            if first and second:
+                self.access(first, second, one.enclave)
             self.add("pc", (one.steps[x], two.steps[y]), (), one.pcs[x] & -4)
             x, y = x + 1, y + 1
             return (x, y) if one.pcs[x:x + 1] == two.pcs[y:y + 1] else convergence(one, x, two, y)
@@ -133,16 +132,16 @@ class Comparison:
         self.add("pc", steps, (), one.pcs[max(0, x - 1)] & -4)
         return convergence(one, x, two, y)
 
-    def access(self, mine: Operation, theirs: Operation, enclave: Enclave) -> None:
-        """Compares what two corresponding steps did."""
-        steps = mine.step, theirs.step
-        if mine.kind == "d":
-            if mine.values != theirs.values:
-                self.add("operand", steps, tuple("%08x and %08x" % it.values for it in (mine, theirs)), mine.pc)
-        elif mine.address != theirs.address:
-            self.add("address", steps, tuple((it.kind, it.address) for it in (mine, theirs)), mine.pc)
-        elif mine.kind == "w" and mine.values != theirs.values and self.is_shown(mine, enclave):
-            self.add("window", steps, tuple((it.address, bytes(it.values)) for it in (mine, theirs)), mine.pc)
+    def access(self, first: Operation, second: Operation, enclave: Enclave) -> None:
+        """Compares the operations of two corresponding steps, one of each run."""
+        steps, both = (first.step, second.step), (first, second)
+        if first.kind == "d":
+            if first.values != second.values:
+                self.add("operand", steps, tuple("%08x and %08x" % operation.values for operation in both), first.pc)
+        elif first.address != second.address:
+            self.add("address", steps, tuple((operation.kind, operation.address) for operation in both), first.pc)
+        elif first.kind == "w" and first.values != second.values and self.is_shown(first, enclave):
+            self.add("window", steps, tuple((operation.address, bytes(operation.values)) for operation in both), first.pc)
 
     def is_shown(self, operation: Operation, enclave: Enclave) -> bool:
         """Returns whether a store is to a byte of the window that may not differ."""

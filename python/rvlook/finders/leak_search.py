@@ -2,9 +2,9 @@
 from __future__ import annotations
 
 import time
-from dataclasses import dataclass, field, replace
+from dataclasses import dataclass, field
 from functools import partial
-from typing import Callable, List, Optional, Sequence
+from typing import Callable, List, NamedTuple, Optional, Sequence
 
 from rvlook.errors import RvlookError
 from rvlook.finders.leak import CHANNELS, Comparison, Observation, observe, public_of
@@ -17,8 +17,7 @@ from rvlook.protocol.run import Run
 MOST_GUESSES = 8  # values of the host near which secrets are drawn
 
 
-@dataclass(frozen=True)
-class LeakOptions:
+class LeakOptions(NamedTuple):
     """The options of `leak`."""
     at: str  # the place of the secret
     slot: int = 0  # of the enclave
@@ -60,8 +59,7 @@ class Leak:
         return Comparison(one, two, secret, self.public, self.is_strict)
 
 
-@dataclass(frozen=True)
-class Compared:
+class Compared(NamedTuple):
     """The result of comparing two runs with a pair of secrets."""
     number: int  # of the pair, from 1
     secrets: Sequence[Secret]  # the two secrets
@@ -147,7 +145,7 @@ def task(leak: Leak, own: Secret, base: Observation, pairs: Sequence[Pair], numb
     """Compares a pair, by its index; returns the result, and why an observation ended too early. With several jobs leaves out the runs, which are
     large."""
     pair = try_pair(leak, own, base, pairs[number])
-    return (pair if leak.options.jobs == 1 else replace(pair, found=None, both=())), leak.cut
+    return (pair if leak.options.jobs == 1 else pair._replace(found=None, both=())), leak.cut
 
 
 def guesses_of(base: Observation, size: int) -> list[bytes]:

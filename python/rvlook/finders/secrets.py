@@ -6,7 +6,6 @@ from __future__ import annotations
 import random
 import re
 from contextlib import closing
-from dataclasses import dataclass, replace
 from typing import Iterable, NamedTuple, Optional, Sequence
 
 from rvlook.access.activations import Activations
@@ -28,8 +27,7 @@ Bytes = bytes  # a member of Secret has that name
 LEAST = 4  # bytes of a reported copy; the whole secret if that is shorter
 
 
-@dataclass(frozen=True)
-class Secret:
+class Secret(NamedTuple):
     """Bytes that are poked into memory after a step, or written to a register."""
     slot: int  # of the enclave
     at: int  # the address; 0 for a register
@@ -46,7 +44,7 @@ class Secret:
 
     def with_bytes(self, value: Bytes) -> Secret:
         """Returns the secret with another value."""
-        return replace(self, bytes=value)
+        return self._replace(bytes=value)
 
     def bytes_in(self, run: Run) -> Bytes:
         """Reads the value that the run itself gives."""
@@ -116,8 +114,7 @@ def register_secret(match: re.Match[str], symbols: Symbols, run: Run, slot: int)
     raise Unfinished("the enclave in slot %d never reaches %08x" % (slot, pc))
 
 
-@dataclass(frozen=True)
-class Pair:
+class Pair(NamedTuple):
     """Two secrets to compare."""
     number: int  # from 1
     one: Optional[Bytes]  # None: the secret of the program itself

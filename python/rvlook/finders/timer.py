@@ -27,8 +27,7 @@ ANSWER = ["reg 10", "reg 11"]
 ENDED = ("Exited", "Stopped")  # states after which steps of the host are not compared
 
 
-@dataclass(frozen=True)
-class TimerOptions:
+class TimerOptions(NamedTuple):
     """The options of `timer`."""
     slot: int = 0  # of the enclave
     every: int = 1  # an interrupt comes before every so many steps
@@ -43,16 +42,14 @@ class Inside(NamedTuple):
     answer: tuple[bytes, ...] = ()  # a0 and a1 of the host, as replies, if the enclave leaves; else empty
 
 
-@dataclass(frozen=True)
-class Last:
+class Last(NamedTuple):
     """The end of the comparison in the run without interrupts."""
     step: int  # the last step of the enclave, or of the run if the enclave does not end
     enclave: Enclave  # its entry in the enclave table
     is_cut: bool = False  # whether the enclave was running when --steps ended the run
 
 
-@dataclass(frozen=True)
-class TimerDifference:
+class TimerDifference(NamedTuple):
     """A step of the enclave with another result, or another final state."""
     number: int  # of the step, from 1
     pc: Optional[str]  # hexadecimal digits; None for the final state
@@ -127,8 +124,7 @@ def interrupted(replay: Timeline, steps: Iterator[tuple[int, Inside]], every: in
     return outcome
 
 
-@dataclass(frozen=True)
-class TimerParts:
+class TimerParts(NamedTuple):
     """The run with interrupts, in `jobs` parts with the same number of steps. Another process does each part. It first repeats the earlier parts
     without a comparison."""
     run: Run  # without interrupts

@@ -48,15 +48,13 @@ class SecretCopy(NamedTuple):
         return self.is_secret and not self.is_public
 
 
-@dataclass(frozen=True)
-class ActivationView:
+class ActivationView(NamedTuple):
     """The findings of one activation."""
     found: list[MarkedBytes]  # ranges of the window
     copies: list[SecretCopy]  # of parts of the secret
 
 
-@dataclass(frozen=True)
-class WindowContext:
+class WindowContext(NamedTuple):
     """The names and the public parts that the report of a window needs."""
     symbols: Symbols  # name instructions
     fields: WindowFields  # name offsets in the window
@@ -204,8 +202,7 @@ def copies_of(activation: Activation, other: Activation | None, secret: Secret, 
         yield SecretCopy(copy, is_secret, all(public.has(base + at) or at in writers and public.has(writers[at]) for at in indices))
 
 
-@dataclass(frozen=True)
-class WindowOptions:
+class WindowOptions(NamedTuple):
     """The options of `window`."""
     at: Optional[str] = None  # the place of the secret; None for no secret
     slot: Optional[int] = None  # of the enclave; None: all enclaves

@@ -2,7 +2,7 @@
 step back, and cached for as long as the hart cannot have left the enclave."""
 from __future__ import annotations
 
-from dataclasses import dataclass
+from typing import NamedTuple
 
 from rvlook.gdb.lookahead import blocks_of, query_steps
 from rvlook.gdb.target import SAVED
@@ -13,8 +13,7 @@ FIRST_PART, MORE = 4096, 8  # steps of the first part that is looked through, an
 PC, CALL = 32, 4  # the register pc, and the bytes of an ecall
 
 
-@dataclass(frozen=True)
-class Entered:
+class Entered(NamedTuple):
     """The step that entered the enclave."""
     step: int  # its number
     pc: str  # of the ecall, eight hexadecimal digits

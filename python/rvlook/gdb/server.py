@@ -15,7 +15,7 @@ from rvlook.gdb.link import Gone, Link, escaped, hex_of, little, number_of, unes
 from rvlook.gdb.monitor import CommandLine, Monitor
 from rvlook.gdb.reverse import Back
 from rvlook.gdb.stops import Halt, Watch
-from rvlook.gdb.target import CORE, ENTERED, MEMORY, MODES, PC, PRIV, REGISTERS, TRIPLE, WORLD, WORLDS, target_text, threads_text
+from rvlook.gdb.target import CORE_REGISTERS, ENTERED, MEMORY, MODES, PC, PRIV, REGISTERS, TRIPLE, WORLD, WORLDS, target_text, threads_text
 from rvlook.protocol import names
 from rvlook.protocol.bench import Closing
 from rvlook.protocol.console import consoles_of
@@ -144,13 +144,13 @@ class Server(Closing):
     # registers and memory
 
     def registers(self, _: str = "") -> str:
-        """Replies to g with the values of CORE."""
+        """Replies to g with the values of CORE_REGISTERS."""
         return "".join(map(little, self.moves.view.registers(self.shown)))
 
     def read_register(self, rest: str) -> str:
         """Replies to p with one of REGISTERS."""
         number = number_of(rest)
-        if number < len(CORE):
+        if number < len(CORE_REGISTERS):
             return little(self.moves.view.registers(self.shown)[number])
         if number in (PRIV, WORLD):
             return self.state()[number]

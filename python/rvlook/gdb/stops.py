@@ -3,7 +3,7 @@ watchpoints; this module decides whether they are halts."""
 from __future__ import annotations
 
 from dataclasses import dataclass
-from typing import Any, Callable, Mapping
+from typing import Any, Callable, Mapping, NamedTuple
 
 from rvlook.gdb.conditions import holds
 from rvlook.protocol import names
@@ -34,8 +34,7 @@ class Watch:
         return self.first < first + width and first < self.first + self.count
 
 
-@dataclass(frozen=True)
-class Halt:
+class Halt(NamedTuple):
     """A halt on a hart."""
     hart: int  # its number
     reason: str = ""  # of the protocol; empty for a step, a breakpoint and a signal

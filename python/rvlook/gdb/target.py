@@ -10,10 +10,10 @@ ABI_KINDS = {"ra": "code_ptr", "sp": "data_ptr", "gp": "data_ptr", "tp": "data_p
 ROLES = {"sp": "sp", "s0": "fp", "ra": "ra", "pc": "pc"}  # as lldb has them
 MODES = {"U": 0, "S": 1, "M": 3}
 WORLDS = {**{"e%d" % slot: slot for slot in range(names.LAST_SLOT + 1)}, "host": names.LAST_SLOT + 1, "bare": names.LAST_SLOT + 2}
-CORE = [*names.ABI, "pc"]  # what `regs` shows, in its order
+CORE_REGISTERS = [*names.ABI, "pc"]  # what `regs` shows, in its order
 SAVED = ["ra", "sp", *("s%d" % number for number in range(12))]  # what a function keeps for its caller
 ENTERED = ["host_pc", *("host_" + name for name in SAVED)]  # where the host that entered the enclave goes on, and with what
-REGISTERS = [*CORE, *names.CSRS, "priv", "world", *ENTERED]
+REGISTERS = [*CORE_REGISTERS, *names.CSRS, "priv", "world", *ENTERED]
 NUMBERS = {name: number for number, name in enumerate(REGISTERS)}
 PC, PRIV, WORLD = (NUMBERS[name] for name in ("pc", "priv", "world"))
 ARCHITECTURE, TRIPLE = "riscv:rv32", "riscv32-unknown-elf"
@@ -40,7 +40,7 @@ def register(name: str, kind: str = "int", more: str = "") -> str:
 
 def target_text() -> str:
     """Returns target.xml."""
-    core = "".join(register(it, "code_ptr" if it == "pc" else ABI_KINDS.get(it, "int")) for it in CORE)
+    core = "".join(register(it, "code_ptr" if it == "pc" else ABI_KINDS.get(it, "int")) for it in CORE_REGISTERS)
     csrs = "".join(register(it, more=' group="csr" save-restore="no"') for it in names.CSRS)
     values = "".join('<evalue name="%s" value="%d"/>' % it for it in WORLDS.items())
     own = register("world", "world", ' group="general" save-restore="no"')

@@ -6,8 +6,7 @@ from __future__ import annotations
 
 import re
 from bisect import bisect_left
-from dataclasses import dataclass
-from typing import Any, Iterable, Iterator, Optional, Sequence, Tuple
+from typing import Any, Iterable, Iterator, NamedTuple, Optional, Sequence, Tuple
 
 from rvlook.escapes import visible
 from rvlook.image.budget import spend
@@ -33,8 +32,7 @@ WORD = 4  # bytes of a register
 Where = Tuple[str, int]  # `register`, `sp`, `entry` (the sp at the function's entry) or `value`, with a number or an offset
 
 
-@dataclass(frozen=True)
-class Member:
+class Member(NamedTuple):
     """A variable, or a member of one."""
     at: int  # address, or offset in bytes
     size: int  # bytes
@@ -44,8 +42,7 @@ class Member:
     is_union: bool = False  # whether its type is a union
 
 
-@dataclass(frozen=True)
-class Local:
+class Local(NamedTuple):
     """A member of a variable in a stack frame, for a range of instructions."""
     first: int  # address of the first instruction
     end: int  # address after the last one
@@ -53,16 +50,14 @@ class Local:
     member: Member  # at an offset
 
 
-@dataclass(frozen=True)
-class Parameter:
+class Parameter(NamedTuple):
     """A parameter that points to memory."""
     function: int  # address of its function
     number: int  # from 0; 0 is in a0
     members: Tuple[Member, ...]  # of that memory
 
 
-@dataclass(frozen=True)
-class Variables:
+class Variables(NamedTuple):
     """The variables of an image."""
     fixed: Sequence[Member] = ()  # at fixed addresses
     locals: Sequence[Local] = ()  # in stack frames
@@ -319,8 +314,7 @@ def signed(data: bytes) -> int:
     return value
 
 
-@dataclass(frozen=True)
-class Variable:
+class Variable(NamedTuple):
     """A variable for a range of instructions of its function."""
     first: int  # address of the first instruction
     end: int  # address after the last one

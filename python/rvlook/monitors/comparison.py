@@ -1,8 +1,8 @@
 """Compares two monitors after one step: everything that S and U can observe."""
 from __future__ import annotations
 
-from dataclasses import dataclass
 from enum import Enum
+from typing import NamedTuple
 
 from rvlook.monitors.rights import Right, closed_outside, rights_of, shape
 from rvlook.monitors.sides import BELOW, DECIDING, EXACT, REGISTERS, MonitorSetup, SideState
@@ -26,8 +26,7 @@ class DifferenceKind(Enum):
     memory = "memory"  # of host and enclaves
 
 
-@dataclass(frozen=True)
-class MonitorDifference:
+class MonitorDifference(NamedTuple):
     """One difference of two monitors."""
     kind: DifferenceKind  # what differs
     name: str  # such as `x10` or `sepc`

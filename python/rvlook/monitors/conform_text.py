@@ -4,7 +4,7 @@ from __future__ import annotations
 import os
 from dataclasses import dataclass
 from itertools import groupby
-from typing import Callable, Optional, Sequence
+from typing import Callable, NamedTuple, Optional, Sequence
 
 from rvlook.errors import RvlookError, Unfinished
 from rvlook.image.files import image_of, read_file, script_lines
@@ -31,8 +31,7 @@ CAUSED_BY_A_BRANCH = (DifferenceKind.register, DifferenceKind.pc, DifferenceKind
 LEAST_RAM = 0x30000  # bytes; the directed scripts use them
 
 
-@dataclass(frozen=True)
-class MonitorFiles:
+class MonitorFiles(NamedTuple):
     """The files of an author's monitor, and how it is run."""
     image: str  # the file of the monitor
     host: Optional[str] = None  # a second file, with the host and its enclaves

@@ -7,7 +7,7 @@ from __future__ import annotations
 import random
 from collections import Counter, defaultdict
 from dataclasses import dataclass, field
-from typing import Callable
+from typing import Callable, NamedTuple
 
 from rvlook.monitors import checks
 from rvlook.monitors.checks import A0, A7, Left, MemoryAndRights
@@ -27,8 +27,7 @@ MOST_INTERVAL = 24  # steps of an enclave before the timer is raised
 FILL = 0x40000001  # bits that every mark has, so that it is not a small number
 
 
-@dataclass(frozen=True)
-class Violation:
+class Violation(NamedTuple):
     """A check that failed."""
     check: str  # its name
     text: str  # what was found
@@ -240,8 +239,7 @@ class Guard:
         return "host at %08x could store to %s of %s, which M had loaded at the trap at %08x" % (at, part, part.owner, pc)
 
 
-@dataclass(frozen=True)
-class GuardPlan:
+class GuardPlan(NamedTuple):
     """The runs to do: one without timer interrupts, then `timers` runs with them."""
     setup: MonitorSetup  # the monitor
     ownership: Ownership  # of the memory

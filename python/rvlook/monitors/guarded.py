@@ -3,8 +3,7 @@ from M. Follows traps that a monitor may not survive: traps in M itself, and loo
 from __future__ import annotations
 
 import struct
-from dataclasses import dataclass
-from typing import Callable, Iterable, Sequence
+from typing import Callable, Iterable, NamedTuple, Sequence
 
 from rvlook.errors import Unfinished
 from rvlook.monitors.encodings import BACK, csrw, is_store
@@ -105,8 +104,7 @@ class TrapLoop:
         return self.count >= MOST_REPEATED
 
 
-@dataclass(frozen=True)
-class HartState:
+class HartState(NamedTuple):
     """The state of the hart in M: at the entry, of the world that trapped; at the return, of the world that continues."""
     registers: tuple[int, ...]  # x0 to x31
     csrs: dict[str, int]  # by name
@@ -116,8 +114,7 @@ class HartState:
     here: int  # pc of M
 
 
-@dataclass(frozen=True)
-class StayInM:
+class StayInM(NamedTuple):
     """A stay in M, from a trap to the return."""
     cause: str  # of the trap, 8 hexadecimal digits; empty for the first stay
     entry: HartState  # state at the entry

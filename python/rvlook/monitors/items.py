@@ -3,8 +3,8 @@ The rest of a script therefore keeps a meaning if an item is left out."""
 from __future__ import annotations
 
 import random
-from dataclasses import dataclass
 from functools import partial
+from typing import NamedTuple
 
 from rvlook.monitors.encodings import ECALL, NOP, SRET, csrr, csrw, jump, load, store
 from rvlook.protocol.names import CSRS, KEY, NUMBERED, Call
@@ -14,8 +14,7 @@ SSTATUS_VALUES = (0x100, 0x20, 2, 0x80000, 0, 0x122, 0x80122)  # of SIE, SPIE, S
 T0, T1, T2 = 5, 6, 7  # registers that the instructions of the items use
 
 
-@dataclass(frozen=True)
-class Item:
+class Item(NamedTuple):
     """One item of a script. The parts are done in the order of the fields `data`, `registers`, `word`, `line` and `steps`."""
     text: str  # describes the item
     word: int | None = None  # instruction that is poked at pc; None: the instruction there stays

@@ -2,7 +2,7 @@
 from __future__ import annotations
 
 from dataclasses import dataclass, field
-from typing import Callable, Iterator
+from typing import Callable, Iterator, NamedTuple
 
 from rvlook.monitors.items import MASK
 from rvlook.monitors.rights import Right
@@ -13,8 +13,7 @@ ALL, DATA = "rwx", "rw-"
 Words = Callable[[int], int]  # the word of memory at an address
 
 
-@dataclass(frozen=True)
-class WordCondition:
+class WordCondition(NamedTuple):
     """A comparison of a word in memory, or of the number of calls of the host, with a value."""
     at: int | None  # address of the word; None: the number of calls
     compare: Callable[[int, int], bool]  # the operator
@@ -54,8 +53,7 @@ class RangesTable:
                 yield OwnedRange(base, base + size, SHARED, DATA, (owner,), is_timed=True)
 
 
-@dataclass(frozen=True)
-class OwnedRange:
+class OwnedRange(NamedTuple):
     """A range of memory and its owner."""
     first: int  # the first byte
     end: int  # the byte after the last one

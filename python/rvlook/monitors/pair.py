@@ -3,8 +3,8 @@ switch between worlds, and each redirected exception."""
 from __future__ import annotations
 
 from collections import Counter
-from dataclasses import dataclass, field, replace
-from typing import Iterator
+from dataclasses import dataclass, field
+from typing import Iterator, NamedTuple
 
 from rvlook.monitors.comparison import MonitorDifference, differences, memory_difference
 from rvlook.monitors.items import Item
@@ -72,8 +72,7 @@ class ScriptCoverage:
         return ["%s: %s" % (it.group, it.name) for it in self.cells() if not it.count]
 
 
-@dataclass(frozen=True)
-class PairStep:
+class PairStep(NamedTuple):
     """An item that was done."""
     item: Item
     world: str  # that did it
@@ -140,7 +139,7 @@ class BothSides(Closing):
         """Notes the differences after a step."""
         self.has_trapped = self.has_trapped or reference.trap != "-"
         if not self.has_trapped:  # the values of mepc, mcause and mtval after reset are not specified
-            own = replace(own, above=own.above[:len(DECIDING)] + reference.above[len(DECIDING):])
+            own = own._replace(above=own.above[:len(DECIDING)] + reference.above[len(DECIDING):])
         self.played.differences = differences(own, reference, self.setup)
         if has_trap and not own.fault and self.compares_memory:
             self.compare_memory()

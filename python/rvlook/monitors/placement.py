@@ -3,7 +3,7 @@ another place or more memory than that below 80010000."""
 from __future__ import annotations
 
 import re
-from dataclasses import dataclass, replace
+from typing import NamedTuple
 
 from rvlook.errors import UsageError
 from rvlook.monitors.items import Item
@@ -15,8 +15,7 @@ ADDRESS = re.compile(r"\b[0-9a-f]{8}\b")
 RANGE = re.compile(r"([0-9a-f]{1,8})-([0-9a-f]{1,8})\Z", re.I)
 
 
-@dataclass(frozen=True)
-class Placement:
+class Placement(NamedTuple):
     """The memory of host and enclaves. Everything else is closed to S and U. If the monitor needs more than the memory below 80010000, addresses
     of a script move by `offset` bytes."""
     first: int  # the first byte
@@ -50,12 +49,13 @@ class Placement:
         if not self.offset:
             return item
         text = ADDRESS.sub(lambda found: "%08x" % self.address(int(found[0], 16)), item.text)
-        return replace(item, text=text, registers=tuple((n, self.address(value)) for n, value in item.registers),
-                       data=tuple((self.address(at), data) for at, data in item.data))
+        return item._replace(text=text, registers=tuple((n, self.address(value)) for n, value in item.registers),
+                             data=tuple((self.address(at), data) for at, data in item.data))
 
     def enclave_before(self, enclave: Enclave) -> Enclave:
         """Returns an entry of the enclave table as a script has it."""
-        return replace(enclave, **{name: self.address_before(getattr(enclave, name)) for name in ("base", "window", "entry")})
+        base, window, entry = map(self.address_before, (enclave.base, enclave.window, enclave.entry))
+        return enclave._replace(base=base, window=window, entry=entry)
 
 
 def placement_of(text: str | None, ram: int, least: int) -> Placement:

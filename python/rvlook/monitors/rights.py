@@ -1,8 +1,8 @@
 """Access rights below M, computed from the PMP entries over all of RAM."""
 from __future__ import annotations
 
-from dataclasses import dataclass
 from functools import lru_cache
+from typing import NamedTuple
 
 from rvlook.access.ranges import NOTHING, boundaries, entry_range
 from rvlook.protocol.memory_map import RAM_BASE
@@ -11,8 +11,7 @@ from rvlook.protocol.replies import entry_of
 BITS = (("r", 1), ("w", 2), ("x", 4))
 
 
-@dataclass(frozen=True)
-class Right:
+class Right(NamedTuple):
     """A range with the access rights of S and U."""
     first: int  # the first byte
     end: int  # the byte after the last one

@@ -5,8 +5,8 @@ reference."""
 from __future__ import annotations
 
 import struct
-from dataclasses import dataclass, replace
 from functools import lru_cache
+from typing import NamedTuple
 
 from rvlook.errors import BenchEnded, RvlookError
 from rvlook.protocol.inputs import Image
@@ -41,8 +41,7 @@ def size_line(ram: int) -> str:
     return "setreg 11 %x" % ram
 
 
-@dataclass(frozen=True)
-class MonitorSetup:
+class MonitorSetup(NamedTuple):
     """The author's monitor and how it is run."""
     image: Image  # of the monitor
     ram: int  # bytes
@@ -55,7 +54,7 @@ class MonitorSetup:
     def with_ram(self, ram: int) -> MonitorSetup:
         """Returns the configuration with another size of the RAM. The default boot passes the size to the monitor."""
         old, new = size_line(self.ram), size_line(ram)
-        return replace(self, ram=ram, boot=tuple(new if it == old else it for it in self.boot))
+        return self._replace(ram=ram, boot=tuple(new if it == old else it for it in self.boot))
 
     @property
     def placement(self) -> Placement:
@@ -94,8 +93,7 @@ def words_in(data: bytes, address: int, word: int) -> list[int]:
     return found
 
 
-@dataclass(frozen=True)
-class SideState:
+class SideState(NamedTuple):
     """The state after a step, as S and U can observe it."""
     pc: int  # after the step
     mode: str  # after the step
@@ -118,8 +116,7 @@ class SideState:
         return self.trap[:8]
 
 
-@dataclass(frozen=True)
-class Stay:
+class Stay(NamedTuple):
     """One stay of the author's side in M."""
     line: int  # lines of the log before it
     steps: int  # in M

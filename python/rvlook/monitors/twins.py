@@ -7,7 +7,7 @@ the ranges of all other enclaves, and one for the unused memory of the monitor."
 from __future__ import annotations
 
 from dataclasses import dataclass, field
-from typing import Iterator
+from typing import Iterator, NamedTuple
 
 from rvlook.monitors.checks import A0, A7, MARKED_CSRS, SWITCHING, closed_ranges
 from rvlook.monitors.guarded import STATE_CSRS, SUPERVISOR, Guarded, StayInM, HartState
@@ -85,8 +85,7 @@ class Track:
         self.closed = [it for it in shut if it in self.live and it.owner != self.world]
 
 
-@dataclass(frozen=True)
-class TwinSecret:
+class TwinSecret(NamedTuple):
     """The private state that the second run of a pair inverts. A field is empty if nothing of its kind is inverted."""
     name: str  # for the report
     owners: frozenset[str] = frozenset()  # of ranges
@@ -99,8 +98,7 @@ class TwinSecret:
         return "private state of %s" % self.name if self.world else self.name
 
 
-@dataclass(frozen=True)
-class TwinResult:
+class TwinResult(NamedTuple):
     """The result of a pair of runs."""
     secret: TwinSecret  # what was inverted
     difference: str = ""  # what differs; empty if nothing does

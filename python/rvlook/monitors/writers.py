@@ -6,8 +6,7 @@ check is missing, because no instruction wrote a wrong value then."""
 from __future__ import annotations
 
 import time
-from dataclasses import dataclass, replace
-from typing import Callable, Iterator
+from typing import Callable, Iterator, NamedTuple
 
 from rvlook.monitors.comparison import DifferenceKind, MonitorDifference
 from rvlook.monitors.encodings import immediate_of, is_load, is_store, written_csr, written_register
@@ -36,8 +35,7 @@ CHANGES: tuple[Callable[[int], int], ...] = (  # of one argument, the smallest o
     lambda it: it - 0x10000, lambda it: it ^ 0x80000000)
 
 
-@dataclass(frozen=True)
-class WritingInstruction:
+class WritingInstruction(NamedTuple):
     """An instruction in M that wrote a value."""
     pc: int  # its address
     text: str  # with ABI names
@@ -180,13 +178,12 @@ def last_store(setup: MonitorSetup, played: Played, address: int, skipped: int =
         with StayReplay(setup, played, stay) as replay:
             number = replay.last_store(address, stay.steps if before is None else before)
         if number is not None:
-            return replace(writer_at(setup, played, stay, number), address=address)
+            return writer_at(setup, played, stay, number)._replace(address=address)
         before = None
     return None
 
 
-@dataclass(frozen=True)
-class Divergence:
+class Divergence(NamedTuple):
     """The instruction after which two similar calls take different paths in M."""
     pc: int  # the last instruction that both execute
     own_next: int  # pc after it in the call of the script
@@ -206,7 +203,7 @@ def similar_calls(item: Item) -> Iterator[Item]:
                 changed = {**registers, number: value}
                 if item.call_number == Call.create and number == BASE:
                     changed[ENTRY] = registers[ENTRY] + value - registers[BASE] & MASK
-                yield replace(item, registers=tuple(changed.items()), text=text)
+                yield item._replace(registers=tuple(changed.items()), text=text)
 
 
 def divergence_of(setup: MonitorSetup, played: Played) -> Divergence | None:
@@ -228,7 +225,7 @@ def first_difference(setup: MonitorSetup, played: Played, other: Played) -> Dive
     """Returns where the paths of the last stays in M of two scripts differ first."""
     paths = []
     for side in (played, other):
-        stay = replace(side.stays[-1], steps=min(side.stays[-1].steps, MOST_COMPARED))
+        stay = side.stays[-1]._replace(steps=min(side.stays[-1].steps, MOST_COMPARED))
         with StayReplay(setup, side, stay) as replay:
             paths.append(replay.addresses())
     one, two = paths

@@ -3,16 +3,14 @@ from __future__ import annotations
 
 import os
 import time
-from dataclasses import dataclass
-from typing import Any
+from typing import Any, NamedTuple
 
 from rvlook.errors import FOUND, REFUSED, UNFINISHED, Unfinished, error as report_error, package_missing, warn
 from rvlook.escapes import visible
 from rvlook.output.files import replace_by
 
 
-@dataclass(frozen=True)
-class Case:
+class Case(NamedTuple):
     """A check of a subcommand."""
     name: str  # of the check
     finding: str = ""  # empty if there is none

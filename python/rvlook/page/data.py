@@ -133,11 +133,14 @@ class Collector:
         """Takes a step."""
         trap, changed = step.trap, step.changed
         kind = step.hart, step.at, step.instruction, trap
-        if kind not in self.kinds:
+        numbers = self.kinds.get(kind)
+        if numbers is None:
             trap_number = self.traps[trap.cause, trap.value, names.cause_name(trap.cause)] + 1 if trap else 0
-            self.kinds[kind] = self.site_of(step), self.places[step.hart, step.at.world, step.at.mode], trap_number
-        for column, number in zip((self.site, self.place, self.trap), self.kinds[kind]):
-            column.append(number)
+            numbers = self.kinds[kind] = self.site_of(step), self.places[step.hart, step.at.world, step.at.mode], trap_number
+        site, place, trap_number = numbers
+        self.site.append(site)
+        self.place.append(place)
+        self.trap.append(trap_number)
         self.changes.append(len(changed))
         for register, value in changed.items():
             self.registers.append(register)

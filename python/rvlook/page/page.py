@@ -41,7 +41,7 @@ def show_page(run: Run, symbols: Symbols, printer: Printer, template: Any, paths
     found = collected(run, symbols)
     sources = source_texts(paths, found.source_names(), roots_of(folders))
     columns = NumberColumns()
-    variables = [vars(it) for it in frames_of(paths[0] if len(paths) > 1 else None, run.setup.image, found.executed())]
+    variables = [it._asdict() for it in frames_of(paths[0] if len(paths) > 1 else None, run.setup.image, found.executed())]
     data = {**found.data(columns), "segments": segments_of(found), "sources": sources, "variables": variables}
     style, script = text_of(STYLES), text_of(SCRIPTS)
     printer.document(template.render(title=found.title, data=compressed(data, columns), style=style, script=script, policy=policy_of(style, script)))

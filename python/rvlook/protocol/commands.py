@@ -3,10 +3,9 @@ meaning of each error reply, and what to write instead."""
 from __future__ import annotations
 
 import re
-from dataclasses import dataclass
 from difflib import get_close_matches
 from enum import Enum
-from typing import Iterable, Sequence
+from typing import Iterable, NamedTuple, Sequence
 
 from rvlook.errors import SymbolError
 from rvlook.escapes import visible_line
@@ -59,8 +58,7 @@ class Form(Enum):
     schedule = "a schedule (1 to 64 digits 0 and 1)"
 
 
-@dataclass(frozen=True)
-class Command:
+class Command(NamedTuple):
     """The operands of a command."""
     letters: str  # as in docs/COMMANDS.md
     forms: tuple[Form, ...]  # of the operands, in order

@@ -2,7 +2,6 @@
 from __future__ import annotations
 
 import struct
-from dataclasses import dataclass
 from typing import Iterator, NamedTuple, Optional
 
 ELF_MAGIC = b"\x7fELF"
@@ -35,8 +34,7 @@ def segments_of(data: bytes) -> Iterator[Segment]:
                 yield found
 
 
-@dataclass(frozen=True)
-class ScriptLine:
+class ScriptLine(NamedTuple):
     """A line of a script."""
     given: str  # as in the file
     location: str  # its file and line number
@@ -44,8 +42,7 @@ class ScriptLine:
     refused: str = ""  # why a name in it says no address, if one does not
 
 
-@dataclass(frozen=True)
-class Image:
+class Image(NamedTuple):
     """An image, and the script that follows it in the input."""
     name: str  # its path
     text: bytes  # what the bench reads before the line `--`

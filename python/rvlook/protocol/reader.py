@@ -13,7 +13,7 @@ from dataclasses import dataclass
 from functools import lru_cache
 from itertools import accumulate, chain, compress
 from operator import add, sub
-from typing import Any, Callable, Dict, Generic, Mapping, NamedTuple, Optional, Sequence, Tuple, TypeVar
+from typing import Any, Callable, Dict, Generic, Iterator, Mapping, NamedTuple, Optional, Sequence, Tuple, TypeVar
 
 from rvlook.protocol.bench import Closing
 from rvlook.protocol.instructions import MemoryOperand, instruction_of
@@ -124,13 +124,15 @@ class Reader(Closing, Generic[Item]):
 
     def asked(self, stretch: Stretch, lines: Sequence[bytes], listing: bytes = b"") -> Asked[Item]:
         """Returns what to ask about the steps of a stretch. `listing` lists its instructions, if a write could change them."""
-        found = {it: self.probe(it, bool(listing)) for it in set(lines)}
-        every = list(map(found.__getitem__, lines))
-        indices = list(compress(range(len(every)), every))
-        questions, counts, is_after, stores, skipped, items = zip(*filter(None, every)) if indices else ((),) * len(Probe._fields)
+        found = {line: probe for line in set(lines) for probe in (self.probe(line, bool(listing)),) if probe}
+        indices = [n for n, line in enumerate(lines) if line in found]
+        asking = [lines[n] for n in indices]
+        fields: Iterator[list[Any]] = (
+            list(map({line: probe[n] for line, probe in found.items()}.__getitem__, asking)) for n in range(len(Probe._fields)))
+        questions, counts, is_after, stores, skipped, items = fields
         starts = list(accumulate(counts, initial=0))
         calls = calls_in(stretch) if self.run.setup.monitor and listing else []
-        positions, texts = list(map(add, indices, is_after)), list(questions)
+        positions, texts = list(map(add, indices, is_after)), questions
         for n in calls:
             at = bisect(positions, n + 1)
             positions.insert(at, n + 1)
@@ -143,9 +145,8 @@ class Reader(Closing, Generic[Item]):
 def calls_in(stretch: Stretch) -> list[int]:
     """Returns the indices of the steps that called the monitor and stayed in their world: destroy and measure do, and create."""
     columns = stretch.columns
-    if CALL not in stretch.data:
-        return []
-    return [n for n, trap in enumerate(columns.traps) if trap.startswith(CALL) and columns.worlds[n] == columns.after[n]]
+    calls = {trap for trap in set(columns.traps) if trap.startswith(CALL)}
+    return [n for n, trap in enumerate(columns.traps) if trap in calls and columns.worlds[n] == columns.after[n]] if calls else []
 
 
 def reads_of(asked: Asked[Item], values: Sequence[int]) -> Reads[Item]:

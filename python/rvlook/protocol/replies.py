@@ -2,7 +2,6 @@
 from __future__ import annotations
 
 import re
-from dataclasses import dataclass
 from functools import lru_cache
 from typing import AnyStr, Iterable, NamedTuple, Optional, Tuple
 
@@ -20,15 +19,13 @@ class Location(NamedTuple):
     world: str  # bare, host, or an enclave such as `e0`
 
 
-@dataclass(frozen=True)
-class RanTrap:
+class RanTrap(NamedTuple):
     """A trap of a step."""
     cause: str  # mcause, eight hexadecimal digits
     value: str  # mtval, eight hexadecimal digits
 
 
-@dataclass(frozen=True)
-class Ran:
+class Ran(NamedTuple):
     """The reply of `step` and `run`."""
     steps: int  # that were done
     pc: str  # after them, eight hexadecimal digits
@@ -38,8 +35,7 @@ class Ran:
     trap: Optional[RanTrap]  # of the last step; None without a trap
 
 
-@dataclass(frozen=True)
-class Enclave:
+class Enclave(NamedTuple):
     """A line of `enclaves`."""
     slot: int  # its number
     state: str  # Fresh, Running, Stopped or Exited
@@ -64,8 +60,7 @@ class Enclave:
         return self.window <= address < self.window + self.window_size
 
 
-@dataclass(frozen=True)
-class PmpEntry:
+class PmpEntry(NamedTuple):
     """A line of `pmp`."""
     cfg: int  # the byte of pmpcfg
     addr: int  # pmpaddr, in units of 4 bytes
@@ -129,10 +124,10 @@ def poke_commands(address: int, data: bytes) -> list[str]:
     return ["poke %x %02x" % (address + n, it) for n, it in enumerate(data)]
 
 
-@lru_cache(maxsize=1)
 def step_fields(data: bytes) -> list[RanFields]:
     """Decodes the replies to single steps: pc, mode, world and trap of each. Most replies of a run come many times."""
-    return list(map(fields_of, data.splitlines()))
+    lines = data.splitlines()
+    return list(map({line: fields_of(line) for line in set(lines)}.__getitem__, lines))
 
 
 @lru_cache(maxsize=1 << 18)

@@ -5,7 +5,7 @@ from __future__ import annotations
 import copy
 from dataclasses import dataclass, field, replace
 from itertools import islice
-from typing import AnyStr, Iterable, Iterator, Sequence
+from typing import AnyStr, Iterable, Iterator, NamedTuple, Sequence
 
 from rvlook.protocol.bench import Bench
 from rvlook.protocol.bench_line import has_reply, tokens_of
@@ -69,8 +69,7 @@ class Setup:
         return "SU" if self.monitor else "MSU"
 
 
-@dataclass(frozen=True)
-class End:
+class End(NamedTuple):
     """The end of a run."""
     steps: int  # of the run
     why: str  # halted or limit

@@ -4,15 +4,14 @@ from __future__ import annotations
 import itertools
 from dataclasses import dataclass
 from functools import lru_cache
-from typing import Iterator, Sequence
+from typing import Iterator, NamedTuple, Optional, Sequence
 
-from rvlook.protocol.replies import NO_TRAP, RanFields, fields_of, step_fields
+from rvlook.protocol.replies import NO_TRAP, RanFields, fields_of
 
 SHARED = 16  # stretches whose columns are kept
 
 
-@dataclass(frozen=True)
-class Columns:
+class Columns(NamedTuple):
     """The steps of a stretch, as the bytes of the replies. Each column has one element for each step."""
     pcs: Sequence[bytes]  # before the step
     modes: Sequence[bytes]  # before the step
@@ -30,6 +29,7 @@ class Stretch:
     count: int  # number of steps
     before: RanFields = (b"", b"", b"", NO_TRAP)  # where the hart is before the first step
     lines: Sequence[bytes] = ()  # the reply of `dis` before each step; empty until a reader has decoded them
+    part: Optional[Columns] = None  # the columns, if the stretch is a part of another; None: decoded from the replies
 
     @property
     def last(self) -> RanFields:
@@ -39,24 +39,27 @@ class Stretch:
     @property
     def columns(self) -> Columns:
         """Returns the steps as columns."""
-        return columns_of(self.data, self.before)
+        return self.part or columns_of(self.data, self.before)
 
     def by_world(self) -> Iterator[Stretch]:
         """Yields the steps in parts, each in one world."""
-        worlds, at, before = self.columns.worlds, 0, self.before
-        if worlds.count(worlds[0]) == self.count:
+        columns, at, before = self.columns, 0, self.before
+        if columns.worlds.count(columns.worlds[0]) == self.count:
             yield self
             return
         lines = self.data.splitlines(keepends=True)
-        for _, group in itertools.groupby(worlds):
-            count = len(list(group))
-            part = Stretch(self.first + at, self.hart, b"".join(lines[at:at + count]), count, before, self.lines[at:at + count])
+        for _, group in itertools.groupby(columns.worlds):
+            end = at + len(list(group))
+            part = Stretch(self.first + at, self.hart, b"".join(lines[at:end]), end - at, before, self.lines[at:end],
+                           Columns(*(column[at:end] for column in columns)))
             yield part
-            at, before = at + count, part.last
+            at, before = end, part.last
 
 
 @lru_cache(maxsize=SHARED)
 def columns_of(data: bytes, before: RanFields) -> Columns:
-    """Returns replies to single steps as columns. Runs that differ in an input have most stretches in common."""
-    pcs, modes, worlds, traps = zip(*step_fields(data))
-    return Columns((before[0], *pcs[:-1]), (before[1], *modes[:-1]), (before[2], *worlds[:-1]), traps, worlds)
+    """Returns replies to single steps as columns. Runs that differ in an input have most stretches in common, and most replies come many times."""
+    lines = data.splitlines()
+    decoded = {line: fields_of(line) for line in set(lines)}
+    pcs, modes, worlds, traps = (list(map({line: fields[n] for line, fields in decoded.items()}.__getitem__, lines)) for n in range(len(before)))
+    return Columns([before[0], *pcs[:-1]], [before[1], *modes[:-1]], [before[2], *worlds[:-1]], traps, worlds)

@@ -7,7 +7,7 @@ from bisect import bisect_right
 from collections import defaultdict
 from dataclasses import dataclass
 from functools import cached_property
-from typing import Callable, Iterable, Iterator, Optional, Sequence, Tuple
+from typing import Callable, Iterable, Iterator, NamedTuple, Optional, Sequence, Tuple
 
 from rvlook.errors import SymbolError
 from rvlook.protocol.memory_map import RAM_BASE
@@ -47,8 +47,7 @@ class Unit:
         return sorted(self.read_inlined())
 
 
-@dataclass(frozen=True)
-class Symbol:
+class Symbol(NamedTuple):
     """A name at an address."""
     address: int
     size: int  # bytes; 0 if unknown

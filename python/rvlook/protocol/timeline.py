@@ -151,7 +151,7 @@ class Timeline(Closing):
         # of each hart; `moved` counts actions that may have changed its world
         self.modes, self.worlds, self.moved = [mode] * setup.harts, [world] * setup.harts, [0] * setup.harts
         self.bench = setup.bench()  # after all actions
-        self.given: list[tuple[str, int]] = []  # commands whose replies are not read yet, and their harts
+        self.unread_commands: list[tuple[str, int]] = []  # commands whose replies are not read yet, and their harts
         self.follow(past, hart)
 
     @staticmethod
@@ -175,7 +175,7 @@ class Timeline(Closing):
         lines = list(commands_of(past, self.hart, self.hart if hart is None else hart))
         for line in lines:
             self.hart = int(line[5:]) if line.startswith("hart ") else self.hart
-            self.given.append((line, self.hart))
+            self.unread_commands.append((line, self.hart))
         for action in past:
             self.add(action)
         if lines:
@@ -183,14 +183,14 @@ class Timeline(Closing):
 
     def settle(self) -> None:
         """Reads the replies to what was sent: the state of each hart from its last reply, and whether one trapped."""
-        given, self.given = self.given, []
-        counts = [self.setup.harts if line.startswith("sched") else 1 for line, _ in given]
-        block = self.bench.block(b"", sum(counts)).decode("latin-1") if given else ""
+        unread, self.unread_commands = self.unread_commands, []
+        counts = [self.setup.harts if line.startswith("sched") else 1 for line, _ in unread]
+        block = self.bench.block(b"", sum(counts)).decode("latin-1") if unread else ""
         if block.count("trap=") > block.count("trap=-"):
             self.moved = [it + 1 for it in self.moved]
         replies, left = block.splitlines(), set(range(self.setup.harts))
-        while given and left:
-            (line, hart), count = given.pop(), counts.pop()
+        while unread and left:
+            (line, hart), count = unread.pop(), counts.pop()
             reply, replies = replies[-count:], replies[:-count]
             if line.startswith(("step", "sched")):
                 self.take(line, hart, reply)
@@ -200,7 +200,7 @@ class Timeline(Closing):
 
     def ask(self, *commands: str) -> list[list[str]]:
         """Sends commands that change nothing; returns the replies."""
-        if self.given:
+        if self.unread_commands:
             self.settle()
         return self.bench.ask(*commands)
 
@@ -222,7 +222,7 @@ class Timeline(Closing):
 
     def do_at_once(self, line: str, questions: Iterable[str], count: int, turns: str | None = None) -> list[str]:
         """Runs a command with a reply of one line, and queries that change nothing; returns all `count` lines."""
-        if self.given:
+        if self.unread_commands:
             self.settle()
         replies = self.bench.block("\n".join([line, *questions, ""]).encode(), count).decode("latin-1").splitlines()
         self.take(line, self.hart, replies)

@@ -169,6 +169,6 @@ def ranges_of(values: Mapping[int, int], world: World, number: int) -> List[Tupl
             ranges[-1][1] = at
         else:
             ranges.append([at, at])
-    own = world.windows[number]
-    low = world.window[0]
-    return [(first, bytes(values.get(at, own[at - low]) for at in range(first, last + 1))) for first, last in ranges]
+    window_of_run = world.windows[number]
+    base = world.window[0]
+    return [(first, bytes(values.get(at, window_of_run[at - base]) for at in range(first, last + 1))) for first, last in ranges]

@@ -41,8 +41,8 @@ REPLAYS = .1  # and the part of --seconds, if that is less
 FEW = 1000  # steps for each division of a path; a search with more, as in a hash, has no rare branches
 LOOPS_FROM = 1, 3  # after so many divisions of a path in a loop, its head is merged: at first, and if that decides too little
 MERGED = Means(loops_from=LOOPS_FROM[0], is_rough=True), *(Means(loops_from=count) for count in LOOPS_FROM)  # the searches with merged loops
-MORE_ROUNDS = 16  # times as many rounds of a loop are followed in a sequence of activations
-MOST_ACTIVATIONS = 12  # in a sequence of activations
+MORE_ROUNDS = 16  # factor by which a search over sequences of activations of the enclave follows more rounds of a loop
+MOST_ACTIVATIONS = 12  # the longest sequence of activations
 MOST_STARTS = 60  # searches with the same means, each of which merges more loops, or proposes facts about more words
 
 

@@ -2,9 +2,8 @@
 from __future__ import annotations
 
 from argparse import Namespace
-from dataclasses import dataclass
 from enum import Enum
-from typing import Iterator, Sequence
+from typing import Iterator, NamedTuple, Sequence
 
 from rvlook.access.failures import FailureReport, expectation_of, failures_of
 from rvlook.errors import UNFINISHED, note
@@ -33,8 +32,7 @@ class Why(Enum):
     limit = "limit"  # of --steps
 
 
-@dataclass(frozen=True)
-class ProgramEnd:
+class ProgramEnd(NamedTuple):
     """The end of a program."""
     why: Why  # the kind of the end
     at: Location  # where the hart is

@@ -2,7 +2,7 @@
 from __future__ import annotations
 
 from dataclasses import dataclass, field
-from typing import Iterable, Optional, Sequence
+from typing import Iterable, NamedTuple, Optional, Sequence
 
 from rvlook.escapes import visible_line
 from rvlook.output.printer import Json, ObjectWriter, Printer, Style, end_object, end_text, hex8, run_object
@@ -23,8 +23,7 @@ A0 = 10
 PRIVILEGE = {"M": 3, "S": 1, "U": 0}  # of the log of Spike
 
 
-@dataclass(frozen=True)
-class Filter:
+class Filter(NamedTuple):
     """The steps that are wanted."""
     first: int = 1  # number of the first step
     last: Optional[int] = None  # number of the last step; None: to the end
@@ -138,8 +137,7 @@ class ObjectTrace:
         end_object(self.printer, end)
 
 
-@dataclass(frozen=True)
-class Site:
+class Site(NamedTuple):
     """The constant part of a line."""
     text: str  # of the instruction
     function: Optional[str]  # None if unknown

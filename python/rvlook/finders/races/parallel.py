@@ -61,8 +61,8 @@ class MoveRecorder:
     """Computes moves in another process, and records them. `search` is the copy that this process has inherited."""
 
     def __init__(self, search: ScheduleSearch) -> None:
-        # `inherited`: states of harts that the search knew
-        self.search, self.machine, self.inherited = search, search.machine, len(search.machine.harts)
+        # `inherited_harts`: states of harts that the search knew
+        self.search, self.machine, self.inherited_harts = search, search.machine, len(search.machine.harts)
         self.memories = set(search.machine.memories)  # hashes of the memories that are known
         self.touched: dict[tuple[Agent, FrozenSet[int], FrozenSet[int], FrozenSet[int]], Touched] = {}  # so that equal objects are sent once
         self.steps: dict[DependentStep, DependentStep] = {}  # likewise
@@ -108,7 +108,7 @@ class MoveRecorder:
 
     def note_state(self, before: CachedState, state: CachedState) -> None:
         """Notes what is new in a state after another one."""
-        self.news.harts.update((it, self.machine.harts[it]) for it in state.harts if it >= self.inherited)
+        self.news.harts.update((it, self.machine.harts[it]) for it in state.harts if it >= self.inherited_harts)
         if state.memory not in self.memories:
             self.memories.add(state.memory)
             old, new = self.machine.memories[before.memory], self.machine.memories[state.memory]

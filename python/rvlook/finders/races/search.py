@@ -178,10 +178,10 @@ class ScheduleSearch:
         self.prepare: Callable[[Heap], None] = lambda _: None  # a caller may set it; receives the nodes that wait
         self.new_move: Callable[[MoveKey, Schedule], Move | None] = self.compute_move  # a caller may replace it
         # steps of enclaves that store to one of these are dependent
-        self.watched = frozenset((*outcome.addresses, -1)) if bounds.timers else frozenset()
-        self.plain = plain or not machine.monitor  # a handler of the bare bench shares its registers with what it stops
-        self.is_outcome_visible = self.plain  # whether steps that may change the outcome are dependent
-        self.shared: frozenset[int] = frozenset()  # the shared bytes of this round
+        self.watched_bytes = frozenset((*outcome.addresses, -1)) if bounds.timers else frozenset()
+        self.is_always_dependent = plain or not machine.monitor  # a handler of the bare bench shares its registers with what it stops
+        self.is_outcome_visible = self.is_always_dependent  # whether steps that may change the outcome are dependent
+        self.shared_bytes: frozenset[int] = frozenset()  # the shared bytes of this round
         self.touches, self.rounds, self.regions = TouchedBytes(), 0, 0  # the accesses so far, the round from 1, and the regions known at its start
         self.why_cut: str | None = None  # what ended the search early; None: nothing did
         self.whole: tuple[int, int] | None = None  # the last level, of preemptions and timers, of which all was searched
@@ -226,7 +226,7 @@ class ScheduleSearch:
             return True
         agents = [it for it in self.touches.written if hart in (it, it[0] if isinstance(it, tuple) else it)]
         stored = set().union(*(self.touches.written[it] for it in agents))
-        return any(it in stored or self.machine.overlaps_region(it, 1) for it in self.outcome.addresses - self.shared)
+        return any(it in stored or self.machine.overlaps_region(it, 1) for it in self.outcome.addresses - self.shared_bytes)
 
     def is_whole(self) -> bool:
         """Returns whether all orders within the bounds were searched, and no hart was given up."""
@@ -235,9 +235,9 @@ class ScheduleSearch:
     def grows(self) -> bool:
         """Returns whether more bytes are shared, or are in a region, than this round was searched with."""
         regions, shared = len(self.machine.regions), self.touches.shared()
-        if self.plain or shared <= self.shared and regions == self.regions:
+        if self.is_always_dependent or shared <= self.shared_bytes and regions == self.regions:
             return False
-        self.shared |= shared
+        self.shared_bytes |= shared
         return True
 
     def search(self) -> bool:
@@ -405,12 +405,12 @@ class ScheduleSearch:
 
     def is_dependent(self, work: Work, look: Look) -> bool:
         """Returns whether the next step of a hart is dependent: another hart could affect it or be affected."""
-        if self.plain or look.uses_table:
+        if self.is_always_dependent or look.uses_table:
             return True
-        shared = self.shared
+        shared = self.shared_bytes
         if shared and not shared.isdisjoint(range(work.pc, work.pc + 4)):
             return True
-        if self.watched and self.is_watched(work.own, look):
+        if self.watched_bytes and self.is_watched(work.own, look):
             return True
         if self.is_outcome_visible and self.outcome.may_change(work.hart, look):
             return True
@@ -424,7 +424,7 @@ class ScheduleSearch:
         This is so if the step stores a part of the outcome, or if the steps are limited."""
         if own.world == "host":
             return False
-        return bool(self.machine.limit) or look.kind == "w" and not self.watched.isdisjoint(range(look.at, look.at + look.width))
+        return bool(self.machine.limit) or look.kind == "w" and not self.watched_bytes.isdisjoint(range(look.at, look.at + look.width))
 
     def log(self, hart: int, world: str, pc: int, look: Look, done: Outcome) -> None:
         """Records the accesses of a step."""

@@ -2,7 +2,7 @@
 from __future__ import annotations
 
 from dataclasses import dataclass, field
-from typing import Dict, Iterator, List, Optional, Sequence, Set, Tuple
+from typing import Dict, Iterator, List, NamedTuple, Optional, Sequence, Set, Tuple
 
 from rvlook.errors import RvlookError, Unfinished, warn
 from rvlook.finders.outcomes import EnclaveStates, Forbidden, Observed, Value, condition_of, number_of, outcomes_of, ranges_of, value_text, watched_of
@@ -191,8 +191,7 @@ def level_text(search: ScheduleSearch) -> str:
     return "those with " + " and ".join(parts)
 
 
-@dataclass(frozen=True)
-class RacesOptions:
+class RacesOptions(NamedTuple):
     """The options of `races`."""
     forbid: Sequence[str] = ()  # conditions that no final state may meet
     outcome: Sequence[str] = ()  # what distinguishes final states; empty: all shared memory
@@ -225,7 +224,7 @@ def find_races(run: Run, options: RacesOptions) -> RacesReport:
             if options.jobs > 1:
                 MovesAhead(search, options.jobs)
             search.progress = lambda it: progress.show(PROGRESS, it.rounds, len(it.done), it.waiting, *it.level, it.machine.runs)
-            found = find_final_states(search, lambda it: outcome or [*ranges_of(it.shared, symbols), EnclaveStates()])
+            found = find_final_states(search, lambda it: outcome or [*ranges_of(it.shared_bytes, symbols), EnclaveStates()])
         return completed(RacesReport(run, symbols, search, found, conditions), options)
     except RvlookError as fault:  # the arguments are right, but the program cannot be searched
         raise Unfinished(str(fault)) from None
@@ -343,14 +342,14 @@ def objects(report: RacesReport, printer: Printer) -> None:
     machine, bounds = search.machine, search.bounds
     printer.object("races", final_states=len(stories), schedules=found.orders, complete=is_whole(search, found), covered=covered_text(search, found),
                    forbidden=sorted({end.number for _, end in bad}), preemptions=bounds.preemptions, timers=bounds.timers,
-                   shared=[dict(address=hex8(it.at), size=it.count, symbol=it.name) for it in ranges_of(search.shared, symbols)],
+                   shared=[dict(address=hex8(it.at), size=it.count, symbol=it.name) for it in ranges_of(search.shared_bytes, symbols)],
                    states=len(search.done), transitions=search.count, rounds=search.rounds, runs=machine.runs, steps=machine.steps_run)
 
 
 def texts(report: RacesReport, printer: Printer) -> None:
     """Writes a report as lines."""
     search, found, stories, bad = report.search, report.found, report.stories, report.bad
-    for shared in ranges_of(search.shared, report.symbols):
+    for shared in ranges_of(search.shared_bytes, report.symbols):
         printer.line("shared memory  %08x %d  %s" % (shared.at, shared.count, shared.name))
     forbidden = {end.number for _, end in bad}
     for story in stories:
