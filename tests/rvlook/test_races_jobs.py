@@ -15,7 +15,8 @@ from models import final_states as model
 MOST = 60  # seconds of processor time of a search that ends after 2 seconds; the whole search takes minutes
 DRIVER = """
 import sys
-from itertools import islice
+from itertools import count, islice
+from types import SimpleNamespace
 from rvlook.__main__ import main
 from rvlook.finders.races import parallel, replay, text
 
@@ -24,11 +25,12 @@ class Counted(parallel.MovesAhead):
         super().__init__(*arguments)
         made.append(self)
 
-made = []
+made, seconds = [], count()
 results_of = parallel.results_of
 
 text.MovesAhead = Counted
-parallel.PAUSE, parallel.LEAST = 1e-6, 0
+parallel.time = SimpleNamespace(thread_time=lambda: next(seconds))  # each move takes a second, so that each run gives the same nodes away
+parallel.PAUSE, parallel.LEAST = 1, 0
 %s
 status = main(sys.argv[1:])
 print(sum(it.taken for it in made), file=sys.stderr)
