@@ -3,6 +3,7 @@ import shutil
 import subprocess
 import sys
 import types
+from dataclasses import replace
 
 import pytest
 
@@ -25,6 +26,7 @@ from rvlook.finders.inputs.secret_rules import known_states, versions  # noqa: E
 from rvlook.finders.inputs.trace import LEFT, Change, Trace, TraceVisit, runs_of  # noqa: E402
 from rvlook.finders.inputs.values import with_change, words_of  # noqa: E402
 from rvlook.image.variables import Local, Member, Variables, places_of, signed, variables_of  # noqa: E402
+from rvlook.protocol.reader import values_of  # noqa: E402
 from rvlook.protocol.replies import Enclave  # noqa: E402
 from rvlook.protocol.symbols import Symbol, Symbols  # noqa: E402
 
@@ -80,6 +82,46 @@ def test_trace_along_its_parent_is_that_of_single_steps(search, task):
         for name in ("steps", "pcs", "addresses", "contexts", "traps", "visits", "end", "next_pc"):
             assert getattr(found, name) == getattr(wanted, name), (name, child.changes)
         assert stored(it, found) == stored(it, wanted)
+
+
+COLUMNS = ("steps", "pcs", "addresses", "values", "contexts", "traps", "visits", "context")  # of a trace
+
+
+def test_steps_of_an_earlier_trace_are_those_that_are_added_one_by_one(search, monkeypatch):
+    it = search(5)
+    tracer, taken = it.tracer, []
+    monkeypatch.setattr(tracer, "take", lambda trace, *more: (taken.append((trace.context, *more)), type(tracer).take(tracer, trace, *more)))
+    for child in list(it.root.children)[:40]:
+        tracer.child(it.base, child.index, child.changes)
+    assert sum(bool(part.added) for _, part, _, _ in taken) > 10
+
+    def check(context, part, first, registers):
+        found, wanted = Trace(context=context), Trace(context=context)
+        type(tracer).take(tracer, found, part, first, registers)
+        frames = dict(tracer.contexts.frames)
+        tracer.add(wanted, part, first, iter(values_of(registers)))
+        assert [getattr(found, name) for name in COLUMNS] == [getattr(wanted, name) for name in COLUMNS] and frames == tracer.contexts.frames
+
+    for context, part, first, registers in taken[-20:]:
+        check(context, part, first, registers)
+        check(context, part, first + 5, registers)  # now as before
+        check(next(other for other in range(9) if other != context), part, first, registers)
+        check(context, part, first, registers.replace(b"=8002", b"=8003"))
+        for used in set(part.added[context, registers].trace.contexts) & tracer.contexts.frames.keys() if (context, registers) in part.added else ():
+            tracer.contexts.frames[used] += 16
+        check(context, part, first, registers)
+
+
+@pytest.mark.parametrize("task", [3, 7, 15])
+def test_parts_of_earlier_traces_have_the_same_unusual_steps(search, task):
+    it = search(task)
+    again = TraceJudge(it.tracer, it.objects, it.base)
+    for number, child in enumerate(list(it.root.children)[:60]):
+        trace = it.tracer.child(it.base, child.index, child.changes)
+        whole = replace(trace, parts=[])
+        it.tracer.contexts.version += number % 20 == 19  # the judges forget what is usual
+        assert list(it.judge.unusual(trace)) == list(again.unusual(whole))
+        assert it.judge.take(trace) == again.take(whole) and it.judge.seen == again.seen
 
 
 def stored(search, trace):

@@ -4,7 +4,7 @@ from __future__ import annotations
 from collections import defaultdict
 from dataclasses import dataclass, field
 from enum import Enum
-from typing import Iterator, Optional, Tuple
+from typing import Iterator, Optional, Sequence, Tuple
 
 from rvlook.finders.inputs.code import ENDS_BLOCK, Code, Kind
 from rvlook.finders.inputs.objects import ObjectPlace, Objects
@@ -133,14 +133,25 @@ class TraceJudge:
         if self.version != self.tracer.contexts.version:
             self.version = self.tracer.contexts.version
             self.usual.clear()
-        indices, plain, traps, begin = trace.differences(), self.tracer.plain, trace.traps, 0
-        pcs = list(map(trace.pcs.__getitem__, indices))
-        for n in [n for n, pc in enumerate(pcs) if pc not in plain or indices[n] in traps]:
-            self.seen.pcs.update(pcs[begin:n])
-            begin = n + 1
-            if indices[n] in traps or self.way_of(trace, indices[n]) not in self.usual:
-                yield indices[n]
-        self.seen.pcs.update(pcs[begin:])
+        for indices, part in trace.differences():
+            pcs, begin = part.pcs if part else [trace.pcs[it] for it in indices], 0
+            found: list[int] = []
+            for n in self.not_plain(trace, indices, pcs, part):
+                if indices[n] in trace.traps or self.way_of(trace, indices[n]) not in self.usual:
+                    self.seen.pcs.update(pcs[begin:n])
+                    begin = n
+                    found.append(n)
+                    yield indices[n]
+            self.seen.pcs.update(pcs[begin:])
+            if part:
+                part.unusual = self.version, found
+
+    def not_plain(self, trace: Trace, indices: Sequence[int], pcs: Sequence[int], part: Trace | None) -> Sequence[int]:
+        """Returns which of these steps of a trace may be unusual: those of a part only if they were before, and did so."""
+        if part and part.unusual and part.unusual[0] == self.version:
+            return part.unusual[1]
+        plain = self.tracer.plain
+        return [n for n, pc in enumerate(pcs) if pc not in plain or indices[n] in trace.traps]
 
     def way_of(self, trace: Trace, index: int) -> Way:
         """Returns the pc and the context of a step, and its address or the pc after it. For some kinds these decide whether the step is a finding."""

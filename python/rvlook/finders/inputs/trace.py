@@ -3,7 +3,10 @@ commands that show whether another run takes the same steps, and which of its ac
 from __future__ import annotations
 
 from array import array
+from bisect import bisect_left
 from dataclasses import dataclass, field
+from itertools import compress, count
+from operator import ne
 from typing import Iterator, Mapping, NamedTuple, Optional, Sequence, Tuple
 
 from rvlook.finders.inputs.code import ENDS_BLOCK, Code, Kind
@@ -41,7 +44,7 @@ class TraceVisit(NamedTuple):
     answer: Tuple[int, int] = (0, 0)  # a0 and a1 of the host after it
 
 
-@dataclass
+@dataclass(eq=False)
 class Trace:
     """The steps of an enclave in a run with changed inputs. The parent of a trace is the trace whose inputs were changed.
 
@@ -62,6 +65,8 @@ class Trace:
     context: int = ROOT  # after the last step
     total: int = 0  # steps of the run, also those of the host
     probes: Optional[Probes] = None  # made when another run first follows this trace
+    parts: list[tuple[int, Trace]] = field(default_factory=list)  # steps that other traces have too, with the index of the first
+    unusual: Optional[tuple[int, list[int]]] = None  # of such steps: the indices that were unusual, after the version of the judge then
 
     def __len__(self) -> int:
         return len(self.pcs)
@@ -77,12 +82,19 @@ class Trace:
                      {n: it for n, it in self.traps.items() if n < count}, visits,
                      context=self.contexts[count] if count < len(self) else self.context)
 
+    def since(self, begin: int) -> Trace:
+        """Returns the steps from an index on as a trace without changes."""
+        found = Trace()
+        found.append(self, begin, len(self), 0)
+        return found
+
     def cut(self, count: int) -> None:
         """Removes all steps but the first ones."""
         kept = self.prefix(count, self.changes)
         self.steps, self.pcs, self.addresses, self.values, self.contexts = kept.steps, kept.pcs, kept.addresses, kept.values, kept.contexts
         self.traps, self.visits, self.context = kept.traps, kept.visits, kept.context
         self.changed = [it for it in self.changed if it < count]
+        self.parts = [(at, part) for at, part in self.parts if at + len(part) <= count]
 
     def append(self, parent: Trace, first: int, end: int, later: int) -> None:
         """Adds steps of another trace, by their indices there; each is done a number of steps later."""
@@ -102,13 +114,25 @@ class Trace:
                 last = visit.last + shift if visit.last is not None and is_whole else None
                 self.visits.append(TraceVisit(begin_here, last, visit.ended_by, visit.answer) if is_whole else TraceVisit(begin_here))
 
-    def differences(self) -> list[int]:
-        """Returns the indices of the steps that differ from the steps of the parent, or that come right before such steps."""
-        found = set(self.changed)
+    def differences(self) -> Iterator[tuple[Sequence[int], Optional[Trace]]]:
+        """Yields the indices of the steps that differ from the steps of the parent, or that come right before such steps: groups in order, those of a
+        part each with the part."""
+        parts = [(at, at + len(part), part) for at, part in self.parts]
+        rest, size = set(self.changed), len(self.pcs)
         for first, end in self.new:
-            found.update(range(max(0, first - 1), end))
-        size = len(self.pcs)
-        return [it for it in sorted(found) if it < size]
+            begin = max(0, first - 1)
+            for at, after, _ in parts:
+                if first <= at < end:
+                    rest.update(range(begin, at))
+                    begin = after
+            rest.update(range(begin, end))
+        found, begin = [it for it in sorted(rest) if it < size], 0
+        for at, after, part in parts:
+            middle = bisect_left(found, at)
+            yield found[begin:middle], None
+            yield range(at, after), part
+            begin = middle
+        yield found[begin:], None
 
     def visit_at(self, index: int) -> int:
         """Returns the number, from 0, of the activation that has a step."""
@@ -184,8 +208,8 @@ class Probes:
         expected = self.expected[start:]
         if first >= len(self.probes) or replies == expected:
             return found
-        for number, (reply, line) in enumerate(zip(replies, expected)):
-            if reply == line or not number and same_place(reply, line):
+        for number in compress(count(), map(ne, replies, expected)):
+            if not number and same_place(replies[number], expected[number]):
                 continue
             owner = self.owners[start + number]
             probe, offset = self.probes[owner], start + number - self.lines[owner]

@@ -10,10 +10,10 @@ from array import array
 from bisect import bisect_left
 from collections import defaultdict, deque
 from contextlib import ExitStack
-from dataclasses import dataclass
+from dataclasses import dataclass, field
 from functools import lru_cache
 from itertools import chain, compress
-from typing import Iterator, Mapping, Optional, Sequence, Set, Tuple
+from typing import Dict, Iterator, Mapping, NamedTuple, Optional, Sequence, Set, Tuple
 
 from rvlook.errors import Unfinished
 from rvlook.finders.inputs.code import Code, Kind, code_of
@@ -22,7 +22,6 @@ from rvlook.finders.inputs.trace import RESULT, Changes, ProbeComparison, Probes
 from rvlook.protocol.reader import step_command, values_of
 from rvlook.protocol.replies import Enclave, enclave_of, register_values
 from rvlook.protocol.run import EQUAL, Run, equal_at_end
-from rvlook.protocol.stretch import SHARED
 from rvlook.protocol.timeline import Timeline
 
 FEW, FIRST_CHUNK, LAST_CHUNK = 32, 256, 8192  # single steps of the first exchange, of the second one, and of an exchange at most
@@ -30,6 +29,7 @@ MORE = 8000  # steps of a run beyond twice those up to the last one of the encla
 ROUND, REGISTERS = 256, 33  # the most steps of a loop that waits for the host; lines of `regs`
 PATIENCE, PART = 1000000, 50000  # steps in which an enclave must return, and steps after which this is checked
 SAME, FAR, OCCURRENCES = 16, 4096, 4  # equal steps after which a path has joined another, how far that is searched, and how often a pc is considered
+KEPT = 64  # parts of paths that are kept, of up to LAST_CHUNK steps, and places where runs left their parent
 MOST_FOLLOWED = 24  # times that a run follows its parent
 ENDED_BY = {0: "exit", 1: "stop", 2: "timer"}
 PLAIN = b"why=done trap=-"
@@ -38,6 +38,14 @@ MASK = 0xFFFFFFFF
 ALL = b"regs\n"  # the command that reads all registers
 A0, A1 = 10, 11  # numbers of registers
 Joined = Tuple[int, int]  # an index of the parent, and the position of the run
+Ways = Mapping[int, Mapping[bytes, Sequence[int]]]  # indices of a trace, by the pc and by the next SAME pcs
+
+
+class AddedSteps(NamedTuple):
+    """The steps of a part as they were added to a trace. In another trace they are the same, as long as the frames are."""
+    trace: Trace  # has these steps alone
+    first: int  # number of the first step of the part
+    frames: Sequence[Tuple[int, Optional[int]]]  # the contexts of the steps, with the sp of each
 
 
 @dataclass
@@ -53,6 +61,7 @@ class TracePart:
     starts: Set[int]  # indices of the own steps before which the enclave is entered
     marked: Optional[Sequence[Tuple[int, Code, bool, bool]]] = None  # index, instruction, more than an access, relative to sp; None before decoding
     text: bytes = b""  # the commands that read the registers of marked steps
+    added: Dict[Tuple[int, bytes], AddedSteps] = field(default_factory=dict)  # by the context before the part, and the replies with registers
 
 
 @lru_cache(maxsize=1 << 17)
@@ -91,9 +100,10 @@ class Tracer:
     def __init__(self, run: Run, slot: int) -> None:
         self.run, self.slot, self.own = run, slot, b"e%d " % slot  # `own` begins the world in a reply
         self.code: dict[int, Code] = {}  # by pc
-        self.part_of = lru_cache(maxsize=SHARED)(part_of)  # runs that take the same way have parts in common
+        self.part_of = lru_cache(maxsize=KEPT)(part_of)  # runs that take the same way have parts in common
         self.questions: dict[int, bytes] = {}  # by pc: commands that read the registers of an instruction
         self.plain: set[int] = set()  # pcs of plain instructions
+        self.moving: set[int] = set()  # pcs of instructions that may change the context or note a frame
         self.contexts = Contexts()  # of all traces
         self.enclave: Enclave | None = None  # None before the first trace
         self.limit = run.length + run.setup.limit  # steps of the run after which it is cut
@@ -181,9 +191,9 @@ class Tracer:
 
     def update(self, trace: Trace, parent: Trace, shift: int, found: ProbeComparison) -> bool:
         """Changes the accesses and the answers of a trace that differ from its parent's; returns whether there are any."""
-        is_other = False
+        is_other, size = False, len(trace)
         for at, values in found.changed.items():
-            if at + shift < len(trace):
+            if at + shift < size:
                 trace.addresses[at + shift], value = access_of(self.code[parent.pcs[at]], values)
                 trace.values[at + shift] = trace.values[at + shift] if value is None else value
                 trace.changed.append(at + shift)
@@ -224,7 +234,7 @@ class Tracer:
             leader = reader = benches.enter_context(run.replay())
             pc, is_own = self.go(leader, position)
             chunk, trace.end = FEW, ""
-            ways = ways_of(*other) if other else {}
+            ways: Ways = ways_of(*other) if other else {}
             while not trace.end:
                 count, first = max(1, min(chunk, self.limit - leader.position)), leader.position + 1
                 block, states = steps_with_registers(leader, count) if chunk == FEW else (single_steps(leader, count), [])
@@ -234,7 +244,7 @@ class Tracer:
                     if reader is leader and (chunk > FEW or not self.code.keys() >= set(part.own)):
                         reader = benches.enter_context(run.replay())  # new code is decoded before the steps: they may end with a destroy
                     self.mark(part, first, reader)
-                    self.add(trace, part, first, iter(self.values_in(part, states) if states else self.registers(reader, part, first)))
+                    self.take(trace, part, first, self.registers_in(part, states) if states else self.registers(reader, part, first))
                 trace.next_pc, chunk = pc, FIRST_CHUNK if chunk == FEW else min(2 * chunk, LAST_CHUNK)
                 joined = self.joined(trace, at, other[0], ways) if other else None
                 if joined:
@@ -247,12 +257,11 @@ class Tracer:
         return None
 
     @staticmethod
-    def joined(trace: Trace, begin: int, parent: Trace, ways: Mapping[bytes, Sequence[int]]) -> Joined | None:
+    def joined(trace: Trace, begin: int, parent: Trace, ways: Ways) -> Joined | None:
         """Returns where the new steps of a trace join another's, in the same activation, and removes the steps from there on; or None."""
-        pcs, width = trace.pcs[begin:].tobytes(), trace.pcs.itemsize
-        following = [pcs[n:n + SAME * width] for n in range(0, (len(trace) - SAME - begin) * width, width)]  # the pcs from each step on
-        for at, key in compress(enumerate(following, begin), map(ways.__contains__, following)):
-            for other in ways[key]:
+        last = len(trace) - SAME
+        for at in compress(range(begin, last), map(ways.__contains__, trace.pcs[begin:last])):
+            for other in ways[trace.pcs[at]].get(trace.pcs[at:at + SAME].tobytes(), ()):
                 if trace.contexts[at] == parent.contexts[other] and trace.visit_at(at) == parent.visit_at(other):
                     position = trace.steps[at] - 1
                     trace.cut(at)
@@ -302,13 +311,29 @@ class Tracer:
             self.enclave = next(it for it in map(enclave_of, reader.bench.ask("enclaves")[0]) if it.slot == self.slot)
         if part.marked is None:
             self.decode(reader, set(part.own) - self.code.keys())
-            codes, plain = [self.code[pc] for pc in part.own], self.own + PLAIN
-            more = {at for at, tail in enumerate(part.tails) if tail != plain} | part.starts
-            more.update(at for at, it in enumerate(codes) if it.kind in MOVES or it.moves_sp or it.is_saving)
-            part.marked = [(at, it, at in more, it.is_sp_relative) for at, it in enumerate(codes) if it.probes or at in more]
+            plain, pcs, indices = self.own + PLAIN, part.own, range(len(part.own))
+            more = part.starts.intersection(indices).union(compress(indices, map(self.moving.__contains__, pcs)))
+            more.update(at for at, tail in enumerate(part.tails) if tail != plain)
+            marked = sorted(more.union(compress(indices, map(self.questions.__contains__, pcs))))
+            part.marked = [(at, code, at in more, code.is_sp_relative) for at, code in zip(marked, [self.code[pcs[at]] for at in marked])]
+
+    def take(self, trace: Trace, part: TracePart, first: int, registers: bytes) -> None:
+        """Adds the steps of the enclave in a marked part to a trace: as an earlier trace has them, if they are the same. `registers` are the replies
+        with the registers that these steps need."""
+        begin, key, version, frames = len(trace), (trace.context, registers), self.contexts.version, self.contexts.frames
+        known = part.added.get(key)
+        if known and all(frames.get(it) == sp for it, sp in known.frames):
+            trace.append(known.trace, 0, len(known.trace), first - known.first)
+        else:
+            self.add(trace, part, first, iter(values_of(registers)))
+            if self.contexts.version != version:
+                return
+            known = AddedSteps(trace.since(begin), first, [(it, frames.get(it)) for it in set(trace.contexts[begin:])])
+            part.added[key] = known
+        trace.parts.append((begin, known.trace))
 
     def add(self, trace: Trace, part: TracePart, first: int, values: Iterator[int]) -> None:
-        """Adds the steps of the enclave in a marked part to a trace. `values` are the registers that these steps need."""
+        """Adds the steps of the enclave in a marked part to a trace, one by one. `values` are the registers that these steps need."""
         assert part.marked is not None
         inside, starts, begin = part.inside, part.starts, len(trace)
         trace.steps.extend([first + n for n in inside])
@@ -347,9 +372,11 @@ class Tracer:
             self.questions[pc] = b"".join([b"reg %d\n" % it for it in code.probes])
         if code.is_plain:
             self.plain.add(pc)
+        if code.kind in MOVES or code.moves_sp or code.is_saving:
+            self.moving.add(pc)
 
-    def registers(self, reader: Timeline, part: TracePart, first: int) -> Sequence[int]:
-        """Reads the registers of each step that needs any, and a0 and a1 after each step that leaves."""
+    def registers(self, reader: Timeline, part: TracePart, first: int) -> bytes:
+        """Reads the registers of each step that needs any, and a0 and a1 after each step that leaves. Returns the replies, which may have others."""
         text = part.text
         if not text or reader.future:
             asked: list[tuple[int, bytes]] = []  # steps done before a question, and the commands of the question
@@ -360,18 +387,20 @@ class Tracer:
                     asked.append((first + n, RESULT))
             if reader.future:
                 text = b"".join(chain.from_iterable(zip(advances(reader, [position for position, _ in asked]), [it for _, it in asked])))
-                return values_of(reader.bench.block(text, text.count(b"\n")))
+                return reader.bench.block(text, text.count(b"\n"))
             at = [reader.position, *(position for position, _ in asked), first + part.inside[-1]]
             text = part.text = b"".join([step_command(now - before) + it for before, now, (_, it) in zip(at, at[1:], [*asked, (0, b"")])])
         reader.lines_to(first + part.inside[-1])
-        return values_of(reader.bench.block(text, text.count(b"\n")))
+        return reader.bench.block(text, text.count(b"\n"))
 
-    def values_in(self, part: TracePart, states: Sequence[Sequence[bytes]]) -> Iterator[int]:
-        """Yields what `registers` returns, from the replies of `regs` before each step of the part and after the last."""
+    def registers_in(self, part: TracePart, states: Sequence[Sequence[bytes]]) -> bytes:
+        """Returns what `registers` reads, from the replies of `regs` before each step of the part and after the last."""
+        found: list[bytes] = []
         for n in part.inside:
-            yield from (int(states[n][number][-8:], 16) for number in self.code[part.pcs[n]].probes)
+            found += [states[n][number] for number in self.code[part.pcs[n]].probes]
             if not part.after[n]:
-                yield from (int(line[-8:], 16) for line in states[n + 1][A0:A1 + 1])
+                found += states[n + 1][A0:A1 + 1]
+        return b"\n".join(found)
 
     def add_step(self, trace: Trace, part: TracePart, index: int, at: int, values: Iterator[int]) -> None:
         """Adds the trap of a step of the enclave, and where it ends an activation or changes the context."""
@@ -390,14 +419,15 @@ class Tracer:
             self.contexts.note_frame(context, code, address)
 
 
-def ways_of(trace: Trace, start: int) -> dict[bytes, list[int]]:
-    """Returns the first occurrences of each pc in the next steps of a trace, by the pcs from there on."""
-    found: dict[bytes, list[int]] = {}
+@lru_cache(maxsize=KEPT)
+def ways_of(trace: Trace, start: int) -> Ways:
+    """Returns the first occurrences of each pc in the next steps of a trace, by the pc and by the pcs from there on."""
+    found: dict[int, dict[bytes, list[int]]] = defaultdict(dict)
     counts: dict[int, int] = defaultdict(int)
     for at, pc in enumerate(trace.pcs[start:start + FAR], start):
         counts[pc] += 1
         if counts[pc] <= OCCURRENCES:
-            found.setdefault(trace.pcs[at:at + SAME].tobytes(), []).append(at)
+            found[pc].setdefault(trace.pcs[at:at + SAME].tobytes(), []).append(at)
     return found
 
 
