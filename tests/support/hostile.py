@@ -2,7 +2,9 @@
 
 The ELF file is that of `programs/hello`, built with `-g -gdwarf-4`; it is stored as digits, so that the tests need no compiler. Its source file
 and one of its functions have names of 49 and 48 characters, which other names can replace."""
+import importlib
 import os
+import pkgutil
 import resource
 import signal
 import struct
@@ -99,13 +101,15 @@ def pages():
 
 
 def load():
-    """Imports what a child needs."""
+    """Imports what a child needs. Python reports a lack of memory while it compiles a module as various other errors."""
     if str(ROOT / "python") not in sys.path:
         sys.path.insert(0, str(ROOT / "python"))
     import elftools.dwarf.dwarfinfo  # noqa: F401
     import elftools.elf.elffile  # noqa: F401
     import jinja2  # noqa: F401
-    import rvlook.__main__  # noqa: F401
+    import rvlook.cli
+    for it in pkgutil.iter_modules(rvlook.cli.__path__):
+        importlib.import_module("rvlook.cli." + it.name)
 
 
 @lru_cache(maxsize=None)
