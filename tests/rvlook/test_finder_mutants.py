@@ -245,6 +245,8 @@ MUTANTS = (
            "test_golden.py::test_golden[leak_address]"),
     Mutant("steps_are_decoded_once_also_if_code_changes", "protocol/reader.py", "if is_changed(asked, ", "if False and is_changed(asked, ",
            "test_reader.py::test_code_that_is_changed_and_restored_within_a_stretch"),
+    Mutant("steps_are_read_as_those_of_other_instructions", "protocol/reader.py", "self.run.setup.monitor, text)", "self.run.setup.monitor)",
+           "test_reader.py::test_runs_with_equal_replies_and_other_instructions"),
     Mutant("writes_of_the_monitor_change_no_code", "protocol/reader.py", "calls = calls_in(stretch) if self", "calls = [] if self",
            "test_reader.py::test_code_that_the_monitor_changes"),
     Mutant("leak_with_several_processes_loses_the_details", "finders/leak_search.py", "it if it.found else try_pair", "it if True else try_pair",

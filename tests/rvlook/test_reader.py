@@ -76,6 +76,14 @@ def test_programs_that_store_over_their_code(bench, monkeypatch, name):
     assert found == exact
 
 
+def test_runs_with_equal_replies_and_other_instructions(bench, tmp_path, monkeypatch):
+    monkeypatch.setenv("RVBENCH", bench)
+    runs = [run_of(tmp_path, assembled(bench, ["auipc x1, 0", access, "end: jal x0, end"]), [], "--no-monitor") for access in ("lw x3, 0(x1)", "sw x3, 4(x1)")]
+    found = [steps_of(run) for run in runs]
+    assert all(one == exact for one, exact in found)
+    assert [it.kind for it, in (one[2] for one, _ in found)] == ["r", "w"]
+
+
 @pytest.mark.parametrize("name", ["hmac", "hmac_attacked", "store", "adds"])
 def test_code_that_does_not_change_is_decoded_once(bench, monkeypatch, name):
     monkeypatch.setenv("RVBENCH", bench)

@@ -16,7 +16,6 @@ from rvlook.protocol.run import End, Run
 from rvlook.protocol.stretch import Stretch
 
 DIVISIONS = ("div", "divu", "rem", "remu")
-MODES = {b"U": 0, b"S": 1, b"M": 3}
 ENDED_BY = {0: "exit", 1: "stop", 2: "timer"}
 BARE = "bare"
 
@@ -82,12 +81,6 @@ def operands_of(line: bytes) -> Need[MemoryOperand] | None:
 def number_of(pc: bytes) -> int:
     """Returns a pc as a number."""
     return int(pc, 16)
-
-
-@lru_cache(maxsize=65536)
-def pc_and_mode(pc: bytes, mode: bytes) -> int:
-    """Returns a pc with the number of the mode in its lowest bits."""
-    return int(pc, 16) | MODES[mode]
 
 
 class Activations:
@@ -170,7 +163,7 @@ class Activations:
 def extend(activation: Activation, part: Stretch, reads: Reads[MemoryOperand]) -> None:
     """Adds steps to an activation."""
     columns, begin_at = part.columns, len(activation.pcs)
-    activation.pcs.extend(map(pc_and_mode, columns.pcs, columns.modes))
+    activation.pcs += columns.pcs_with_modes
     activation.steps.extend(range(part.first, part.first + part.count))
     if columns.traps.count(NO_TRAP) < part.count:
         activation.traps.update([(begin_at + n, it) for n, it in enumerate(columns.traps) if it != NO_TRAP])

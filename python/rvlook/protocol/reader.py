@@ -94,11 +94,14 @@ class Reader(Closing, Generic[Item]):
         """Reads the steps of a stretch. The stretches come in the order of the run, but some may be left out."""
         if stretch.lines:
             return self.registers(self.replay, stretch)
-        executed = list(dict.fromkeys(stretch.columns.pcs))
+        executed = stretch.columns.executed
         listing = b"".join([b"dis %s\n" % pc for pc in executed])
         begin(self.replay, stretch)
-        code = dict(zip(executed, self.replay.bench.block(listing, len(executed)).splitlines()))
-        asked = self.asked(stretch, [code[pc] for pc in stretch.columns.pcs], listing)
+        text = self.replay.bench.block(listing, len(executed))
+        code, questions, key = dict(zip(executed, text.splitlines())), stretch.columns.questions, (self.needs, self.run.setup.monitor, text)
+        if key not in questions:
+            questions[key] = self.asked(stretch, [code[pc] for pc in stretch.columns.pcs], listing)
+        asked = questions[key]
         block = self.replay.bench.block(asked.text, asked.text.count(b"\n"))
         values = values_of(block)
         if is_changed(asked, values, stretch, changed_after(asked, block, code)):

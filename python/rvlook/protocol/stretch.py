@@ -1,23 +1,42 @@
 """Single steps of one hart with their replies."""
 from __future__ import annotations
 
-import itertools
-from dataclasses import dataclass
-from functools import lru_cache
-from typing import Iterator, NamedTuple, Optional, Sequence
+from array import array
+from dataclasses import dataclass, field
+from functools import cached_property, lru_cache
+from itertools import compress
+from operator import ne
+from typing import Any, Dict, Iterator, Mapping, Optional, Sequence
 
 from rvlook.protocol.replies import NO_TRAP, RanFields, fields_of
 
 SHARED = 16  # stretches whose columns are kept
+MODES = {b"U": 0, b"S": 1, b"M": 3}
 
 
-class Columns(NamedTuple):
+@dataclass(eq=False)
+class Columns:
     """The steps of a stretch, as the bytes of the replies. Each column has one element for each step."""
     pcs: Sequence[bytes]  # before the step
     modes: Sequence[bytes]  # before the step
     worlds: Sequence[bytes]  # before the step
     traps: Sequence[bytes]  # of the step, a hyphen without a trap
     after: Sequence[bytes]  # world after the step
+    questions: Dict[Any, Any] = field(default_factory=dict, init=False)  # what readers ask about the steps, by what decides it
+
+    @cached_property
+    def executed(self) -> Sequence[bytes]:
+        """Returns the different pcs."""
+        return list(dict.fromkeys(self.pcs))
+
+    @cached_property
+    def pcs_with_modes(self) -> array[int]:
+        """Returns each pc as a number, with the number of its mode in the lowest bits."""
+        return array("I", map(pc_and_mode, self.pcs, self.modes))
+
+    def part(self, first: int, end: int) -> Columns:
+        """Returns some of the steps."""
+        return Columns(*(column[first:end] for column in (self.pcs, self.modes, self.worlds, self.traps, self.after)))
 
 
 @dataclass
@@ -43,17 +62,30 @@ class Stretch:
 
     def by_world(self) -> Iterator[Stretch]:
         """Yields the steps in parts, each in one world."""
-        columns, at, before = self.columns, 0, self.before
-        if columns.worlds.count(columns.worlds[0]) == self.count:
-            yield self
-            return
-        lines = self.data.splitlines(keepends=True)
-        for _, group in itertools.groupby(columns.worlds):
-            end = at + len(list(group))
-            part = Stretch(self.first + at, self.hart, b"".join(lines[at:end]), end - at, before, self.lines[at:end],
-                           Columns(*(column[at:end] for column in columns)))
-            yield part
-            at, before = end, part.last
+        for at, data, before, columns in parts_of(self.data, self.before):
+            count = len(columns.pcs)
+            yield Stretch(self.first + at, self.hart, data, count, before, self.lines[at:at + count], columns)
+
+
+@lru_cache(maxsize=65536)
+def pc_and_mode(pc: bytes, mode: bytes) -> int:
+    """Returns a pc with the number of the mode in its lowest bits."""
+    return int(pc, 16) | MODES[mode]
+
+
+@lru_cache(maxsize=SHARED)
+def parts_of(data: bytes, before: RanFields) -> Sequence[tuple[int, bytes, RanFields, Columns]]:
+    """Returns replies to single steps in parts, each in one world: the index of the first step, the replies, where the hart is before, and the steps
+    as columns."""
+    columns, begin = columns_of(data, before), 0
+    ends = list(compress(range(1, len(columns.pcs)), map(ne, columns.worlds, columns.after)))
+    if not ends:
+        return [(0, data, before, columns)]
+    lines, found = data.splitlines(keepends=True), []
+    for end in [*ends, len(lines)]:
+        found.append((begin, b"".join(lines[begin:end]), before, columns.part(begin, end)))
+        begin, before = end, fields_of(lines[end - 1][:-1])
+    return found
 
 
 @lru_cache(maxsize=SHARED)
@@ -61,5 +93,12 @@ def columns_of(data: bytes, before: RanFields) -> Columns:
     """Returns replies to single steps as columns. Runs that differ in an input have most stretches in common, and most replies come many times."""
     lines = data.splitlines()
     decoded = {line: fields_of(line) for line in set(lines)}
-    pcs, modes, worlds, traps = (list(map({line: fields[n] for line, fields in decoded.items()}.__getitem__, lines)) for n in range(len(before)))
+    pcs, modes, worlds, traps = (column_of(lines, {line: fields[n] for line, fields in decoded.items()}) for n in range(len(before)))
     return Columns([before[0], *pcs[:-1]], [before[1], *modes[:-1]], [before[2], *worlds[:-1]], traps, worlds)
+
+
+def column_of(lines: Sequence[bytes], field_of: Mapping[bytes, bytes]) -> list[bytes]:
+    """Returns a field of each line."""
+    if len(set(field_of.values())) == 1:
+        return [field_of[lines[0]]] * len(lines)
+    return list(map(field_of.__getitem__, lines))
