@@ -93,7 +93,7 @@ def test_steps_of_an_earlier_trace_are_those_that_are_added_one_by_one(search, m
     monkeypatch.setattr(tracer, "take", lambda trace, *more: (taken.append((trace.context, *more)), type(tracer).take(tracer, trace, *more)))
     for child in list(it.root.children)[:40]:
         tracer.child(it.base, child.index, child.changes)
-    assert sum(bool(part.added) for _, part, _, _ in taken) > 10
+    assert sum(part.added is not None for _, part, _, _ in taken) > 10
 
     def check(context, part, first, registers):
         found, wanted = Trace(context=context), Trace(context=context)
@@ -107,7 +107,8 @@ def test_steps_of_an_earlier_trace_are_those_that_are_added_one_by_one(search, m
         check(context, part, first + 5, registers)  # now as before
         check(next(other for other in range(9) if other != context), part, first, registers)
         check(context, part, first, registers.replace(b"=8002", b"=8003"))
-        for used in set(part.added[context, registers].trace.contexts) & tracer.contexts.frames.keys() if (context, registers) in part.added else ():
+        check(context, part, first, registers)
+        for used in set(part.added.trace.contexts) & tracer.contexts.frames.keys():
             tracer.contexts.frames[used] += 16
         check(context, part, first, registers)
 

@@ -10,10 +10,10 @@ from array import array
 from bisect import bisect_left
 from collections import defaultdict, deque
 from contextlib import ExitStack
-from dataclasses import dataclass, field
+from dataclasses import dataclass
 from functools import lru_cache
 from itertools import chain, compress
-from typing import Dict, Iterator, Mapping, NamedTuple, Optional, Sequence, Set, Tuple
+from typing import Iterator, Mapping, NamedTuple, Optional, Sequence, Set, Tuple
 
 from rvlook.errors import Unfinished
 from rvlook.finders.inputs.code import Code, Kind, code_of
@@ -29,7 +29,7 @@ MORE = 8000  # steps of a run beyond twice those up to the last one of the encla
 ROUND, REGISTERS = 256, 33  # the most steps of a loop that waits for the host; lines of `regs`
 PATIENCE, PART = 1000000, 50000  # steps in which an enclave must return, and steps after which this is checked
 SAME, FAR, OCCURRENCES = 16, 4096, 4  # equal steps after which a path has joined another, how far that is searched, and how often a pc is considered
-KEPT = 64  # parts of paths that are kept, of up to LAST_CHUNK steps, and places where runs left their parent
+KEPT = 16  # parts of paths that are kept, of up to LAST_CHUNK steps, and places where runs left their parent
 MOST_FOLLOWED = 24  # times that a run follows its parent
 ENDED_BY = {0: "exit", 1: "stop", 2: "timer"}
 PLAIN = b"why=done trap=-"
@@ -42,10 +42,12 @@ Ways = Mapping[int, Mapping[bytes, Sequence[int]]]  # indices of a trace, by the
 
 
 class AddedSteps(NamedTuple):
-    """The steps of a part as they were added to a trace. In another trace they are the same, as long as the frames are."""
-    trace: Trace  # has these steps alone
-    first: int  # number of the first step of the part
+    """The steps of a part as they were added to a trace. They are the same in another trace with this context, these registers and these frames."""
+    context: int  # before the steps
+    registers: bytes  # the replies with the registers that the steps need
     frames: Sequence[Tuple[int, Optional[int]]]  # the contexts of the steps, with the sp of each
+    first: int  # number of the first step of the part
+    trace: Trace  # has the steps of the part alone
 
 
 @dataclass
@@ -61,7 +63,7 @@ class TracePart:
     starts: Set[int]  # indices of the own steps before which the enclave is entered
     marked: Optional[Sequence[Tuple[int, Code, bool, bool]]] = None  # index, instruction, more than an access, relative to sp; None before decoding
     text: bytes = b""  # the commands that read the registers of marked steps
-    added: Dict[Tuple[int, bytes], AddedSteps] = field(default_factory=dict)  # by the context before the part, and the replies with registers
+    added: Optional[AddedSteps] = None  # last; None if no trace has these steps
 
 
 @lru_cache(maxsize=1 << 17)
@@ -320,16 +322,15 @@ class Tracer:
     def take(self, trace: Trace, part: TracePart, first: int, registers: bytes) -> None:
         """Adds the steps of the enclave in a marked part to a trace: as an earlier trace has them, if they are the same. `registers` are the replies
         with the registers that these steps need."""
-        begin, key, version, frames = len(trace), (trace.context, registers), self.contexts.version, self.contexts.frames
-        known = part.added.get(key)
-        if known and all(frames.get(it) == sp for it, sp in known.frames):
+        begin, context, version, frames, known = len(trace), trace.context, self.contexts.version, self.contexts.frames, part.added
+        if known and (context, registers) == known[:2] and all(frames.get(it) == sp for it, sp in known.frames):
             trace.append(known.trace, 0, len(known.trace), first - known.first)
         else:
             self.add(trace, part, first, iter(values_of(registers)))
             if self.contexts.version != version:
                 return
-            known = AddedSteps(trace.since(begin), first, [(it, frames.get(it)) for it in set(trace.contexts[begin:])])
-            part.added[key] = known
+            used = [(it, frames.get(it)) for it in set(trace.contexts[begin:])]
+            known = part.added = AddedSteps(context, registers, used, first, trace.since(begin))
         trace.parts.append((begin, known.trace))
 
     def add(self, trace: Trace, part: TracePart, first: int, values: Iterator[int]) -> None:
