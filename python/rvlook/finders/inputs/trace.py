@@ -115,24 +115,20 @@ class Trace:
                 self.visits.append(TraceVisit(begin_here, last, visit.ended_by, visit.answer) if is_whole else TraceVisit(begin_here))
 
     def differences(self) -> Iterator[tuple[Sequence[int], Optional[Trace]]]:
-        """Yields the indices of the steps that differ from the steps of the parent, or that come right before such steps: groups in order, those of a
-        part each with the part."""
-        parts = [(at, at + len(part), part) for at, part in self.parts]
-        rest, size = set(self.changed), len(self.pcs)
+        """Yields the indices of the steps that differ from the steps of the parent, or that come right before such steps, in order. The steps of a
+        part are a group of their own, with the part."""
+        single, begin = set(self.changed), 0  # `single`: indices of steps in no part
         for first, end in self.new:
-            begin = max(0, first - 1)
-            for at, after, _ in parts:
-                if first <= at < end:
-                    rest.update(range(begin, at))
-                    begin = after
-            rest.update(range(begin, end))
-        found, begin = [it for it in sorted(rest) if it < size], 0
-        for at, after, part in parts:
-            middle = bisect_left(found, at)
-            yield found[begin:middle], None
-            yield range(at, after), part
-            begin = middle
-        yield found[begin:], None
+            single.update(range(max(0, first - 1), end))
+        for at, part in self.parts:
+            single.difference_update(range(at, at + len(part)))
+        indices = [it for it in sorted(single) if it < len(self.pcs)]
+        for at, part in self.parts:
+            end = bisect_left(indices, at)
+            yield indices[begin:end], None
+            yield range(at, at + len(part)), part
+            begin = end
+        yield indices[begin:], None
 
     def visit_at(self, index: int) -> int:
         """Returns the number, from 0, of the activation that has a step."""
