@@ -70,7 +70,9 @@ def traces_of(tracer: Tracer, parent: Trace, children: Sequence[Child], jobs: in
 
     def traced(number: int) -> tuple[Trace, News]:
         """Traces a run, by its number."""
-        return tracer.child(parent, children[number].index, children[number].changes), news_since(tracer, known)
+        trace = tracer.child(parent, children[number].index, children[number].changes)
+        trace.parts.clear()  # they save time only in the process of the judge
+        return trace, news_since(tracer, known)
 
     for child, (trace, news) in zip(children, results_of(traced, len(children), jobs)):
         if has_taken_over(tracer, known, trace, news):
