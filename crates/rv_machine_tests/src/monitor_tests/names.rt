@@ -114,24 +114,6 @@ pub const FREE: u32 = 0x8003_0000;
 /// The size of a region or a window in bytes.
 pub const SIZE: u32 = 0x1000;
 
-/// The number of the CSR sepc.
-pub const SEPC: u16 = 0x141;
-
-/// The number of the CSR scause.
-pub const SCAUSE: u16 = 0x142;
-
-/// The number of the CSR stval.
-pub const STVAL: u16 = 0x143;
-
-/// The number of the CSR mip.
-pub const MIP: u16 = 0x344;
-
-/// The number of the CSR pmpcfg0, with the configurations of entries 0 to 3.
-pub const PMPCFG0: u16 = 0x3a0;
-
-/// The number of the CSR pmpcfg3, with the configurations of entries 12 to 15.
-pub const PMPCFG3: u16 = 0x3a3;
-
 /// The cause of an illegal instruction.
 pub const ILLEGAL_INSTRUCTION: u32 = 2;
 
