@@ -1,6 +1,6 @@
 //! Tests of the program with its arguments: the job, the lines of errors, the exit statuses, and the flush.
 use crate::expecting::{expect_bytes, expect_number};
-use crate::faulty::{AtSetCall, FaultySink, FaultySource};
+use crate::faulty::{FaultySink, FaultySource, NEVER, SinkFault};
 use rv_bench::{MemorySink, MemorySource, WordsFault, perform, refuse, run_program};
 use std::alloc::Global;
 use std::process::Abort;
@@ -17,17 +17,17 @@ fn expect_performed(
     alloc: Global,
     words: &[&str],
     input: &[u8],
-    written: &[u8],
-    status: u8,
+    wanted_output: &[u8],
+    wanted_status: u8,
 ) {
     let mut buffer = [0u8; 128];
     let mut sink = MemorySink::new(&mut buffer);
     let (_, found) = perform(alloc, words, MemorySource::new(input), &mut sink);
-    expect_bytes(rt, sink.bytes(), written, 0);
-    expect_number(rt, u64::from(found), u64::from(status), 0);
+    expect_bytes(rt, sink.bytes(), wanted_output, 0);
+    expect_number(rt, u64::from(found), u64::from(wanted_status), 0);
     let (text, found) = run_program(alloc, words, input).expect(rt, "memory");
-    expect_bytes(rt, text.as_slice(), written, 1);
-    expect_number(rt, u64::from(found), u64::from(status), 1);
+    expect_bytes(rt, text.as_slice(), wanted_output, 1);
+    expect_number(rt, u64::from(found), u64::from(wanted_status), 1);
 }
 
 #[test]
@@ -138,16 +138,16 @@ fn reads_the_input_of_a_job_to_its_end(rt: HostRuntime) {
 }
 
 /// Expects the line and the exit status for an error of the arguments.
-fn expect_refused(rt: &impl Abort, fault: &WordsFault, written: &[u8], status: u8) {
+fn expect_refused(rt: &impl Abort, fault: &WordsFault, wanted_output: &[u8], wanted_status: u8) {
     let mut buffer = [0u8; 64];
-    let mut sink = FaultySink::new(&mut buffer, 64, 0, AtSetCall::Fail);
+    let mut sink = FaultySink::new(&mut buffer, 64, NEVER, SinkFault::Fail);
     expect_number(
         rt,
         u64::from(refuse(fault, &mut sink)),
-        u64::from(status),
+        u64::from(wanted_status),
         0,
     );
-    expect_bytes(rt, sink.bytes(), written, 0);
+    expect_bytes(rt, sink.bytes(), wanted_output, 0);
     expect_number(rt, sink.calls(), 2, 0);
 }
 
@@ -162,7 +162,7 @@ fn reports_why_arguments_are_refused(rt: HostRuntime) {
 #[test]
 fn reports_a_failed_read(rt: HostRuntime) {
     let mut buffer = [0u8; 128];
-    let mut sink = FaultySink::new(&mut buffer, 128, 0, AtSetCall::Fail);
+    let mut sink = FaultySink::new(&mut buffer, 128, NEVER, SinkFault::Fail);
     let source = FaultySource::new(INPUT, 1, 21);
     let (_, status) = perform(rt.alloc(), &["rvbench"], source, &mut sink);
     expect_number(&rt, u64::from(status), 1, 0);
@@ -175,16 +175,16 @@ fn expect_failed_write(
     rt: &impl Abort,
     alloc: Global,
     input: &[u8],
-    set_call: u64,
-    written: &[u8],
-    status: u8,
+    faulty_call: u64,
+    wanted_output: &[u8],
+    wanted_status: u8,
 ) {
     let mut buffer = [0u8; 128];
-    let mut sink = FaultySink::new(&mut buffer, 128, set_call, AtSetCall::Fail);
+    let mut sink = FaultySink::new(&mut buffer, 128, faulty_call, SinkFault::Fail);
     let (_, found) = perform(alloc, &["rvbench"], MemorySource::new(input), &mut sink);
-    expect_bytes(rt, sink.bytes(), written, set_call);
-    expect_number(rt, u64::from(found), u64::from(status), set_call);
-    expect_number(rt, sink.calls(), set_call, set_call);
+    expect_bytes(rt, sink.bytes(), wanted_output, faulty_call);
+    expect_number(rt, u64::from(found), u64::from(wanted_status), faulty_call);
+    expect_number(rt, sink.calls(), faulty_call, faulty_call);
 }
 
 #[test]

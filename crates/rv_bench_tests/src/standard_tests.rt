@@ -2,6 +2,7 @@
 //! call.
 use crate::byte_by_byte::{ByteReader, ByteWriter};
 use crate::expecting::{expect_bytes, expect_number, expect_outcome};
+use crate::faulty::NEVER;
 use crate::recording::{RecordingReader, RecordingWriter};
 use crate::sources::source_over;
 use rv_bench::{
@@ -122,16 +123,16 @@ fn recorded(
     rt: &impl Abort,
     alloc: Global,
     example: &Example,
-    set_call: u64,
+    faulty_call: u64,
     want: (Result<(), BenchFault>, u64),
 ) -> RecordingWriter {
     let mut sink = WriterSink::new(RecordingWriter::new(Vec::new(alloc), false));
-    let reader = RecordingReader::new(example.input, set_call);
+    let reader = RecordingReader::new(example.input, faulty_call);
     let source = source_over(reader);
     let (_, outcome) = run_job(alloc, &example.job, source, &mut sink);
-    expect_outcome(rt, outcome, want.0, set_call);
+    expect_outcome(rt, outcome, want.0, faulty_call);
     let writer = sink.into_writer();
-    expect_number(rt, writer.flushes(), want.1, set_call);
+    expect_number(rt, writer.flushes(), want.1, faulty_call);
     writer
 }
 
@@ -173,7 +174,7 @@ fn expect_over_streams(
     input: &[u8],
     want: (&[u8], u8, u64),
 ) {
-    let reader = RecordingReader::new(input, 0);
+    let reader = RecordingReader::new(input, NEVER);
     let writer = RecordingWriter::new(Vec::new(alloc), false);
     let (source, sink, status) = run_over_streams(alloc, arguments, reader, writer);
     let writer = sink.into_writer();
@@ -201,7 +202,7 @@ fn program_makes_no_other_calls_of_its_streams(rt: HostRuntime) {
 
 #[test]
 fn reader_that_ended_is_not_called_again(rt: HostRuntime) {
-    let mut source = source_over(RecordingReader::new(b"ab", 0));
+    let mut source = source_over(RecordingReader::new(b"ab", NEVER));
     let mut buffer = [0u8; 8];
     for want in [2usize, 0, 0, 0] {
         assert!(rt; source.read_some(&mut buffer) == Ok(want), "{want}");

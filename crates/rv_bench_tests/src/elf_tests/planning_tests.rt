@@ -239,14 +239,19 @@ const VALID_CHANGES: [&[Patch]; 15] = [
     &[(E_ENTRY, &[0xfc, 0xff])],
 ];
 
-#[test]
-fn accepts_valid_changes(rt: HostRuntime) {
+/// Expects for each row that the file with these fields changed is valid.
+fn expect_each_valid(rt: &impl Abort, rows: &[&[Patch]]) {
     let mut case = 0u64;
-    for patches in VALID_CHANGES {
-        let file = patched(&rt, &FILE, FILE.len(), patches);
-        expect_fault(&rt, file.as_slice(), VALID, case);
+    for patches in rows {
+        let file = patched(rt, &FILE, FILE.len(), patches);
+        expect_fault(rt, file.as_slice(), VALID, case);
         case = case.saturating_add(1);
     }
+}
+
+#[test]
+fn accepts_valid_changes(rt: HostRuntime) {
+    expect_each_valid(&rt, &VALID_CHANGES);
 }
 
 /// The ELF header has 52 bytes, the table of program headers ends at 148, and the bytes of the segments end at 152, 156 and 160.
@@ -262,14 +267,19 @@ fn reports_where_a_file_is_cut(rt: HostRuntime) {
     }
 }
 
+/// Expects for each row the error with the smaller number.
+fn expect_smaller_error(rt: &impl Abort, rows: &[(ElfFault, ElfFault, usize, &[Patch])]) {
+    for (smaller, greater, len, patches) in rows {
+        let file = patched(rt, &FILE, *len, patches);
+        let case = u64::from(greater.number());
+        expect_fault(rt, file.as_slice(), Some(*smaller), case);
+    }
+}
+
 /// A file with two errors is refused with the error that has the smaller number.
 #[test]
 fn reports_the_smaller_of_two_errors(rt: HostRuntime) {
-    for (smaller, greater, len, patches) in TWO_ERRORS {
-        let file = patched(&rt, &FILE, len, patches);
-        let case = u64::from(greater.number());
-        expect_fault(&rt, file.as_slice(), Some(smaller), case);
-    }
+    expect_smaller_error(&rt, &TWO_ERRORS);
 }
 
 #[test]
