@@ -153,7 +153,7 @@ fn a_full_sink_takes_nothing(rt: HostRuntime) {
     expect_bytes(&rt, sink.bytes(), b"abcde", 0);
 }
 
-/// A text, its bytes or none if it has an error, and the rest of it.
+/// A text of an image, the bytes of the image or none if the text has an error, and the rest of the text.
 const TEXTS: &[(&[u8], Option<&[u8]>, &[u8])] = &[
     (b"", Some(b""), b""),
     (
@@ -181,13 +181,13 @@ const TEXTS: &[(&[u8], Option<&[u8]>, &[u8])] = &[
     (b"00\xa0\n", None, b""),
 ];
 
-/// Reads an image from a text, and expects its bytes or none if it has an error, and the rest of the text.
+/// Reads an image from a text. Expects the bytes of the image, or none if the text has an error, and the rest of the text.
 fn expect_image(rt: &impl Abort, alloc: Global, text: &[u8], wanted: Option<&[u8]>, rest: &[u8]) {
     let mut lines = Lines::new(MemorySource::new(text));
     match (read_image(alloc, &mut lines), wanted) {
         (Ok(image), Some(bytes)) => expect_bytes(rt, image.as_slice(), bytes, 0),
         (Err(fault), None) => assert!(rt; fault == BenchFault::Hex),
-        _ => panic!(rt; "another answer"),
+        _ => panic!(rt; "another result"),
     }
     expect_bytes(rt, lines.source().rest(), rest, 0);
 }
