@@ -22,10 +22,10 @@ fn answer_to(rt: &impl Abort, alloc: Global, words: &[&str]) -> Answer {
 }
 
 /// Expects this result for arguments. The assertion is in a function of its own, because it would lengthen the proof of each test.
-fn expect_answer(rt: &impl Abort, alloc: Global, words: &[&str], want: Answer) {
+fn expect_answer(rt: &impl Abort, alloc: Global, words: &[&str], wanted: Answer) {
     let answer = answer_to(rt, alloc, &*words);
     let last = words.last().copied().unwrap_or("");
-    assert_eq!(rt; answer, want, "at {last}");
+    assert_eq!(rt; answer, wanted, "at {last}");
 }
 
 /// Expects that each list of arguments is refused.
@@ -51,6 +51,15 @@ fn expect_help(rt: &impl Abort, alloc: Global, words: &[&str], parts: &[&str]) {
     }
 }
 
+/// The size of RAM in bytes if the arguments do not name one.
+const DEFAULT_RAM: u32 = 1_048_576;
+
+/// The field `monitored` of a run without the monitor.
+const BARE: bool = false;
+
+/// The field `monitored` of a run under the monitor.
+const MONITORED: bool = true;
+
 /// Arguments of a run, and its image format, the size of its RAM in bytes, and whether it has the monitor.
 type RunRow = (&'static [&'static str], ImageKind, u32, bool);
 
@@ -69,39 +78,39 @@ fn expect_runs(rt: &impl Abort, alloc: Global, rows: &[RunRow]) {
 
 /// The rows of the test `names_jobs`.
 const NAMES_JOBS: &[RunRow] = &[
-    (&[], ImageKind::Auto, 1_048_576, false),
-    (&["rvbench"], ImageKind::Auto, 1_048_576, false),
-    (&["rvbench", "run"], ImageKind::Auto, 1_048_576, false),
+    (&[], ImageKind::Auto, DEFAULT_RAM, BARE),
+    (&["rvbench"], ImageKind::Auto, DEFAULT_RAM, BARE),
+    (&["rvbench", "run"], ImageKind::Auto, DEFAULT_RAM, BARE),
     (
         &["rvbench", "run", "--ram", "65536"],
         ImageKind::Auto,
         65_536,
-        false,
+        BARE,
     ),
     (
         &["rvbench", "run", "--ram=65536"],
         ImageKind::Auto,
         65_536,
-        false,
+        BARE,
     ),
-    (&["rvbench", "run", "--ram", "0"], ImageKind::Auto, 0, false),
+    (&["rvbench", "run", "--ram", "0"], ImageKind::Auto, 0, BARE),
     (
         &["rvbench", "run", "--ram", "4294967295"],
         ImageKind::Auto,
         4_294_967_295,
-        false,
+        BARE,
     ),
     (
         &["rvbench", "run", "--ram", "+65537"],
         ImageKind::Auto,
         65_537,
-        false,
+        BARE,
     ),
     (
         &["rvbench", "run", "--ram", "0065537"],
         ImageKind::Auto,
         65_537,
-        false,
+        BARE,
     ),
 ];
 
@@ -120,110 +129,110 @@ const NAMES_KINDS: &[RunRow] = &[
     (
         &["rvbench", "run", "--kind", "auto"],
         ImageKind::Auto,
-        1_048_576,
-        false,
+        DEFAULT_RAM,
+        BARE,
     ),
     (
         &["rvbench", "run", "--kind=auto"],
         ImageKind::Auto,
-        1_048_576,
-        false,
+        DEFAULT_RAM,
+        BARE,
     ),
     (
         &["rvbench", "run", "--kind", "auto", "--ram", "65536"],
         ImageKind::Auto,
         65_536,
-        false,
+        BARE,
     ),
     (
         &["rvbench", "run", "--ram", "65536", "--kind", "auto"],
         ImageKind::Auto,
         65_536,
-        false,
+        BARE,
     ),
     (
         &["rvbench", "run", "--kind=auto", "--ram=65536"],
         ImageKind::Auto,
         65_536,
-        false,
+        BARE,
     ),
     (
         &["rvbench", "run", "--ram=65536", "--kind=auto"],
         ImageKind::Auto,
         65_536,
-        false,
+        BARE,
     ),
     (
         &["rvbench", "run", "--kind", "raw"],
         ImageKind::Raw,
-        1_048_576,
-        false,
+        DEFAULT_RAM,
+        BARE,
     ),
     (
         &["rvbench", "run", "--kind=raw"],
         ImageKind::Raw,
-        1_048_576,
-        false,
+        DEFAULT_RAM,
+        BARE,
     ),
     (
         &["rvbench", "run", "--kind", "raw", "--ram", "65536"],
         ImageKind::Raw,
         65_536,
-        false,
+        BARE,
     ),
     (
         &["rvbench", "run", "--ram", "65536", "--kind", "raw"],
         ImageKind::Raw,
         65_536,
-        false,
+        BARE,
     ),
     (
         &["rvbench", "run", "--kind=raw", "--ram=65536"],
         ImageKind::Raw,
         65_536,
-        false,
+        BARE,
     ),
     (
         &["rvbench", "run", "--ram=65536", "--kind=raw"],
         ImageKind::Raw,
         65_536,
-        false,
+        BARE,
     ),
     (
         &["rvbench", "run", "--kind", "elf"],
         ImageKind::Elf,
-        1_048_576,
-        false,
+        DEFAULT_RAM,
+        BARE,
     ),
     (
         &["rvbench", "run", "--kind=elf"],
         ImageKind::Elf,
-        1_048_576,
-        false,
+        DEFAULT_RAM,
+        BARE,
     ),
     (
         &["rvbench", "run", "--kind", "elf", "--ram", "65536"],
         ImageKind::Elf,
         65_536,
-        false,
+        BARE,
     ),
     (
         &["rvbench", "run", "--ram", "65536", "--kind", "elf"],
         ImageKind::Elf,
         65_536,
-        false,
+        BARE,
     ),
     (
         &["rvbench", "run", "--kind=elf", "--ram=65536"],
         ImageKind::Elf,
         65_536,
-        false,
+        BARE,
     ),
     (
         &["rvbench", "run", "--ram=65536", "--kind=elf"],
         ImageKind::Elf,
         65_536,
-        false,
+        BARE,
     ),
 ];
 
@@ -237,44 +246,44 @@ const NAMES_THE_MONITOR: &[RunRow] = &[
     (
         &["rvbench", "run", "--monitor"],
         ImageKind::Auto,
-        1_048_576,
-        true,
+        DEFAULT_RAM,
+        MONITORED,
     ),
     (
         &["rvbench", "run", "--monitor", "--ram", "65536"],
         ImageKind::Auto,
         65_536,
-        true,
+        MONITORED,
     ),
     (
         &["rvbench", "run", "--ram=65536", "--monitor"],
         ImageKind::Auto,
         65_536,
-        true,
+        MONITORED,
     ),
     (
         &["rvbench", "run", "--kind", "elf", "--monitor"],
         ImageKind::Elf,
-        1_048_576,
-        true,
+        DEFAULT_RAM,
+        MONITORED,
     ),
     (
         &["rvbench", "run", "--monitor", "--kind=raw"],
         ImageKind::Raw,
-        1_048_576,
-        true,
+        DEFAULT_RAM,
+        MONITORED,
     ),
     (
         &["rvbench", "run", "--kind", "raw", "--monitor", "--ram", "0"],
         ImageKind::Raw,
         0,
-        true,
+        MONITORED,
     ),
     (
         &["rvbench", "run", "--ram", "0", "--kind", "raw"],
         ImageKind::Raw,
         0,
-        false,
+        BARE,
     ),
 ];
 
@@ -318,35 +327,35 @@ type TwinRow = (&'static [&'static str], ImageKind, u32, u8);
 
 /// The rows of the test `names_twins`.
 const NAMES_TWINS: &[TwinRow] = &[
-    (&["rvbench", "twin"], ImageKind::Auto, 1_048_576, 0),
+    (&["rvbench", "twin"], ImageKind::Auto, DEFAULT_RAM, 0),
     (
         &["rvbench", "twin", "--slot", "0"],
         ImageKind::Auto,
-        1_048_576,
+        DEFAULT_RAM,
         0,
     ),
     (
         &["rvbench", "twin", "--slot", "1"],
         ImageKind::Auto,
-        1_048_576,
+        DEFAULT_RAM,
         1,
     ),
     (
         &["rvbench", "twin", "--slot=12"],
         ImageKind::Auto,
-        1_048_576,
+        DEFAULT_RAM,
         12,
     ),
     (
         &["rvbench", "twin", "--slot", "+7"],
         ImageKind::Auto,
-        1_048_576,
+        DEFAULT_RAM,
         7,
     ),
     (
         &["rvbench", "twin", "--slot", "0012"],
         ImageKind::Auto,
-        1_048_576,
+        DEFAULT_RAM,
         12,
     ),
     (
@@ -364,7 +373,7 @@ const NAMES_TWINS: &[TwinRow] = &[
     (
         &["rvbench", "twin", "--kind", "elf"],
         ImageKind::Elf,
-        1_048_576,
+        DEFAULT_RAM,
         0,
     ),
     (
@@ -384,7 +393,7 @@ const NAMES_TWINS: &[TwinRow] = &[
     (
         &["./another/name", "twin", "--slot", "2"],
         ImageKind::Auto,
-        1_048_576,
+        DEFAULT_RAM,
         2,
     ),
 ];
@@ -395,7 +404,7 @@ fn names_twins(rt: HostRuntime) {
         let setup = Setup {
             kind: *kind,
             ram: *ram,
-            monitored: true,
+            monitored: MONITORED,
             harts: Harts::One,
         };
         let twin = Answer::Named(Job::Twin(setup, *slot));
@@ -448,48 +457,43 @@ type HartsRow = (&'static [&'static str], Harts, bool, Option<u8>);
 
 /// The rows of the test `names_harts`.
 const NAMES_HARTS: &[HartsRow] = &[
-    (&["rvbench", "run", "--harts", "1"], Harts::One, false, None),
-    (&["rvbench", "run", "--harts=1"], Harts::One, false, None),
-    (
-        &["rvbench", "run", "--harts", "01"],
-        Harts::One,
-        false,
-        None,
-    ),
+    (&["rvbench", "run", "--harts", "1"], Harts::One, BARE, None),
+    (&["rvbench", "run", "--harts=1"], Harts::One, BARE, None),
+    (&["rvbench", "run", "--harts", "01"], Harts::One, BARE, None),
     (
         &["rvbench", "run", "--harts", "1", "--monitor"],
         Harts::One,
-        true,
+        MONITORED,
         None,
     ),
     (
         &["rvbench", "run", "--harts", "2", "--monitor"],
         Harts::Two,
-        true,
+        MONITORED,
         None,
     ),
     (
         &["rvbench", "run", "--monitor", "--harts", "2"],
         Harts::Two,
-        true,
+        MONITORED,
         None,
     ),
     (
         &["rvbench", "run", "--monitor", "--harts=2"],
         Harts::Two,
-        true,
+        MONITORED,
         None,
     ),
     (
         &["rvbench", "run", "--monitor", "--harts", "+2"],
         Harts::Two,
-        true,
+        MONITORED,
         None,
     ),
     (
         &["rvbench", "run", "--monitor", "--harts", "002"],
         Harts::Two,
-        true,
+        MONITORED,
         None,
     ),
     (
@@ -505,31 +509,31 @@ const NAMES_HARTS: &[HartsRow] = &[
             "1048576",
         ],
         Harts::Two,
-        true,
+        MONITORED,
         None,
     ),
     (
         &["rvbench", "twin", "--harts", "1"],
         Harts::One,
-        true,
+        MONITORED,
         Some(0),
     ),
     (
         &["rvbench", "twin", "--harts", "2"],
         Harts::Two,
-        true,
+        MONITORED,
         Some(0),
     ),
     (
         &["rvbench", "twin", "--harts=2", "--slot", "3"],
         Harts::Two,
-        true,
+        MONITORED,
         Some(3),
     ),
     (
         &["rvbench", "twin", "--slot=12", "--harts", "2"],
         Harts::Two,
-        true,
+        MONITORED,
         Some(12),
     ),
 ];

@@ -1,18 +1,18 @@
 //! Tests of whole runs, also under the monitor and with two benches. The devices move a limited number of bytes in each call, and fail at each
 //! call in turn.
 use crate::expecting::{expect_beginning, expect_bytes, expect_number, expect_outcome};
-use crate::faulty::{AtSetCall, FaultySink, FaultySource};
+use crate::faulty::{FaultySink, FaultySource, NEVER, SinkFault};
 use rv_bench::{BenchFault, Lines, MemorySink, MemorySource, run_job, run_twin};
 use rv_command_line::{Harts, ImageKind, Job, Setup};
 use std::alloc::Global;
 use std::process::Abort;
 
-/// An input, its output, and for each line of the input the number of output lines.
+/// A job with an input and the output. The field `replies` has for each line of the input the number of lines of the reply.
 struct Example {
     job: Job,
     input: &'static [u8],
     output: &'static [u8],
-    told: &'static [usize],
+    replies: &'static [usize],
 }
 
 /// A bench without the monitor.
@@ -25,7 +25,7 @@ const BARE: Example = Example {
     }),
     input: b"9300f0ff\n--\nstep 1\nreg 1\n",
     output: b"ran 1 pc=80000004 mode=M world=bare why=done trap=-\nx1=ffffffff\n",
-    told: &[0, 0, 1, 1],
+    replies: &[0, 0, 1, 1],
 };
 
 /// A create, and an access across the border of its region.
@@ -44,7 +44,7 @@ const MONITORED: Example = Example {
         denied partial 1\nok\n\
         ran 1 pc=00000000 mode=S world=host why=done trap=00000005:8001fffe\n\
         csr 141=80010004\ncsr 142=00000005\ncsr 143=8001fffe\n",
-    told: &[0, 0, 1, 1, 1, 1, 1, 1, 1, 1, 1, 1, 1, 1],
+    replies: &[0, 0, 1, 1, 1, 1, 1, 1, 1, 1, 1, 1, 1, 1],
 };
 
 /// Two benches, and a destroy of the enclave in which they differ. The line that ends the run belongs to no line of the input.
@@ -67,7 +67,7 @@ const TWIN: Example = Example {
         a: ran 1 pc=80010008 mode=S world=host why=done trap=00000009:00000000\n\
         b: ran 1 pc=80010008 mode=S world=host why=done trap=00000009:00000000\n\
         a: 80020000: 00 00 00 00\nb: 80020000: 00 00 00 00\ntwin end 4\n",
-    told: &[0, 0, 1, 1, 1, 1, 1, 1, 0, 1, 2, 2, 2, 2],
+    replies: &[0, 0, 1, 1, 1, 1, 1, 1, 0, 1, 2, 2, 2, 2],
 };
 
 /// Two benches of two harts. One hart creates an enclave, the other destroys it. An earlier call of the first hart fails.
@@ -91,7 +91,7 @@ const TWIN_OF_TWO_HARTS: Example = Example {
         a: hart 1 1 pc=80010004 mode=S world=host trap=00000009:00000000\n\
         b: hart 0 1 pc=80010008 mode=S world=host trap=00000009:00000000\n\
         b: hart 1 1 pc=80010004 mode=S world=host trap=00000009:00000000\ntwin end 5\n",
-    told: &[0, 0, 1, 1, 1, 1, 1, 1, 0, 2, 2, 2, 2, 4],
+    replies: &[0, 0, 1, 1, 1, 1, 1, 1, 0, 2, 2, 2, 2, 4],
 };
 
 /// The setup of two benches of one hart.
@@ -112,11 +112,11 @@ const ENTERED_OUTPUT: &[u8] = b"ok\nok\nok\nok\nok\n\
     ran 1 pc=80010004 mode=S world=host why=done trap=00000009:00000000\n\
     a: ok\nb: ok\ntwin entered 2\n";
 
-/// The maximal numbers of bytes that a device moves in one call.
-const MOST: [usize; 3] = [1, 7, 100];
+/// The numbers of bytes that a device moves in one call, at most.
+const BYTES_PER_CALL: [usize; 3] = [1, 7, 100];
 
-/// The maximal number of bytes that an example writes.
-const ROOM: usize = 600;
+/// The size of the buffer for the output of an example, in bytes.
+const OUTPUT_SIZE: usize = 600;
 
 /// Returns the number of line feeds in the first bytes of a text.
 fn lines_within(text: &[u8], len: usize) -> usize {
@@ -146,38 +146,49 @@ fn first_lines(text: &[u8], count: usize) -> &[u8] {
 }
 
 /// Returns the output for the lines that are complete in the first bytes of the input.
-fn told_of(example: &Example, read: usize) -> &'static [u8] {
+fn replies_to(example: &Example, read: usize) -> &'static [u8] {
     let lines = lines_within(example.input, read);
     let mut count = 0usize;
-    for told in &example.told[..lines.min(example.told.len())] {
-        count = count.saturating_add(*told);
+    for replies in &example.replies[..lines.min(example.replies.len())] {
+        count = count.saturating_add(*replies);
     }
     first_lines(example.output, count)
 }
 
 /// Runs an example with devices that never fail, and returns the numbers of calls of the source and of the sink.
-fn calls_of(rt: &impl Abort, alloc: Global, example: &Example, most: usize) -> (u64, u64) {
-    let mut buffer = [0u8; ROOM];
-    let mut sink = FaultySink::new(&mut buffer, most, 0, AtSetCall::Fail);
-    let source = FaultySource::new(example.input, most.max(1), 0);
+fn calls_of(
+    rt: &impl Abort,
+    alloc: Global,
+    example: &Example,
+    bytes_per_call: usize,
+) -> (u64, u64) {
+    let mut buffer = [0u8; OUTPUT_SIZE];
+    let mut sink = FaultySink::new(&mut buffer, bytes_per_call, NEVER, SinkFault::Fail);
+    let source = FaultySource::new(example.input, bytes_per_call.max(1), NEVER);
     let (source, outcome) = run_job(alloc, &example.job, source, &mut sink);
-    expect_outcome(rt, outcome, Ok(()), most as u64);
-    expect_bytes(rt, sink.bytes(), example.output, most as u64);
+    expect_outcome(rt, outcome, Ok(()), bytes_per_call as u64);
+    expect_bytes(rt, sink.bytes(), example.output, bytes_per_call as u64);
     assert!(rt; source.rest().is_empty());
     (source.calls(), sink.calls())
 }
 
 /// Runs an example with a source that fails at each of its calls in turn. The output has the replies to the complete lines, and nothing else.
-fn fail_to_read(rt: &impl Abort, alloc: Global, example: &Example, most: usize, calls: u64) {
-    for set_call in 1..=calls {
-        let mut buffer = [0u8; ROOM];
+fn fail_to_read(
+    rt: &impl Abort,
+    alloc: Global,
+    example: &Example,
+    bytes_per_call: usize,
+    calls: u64,
+) {
+    for faulty_call in 1..=calls {
+        let mut buffer = [0u8; OUTPUT_SIZE];
         let mut sink = MemorySink::new(&mut buffer);
-        let source = FaultySource::new(example.input, most.max(1), set_call);
+        let source = FaultySource::new(example.input, bytes_per_call.max(1), faulty_call);
         let (source, outcome) = run_job(alloc, &example.job, source, &mut sink);
-        expect_outcome(rt, outcome, Err(BenchFault::Read), set_call);
-        expect_number(rt, source.calls(), set_call, most as u64);
+        expect_outcome(rt, outcome, Err(BenchFault::Read), faulty_call);
+        expect_number(rt, source.calls(), faulty_call, bytes_per_call as u64);
         let read = example.input.len().saturating_sub(source.rest().len());
-        expect_bytes(rt, sink.bytes(), told_of(example, read), set_call);
+        expect_bytes(rt, sink.bytes(), replies_to(example, read), faulty_call);
     }
 }
 
@@ -186,42 +197,49 @@ fn fail_to_write(
     rt: &impl Abort,
     alloc: Global,
     example: &Example,
-    most: usize,
+    bytes_per_call: usize,
     calls: u64,
-    at: AtSetCall,
+    sink_fault: SinkFault,
 ) {
-    for set_call in 1..=calls {
+    for faulty_call in 1..=calls {
         // the last call is `flush`, which takes no byte
-        if set_call == calls && at == AtSetCall::TakeNothing {
+        if faulty_call == calls && sink_fault == SinkFault::TakeNothing {
             continue;
         }
-        let mut buffer = [0u8; ROOM];
-        let mut sink = FaultySink::new(&mut buffer, most, set_call, at);
+        let mut buffer = [0u8; OUTPUT_SIZE];
+        let mut sink = FaultySink::new(&mut buffer, bytes_per_call, faulty_call, sink_fault);
         let source = MemorySource::new(example.input);
         let (_, outcome) = run_job(alloc, &example.job, source, &mut sink);
-        expect_outcome(rt, outcome, Err(BenchFault::Write), set_call);
-        expect_number(rt, sink.calls(), set_call, most as u64);
-        expect_beginning(rt, sink.bytes(), example.output, set_call);
-        if most == 1 {
+        expect_outcome(rt, outcome, Err(BenchFault::Write), faulty_call);
+        expect_number(rt, sink.calls(), faulty_call, bytes_per_call as u64);
+        expect_beginning(rt, sink.bytes(), example.output, faulty_call);
+        if bytes_per_call == 1 {
             let len = sink.bytes().len() as u64;
-            expect_number(rt, len.saturating_add(1), set_call, 1);
+            expect_number(rt, len.saturating_add(1), faulty_call, 1);
         }
     }
 }
 
-/// Runs all of these tests, for each maximal number of bytes in a call.
+/// Runs an example without faults, with a fault at each read, and with each fault at each write.
 fn fails_at_each_call(rt: &impl Abort, alloc: Global, example: &Example) {
-    for most in MOST {
-        let (reads, writes) = calls_of(rt, alloc, example, most);
-        if most == 1 {
+    for bytes_per_call in BYTES_PER_CALL {
+        let (reads, writes) = calls_of(rt, alloc, example, bytes_per_call);
+        if bytes_per_call == 1 {
             let input_len = example.input.len() as u64;
             let output_len = example.output.len() as u64;
             expect_number(rt, reads, input_len.saturating_add(1), 1);
             expect_number(rt, writes, output_len.saturating_add(1), 1);
         }
-        fail_to_read(rt, alloc, example, most, reads);
-        fail_to_write(rt, alloc, example, most, writes, AtSetCall::Fail);
-        fail_to_write(rt, alloc, example, most, writes, AtSetCall::TakeNothing);
+        fail_to_read(rt, alloc, example, bytes_per_call, reads);
+        fail_to_write(rt, alloc, example, bytes_per_call, writes, SinkFault::Fail);
+        fail_to_write(
+            rt,
+            alloc,
+            example,
+            bytes_per_call,
+            writes,
+            SinkFault::TakeNothing,
+        );
     }
 }
 
@@ -247,7 +265,7 @@ fn two_benches_of_two_harts(rt: HostRuntime) {
 
 #[test]
 fn nothing_is_read_after_the_entering(rt: HostRuntime) {
-    let mut buffer = [0u8; ROOM];
+    let mut buffer = [0u8; OUTPUT_SIZE];
     let mut sink = MemorySink::new(&mut buffer);
     // the call after those for the lines through the entering one would fail
     let read = ENTERED.len().saturating_sub(b"fly\n".len());

@@ -4,39 +4,39 @@ use rv_bench::{BenchFault, Lines, Source};
 use std::process::Abort;
 
 /// Expects exactly these bytes.
-pub(crate) fn expect_bytes(rt: &impl Abort, found: &[u8], want: &[u8], case: u64) {
-    assert_eq!(rt; found, want, "case {case}");
+pub(crate) fn expect_bytes(rt: &impl Abort, found: &[u8], wanted: &[u8], case: u64) {
+    assert_eq!(rt; found, wanted, "case {case}");
 }
 
 /// Expects a prefix of these bytes.
-pub(crate) fn expect_beginning(rt: &impl Abort, found: &[u8], want: &[u8], case: u64) {
-    assert!(rt; want.starts_with(found), "case {case}");
+pub(crate) fn expect_beginning(rt: &impl Abort, found: &[u8], wanted: &[u8], case: u64) {
+    assert!(rt; wanted.starts_with(found), "case {case}");
 }
 
 /// Expects this outcome.
 pub(crate) fn expect_outcome(
     rt: &impl Abort,
     found: Result<(), BenchFault>,
-    want: Result<(), BenchFault>,
+    wanted: Result<(), BenchFault>,
     case: u64,
 ) {
-    assert_eq!(rt; found, want, "case {case}");
+    assert_eq!(rt; found, wanted, "case {case}");
 }
 
 /// Expects this number.
-pub(crate) fn expect_number(rt: &impl Abort, found: u64, want: u64, case: u64) {
-    assert_eq!(rt; found, want, "case {case}");
+pub(crate) fn expect_number(rt: &impl Abort, found: u64, wanted: u64, case: u64) {
+    assert_eq!(rt; found, wanted, "case {case}");
 }
 
 /// Expects that the next line has these bytes.
 pub(crate) fn expect_line<S: Source>(
     rt: &impl Abort,
     lines: &mut Lines<S>,
-    want: &[u8],
+    wanted: &[u8],
     case: u64,
 ) {
     let line = lines.next_line().expect(rt, "a line").expect(rt, "a line");
-    expect_bytes(rt, line.as_slice(), want, case);
+    expect_bytes(rt, line.as_slice(), wanted, case);
 }
 
 /// Expects the end of the lines.

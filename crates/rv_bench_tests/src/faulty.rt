@@ -1,38 +1,42 @@
-//! A source and a sink over memory for tests. They move few bytes in each call, and fail at a given call.
+//! A source and a sink over memory for tests. They move few bytes in each call, and fail at one of their calls.
 ghost use Rattle.std.specs.Prelude.{◌≡◌, ◌<◌, [], ⊤, length};
 ghost use Rattle.rv_streams.specs.MemoryStreams.{rest_in_memory, bytes_taken};
 
 use rv_bench::{DeviceFault, MemorySink, MemorySource, Sink, Source};
 use rv_streams::CallLog;
 
-/// The behaviour of a sink at the given call.
+/// The number of the faulty call of a device without a fault. Calls are counted from 1.
+pub(crate) const NEVER: u64 = 0;
+
+/// The behaviour of a sink at its faulty call.
 #[derive(Clone, Copy, Debug, PartialEq, Eq)]
-pub(crate) enum AtSetCall {
+pub(crate) enum SinkFault {
+    /// The call returns an error.
     Fail,
+    /// The call takes none of the bytes.
     TakeNothing,
 }
 
-/// A source over memory that returns at most a given number of bytes in each call. It fails at a given call, counted from 1. Call 0 means that
-/// it never fails.
+/// A source over memory that returns at most `largest_read` bytes in each call. The call with the number `faulty_call` fails.
 #[derive(Drop)]
 pub(crate) struct FaultySource<'a> {
     source: MemorySource<'a>,
-    most: usize,
-    set_call: u64,
+    largest_read: usize,
+    faulty_call: u64,
     calls: u64,
     log: CallLog,
-    ghost some: { 0 < most },
+    ghost some: { 0 < largest_read },
 }
 
 impl<'a> FaultySource<'a> {
     /// Returns a source without any calls yet.
-    pub(crate) fn new(bytes: &'a [u8], most: usize, set_call: u64) -> FaultySource<'a>
-        requires { 0 < most }
+    pub(crate) fn new(bytes: &'a [u8], largest_read: usize, faulty_call: u64) -> FaultySource<'a>
+        requires { 0 < largest_read }
     {
         FaultySource {
             source: MemorySource::new(bytes),
-            most,
-            set_call,
+            largest_read,
+            faulty_call,
             calls: 0,
             log: CallLog::new(),
         }
@@ -64,23 +68,22 @@ impl<'a> Source for FaultySource<'a> {
 
     fn read_some(&mut self, buffer: &mut [u8]) -> Result<usize, DeviceFault> {
         self.calls = self.calls.saturating_add(1);
-        if self.calls == self.set_call {
+        if self.calls == self.faulty_call {
             self.log.failed();
             return Err(DeviceFault);
         }
-        let room = buffer.len().min(self.most);
+        let room = buffer.len().min(self.largest_read);
         self.source.read_some(&mut buffer[..room])
     }
 }
 
-/// A sink over memory that takes at most a given number of bytes in each call. It fails or takes nothing at a given call, counted from 1. Call 0
-/// means never.
+/// A sink over memory that takes at most `largest_write` bytes in each call. The call with the number `faulty_call` fails or takes nothing.
 #[derive(Drop)]
 pub(crate) struct FaultySink<'a> {
     sink: MemorySink<'a>,
-    most: usize,
-    set_call: u64,
-    at_set_call: AtSetCall,
+    largest_write: usize,
+    faulty_call: u64,
+    sink_fault: SinkFault,
     calls: u64,
     log: CallLog,
 }
@@ -89,15 +92,15 @@ impl<'a> FaultySink<'a> {
     /// Returns a sink without any calls yet.
     pub(crate) fn new(
         buffer: &'a mut [u8],
-        most: usize,
-        set_call: u64,
-        at_set_call: AtSetCall,
+        largest_write: usize,
+        faulty_call: u64,
+        sink_fault: SinkFault,
     ) -> FaultySink<'a> {
         FaultySink {
             sink: MemorySink::new(buffer),
-            most,
-            set_call,
-            at_set_call,
+            largest_write,
+            faulty_call,
+            sink_fault,
             calls: 0,
             log: CallLog::new(),
         }
@@ -127,13 +130,17 @@ impl<'a> Sink for FaultySink<'a> {
 
     fn write_some(&mut self, part: &[u8]) -> Result<usize, DeviceFault> {
         self.calls = self.calls.saturating_add(1);
-        let is_set_call = self.calls == self.set_call;
-        if is_set_call && self.at_set_call == AtSetCall::Fail {
+        let is_faulty_call = self.calls == self.faulty_call;
+        if is_faulty_call && self.sink_fault == SinkFault::Fail {
             self.log.failed();
             return Err(DeviceFault);
         }
-        let most = if is_set_call { 0 } else { self.most };
-        let count = self.sink.write_some(&part[..part.len().min(most)])?;
+        let limit = if is_faulty_call {
+            0
+        } else {
+            self.largest_write
+        };
+        let count = self.sink.write_some(&part[..part.len().min(limit)])?;
         if count == 0 && !part.is_empty() {
             self.log.moved_none();
         }
@@ -142,7 +149,7 @@ impl<'a> Sink for FaultySink<'a> {
 
     fn flush(&mut self) -> Result<(), DeviceFault> {
         self.calls = self.calls.saturating_add(1);
-        if self.calls == self.set_call && self.at_set_call == AtSetCall::Fail {
+        if self.calls == self.faulty_call && self.sink_fault == SinkFault::Fail {
             self.log.failed();
             return Err(DeviceFault);
         }

@@ -1,6 +1,6 @@
 //! Tests of jobs over memory, and over devices that move few bytes in each call and fail at each call in turn.
 use crate::expecting::{expect_beginning, expect_bytes, expect_number, expect_outcome};
-use crate::faulty::{AtSetCall, FaultySink, FaultySource, FeedSource};
+use crate::faulty::{FaultySink, FaultySource, FeedSource, NEVER, SinkFault};
 use rv_asm::{AsmFault, AsmFaultKind};
 use rv_bench::{
     ASM_TEXT_MAX, BenchFault, Lines, MemorySink, MemorySource, run_asm, run_dis, run_job,
@@ -41,15 +41,15 @@ fn expect_job(
     alloc: Global,
     job: &Job,
     text: &[u8],
-    want: Result<(), BenchFault>,
-    written: &[u8],
+    wanted_outcome: Result<(), BenchFault>,
+    wanted_output: &[u8],
     left: &[u8],
 ) {
     let mut buffer = [0u8; 128];
     let mut sink = MemorySink::new(&mut buffer);
     let (source, outcome) = run_job(alloc, job, MemorySource::new(text), &mut sink);
-    expect_outcome(rt, outcome, want, 0);
-    expect_bytes(rt, sink.bytes(), written, 0);
+    expect_outcome(rt, outcome, wanted_outcome, 0);
+    expect_bytes(rt, sink.bytes(), wanted_output, 0);
     expect_bytes(rt, source.rest(), left, 0);
 }
 
@@ -58,15 +58,20 @@ fn expect_assembly(
     rt: &impl Abort,
     alloc: Global,
     text: &[u8],
-    want: Result<(), BenchFault>,
-    written: &[u8],
+    wanted_outcome: Result<(), BenchFault>,
+    wanted_output: &[u8],
 ) {
     let mut buffer = [0u8; 64];
     let mut source = MemorySource::new(text);
     let mut sink = MemorySink::new(&mut buffer);
-    expect_outcome(rt, run_asm(alloc, &mut source, &mut sink), want, 0);
-    expect_bytes(rt, sink.bytes(), written, 0);
-    if want.is_ok() {
+    expect_outcome(
+        rt,
+        run_asm(alloc, &mut source, &mut sink),
+        wanted_outcome,
+        0,
+    );
+    expect_bytes(rt, sink.bytes(), wanted_output, 0);
+    if wanted_outcome.is_ok() {
         assert!(rt; source.rest().is_empty());
     }
 }
@@ -76,14 +81,14 @@ fn expect_disassembly(
     rt: &impl Abort,
     alloc: Global,
     text: &[u8],
-    want: Result<(), BenchFault>,
-    written: &[u8],
+    wanted_outcome: Result<(), BenchFault>,
+    wanted_output: &[u8],
 ) {
     let mut buffer = [0u8; 64];
     let mut lines = Lines::new(MemorySource::new(text));
     let mut sink = MemorySink::new(&mut buffer);
-    expect_outcome(rt, run_dis(alloc, &mut lines, &mut sink), want, 0);
-    expect_bytes(rt, sink.bytes(), written, 0);
+    expect_outcome(rt, run_dis(alloc, &mut lines, &mut sink), wanted_outcome, 0);
+    expect_bytes(rt, sink.bytes(), wanted_output, 0);
 }
 
 #[test]
@@ -160,28 +165,28 @@ fn refuses_a_setup(rt: HostRuntime) {
 }
 
 /// Runs a job whose source fails at a call. Nothing is written, and each call before that returned one byte.
-fn fail_to_read(rt: &impl Abort, alloc: Global, job: &Job, text: &[u8], set_call: u64) {
+fn fail_to_read(rt: &impl Abort, alloc: Global, job: &Job, text: &[u8], faulty_call: u64) {
     let mut buffer = [0u8; 128];
-    let mut sink = FaultySink::new(&mut buffer, 100, 0, AtSetCall::Fail);
-    let source = FaultySource::new(text, 1, set_call);
+    let mut sink = FaultySink::new(&mut buffer, 100, NEVER, SinkFault::Fail);
+    let source = FaultySource::new(text, 1, faulty_call);
     let (source, outcome) = run_job(alloc, job, source, &mut sink);
-    expect_outcome(rt, outcome, Err(BenchFault::Read), set_call);
-    expect_number(rt, sink.calls(), 0, set_call);
-    expect_number(rt, source.calls(), set_call, set_call);
+    expect_outcome(rt, outcome, Err(BenchFault::Read), faulty_call);
+    expect_number(rt, sink.calls(), 0, faulty_call);
+    expect_number(rt, source.calls(), faulty_call, faulty_call);
     let left = source.rest().len() as u64;
     expect_number(
         rt,
-        left.saturating_add(set_call),
+        left.saturating_add(faulty_call),
         (text.len() as u64).saturating_add(1),
-        set_call,
+        faulty_call,
     );
 }
 
 #[test]
 fn writes_nothing_after_a_failed_read(rt: HostRuntime) {
     for (job, text) in [(Job::Asm, PROGRAM), (Job::Dis, IMAGE)] {
-        for set_call in 1..=text.len() as u64 + 1 {
-            fail_to_read(&rt, rt.alloc(), &job, text, set_call);
+        for faulty_call in 1..=text.len() as u64 + 1 {
+            fail_to_read(&rt, rt.alloc(), &job, text, faulty_call);
         }
     }
 }
@@ -193,44 +198,44 @@ fn fail_to_write(
     job: &Job,
     text: &[u8],
     whole: &[u8],
-    set_call: u64,
-    at_set_call: AtSetCall,
+    faulty_call: u64,
+    sink_fault: SinkFault,
 ) {
     let mut buffer = [0u8; 60 * LONG_WORDS];
-    let mut sink = FaultySink::new(&mut buffer, 100, set_call, at_set_call);
+    let mut sink = FaultySink::new(&mut buffer, 100, faulty_call, sink_fault);
     let (_, outcome) = run_job(alloc, job, MemorySource::new(text), &mut sink);
-    expect_outcome(rt, outcome, Err(BenchFault::Write), set_call);
-    expect_number(rt, sink.calls(), set_call, set_call);
-    expect_beginning(rt, sink.bytes(), whole, set_call);
+    expect_outcome(rt, outcome, Err(BenchFault::Write), faulty_call);
+    expect_number(rt, sink.calls(), faulty_call, faulty_call);
+    expect_beginning(rt, sink.bytes(), whole, faulty_call);
 }
 
 /// Runs a job whose sink fails, or takes nothing, at each of its calls in turn.
 fn fail_at_each_call(rt: &impl Abort, alloc: Global, job: &Job, text: &[u8]) {
     let mut whole = [0u8; 60 * LONG_WORDS];
-    let mut sink = FaultySink::new(&mut whole, 100, 0, AtSetCall::Fail);
+    let mut sink = FaultySink::new(&mut whole, 100, NEVER, SinkFault::Fail);
     let (_, outcome) = run_job(alloc, job, MemorySource::new(text), &mut sink);
     expect_outcome(rt, outcome, Ok(()), 0);
     let calls = sink.calls();
-    for set_call in 1..=calls {
+    for faulty_call in 1..=calls {
         fail_to_write(
             rt,
             alloc,
             job,
             text,
             sink.bytes(),
-            set_call,
-            AtSetCall::Fail,
+            faulty_call,
+            SinkFault::Fail,
         );
         // the last call is `flush`, which takes no byte
-        if set_call < calls {
+        if faulty_call < calls {
             fail_to_write(
                 rt,
                 alloc,
                 job,
                 text,
                 sink.bytes(),
-                set_call,
-                AtSetCall::TakeNothing,
+                faulty_call,
+                SinkFault::TakeNothing,
             );
         }
     }
@@ -257,7 +262,7 @@ fn count_lines(rt: &impl Abort, text: &[u8]) -> u64 {
 fn gathers_the_lines(rt: HostRuntime) {
     let image = long_image();
     let mut buffer = [0u8; 60 * LONG_WORDS];
-    let mut sink = FaultySink::new(&mut buffer, 60 * LONG_WORDS, 0, AtSetCall::Fail);
+    let mut sink = FaultySink::new(&mut buffer, 60 * LONG_WORDS, NEVER, SinkFault::Fail);
     let (_, outcome) = run_job(rt.alloc(), &Job::Dis, MemorySource::new(&image), &mut sink);
     expect_outcome(&rt, outcome, Ok(()), 0);
     assert!(rt; sink.calls() < 12);
@@ -269,14 +274,14 @@ fn expect_calls(
     rt: &impl Abort,
     alloc: Global,
     job: &Job,
-    set_call: u64,
-    want: Result<(), BenchFault>,
+    faulty_call: u64,
+    wanted_outcome: Result<(), BenchFault>,
 ) {
     let mut buffer = [0u8; 8];
-    let mut sink = FaultySink::new(&mut buffer, 8, set_call, AtSetCall::Fail);
+    let mut sink = FaultySink::new(&mut buffer, 8, faulty_call, SinkFault::Fail);
     let (_, outcome) = run_job(alloc, job, MemorySource::new(b""), &mut sink);
-    expect_outcome(rt, outcome, want, set_call);
-    expect_number(rt, sink.calls(), 1, set_call);
+    expect_outcome(rt, outcome, wanted_outcome, faulty_call);
+    expect_number(rt, sink.calls(), 1, faulty_call);
 }
 
 #[test]
@@ -294,7 +299,7 @@ fn takes_a_text_up_to_its_limit(rt: HostRuntime) {
         line: 1,
         kind: AsmFaultKind::BadText,
     };
-    for (len, want) in [
+    for (len, wanted) in [
         (ASM_TEXT_MAX, Err(BenchFault::Asm(fault))),
         (ASM_TEXT_MAX + 1, Err(BenchFault::TooLong)),
         (2 * ASM_TEXT_MAX, Err(BenchFault::TooLong)),
@@ -305,7 +310,7 @@ fn takes_a_text_up_to_its_limit(rt: HostRuntime) {
         expect_outcome(
             &rt,
             run_asm(rt.alloc(), &mut source, &mut sink),
-            want,
+            wanted,
             len as u64,
         );
         expect_bytes(&rt, sink.bytes(), b"", len as u64);

@@ -1,9 +1,18 @@
 //! Tests of the program with its arguments: the job, the lines of errors, the exit statuses, and the flush.
 use crate::expecting::{expect_bytes, expect_number};
-use crate::faulty::{AtSetCall, FaultySink, FaultySource};
+use crate::faulty::{FaultySink, FaultySource, NEVER, SinkFault};
 use rv_bench::{MemorySink, MemorySource, WordsFault, perform, refuse, run_program};
 use std::alloc::Global;
 use std::process::Abort;
+
+/// The exit status after success or help.
+const SUCCESS: u8 = 0;
+
+/// The exit status after an error of the input, a failed device or exhausted memory.
+const FAILURE: u8 = 1;
+
+/// The exit status if the command line is refused.
+const BAD_COMMAND_LINE: u8 = 2;
 
 /// An image and a script.
 const INPUT: &[u8] = b"9300f0ff\n--\nstep 1\nreg 1\n";
@@ -17,30 +26,30 @@ fn expect_performed(
     alloc: Global,
     words: &[&str],
     input: &[u8],
-    written: &[u8],
-    status: u8,
+    wanted_output: &[u8],
+    wanted_status: u8,
 ) {
     let mut buffer = [0u8; 128];
     let mut sink = MemorySink::new(&mut buffer);
     let (_, found) = perform(alloc, words, MemorySource::new(input), &mut sink);
-    expect_bytes(rt, sink.bytes(), written, 0);
-    expect_number(rt, u64::from(found), u64::from(status), 0);
+    expect_bytes(rt, sink.bytes(), wanted_output, 0);
+    expect_number(rt, u64::from(found), u64::from(wanted_status), 0);
     let (text, found) = run_program(alloc, words, input).expect(rt, "memory");
-    expect_bytes(rt, text.as_slice(), written, 1);
-    expect_number(rt, u64::from(found), u64::from(status), 1);
+    expect_bytes(rt, text.as_slice(), wanted_output, 1);
+    expect_number(rt, u64::from(found), u64::from(wanted_status), 1);
 }
 
 #[test]
 fn does_the_job_of_its_words(rt: HostRuntime) {
-    expect_performed(&rt, rt.alloc(), &["rvbench"], INPUT, OUTPUT, 0);
-    expect_performed(&rt, rt.alloc(), &["rvbench", "run"], INPUT, OUTPUT, 0);
+    expect_performed(&rt, rt.alloc(), &["rvbench"], INPUT, OUTPUT, SUCCESS);
+    expect_performed(&rt, rt.alloc(), &["rvbench", "run"], INPUT, OUTPUT, SUCCESS);
     expect_performed(
         &rt,
         rt.alloc(),
         &["rvbench", "asm"],
         b"nop\n",
         b"13000000\n",
-        0,
+        SUCCESS,
     );
     let words = ["rvbench", "dis"];
     expect_performed(
@@ -49,21 +58,28 @@ fn does_the_job_of_its_words(rt: HostRuntime) {
         &words,
         b"13000000\n",
         b"00000013 addi x0, x0, 0\n",
-        0,
+        SUCCESS,
     );
 }
 
 #[test]
 fn refuses_other_words(rt: HostRuntime) {
     let line = b"rvbench: command line\n";
-    expect_performed(&rt, rt.alloc(), &["rvbench", "walk"], INPUT, line, 2);
+    expect_performed(
+        &rt,
+        rt.alloc(),
+        &["rvbench", "walk"],
+        INPUT,
+        line,
+        BAD_COMMAND_LINE,
+    );
     expect_performed(
         &rt,
         rt.alloc(),
         &["rvbench", "run", "--ram", "many"],
         INPUT,
         line,
-        2,
+        BAD_COMMAND_LINE,
     );
 }
 
@@ -76,7 +92,7 @@ fn reports_the_errors_of_inputs(rt: HostRuntime) {
         &asm,
         b"nop\nfoo\n",
         b"rvbench: line 2 fault 2\n",
-        1,
+        FAILURE,
     );
     expect_performed(
         &rt,
@@ -84,7 +100,7 @@ fn reports_the_errors_of_inputs(rt: HostRuntime) {
         &["rvbench"],
         b"0\n--\n",
         b"rvbench: hex\n",
-        1,
+        FAILURE,
     );
     let words = ["rvbench", "run", "--kind", "elf"];
     expect_performed(
@@ -93,10 +109,10 @@ fn reports_the_errors_of_inputs(rt: HostRuntime) {
         &words,
         b"7f45\n--\n",
         b"rvbench: image 1\n",
-        1,
+        FAILURE,
     );
     let words = ["rvbench", "run", "--ram", "1"];
-    expect_performed(&rt, rt.alloc(), &words, INPUT, b"rvbench: ram 1\n", 1);
+    expect_performed(&rt, rt.alloc(), &words, INPUT, b"rvbench: ram 1\n", FAILURE);
 }
 
 #[test]
@@ -109,7 +125,7 @@ fn gives_help(rt: HostRuntime) {
         MemorySource::new(INPUT),
         &mut sink,
     );
-    expect_number(&rt, u64::from(status), 0, 0);
+    expect_number(&rt, u64::from(status), u64::from(SUCCESS), 0);
     expect_bytes(&rt, source.rest(), INPUT, 0);
     assert!(&rt; sink.bytes().len() > 500);
 }
@@ -120,7 +136,7 @@ fn reads_nothing_for_refused_arguments(rt: HostRuntime) {
     let mut sink = MemorySink::new(&mut buffer);
     let words = ["rvbench", "walk"];
     let (source, status) = perform(rt.alloc(), &words, MemorySource::new(INPUT), &mut sink);
-    expect_number(&rt, u64::from(status), 2, 0);
+    expect_number(&rt, u64::from(status), u64::from(BAD_COMMAND_LINE), 0);
     expect_bytes(&rt, source.rest(), INPUT, 0);
 }
 
@@ -138,34 +154,40 @@ fn reads_the_input_of_a_job_to_its_end(rt: HostRuntime) {
 }
 
 /// Expects the line and the exit status for an error of the arguments.
-fn expect_refused(rt: &impl Abort, fault: &WordsFault, written: &[u8], status: u8) {
+fn expect_refused(rt: &impl Abort, fault: &WordsFault, wanted_output: &[u8], wanted_status: u8) {
     let mut buffer = [0u8; 64];
-    let mut sink = FaultySink::new(&mut buffer, 64, 0, AtSetCall::Fail);
+    let mut sink = FaultySink::new(&mut buffer, 64, NEVER, SinkFault::Fail);
     expect_number(
         rt,
         u64::from(refuse(fault, &mut sink)),
-        u64::from(status),
+        u64::from(wanted_status),
         0,
     );
-    expect_bytes(rt, sink.bytes(), written, 0);
+    expect_bytes(rt, sink.bytes(), wanted_output, 0);
     expect_number(rt, sink.calls(), 2, 0);
 }
 
 #[test]
 fn reports_why_arguments_are_refused(rt: HostRuntime) {
-    expect_refused(&rt, &WordsFault::Refused, b"rvbench: command line\n", 2);
-    expect_refused(&rt, &WordsFault::NoMemory, b"rvbench: memory\n", 1);
+    expect_refused(
+        &rt,
+        &WordsFault::Refused,
+        b"rvbench: command line\n",
+        BAD_COMMAND_LINE,
+    );
+    expect_refused(&rt, &WordsFault::NoMemory, b"rvbench: memory\n", FAILURE);
     let help = String::from_str(rt.alloc(), "help\n").expect(&rt, "a text");
-    expect_refused(&rt, &WordsFault::Help(help), b"help\n", 0);
+    expect_refused(&rt, &WordsFault::Help(help), b"help\n", SUCCESS);
 }
 
 #[test]
 fn reports_a_failed_read(rt: HostRuntime) {
     let mut buffer = [0u8; 128];
-    let mut sink = FaultySink::new(&mut buffer, 128, 0, AtSetCall::Fail);
+    let mut sink = FaultySink::new(&mut buffer, 128, NEVER, SinkFault::Fail);
+    // the source returns one byte in each call; call 21 is in the second line of the script
     let source = FaultySource::new(INPUT, 1, 21);
     let (_, status) = perform(rt.alloc(), &["rvbench"], source, &mut sink);
-    expect_number(&rt, u64::from(status), 1, 0);
+    expect_number(&rt, u64::from(status), u64::from(FAILURE), 0);
     let written = b"ran 1 pc=80000004 mode=M world=bare why=done trap=-\nrvbench: read\n";
     expect_bytes(&rt, sink.bytes(), written, 0);
 }
@@ -175,25 +197,25 @@ fn expect_failed_write(
     rt: &impl Abort,
     alloc: Global,
     input: &[u8],
-    set_call: u64,
-    written: &[u8],
-    status: u8,
+    faulty_call: u64,
+    wanted_output: &[u8],
+    wanted_status: u8,
 ) {
     let mut buffer = [0u8; 128];
-    let mut sink = FaultySink::new(&mut buffer, 128, set_call, AtSetCall::Fail);
+    let mut sink = FaultySink::new(&mut buffer, 128, faulty_call, SinkFault::Fail);
     let (_, found) = perform(alloc, &["rvbench"], MemorySource::new(input), &mut sink);
-    expect_bytes(rt, sink.bytes(), written, set_call);
-    expect_number(rt, u64::from(found), u64::from(status), set_call);
-    expect_number(rt, sink.calls(), set_call, set_call);
+    expect_bytes(rt, sink.bytes(), wanted_output, faulty_call);
+    expect_number(rt, u64::from(found), u64::from(wanted_status), faulty_call);
+    expect_number(rt, sink.calls(), faulty_call, faulty_call);
 }
 
 #[test]
 fn reports_a_failed_write_by_its_status(rt: HostRuntime) {
     // the first reply, the second, and the flush after them
-    expect_failed_write(&rt, rt.alloc(), INPUT, 1, b"", 1);
-    expect_failed_write(&rt, rt.alloc(), INPUT, 2, &OUTPUT[..52], 1);
-    expect_failed_write(&rt, rt.alloc(), INPUT, 3, OUTPUT, 1);
+    expect_failed_write(&rt, rt.alloc(), INPUT, 1, b"", FAILURE);
+    expect_failed_write(&rt, rt.alloc(), INPUT, 2, &OUTPUT[..52], FAILURE);
+    expect_failed_write(&rt, rt.alloc(), INPUT, 3, OUTPUT, FAILURE);
     // the line of an error, and the flush after it
-    expect_failed_write(&rt, rt.alloc(), b"0\n", 1, b"", 1);
-    expect_failed_write(&rt, rt.alloc(), b"0\n", 2, b"rvbench: hex\n", 1);
+    expect_failed_write(&rt, rt.alloc(), b"0\n", 1, b"", FAILURE);
+    expect_failed_write(&rt, rt.alloc(), b"0\n", 2, b"rvbench: hex\n", FAILURE);
 }

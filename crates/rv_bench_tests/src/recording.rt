@@ -1,21 +1,21 @@
-//! A reader and a writer of std that count their calls and fail at a given one. std does not specify their bytes, as those of the standard
-//! streams.
+//! A reader and a writer of std that count their calls. A call of the reader, or the flush of the writer, can fail. The bytes are not specified,
+//! like those of the standard streams.
 use std::io::{self, ErrorKind, Read, Write};
 
-/// A reader of these bytes. It fails at a given call, counted from 1. Call 0 means never.
+/// A reader of given bytes. The call with the number `faulty_call` fails. Calls are counted from 1.
 #[derive(Drop)]
 pub(crate) struct RecordingReader<'a> {
     rest: &'a [u8],
     calls: u64,
-    set_call: u64,
+    faulty_call: u64,
 }
 
 impl<'a> RecordingReader<'a> {
-    pub(crate) fn new(bytes: &'a [u8], set_call: u64) -> RecordingReader<'a> {
+    pub(crate) fn new(bytes: &'a [u8], faulty_call: u64) -> RecordingReader<'a> {
         RecordingReader {
             rest: bytes,
             calls: 0,
-            set_call,
+            faulty_call,
         }
     }
 
@@ -28,7 +28,7 @@ impl<'a> RecordingReader<'a> {
 impl<'a> Read for RecordingReader<'a> {
     fn read(&mut self, buffer: &mut [u8]) -> io::Result<usize> {
         self.calls = self.calls.saturating_add(1);
-        if self.calls == self.set_call {
+        if self.calls == self.faulty_call {
             return Err(io::Error::from(ErrorKind::Other));
         }
         let count = self.rest.len().min(buffer.len());
@@ -39,7 +39,7 @@ impl<'a> Read for RecordingReader<'a> {
     }
 }
 
-/// A writer that appends its bytes to a vector. Its flush fails if `is_flush_refused` is set.
+/// A writer that appends bytes to a vector. Each flush fails if `is_flush_refused` is set.
 #[derive(Drop)]
 pub(crate) struct RecordingWriter {
     bytes: Vec<u8>,

@@ -1,6 +1,6 @@
 //! Tests of whole runs over memory, and over devices that move few bytes in each call and fail at each call in turn.
 use crate::expecting::{expect_bytes, expect_number, expect_outcome};
-use crate::faulty::{AtSetCall, FaultySink, FaultySource};
+use crate::faulty::{FaultySink, FaultySource, NEVER, SinkFault};
 use rv_bench::{BenchFault, Lines, MemorySink, MemorySource, run_bench, run_stream};
 use rv_command_line::{Harts, ImageKind, Setup};
 use rv_elf::ElfFault;
@@ -33,14 +33,14 @@ fn expect_replies(
     setup: &Setup,
     image: &[u8],
     script: &[u8],
-    want: &[u8],
+    wanted: &[u8],
 ) {
     let mut buffer = [0u8; 1024];
     let mut lines = Lines::new(MemorySource::new(script));
     let mut sink = MemorySink::new(&mut buffer);
     let outcome = run_bench(alloc, image, setup, &mut lines, &mut sink);
     expect_outcome(rt, outcome, Ok(()), 0);
-    expect_bytes(rt, sink.bytes(), want, 0);
+    expect_bytes(rt, sink.bytes(), wanted, 0);
 }
 
 /// Runs an image and a script, and expects the outcome and the output.
@@ -49,16 +49,16 @@ fn expect_stream(
     alloc: Global,
     setup: &Setup,
     input: &[u8],
-    want: Result<(), BenchFault>,
-    written: &[u8],
+    wanted_outcome: Result<(), BenchFault>,
+    wanted_output: &[u8],
 ) {
     let mut buffer = [0u8; 256];
     let mut lines = Lines::new(MemorySource::new(input));
     let mut sink = MemorySink::new(&mut buffer);
     let outcome = run_stream(alloc, setup, &mut lines, &mut sink);
-    expect_outcome(rt, outcome, want, 0);
-    expect_bytes(rt, sink.bytes(), written, 0);
-    if want.is_ok() {
+    expect_outcome(rt, outcome, wanted_outcome, 0);
+    expect_bytes(rt, sink.bytes(), wanted_output, 0);
+    if wanted_outcome.is_ok() {
         assert!(rt; lines.is_at_end());
     }
 }
@@ -91,9 +91,9 @@ fn replies_under_the_monitor(rt: HostRuntime) {
 #[test]
 fn replies_to_csr_and_timer(rt: HostRuntime) {
     let script = b"csr 344\ntimer on\ncsr 344\ntimer off\ncsr 344\ncsr 301\ncsr 7a0";
-    let want = b"csr 344=00000000\nok\ncsr 344=00000080\nok\ncsr 344=00000000\n\
+    let wanted = b"csr 344=00000000\nok\ncsr 344=00000080\nok\ncsr 344=00000000\n\
           csr 301=40141100\nerror csr\n";
-    expect_replies(&rt, rt.alloc(), &Setup::default(), b"", script, want);
+    expect_replies(&rt, rt.alloc(), &Setup::default(), b"", script, wanted);
 }
 
 #[test]
@@ -103,7 +103,7 @@ fn replies_to_pmp_and_access(rt: HostRuntime) {
     let script = b"setreg 1 20000040\nsetreg 2 17\nstep 2\n\
         access M r 800000fe 4\naccess M r 80000100 4\naccess U x 80000102 2\n\
         access U w 800000fc 4\naccess M w 800000fc 4\naccess U r fffffffe 4\npmp";
-    let want = b"ok\n\
+    let wanted = b"ok\n\
           ok\n\
           ran 2 pc=80000008 mode=M world=bare why=done trap=-\n\
           denied partial 0\n\
@@ -128,7 +128,7 @@ fn replies_to_pmp_and_access(rt: HostRuntime) {
           pmp 13 cfg=00 addr=00000000\n\
           pmp 14 cfg=00 addr=00000000\n\
           pmp 15 cfg=00 addr=00000000\n";
-    expect_replies(&rt, rt.alloc(), &Setup::default(), image, script, want);
+    expect_replies(&rt, rt.alloc(), &Setup::default(), image, script, wanted);
 }
 
 /// The host makes two calls and loads from the address in x6.
@@ -153,7 +153,7 @@ fn keeps_an_enclave_from_the_other_hart(rt: HostRuntime) {
         csr f14\nhart 1\ncsr f14\nreg 10\nsetreg 17 0a454e43\nsetreg 16 2\nsetreg 10 0\n\
         step 1\nreg 10\nsetreg 10 0\nsetreg 6 80020000\nsched 011\ncsr 3a0\ncsr 3a3\n\
         hart 0\ncsr 3a0\ncsr 3a3\n";
-    let want = b"ok\nok\nok\nok\nok\n\
+    let wanted = b"ok\nok\nok\nok\nok\n\
         ran 1 pc=80010004 mode=S world=host why=done trap=00000009:00000000\n\
         ok\nok\nok\n\
         ran 1 pc=80020000 mode=S world=e0 why=done trap=00000009:00000000\n\
@@ -163,7 +163,7 @@ fn keeps_an_enclave_from_the_other_hart(rt: HostRuntime) {
         hart 0 1 pc=80020004 mode=S world=e0 trap=-\n\
         hart 1 2 pc=00000000 mode=S world=host trap=00000005:80020000\n\
         csr 3a0=00001818\ncsr 3a3=1f000000\nok\ncsr 3a0=00001f18\ncsr 3a3=00000000\n";
-    expect_replies(&rt, rt.alloc(), &over(Harts::Two), HOST, script, want);
+    expect_replies(&rt, rt.alloc(), &over(Harts::Two), HOST, script, wanted);
 }
 
 /// Hart 0 creates an enclave and would enter it, and hart 1 would destroy it. The first of them succeeds.
@@ -209,20 +209,20 @@ fn steps_harts_in_order(rt: HostRuntime) {
 #[test]
 fn has_no_hart_more(rt: HostRuntime) {
     let script = b"hart 1\nsched 01\nreg 10\nhart 0\ncsr f14\n";
-    let want = b"error hart\nerror hart\nx10=00000000\nok\ncsr f14=00000000\n";
+    let wanted = b"error hart\nerror hart\nx10=00000000\nok\ncsr f14=00000000\n";
     let bare = Setup {
         monitored: false,
         ..over(Harts::Two)
     };
-    expect_replies(&rt, rt.alloc(), &over(Harts::One), HOST, script, want);
-    expect_replies(&rt, rt.alloc(), &bare, HOST, script, want);
+    expect_replies(&rt, rt.alloc(), &over(Harts::One), HOST, script, wanted);
+    expect_replies(&rt, rt.alloc(), &bare, HOST, script, wanted);
 }
 
 #[test]
 fn flushes_once(rt: HostRuntime) {
     let mut buffer = [0u8; 128];
-    let mut lines = Lines::new(FaultySource::new(INPUT, 1, 0));
-    let mut sink = FaultySink::new(&mut buffer, 1, 0, AtSetCall::Fail);
+    let mut lines = Lines::new(FaultySource::new(INPUT, 1, NEVER));
+    let mut sink = FaultySink::new(&mut buffer, 1, NEVER, SinkFault::Fail);
     let outcome = run_stream(rt.alloc(), &Setup::default(), &mut lines, &mut sink);
     expect_outcome(&rt, outcome, Ok(()), 0);
     expect_bytes(&rt, sink.bytes(), OUTPUT, 0);
@@ -230,40 +230,40 @@ fn flushes_once(rt: HostRuntime) {
 }
 
 /// Runs a script whose source returns one byte in each call, and fails at a given call. The output has the replies to the complete lines.
-fn fail_to_read(rt: &impl Abort, alloc: Global, set_call: usize) {
+fn fail_to_read(rt: &impl Abort, alloc: Global, faulty_call: usize) {
     let mut buffer = [0u8; 128];
-    let mut lines = Lines::new(FaultySource::new(INPUT, 1, set_call as u64));
+    let mut lines = Lines::new(FaultySource::new(INPUT, 1, faulty_call as u64));
     let mut sink = MemorySink::new(&mut buffer);
     let outcome = run_stream(alloc, &Setup::default(), &mut lines, &mut sink);
-    let written = replies_within(set_call.saturating_sub(1));
-    expect_outcome(rt, outcome, Err(BenchFault::Read), set_call as u64);
-    expect_bytes(rt, sink.bytes(), written, set_call as u64);
+    let written = replies_within(faulty_call.saturating_sub(1));
+    expect_outcome(rt, outcome, Err(BenchFault::Read), faulty_call as u64);
+    expect_bytes(rt, sink.bytes(), written, faulty_call as u64);
 }
 
 #[test]
 fn stops_at_a_failed_read(rt: HostRuntime) {
-    for set_call in 1..=INPUT.len() + 1 {
-        fail_to_read(&rt, rt.alloc(), set_call);
+    for faulty_call in 1..=INPUT.len() + 1 {
+        fail_to_read(&rt, rt.alloc(), faulty_call);
     }
 }
 
 /// Runs a script whose sink takes one byte in each call, and fails or takes nothing at a given call. The bytes that it took before that are
 /// written.
-fn fail_to_write(rt: &impl Abort, alloc: Global, set_call: usize, at_set_call: AtSetCall) {
+fn fail_to_write(rt: &impl Abort, alloc: Global, faulty_call: usize, sink_fault: SinkFault) {
     let mut buffer = [0u8; 128];
     let mut lines = Lines::new(MemorySource::new(INPUT));
-    let mut sink = FaultySink::new(&mut buffer, 1, set_call as u64, at_set_call);
+    let mut sink = FaultySink::new(&mut buffer, 1, faulty_call as u64, sink_fault);
     let outcome = run_stream(alloc, &Setup::default(), &mut lines, &mut sink);
-    let written = &OUTPUT[..set_call.saturating_sub(1).min(OUTPUT.len())];
-    expect_outcome(rt, outcome, Err(BenchFault::Write), set_call as u64);
-    expect_bytes(rt, sink.bytes(), written, set_call as u64);
+    let written = &OUTPUT[..faulty_call.saturating_sub(1).min(OUTPUT.len())];
+    expect_outcome(rt, outcome, Err(BenchFault::Write), faulty_call as u64);
+    expect_bytes(rt, sink.bytes(), written, faulty_call as u64);
 }
 
 #[test]
 fn stops_at_a_failed_write(rt: HostRuntime) {
-    for set_call in 1..=OUTPUT.len() {
-        fail_to_write(&rt, rt.alloc(), set_call, AtSetCall::Fail);
-        fail_to_write(&rt, rt.alloc(), set_call, AtSetCall::TakeNothing);
+    for faulty_call in 1..=OUTPUT.len() {
+        fail_to_write(&rt, rt.alloc(), faulty_call, SinkFault::Fail);
+        fail_to_write(&rt, rt.alloc(), faulty_call, SinkFault::TakeNothing);
     }
 }
 
@@ -271,7 +271,7 @@ fn stops_at_a_failed_write(rt: HostRuntime) {
 fn stops_at_a_failed_flush(rt: HostRuntime) {
     let mut buffer = [0u8; 128];
     let mut lines = Lines::new(MemorySource::new(INPUT));
-    let mut sink = FaultySink::new(&mut buffer, 1000, 3, AtSetCall::Fail);
+    let mut sink = FaultySink::new(&mut buffer, 1000, 3, SinkFault::Fail);
     let outcome = run_stream(rt.alloc(), &Setup::default(), &mut lines, &mut sink);
     expect_outcome(&rt, outcome, Err(BenchFault::Write), 0);
     expect_bytes(&rt, sink.bytes(), OUTPUT, 0);
@@ -288,12 +288,12 @@ fn stops_at_a_full_sink(rt: HostRuntime) {
 }
 
 /// Expects the error of an input over a RAM of this size, before anything is written.
-fn expect_refusal(rt: &impl Abort, alloc: Global, input: &[u8], ram: u32, want: BenchFault) {
+fn expect_refusal(rt: &impl Abort, alloc: Global, input: &[u8], ram: u32, wanted: BenchFault) {
     let setup = Setup {
         ram,
         ..Setup::default()
     };
-    expect_stream(rt, alloc, &setup, input, Err(want), b"");
+    expect_stream(rt, alloc, &setup, input, Err(wanted), b"");
 }
 
 #[test]
@@ -308,8 +308,8 @@ fn refuses_in_order(rt: HostRuntime) {
         (b"0\n--\nreg 0\n", 65536, BenchFault::Hex),
         (b"00 00\n", 65536, BenchFault::Hex),
     ];
-    for (input, ram, want) in cases {
-        expect_refusal(&rt, rt.alloc(), input, ram, want);
+    for (input, ram, wanted) in cases {
+        expect_refusal(&rt, rt.alloc(), input, ram, wanted);
     }
 }
 
@@ -318,8 +318,8 @@ fn expect_last_byte(
     rt: &impl Abort,
     alloc: Global,
     image: &[u8],
-    want: Result<(), BenchFault>,
-    written: &[u8],
+    wanted_outcome: Result<(), BenchFault>,
+    wanted_output: &[u8],
 ) {
     let setup = Setup {
         ram: 65536,
@@ -329,8 +329,8 @@ fn expect_last_byte(
     let mut lines = Lines::new(MemorySource::new(b"mem 8000ffff 1\n"));
     let mut sink = MemorySink::new(&mut buffer);
     let outcome = run_bench(alloc, image, &setup, &mut lines, &mut sink);
-    expect_outcome(rt, outcome, want, image.len() as u64);
-    expect_bytes(rt, sink.bytes(), written, image.len() as u64);
+    expect_outcome(rt, outcome, wanted_outcome, image.len() as u64);
+    expect_bytes(rt, sink.bytes(), wanted_output, image.len() as u64);
 }
 
 #[test]

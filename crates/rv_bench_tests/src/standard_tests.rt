@@ -2,6 +2,7 @@
 //! call.
 use crate::byte_by_byte::{ByteReader, ByteWriter};
 use crate::expecting::{expect_bytes, expect_number, expect_outcome};
+use crate::faulty::NEVER;
 use crate::recording::{RecordingReader, RecordingWriter};
 use crate::sources::source_over;
 use rv_bench::{
@@ -12,6 +13,12 @@ use std::alloc::Global;
 use std::io::{Cursor, Read, Write};
 use std::process::Abort;
 
+/// The field `is_flush_refused` of a writer whose flush succeeds.
+const FLUSHES: bool = false;
+
+/// The field `is_flush_refused` of a writer whose flush fails.
+const REFUSES_FLUSH: bool = true;
+
 /// A host that creates an enclave.
 const MONITORED: Setup = Setup {
     kind: ImageKind::Auto,
@@ -20,13 +27,14 @@ const MONITORED: Setup = Setup {
     harts: Harts::One,
 };
 
-/// A job, an input and its output.
+/// A job, the input, and the output.
 struct Example {
     job: Job,
     input: &'static [u8],
     output: &'static [u8],
 }
 
+/// A run without the monitor.
 const RUN: Example = Example {
     job: Job::Run(Setup {
         kind: ImageKind::Auto,
@@ -38,18 +46,21 @@ const RUN: Example = Example {
     output: b"ran 1 pc=80000004 mode=M world=bare why=done trap=-\nx1=ffffffff\n",
 };
 
+/// Two benches without an enclave.
 const TWIN: Example = Example {
     job: Job::Twin(MONITORED, 0),
     input: b"73000000\n--\nreg 1\n--\nreg 1\n",
     output: b"x1=00000000\ntwin no slot\n",
 };
 
+/// The assembly of a loop.
 const ASM: Example = Example {
     job: Job::Asm,
     input: b"loop: addi x1, x1, -1\n bne x1, x0, loop\n",
     output: b"9380f0ff\ne39e00fe\n",
 };
 
+/// The disassembly of a fence.
 const DIS: Example = Example {
     job: Job::Dis,
     input: b"0f00f00f\n--\nstep 1\n",
@@ -122,24 +133,25 @@ fn recorded(
     rt: &impl Abort,
     alloc: Global,
     example: &Example,
-    set_call: u64,
+    faulty_call: u64,
     want: (Result<(), BenchFault>, u64),
 ) -> RecordingWriter {
-    let mut sink = WriterSink::new(RecordingWriter::new(Vec::new(alloc), false));
-    let reader = RecordingReader::new(example.input, set_call);
+    let mut sink = WriterSink::new(RecordingWriter::new(Vec::new(alloc), FLUSHES));
+    let reader = RecordingReader::new(example.input, faulty_call);
     let source = source_over(reader);
     let (_, outcome) = run_job(alloc, &example.job, source, &mut sink);
-    expect_outcome(rt, outcome, want.0, set_call);
+    expect_outcome(rt, outcome, want.0, faulty_call);
     let writer = sink.into_writer();
-    expect_number(rt, writer.flushes(), want.1, set_call);
+    expect_number(rt, writer.flushes(), want.1, faulty_call);
     writer
 }
 
 /// Expects the output with one flush after it, and no output if the first call of the reader fails.
 fn expect_recorded(rt: &impl Abort, alloc: Global, example: &Example) {
-    let writer = recorded(rt, alloc, example, 0, (Ok(()), 1));
+    let writer = recorded(rt, alloc, example, NEVER, (Ok(()), 1));
     expect_bytes(rt, writer.bytes(), example.output, 0);
-    let failed = recorded(rt, alloc, example, 1, (Err(BenchFault::Read), 0));
+    let first_call = 1;
+    let failed = recorded(rt, alloc, example, first_call, (Err(BenchFault::Read), 0));
     expect_bytes(rt, failed.bytes(), b"", 1);
 }
 
@@ -153,7 +165,7 @@ fn flush_reaches_the_writer_once(rt: HostRuntime) {
 
 /// Expects the output and a failed write if the flush of the writer fails.
 fn expect_refused_flush(rt: &impl Abort, alloc: Global, example: &Example) {
-    let mut sink = WriterSink::new(RecordingWriter::new(Vec::new(alloc), true));
+    let mut sink = WriterSink::new(RecordingWriter::new(Vec::new(alloc), REFUSES_FLUSH));
     let source = source_over(example.input);
     let (_, outcome) = run_job(alloc, &example.job, source, &mut sink);
     expect_outcome(rt, outcome, Err(BenchFault::Write), 0);
@@ -173,8 +185,8 @@ fn expect_over_streams(
     input: &[u8],
     want: (&[u8], u8, u64),
 ) {
-    let reader = RecordingReader::new(input, 0);
-    let writer = RecordingWriter::new(Vec::new(alloc), false);
+    let reader = RecordingReader::new(input, NEVER);
+    let writer = RecordingWriter::new(Vec::new(alloc), FLUSHES);
     let (source, sink, status) = run_over_streams(alloc, arguments, reader, writer);
     let writer = sink.into_writer();
     expect_bytes(rt, writer.bytes(), want.0, 0);
@@ -201,10 +213,13 @@ fn program_makes_no_other_calls_of_its_streams(rt: HostRuntime) {
 
 #[test]
 fn reader_that_ended_is_not_called_again(rt: HostRuntime) {
-    let mut source = source_over(RecordingReader::new(b"ab", 0));
+    let mut source = source_over(RecordingReader::new(b"ab", NEVER));
     let mut buffer = [0u8; 8];
-    for want in [2usize, 0, 0, 0] {
-        assert!(rt; source.read_some(&mut buffer) == Ok(want), "{want}");
+    for wanted_count in [2usize, 0, 0, 0] {
+        assert!(rt;
+            source.read_some(&mut buffer) == Ok(wanted_count),
+            "{wanted_count}"
+        );
     }
     let reader = source.into_source().into_reader();
     expect_number(&rt, reader.calls(), 2, 0);
@@ -212,7 +227,7 @@ fn reader_that_ended_is_not_called_again(rt: HostRuntime) {
 
 #[test]
 fn reports_the_error_of_an_input(rt: HostRuntime) {
-    for (job, input, want) in [
+    for (job, input, wanted) in [
         (Job::Run(MONITORED), b"0\n--\n".as_slice(), BenchFault::Hex),
         (Job::Dis, b"000000\n".as_slice(), BenchFault::Hex),
     ] {
@@ -220,7 +235,7 @@ fn reports_the_error_of_an_input(rt: HostRuntime) {
             Ok(_) => Ok(()),
             Err(fault) => Err(fault),
         };
-        expect_outcome(&rt, outcome, Err(want), 0);
+        expect_outcome(&rt, outcome, Err(wanted), 0);
     }
 }
 

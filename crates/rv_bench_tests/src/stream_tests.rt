@@ -2,7 +2,7 @@
 use crate::expecting::{
     expect_beginning, expect_bytes, expect_line, expect_no_line, expect_number,
 };
-use crate::faulty::{AtSetCall, FaultySink, FaultySource};
+use crate::faulty::{FaultySink, FaultySource, NEVER, SinkFault};
 use crate::sources::source_over;
 use rv_asm::{AsmFault, AsmFaultKind};
 use rv_bench::{
@@ -27,11 +27,11 @@ const IMAGE: &[u8] = b"9380f0ff\ne39e00fe\n";
 /// The lines of the text.
 const LINES: &[&[u8]] = &[b"00ff", b"", b"", b"step 1\rx", b"--", b"last\r"];
 
-/// Expects the lines of the text, which is read in parts of at most `most` bytes.
-fn expect_lines(rt: &impl Abort, most: usize) {
-    let mut lines = Lines::new(FaultySource::new(TEXT, most.max(1), 0));
-    for want in LINES {
-        expect_line(rt, &mut lines, want, most as u64);
+/// Expects the lines of the text, which is read in parts of at most `largest_read` bytes.
+fn expect_lines(rt: &impl Abort, largest_read: usize) {
+    let mut lines = Lines::new(FaultySource::new(TEXT, largest_read.max(1), NEVER));
+    for wanted in LINES {
+        expect_line(rt, &mut lines, wanted, largest_read as u64);
     }
     expect_no_line(rt, &mut lines);
     assert!(rt; lines.is_at_end());
@@ -39,8 +39,8 @@ fn expect_lines(rt: &impl Abort, most: usize) {
 
 #[test]
 fn reads_lines_in_parts(rt: HostRuntime) {
-    for most in [1usize, 2, 3, 1000] {
-        expect_lines(&rt, most);
+    for largest_read in [1usize, 2, 3, 1000] {
+        expect_lines(&rt, largest_read);
     }
 }
 
@@ -48,38 +48,43 @@ fn reads_lines_in_parts(rt: HostRuntime) {
 fn expect_line_in_two(
     rt: &impl Abort,
     lines: &mut Lines<FaultySource<'_>>,
-    want: &[u8],
+    wanted: &[u8],
     case: u64,
 ) -> bool {
     let found = lines.next_line();
     if found == Err(DeviceFault) {
-        expect_line(rt, lines, want, case);
+        expect_line(rt, lines, wanted, case);
         return true;
     }
     let line = found.expect(rt, "a line").expect(rt, "a line");
-    expect_bytes(rt, line.as_slice(), want, case);
+    expect_bytes(rt, line.as_slice(), wanted, case);
     false
 }
 
 /// Expects the lines of the text if the source fails once, at a given call: no byte is lost.
-fn expect_lines_past(rt: &impl Abort, set_call: u64) {
-    let mut lines = Lines::new(FaultySource::new(TEXT, 1, set_call));
+fn expect_lines_past(rt: &impl Abort, faulty_call: u64) {
+    let mut lines = Lines::new(FaultySource::new(TEXT, 1, faulty_call));
     let mut failures = 0u64;
-    for want in LINES {
-        if expect_line_in_two(rt, &mut lines, want, set_call) {
+    for wanted in LINES {
+        if expect_line_in_two(rt, &mut lines, wanted, faulty_call) {
             failures = failures.saturating_add(1);
         }
     }
-    expect_number(rt, failures, 1, set_call);
+    expect_number(rt, failures, 1, faulty_call);
     expect_no_line(rt, &mut lines);
-    expect_number(rt, lines.source().calls(), TEXT.len() as u64 + 2, set_call);
+    expect_number(
+        rt,
+        lines.source().calls(),
+        TEXT.len() as u64 + 2,
+        faulty_call,
+    );
     assert!(rt; lines.into_source().rest().is_empty());
 }
 
 #[test]
 fn goes_on_after_a_failed_read(rt: HostRuntime) {
-    for set_call in 1..=TEXT.len() as u64 + 1 {
-        expect_lines_past(&rt, set_call);
+    for faulty_call in 1..=TEXT.len() as u64 + 1 {
+        expect_lines_past(&rt, faulty_call);
     }
 }
 
@@ -112,27 +117,27 @@ fn shows_the_prefix_of_a_long_line(rt: HostRuntime) {
 
 /// Writes to a sink that takes two bytes in each call, and fails or takes nothing at a given call. The bytes that it took before that are
 /// written.
-fn fail_to_write(rt: &impl Abort, alloc: Global, set_call: u64, at_set_call: AtSetCall) {
+fn fail_to_write(rt: &impl Abort, alloc: Global, faulty_call: u64, sink_fault: SinkFault) {
     let mut buffer = [0u8; 32];
-    let mut sink = FaultySink::new(&mut buffer, 2, set_call, at_set_call);
+    let mut sink = FaultySink::new(&mut buffer, 2, faulty_call, sink_fault);
     let mut source = MemorySource::new(PROGRAM);
     assert!(rt; run_asm(alloc, &mut source, &mut sink) == Err(BenchFault::Write));
-    expect_beginning(rt, sink.bytes(), IMAGE, set_call);
-    let taken = set_call.saturating_sub(1).saturating_mul(2);
-    expect_number(rt, sink.bytes().len() as u64, taken, set_call);
+    expect_beginning(rt, sink.bytes(), IMAGE, faulty_call);
+    let taken = faulty_call.saturating_sub(1).saturating_mul(2);
+    expect_number(rt, sink.bytes().len() as u64, taken, faulty_call);
 }
 
 #[test]
 fn writes_words_in_parts(rt: HostRuntime) {
     let mut buffer = [0u8; 32];
-    let mut sink = FaultySink::new(&mut buffer, 2, 0, AtSetCall::Fail);
+    let mut sink = FaultySink::new(&mut buffer, 2, NEVER, SinkFault::Fail);
     let mut source = MemorySource::new(PROGRAM);
     assert!(rt; run_asm(rt.alloc(), &mut source, &mut sink).is_ok());
     expect_bytes(&rt, sink.bytes(), IMAGE, 0);
     expect_number(&rt, sink.calls(), 10, 0);
-    for set_call in 1..=9u64 {
-        fail_to_write(&rt, rt.alloc(), set_call, AtSetCall::Fail);
-        fail_to_write(&rt, rt.alloc(), set_call, AtSetCall::TakeNothing);
+    for faulty_call in 1..=9u64 {
+        fail_to_write(&rt, rt.alloc(), faulty_call, SinkFault::Fail);
+        fail_to_write(&rt, rt.alloc(), faulty_call, SinkFault::TakeNothing);
     }
 }
 
@@ -148,7 +153,7 @@ fn a_full_sink_takes_nothing(rt: HostRuntime) {
     expect_bytes(&rt, sink.bytes(), b"abcde", 0);
 }
 
-/// A text, its bytes or none if it has an error, and the rest of it.
+/// A text of an image, the bytes of the image or none if the text has an error, and the rest of the text.
 const TEXTS: &[(&[u8], Option<&[u8]>, &[u8])] = &[
     (b"", Some(b""), b""),
     (
@@ -176,21 +181,21 @@ const TEXTS: &[(&[u8], Option<&[u8]>, &[u8])] = &[
     (b"00\xa0\n", None, b""),
 ];
 
-/// Reads an image from a text, and expects its bytes or none if it has an error, and the rest of the text.
-fn expect_image(rt: &impl Abort, alloc: Global, text: &[u8], want: Option<&[u8]>, rest: &[u8]) {
+/// Reads an image from a text. Expects the bytes of the image, or none if the text has an error, and the rest of the text.
+fn expect_image(rt: &impl Abort, alloc: Global, text: &[u8], wanted: Option<&[u8]>, rest: &[u8]) {
     let mut lines = Lines::new(MemorySource::new(text));
-    match (read_image(alloc, &mut lines), want) {
+    match (read_image(alloc, &mut lines), wanted) {
         (Ok(image), Some(bytes)) => expect_bytes(rt, image.as_slice(), bytes, 0),
         (Err(fault), None) => assert!(rt; fault == BenchFault::Hex),
-        _ => panic!(rt; "another answer"),
+        _ => panic!(rt; "another result"),
     }
     expect_bytes(rt, lines.source().rest(), rest, 0);
 }
 
 #[test]
 fn reads_an_image(rt: HostRuntime) {
-    for (text, want, rest) in TEXTS {
-        expect_image(&rt, rt.alloc(), text, *want, rest);
+    for (text, wanted, rest) in TEXTS {
+        expect_image(&rt, rt.alloc(), text, *wanted, rest);
     }
 }
 
@@ -218,19 +223,19 @@ fn a_padded_separator_is_a_bad_line(rt: HostRuntime) {
 }
 
 /// Reads an image whose source fails at a given call, and returns the result.
-fn read_with(alloc: Global, set_call: u64) -> Result<(), BenchFault> {
+fn read_with(alloc: Global, faulty_call: u64) -> Result<(), BenchFault> {
     let text = b"9300\nf0ff\n--\nstep";
-    let mut lines = Lines::new(FaultySource::new(text, 1, set_call));
+    let mut lines = Lines::new(FaultySource::new(text, 1, faulty_call));
     read_image(alloc, &mut lines)?;
     Ok(())
 }
 
 #[test]
 fn an_image_stops_at_a_failed_read(rt: HostRuntime) {
-    for set_call in 1..=13 {
+    for faulty_call in 1..=13 {
         assert!(rt;
-            read_with(rt.alloc(), set_call) == Err(BenchFault::Read),
-            "at {set_call}"
+            read_with(rt.alloc(), faulty_call) == Err(BenchFault::Read),
+            "at {faulty_call}"
         );
     }
     assert!(rt; read_with(rt.alloc(), 14).is_ok());

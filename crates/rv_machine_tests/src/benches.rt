@@ -36,14 +36,23 @@ pub(crate) fn with_words(rt: &impl Abort, alloc: Global, words: &[u32]) -> Bench
 }
 
 /// Expects the text of a reply. The assertion is in a function of its own, because it would lengthen the proof of each test.
-pub(crate) fn expect_text(rt: &impl Abort, reply: &Reply, want: &[u8]) {
-    assert_eq!(rt; reply.as_slice(), want);
+pub(crate) fn expect_text(rt: &impl Abort, reply: &Reply, wanted: &[u8]) {
+    assert_eq!(rt; reply.as_slice(), wanted);
 }
 
-/// A line, the expected reply, and the slots that it is expected to enter: bit k for slot k.
+/// The slots of a line that enters no enclave.
+pub(crate) const NO_SLOT: u16 = 0;
+
+/// The slots of a line that enters the enclave in slot 0: bit 0.
+pub(crate) const SLOT_0: u16 = 1;
+
+/// The slots of a line that enters the enclave in slot 1: bit 1.
+pub(crate) const SLOT_1: u16 = 2;
+
+/// A line, the expected reply, and the slots that the line is expected to enter: bit k for slot k.
 pub(crate) type Line = (&'static [u8], &'static [u8], u16);
 
-/// Gives lines to a bench, and expects for each its reply and the slots that it enters.
+/// Gives lines to a bench, and expects for each line the reply and the slots that the line enters.
 pub(crate) fn expect(rt: &impl Abort, bench: &mut Bench, lines: &[Line]) {
     let mut reply = Reply::new();
     for (line, wanted, slots) in lines {

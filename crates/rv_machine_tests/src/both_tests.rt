@@ -13,6 +13,30 @@ use std::process::Abort;
 /// The first address of the host.
 const FIRST: u32 = 0x8001_0000;
 
+/// The word of ecall.
+const ECALL: u32 = 0x73;
+
+/// The word of addi x1, x0, -1.
+const ADDI_X1_X0_MINUS_1: u32 = 0xfff0_0093;
+
+/// The slot of the enclave whose secret differs.
+const SLOT: u32 = 0;
+
+/// One scramble, which succeeds.
+const SCRAMBLED_ONCE: (u8, bool) = (1, true);
+
+/// Two scrambles, which succeed.
+const SCRAMBLED_TWICE: (u8, bool) = (2, true);
+
+/// One scramble, which is refused.
+const REFUSED_ONCE: (u8, bool) = (1, false);
+
+/// No lines for the benches.
+const NO_LINES: &[&[u8]] = &[];
+
+/// No lines after the commands.
+const NONE_AFTER: &[After] = &[];
+
 /// The way to make a bench.
 #[derive(Clone, Copy)]
 enum Made {
@@ -44,10 +68,10 @@ const CREATE: &[&[u8]] = &[
 /// The registers of a call to run the enclave of slot 0.
 const RUN: &[&[u8]] = &[b"setreg 17 0a454e43", b"setreg 16 3", b"setreg 10 0"];
 
-/// A command for two benches, the reason why it ends, and the replies of the first and of the second.
+/// A command for two benches, the reason why the command ends, and the replies of the first bench and of the second.
 type Row = (&'static [u8], BothWhy, &'static [u8], &'static [u8]);
 
-/// A line that each bench executes by itself, and the replies of the first and of the second.
+/// A line that each bench executes alone, and the replies of the first bench and of the second.
 type After = (&'static [u8], &'static [u8], &'static [u8]);
 
 /// Gives lines to a bench, and ignores its replies.
@@ -61,7 +85,7 @@ fn give(bench: &mut Bench, lines: &[&[u8]]) {
 /// Returns a bench of 196608 bytes under the monitor, whose host starts with four ecalls.
 fn bench_of_calls(rt: &impl Abort, alloc: Global, harts: Harts) -> Bench {
     let mut ram = Ram::new(alloc, 196_608).expect(rt, "a RAM");
-    poke_words(&mut ram, FIRST, &[0x73; 4]);
+    poke_words(&mut ram, FIRST, &[ECALL; 4]);
     let mut machine = MonitoredMachine::new(ram, FIRST, harts);
     machine.set_decode_cache(BoxedCache::allocate(alloc));
     Bench::monitored(machine)
@@ -82,7 +106,7 @@ fn slot(rt: &impl Abort, number: u32) -> Slot {
 /// Makes a bench, and gives it lines.
 fn bench_of(rt: &impl Abort, alloc: Global, made: Made, lines: &[&[u8]]) -> Bench {
     let mut bench = match made {
-        Made::Bare => with_words(rt, alloc, &[0xfff0_0093]),
+        Made::Bare => with_words(rt, alloc, &[ADDI_X1_X0_MINUS_1]),
         Made::Free => bench_of_calls(rt, alloc, Harts::One),
         Made::Live | Made::Other => bench_with_enclave(rt, alloc, Harts::One),
         Made::Two => bench_with_enclave(rt, alloc, Harts::Two),
@@ -95,10 +119,10 @@ fn bench_of(rt: &impl Abort, alloc: Global, made: Made, lines: &[&[u8]]) -> Benc
 }
 
 /// Gives a line to a bench, and expects this reply.
-fn expect_reply(rt: &impl Abort, bench: &mut Bench, line: &[u8], want: &[u8]) {
+fn expect_reply(rt: &impl Abort, bench: &mut Bench, line: &[u8], wanted: &[u8]) {
     let mut reply = Reply::new();
     let _ = bench.execute_line(line, &mut reply);
-    expect_text(rt, &reply, want);
+    expect_text(rt, &reply, wanted);
 }
 
 /// Gives lines to each of two benches by itself, and expects their replies.
@@ -111,7 +135,7 @@ fn expect_after(rt: &impl Abort, a: &mut Bench, b: &mut Bench, after: &[After]) 
 
 /// Gives a command to two benches, and expects its outcome.
 fn expect_row(rt: &impl Abort, a: &mut Bench, b: &mut Bench, number: u32, row: &Row) {
-    let (line, why, first_want, second_want) = *row;
+    let (line, why, wanted_first, wanted_second) = *row;
     // the old content of the buffers is replaced
     let mut first = Reply::new();
     let mut second = Reply::new();
@@ -121,8 +145,8 @@ fn expect_row(rt: &impl Abort, a: &mut Bench, b: &mut Bench, number: u32, row: &
     let slot = slot(rt, number);
     let found = both_command(a, b, slot, &command, &mut first, &mut second);
     assert!(rt; found == why, "{number}");
-    expect_text(rt, &first, first_want);
-    expect_text(rt, &second, second_want);
+    expect_text(rt, &first, wanted_first);
+    expect_text(rt, &second, wanted_second);
 }
 
 /// Gives lines to each of two benches, then commands to both, one by one, and then lines to each again.
@@ -153,13 +177,13 @@ fn commands_of(rt: &impl Abort, lines: &[&[u8]]) -> [Command; 4] {
 }
 
 /// Gives a list of commands to a pair of benches, and then lines to each.
-fn expect_list(rt: &impl Abort, alloc: Global, lines: &[&[u8]], want: Both, after: &[After]) {
-    let mut a = bench_of(rt, alloc, PAIR.0, &[]);
-    let mut b = bench_of(rt, alloc, PAIR.1, &[]);
+fn expect_list(rt: &impl Abort, alloc: Global, lines: &[&[u8]], wanted: Both, after: &[After]) {
+    let mut a = bench_of(rt, alloc, PAIR.0, NO_LINES);
+    let mut b = bench_of(rt, alloc, PAIR.1, NO_LINES);
     let commands = commands_of(rt, lines);
     let list = commands.get(..lines.len()).expect(rt, "at most four");
     let slot = slot(rt, 0);
-    assert!(rt; run_both(&mut a, &mut b, slot, list) == want);
+    assert!(rt; run_both(&mut a, &mut b, slot, list) == wanted);
     expect_after(rt, &mut a, &mut b, after);
 }
 
@@ -169,12 +193,12 @@ fn expect_scrambled(
     alloc: Global,
     (made, lines): (Made, &[&[u8]]),
     number: u32,
-    (times, want): (u8, bool),
+    (times, wanted): (u8, bool),
     after: &[After],
 ) {
     let mut bench = bench_of(rt, alloc, made, lines);
     for _ in 0..times {
-        assert!(rt; bench.scramble(slot(rt, number)) == want, "{number}");
+        assert!(rt; bench.scramble(slot(rt, number)) == wanted, "{number}");
     }
     for (line, reply, _) in after {
         expect_reply(rt, &mut bench, line, reply);
@@ -211,11 +235,11 @@ const ALIKE: &[Row] = &[
 /// The benches are equal except for the region and the saved registers, and so are the replies that show other state.
 #[test]
 fn alike_benches_reply_alike(rt: HostRuntime) {
-    expect_both(&rt, rt.alloc(), PAIR, &[], 0, ALIKE, &[]);
+    expect_both(&rt, rt.alloc(), PAIR, NO_LINES, SLOT, ALIKE, NONE_AFTER);
 }
 
 /// The rows of the test `a_command_next_to_the_region_is_blind`.
-const BESIDE: &[Row] = &[
+const NEXT_TO_THE_REGION: &[Row] = &[
     (b"poke 8001ffff 5a", BothWhy::All, b"ok\n", b"ok\n"),
     (
         b"mem 8001fffe 2",
@@ -247,7 +271,15 @@ const BESIDE: &[Row] = &[
 /// A command whose bytes end directly before the region, or start directly after it, is executed.
 #[test]
 fn a_command_next_to_the_region_is_blind(rt: HostRuntime) {
-    expect_both(&rt, rt.alloc(), PAIR, &[], 0, BESIDE, &[]);
+    expect_both(
+        &rt,
+        rt.alloc(),
+        PAIR,
+        NO_LINES,
+        SLOT,
+        NEXT_TO_THE_REGION,
+        NONE_AFTER,
+    );
 }
 
 /// The rows of the test `what_names_a_byte_of_the_region_is_not_blind`.
@@ -261,6 +293,7 @@ const INSIDE: &[Row] = &[
     (b"poke 80020fff 11", BothWhy::NotBlind, b"", b""),
 ];
 
+/// The first and the last byte of the region, which differ in the two benches.
 const SECRETS: &[After] = &[
     (b"mem 80020000 1", b"80020000: 00\n", b"80020000: ff\n"),
     (b"mem 80020fff 1", b"80020fff: 00\n", b"80020fff: ff\n"),
@@ -269,7 +302,7 @@ const SECRETS: &[After] = &[
 /// A command with one byte of the region, at either end, is not executed. Both replies are empty.
 #[test]
 fn what_names_a_byte_of_the_region_is_not_blind(rt: HostRuntime) {
-    expect_both(&rt, rt.alloc(), PAIR, &[], 0, INSIDE, SECRETS);
+    expect_both(&rt, rt.alloc(), PAIR, NO_LINES, SLOT, INSIDE, SECRETS);
 }
 
 /// The rows of the test `a_free_slot_hides_nothing`.
@@ -284,7 +317,7 @@ const SHOWN: &[Row] = &[(
 #[test]
 fn a_free_slot_hides_nothing(rt: HostRuntime) {
     for number in [1, 12] {
-        expect_both(&rt, rt.alloc(), PAIR, &[], number, SHOWN, &[]);
+        expect_both(&rt, rt.alloc(), PAIR, NO_LINES, number, SHOWN, NONE_AFTER);
     }
 }
 
@@ -294,13 +327,14 @@ const IN_ONE: &[Row] = &[
     (b"poke 80020000 11", BothWhy::NotBlind, b"", b""),
 ];
 
+/// The first byte of the region, which is 0 in both benches.
 const ZEROS: &[After] = &[(b"mem 80020000 1", b"80020000: 00\n", b"80020000: 00\n")];
 
 /// If the byte is in the region of only one bench, neither executes the command.
 #[test]
 fn a_command_must_be_blind_in_both_benches(rt: HostRuntime) {
     for made in [(Made::Live, Made::Free), (Made::Free, Made::Live)] {
-        expect_both(&rt, rt.alloc(), made, &[], 0, IN_ONE, ZEROS);
+        expect_both(&rt, rt.alloc(), made, NO_LINES, SLOT, IN_ONE, ZEROS);
     }
 }
 
@@ -320,10 +354,10 @@ const FAULTS: &[Row] = &[
 /// A command that is refused for another reason, or that has no reply, counts as executed.
 #[test]
 fn faults_and_blanks_are_replies(rt: HostRuntime) {
-    expect_both(&rt, rt.alloc(), PAIR, &[], 0, FAULTS, &[]);
+    expect_both(&rt, rt.alloc(), PAIR, NO_LINES, SLOT, FAULTS, NONE_AFTER);
 }
 
-/// The inputs of the test `faults_and_blanks_are_replies`.
+/// The reply to a step of a bench without the monitor.
 const BARE_RAN: &[u8] = b"ran 1 pc=80000004 mode=M world=bare why=done trap=-\n";
 
 /// The rows of the test `bare_benches_do_all`.
@@ -342,9 +376,10 @@ const ALL_BARE: &[Row] = &[
 #[test]
 fn bare_benches_do_all(rt: HostRuntime) {
     let made = (Made::Bare, Made::Bare);
-    expect_both(&rt, rt.alloc(), made, &[], 0, ALL_BARE, &[]);
+    expect_both(&rt, rt.alloc(), made, NO_LINES, SLOT, ALL_BARE, NONE_AFTER);
 }
 
+/// The reply to a step that enters the enclave.
 const ENTERED: &[u8] = b"ran 1 pc=80020000 mode=S world=e0 why=done trap=00000009:00000000\n";
 
 /// The rows of the test `an_entry_is_reported`.
@@ -353,10 +388,10 @@ const ENTERS: &[Row] = &[(b"step 1", BothWhy::Entered, ENTERED, ENTERED)];
 /// The step of the call ends in the enclave, at its entry, in both benches.
 #[test]
 fn an_entry_is_reported(rt: HostRuntime) {
-    expect_both(&rt, rt.alloc(), PAIR, RUN, 0, ENTERS, &[]);
+    expect_both(&rt, rt.alloc(), PAIR, RUN, SLOT, ENTERS, NONE_AFTER);
 }
 
-/// The inputs of the test `an_entry_is_reported`.
+/// The reply to two steps: the first enters the enclave, and the timer stops it in the second.
 const LEFT: &[u8] = b"ran 2 pc=80010008 mode=S world=host why=done trap=80000007:00000000\n";
 
 /// The rows of the test `an_entry_within_a_command_is_reported`.
@@ -368,27 +403,35 @@ const ENTERS_AND_LEAVES: &[Row] = &[
 /// The timer stops the enclave before its first instruction, so the host runs both before and after the command.
 #[test]
 fn an_entry_within_a_command_is_reported(rt: HostRuntime) {
-    expect_both(&rt, rt.alloc(), PAIR, RUN, 0, ENTERS_AND_LEAVES, &[]);
+    expect_both(
+        &rt,
+        rt.alloc(),
+        PAIR,
+        RUN,
+        SLOT,
+        ENTERS_AND_LEAVES,
+        NONE_AFTER,
+    );
 }
 
-/// The same registers of hart 0, with hart 1 selected.
-const RUN_BESIDE: &[&[u8]] = &[
+/// The registers of a call of hart 0 to run the enclave, and the selection of hart 1.
+const RUN_ON_HART_0: &[&[u8]] = &[
     b"setreg 17 0a454e43",
     b"setreg 16 3",
     b"setreg 10 0",
     b"hart 1",
 ];
 
-/// The inputs of the test `an_entry_within_a_command_is_reported`.
-const ENTERED_BESIDE: &[u8] = b"hart 0 1 pc=80020000 mode=S world=e0 trap=00000009:00000000\n\
+/// The reply to a step of each hart: the step of hart 0 enters the enclave.
+const ENTERED_ON_HART_0: &[u8] = b"hart 0 1 pc=80020000 mode=S world=e0 trap=00000009:00000000\n\
     hart 1 1 pc=80010004 mode=S world=host trap=00000009:00000000\n";
 
 /// The rows of the test `an_entry_on_the_other_hart_is_reported`.
-const ENTERS_BESIDE: &[Row] = &[(
+const ENTERS_ON_HART_0: &[Row] = &[(
     b"sched 01",
     BothWhy::Entered,
-    ENTERED_BESIDE,
-    ENTERED_BESIDE,
+    ENTERED_ON_HART_0,
+    ENTERED_ON_HART_0,
 )];
 
 /// The rows of the test `an_entry_on_the_other_hart_is_reported`.
@@ -402,9 +445,9 @@ fn an_entry_on_the_other_hart_is_reported(rt: HostRuntime) {
         &rt,
         rt.alloc(),
         made,
-        RUN_BESIDE,
-        0,
-        ENTERS_BESIDE,
+        RUN_ON_HART_0,
+        SLOT,
+        ENTERS_ON_HART_0,
         ON_HART_1,
     );
 }
@@ -417,11 +460,19 @@ const ENTERS_ANOTHER: &[Row] = &[(b"step 1", BothWhy::All, ENTERED, ENTERED)];
 fn an_entry_of_another_slot_is_none(rt: HostRuntime) {
     let made = (Made::Live, Made::Live);
     for number in [1, 12] {
-        expect_both(&rt, rt.alloc(), made, RUN, number, ENTERS_ANOTHER, &[]);
+        expect_both(
+            &rt,
+            rt.alloc(),
+            made,
+            RUN,
+            number,
+            ENTERS_ANOTHER,
+            NONE_AFTER,
+        );
     }
 }
 
-/// The inputs of the test `an_entry_of_another_slot_is_none`.
+/// The reply to a step with a call that is refused.
 const REFUSED: &[u8] = b"ran 1 pc=80010004 mode=S world=host why=done trap=00000009:00000000\n";
 
 /// The rows of the test `an_entry_in_either_bench_counts`.
@@ -434,9 +485,9 @@ const SECOND_ENTERS: &[Row] = &[(b"step 1", BothWhy::Entered, REFUSED, ENTERED)]
 #[test]
 fn an_entry_in_either_bench_counts(rt: HostRuntime) {
     let made = (Made::Live, Made::Free);
-    expect_both(&rt, rt.alloc(), made, RUN, 0, FIRST_ENTERS, &[]);
+    expect_both(&rt, rt.alloc(), made, RUN, SLOT, FIRST_ENTERS, NONE_AFTER);
     let made = (Made::Free, Made::Live);
-    expect_both(&rt, rt.alloc(), made, RUN, 0, SECOND_ENTERS, &[]);
+    expect_both(&rt, rt.alloc(), made, RUN, SLOT, SECOND_ENTERS, NONE_AFTER);
 }
 
 /// The inputs of the test `a_list_passes_by`.
@@ -453,7 +504,7 @@ const PASSED: &[After] = &[
 #[test]
 fn a_list_passes_by(rt: HostRuntime) {
     let why = BothWhy::All;
-    expect_list(&rt, rt.alloc(), &[], Both { ran: 0, why }, SECRETS);
+    expect_list(&rt, rt.alloc(), NO_LINES, Both { ran: 0, why }, SECRETS);
     expect_list(&rt, rt.alloc(), PASSING, Both { ran: 4, why }, PASSED);
 }
 
@@ -534,8 +585,22 @@ const TWICE: &[After] = &[
 /// Each byte of the region is complemented, and no other. Scrambling twice restores the bench.
 #[test]
 fn scramble_complements_the_region(rt: HostRuntime) {
-    expect_scrambled(&rt, rt.alloc(), (Made::Live, POKES), 0, (1, true), ONCE);
-    expect_scrambled(&rt, rt.alloc(), (Made::Live, POKES), 0, (2, true), TWICE);
+    expect_scrambled(
+        &rt,
+        rt.alloc(),
+        (Made::Live, POKES),
+        SLOT,
+        SCRAMBLED_ONCE,
+        ONCE,
+    );
+    expect_scrambled(
+        &rt,
+        rt.alloc(),
+        (Made::Live, POKES),
+        SLOT,
+        SCRAMBLED_TWICE,
+        TWICE,
+    );
 }
 
 /// The inputs of the test `scramble_complements_what_is_kept`.
@@ -567,7 +632,14 @@ const KEPT: &[After] = &[
 /// The registers of a stopped enclave are complemented. pc, the mode, the host's registers and the record are not.
 #[test]
 fn scramble_complements_what_is_kept(rt: HostRuntime) {
-    expect_scrambled(&rt, rt.alloc(), (Made::Live, STOP), 0, (1, true), KEPT);
+    expect_scrambled(
+        &rt,
+        rt.alloc(),
+        (Made::Live, STOP),
+        SLOT,
+        SCRAMBLED_ONCE,
+        KEPT,
+    );
 }
 
 /// The rows of the test `scramble_refuses_a_slot_that_is_not_live`.
@@ -576,15 +648,29 @@ const BARE_CODE: &[After] = &[(b"mem 80000000 4", b"80000000: 93 00 f0 ff\n", b"
 /// A bench without the monitor, and a free slot: nothing changes.
 #[test]
 fn scramble_refuses_a_slot_that_is_not_live(rt: HostRuntime) {
-    expect_scrambled(&rt, rt.alloc(), (Made::Bare, &[]), 0, (1, false), BARE_CODE);
-    expect_scrambled(&rt, rt.alloc(), (Made::Free, &[]), 0, (1, false), ZEROS);
+    expect_scrambled(
+        &rt,
+        rt.alloc(),
+        (Made::Bare, NO_LINES),
+        SLOT,
+        REFUSED_ONCE,
+        BARE_CODE,
+    );
+    expect_scrambled(
+        &rt,
+        rt.alloc(),
+        (Made::Free, NO_LINES),
+        SLOT,
+        REFUSED_ONCE,
+        ZEROS,
+    );
     for number in [1, 12] {
         expect_scrambled(
             &rt,
             rt.alloc(),
-            (Made::Live, &[]),
+            (Made::Live, NO_LINES),
             number,
-            (1, false),
+            REFUSED_ONCE,
             ZEROS,
         );
     }
@@ -599,42 +685,52 @@ const RUNNING: &[After] = &[
     (b"reg 10", b"x10=80020000\n", b""),
 ];
 
-/// The enclave that runs is refused.
+/// An enclave that runs is not scrambled.
 #[test]
 fn scramble_refuses_the_slot_that_runs(rt: HostRuntime) {
-    expect_scrambled(&rt, rt.alloc(), (Made::Live, ENTER), 0, (1, false), RUNNING);
+    expect_scrambled(
+        &rt,
+        rt.alloc(),
+        (Made::Live, ENTER),
+        SLOT,
+        REFUSED_ONCE,
+        RUNNING,
+    );
 }
 
 /// The inputs of the test `scramble_refuses_the_slot_that_runs_on_the_other_hart`.
-const ENTER_BESIDE: &[&[u8]] = &[b"setreg 16 3", b"setreg 10 0", b"step 1", b"hart 1"];
+const ENTER_ON_HART_0: &[&[u8]] = &[b"setreg 16 3", b"setreg 10 0", b"step 1", b"hart 1"];
 
 /// The rows of the test `scramble_refuses_the_slot_that_runs_on_the_other_hart`.
-const RUNNING_BESIDE: &[After] = &[
+const RUNNING_ON_HART_0: &[After] = &[
     (b"mem 80020000 1", b"80020000: 00\n", b""),
     (b"hart 0", b"ok\n", b""),
     (b"reg 10", b"x10=80020000\n", b""),
 ];
 
-/// The enclave that runs on the hart that is not selected is refused.
+/// An enclave that runs on the other hart is not scrambled.
 #[test]
 fn scramble_refuses_the_slot_that_runs_on_the_other_hart(rt: HostRuntime) {
-    let made = (Made::Two, ENTER_BESIDE);
-    expect_scrambled(&rt, rt.alloc(), made, 0, (1, false), RUNNING_BESIDE);
+    let made = (Made::Two, ENTER_ON_HART_0);
+    expect_scrambled(&rt, rt.alloc(), made, SLOT, REFUSED_ONCE, RUNNING_ON_HART_0);
 }
 
 /// A line, its outcome, and the expected replies of both benches.
 type LineRow = (&'static [u8], BothLine, &'static [u8], &'static [u8]);
 
+/// The outcome of a line with a command that both benches executed.
 const DONE: BothLine = BothLine::Given {
     why: BothWhy::All,
     is_blank: false,
 };
 
+/// The outcome of a line without a command.
 const BLANK: BothLine = BothLine::Given {
     why: BothWhy::All,
     is_blank: true,
 };
 
+/// The outcome of a line with a command that accesses the region, which no bench executed.
 const SKIPPED: BothLine = BothLine::Given {
     why: BothWhy::NotBlind,
     is_blank: false,
@@ -654,7 +750,7 @@ const LINES: &[LineRow] = &[
 
 /// Gives a line to two benches, and expects its outcome.
 fn expect_line(rt: &impl Abort, a: &mut Bench, b: &mut Bench, row: &LineRow) {
-    let (line, what, first_want, second_want) = *row;
+    let (line, what, wanted_first, wanted_second) = *row;
     // the old content of the buffers is replaced
     let mut first = Reply::new();
     let mut second = Reply::new();
@@ -662,15 +758,15 @@ fn expect_line(rt: &impl Abort, a: &mut Bench, b: &mut Bench, row: &LineRow) {
     second.push(b'?');
     let found = both_line(a, b, slot(rt, 0), line, &mut first, &mut second);
     assert!(rt; found == what);
-    expect_text(rt, &first, first_want);
-    expect_text(rt, &second, second_want);
+    expect_text(rt, &first, wanted_first);
+    expect_text(rt, &second, wanted_second);
 }
 
 /// An error is reported once. A line without a command counts as no command, and a command that is not blind is skipped.
 #[test]
 fn a_line_is_given_to_both(rt: HostRuntime) {
-    let mut a = bench_of(&rt, rt.alloc(), PAIR.0, &[]);
-    let mut b = bench_of(&rt, rt.alloc(), PAIR.1, &[]);
+    let mut a = bench_of(&rt, rt.alloc(), PAIR.0, NO_LINES);
+    let mut b = bench_of(&rt, rt.alloc(), PAIR.1, NO_LINES);
     for row in LINES {
         expect_line(&rt, &mut a, &mut b, row);
     }

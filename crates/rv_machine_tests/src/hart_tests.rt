@@ -2,6 +2,7 @@
 
 mod followed;
 
+use crate::csr_numbers::{MCAUSE, MCYCLE, MEPC, MIE, MINSTRET, MSTATUS, PMPADDR0, PMPCFG0};
 use followed::{Line, run};
 use rv_hart::{Hart, StepOutcome, Trap};
 use rv_memory::{RAM_BASE, Ram, Span, Touched};
@@ -10,19 +11,49 @@ use rv_state::{Cause, Exception, Interrupt};
 use rv_word::{Reg, Width};
 use std::test::Fail;
 
+/// The value of pmpcfg0 for an entry 0 that permits fetches and no other access: NAPOT and X.
+const FETCH_EVERYWHERE: u32 = 0x1c;
+
+/// The bit of the timer interrupt of mode M in mie.
+const MTIE: u32 = 0x80;
+
+/// The bit in mstatus that enables interrupts in mode M.
+const MSTATUS_MIE: u32 = 8;
+
+/// The bit in mstatus with which mode M loads and stores with the permissions of the mode in MPP.
+const MPRV: u32 = 0x2_0000;
+
+/// The word of mret.
+const MRET: u32 = 0x3020_0073;
+
+/// The word of wfi.
+const WFI: u32 = 0x1050_0073;
+
+/// The word of csrrs x1, mscratch, x0.
+const READ_MSCRATCH: u32 = 0x3400_20f3;
+
+/// The word of ecall.
+const ECALL: u32 = 0x0000_0073;
+
+/// The word of ebreak.
+const EBREAK: u32 = 0x0010_0073;
+
+/// A word that encodes no instruction.
+const NO_INSTRUCTION: u32 = 0;
+
 /// Returns the outcome of a step without a trap, with its accesses.
-const fn touching(fetched: u32, loaded: Option<Span>, stored: Option<Span>) -> StepOutcome {
+const fn touching(fetch_address: u32, loaded: Option<Span>, stored: Option<Span>) -> StepOutcome {
     StepOutcome {
         trap: None,
         touched: Touched {
-            fetched: word_at(fetched),
+            fetched: word_at(fetch_address),
             loaded,
             stored,
         },
     }
 }
 
-/// Returns the span of the word of a step.
+/// Returns the span of a word.
 const fn word_at(addr: u32) -> Option<Span> {
     Some(Span {
         addr,
@@ -46,6 +77,7 @@ const fn exception(exception: Exception, tval: u32) -> Option<Trap> {
     })
 }
 
+/// Returns the lines of the test `shows_what_it_touches`.
 fn touching_lines() -> [Line; 7] {
     [
         Line::Set(2, RAM_BASE),
@@ -89,8 +121,8 @@ fn step_over(hart: &mut Hart, ram: &mut Ram) -> Seen {
 
 /// Lets a hart fetch everywhere in every mode, and sets its pc to the third word in mode U. Returns whether this succeeded.
 fn open(hart: &mut Hart) -> bool {
-    let address = hart.csrs_mut().write(0x3b0, u32::MAX, Mode::M);
-    let configuration = hart.csrs_mut().write(0x3a0, 0x1c, Mode::M);
+    let address = hart.csrs_mut().write(PMPADDR0, u32::MAX, Mode::M);
+    let configuration = hart.csrs_mut().write(PMPCFG0, FETCH_EVERYWHERE, Mode::M);
     hart.set_pc(RAM_BASE + 8, Mode::U);
     address.is_ok() && configuration.is_ok()
 }
@@ -128,6 +160,7 @@ fn steps_over_a_memory(rt: HostRuntime) -> Result<(), Fail> {
     Ok(())
 }
 
+/// Returns the lines of the test `reports_a_refused_load`.
 fn refused_load() -> [Line; 4] {
     [
         Line::Set(1, RAM_BASE + 65_532),
@@ -150,34 +183,36 @@ fn reports_a_refused_load(rt: HostRuntime) -> Result<(), Fail> {
     run(rt, &[0x0020_a183], &refused_load())
 }
 
+/// Returns the lines for a first instruction that traps with a cause and a value of mtval.
 fn trapping(cause: Exception, tval: u32) -> [Line; 4] {
     [
         Line::Trap(exception(cause, tval)),
         Line::Pc(0),
-        Line::Csr(0x341, RAM_BASE),
-        Line::Csr(0x342, Cause::Exception(cause).code()),
+        Line::Csr(MEPC, RAM_BASE),
+        Line::Csr(MCAUSE, Cause::Exception(cause).code()),
     ]
 }
 
-/// ecall, ebreak, and a word that encodes no instruction
+/// ecall, ebreak and a word that encodes no instruction have a cause each.
 #[test]
 fn traps_by_their_causes(rt: HostRuntime) -> Result<(), Fail> {
     for (word, cause, tval) in [
-        (0x0000_0073, Exception::EnvironmentCallFromM, 0),
-        (0x0010_0073, Exception::Breakpoint, RAM_BASE),
-        (0x0000_0000, Exception::IllegalInstruction, 0),
+        (ECALL, Exception::EnvironmentCallFromM, 0),
+        (EBREAK, Exception::Breakpoint, RAM_BASE),
+        (NO_INSTRUCTION, Exception::IllegalInstruction, 0),
     ] {
         run(rt, &[word], &trapping(cause, tval))?;
     }
     Ok(())
 }
 
+/// Returns the lines for mret to mode U and a second instruction that traps there.
 fn returning(cause: Exception, tval: u32) -> [Line; 8] {
     [
         Line::Mepc(RAM_BASE + 4),
         // entry 0 permits fetches everywhere in every mode
-        Line::Write(0x3b0, u32::MAX),
-        Line::Write(0x3a0, 0x1c),
+        Line::Write(PMPADDR0, u32::MAX),
+        Line::Write(PMPCFG0, FETCH_EVERYWHERE),
         Line::Trap(None),
         Line::Mode(Mode::U),
         Line::Pc(RAM_BASE + 4),
@@ -190,12 +225,12 @@ fn returning(cause: Exception, tval: u32) -> [Line; 8] {
 #[test]
 fn keeps_modes_apart(rt: HostRuntime) -> Result<(), Fail> {
     for (word, cause, tval) in [
-        (0x3020_0073, Exception::IllegalInstruction, 0x3020_0073),
-        (0x1050_0073, Exception::IllegalInstruction, 0x1050_0073),
-        (0x3400_20f3, Exception::IllegalInstruction, 0x3400_20f3),
-        (0x0000_0073, Exception::EnvironmentCallFromU, 0),
+        (MRET, Exception::IllegalInstruction, MRET),
+        (WFI, Exception::IllegalInstruction, WFI),
+        (READ_MSCRATCH, Exception::IllegalInstruction, READ_MSCRATCH),
+        (ECALL, Exception::EnvironmentCallFromU, 0),
     ] {
-        run(rt, &[0x3020_0073, word], &returning(cause, tval))?;
+        run(rt, &[MRET, word], &returning(cause, tval))?;
     }
     Ok(())
 }
@@ -207,7 +242,7 @@ const EXCHANGE: [Line; 6] = [
     Line::Trap(None),
     Line::X(1, 0),
     Line::X(3, 0x1234),
-    Line::Csr(0xb02, 2),
+    Line::Csr(MINSTRET, 2),
 ];
 
 /// csrrw x1, mscratch, x2; csrrs x3, mscratch, x0. The second instruction only reads.
@@ -216,11 +251,12 @@ fn changes_a_register_by_another(rt: HostRuntime) -> Result<(), Fail> {
     run(rt, &[0x3401_10f3, 0x3400_21f3], &EXCHANGE)
 }
 
+/// Returns the lines of the test `takes_an_interrupt_first`.
 fn interrupted() -> [Line; 7] {
     [
         Line::Enter(Mode::U),
-        Line::Mie(0x80),
-        Line::Timer(true),
+        Line::Mie(MTIE),
+        Line::RaiseTimer,
         Line::Outcome(StepOutcome {
             trap: Some(Trap {
                 cause: Cause::Interrupt(Interrupt::MachineTimer),
@@ -233,8 +269,8 @@ fn interrupted() -> [Line; 7] {
             },
         }),
         Line::Mode(Mode::M),
-        Line::Csr(0xb00, 1),
-        Line::Csr(0xb02, 0),
+        Line::Csr(MCYCLE, 1),
+        Line::Csr(MINSTRET, 0),
     ]
 }
 
@@ -244,6 +280,7 @@ fn takes_an_interrupt_first(rt: HostRuntime) -> Result<(), Fail> {
     run(rt, &[0x0000_0013], &interrupted())
 }
 
+/// Returns the lines for a jump to 5 after `base`, with the expected pc and the expected value of x1.
 fn jumping(base: u32, pc: u32, link: u32) -> [Line; 4] {
     [
         Line::Set(1, base),
@@ -278,12 +315,13 @@ fn lends_its_memory(rt: HostRuntime) -> Result<(), Fail> {
     run(rt, &[0], &PATCHED)
 }
 
-fn judged(mode: Mode, mprv: u32) -> [Line; 6] {
+/// Returns the lines for a load that is refused in a mode, with a value of mstatus.
+fn judged(mode: Mode, mstatus: u32) -> [Line; 6] {
     [
         Line::Set(1, RAM_BASE),
-        Line::Write(0x3b0, u32::MAX),
-        Line::Write(0x3a0, 0x1c),
-        Line::Write(0x300, mprv),
+        Line::Write(PMPADDR0, u32::MAX),
+        Line::Write(PMPCFG0, FETCH_EVERYWHERE),
+        Line::Write(MSTATUS, mstatus),
         Line::Enter(mode),
         Line::Trap(exception(Exception::LoadAccessFault, RAM_BASE)),
     ]
@@ -292,8 +330,8 @@ fn judged(mode: Mode, mprv: u32) -> [Line; 6] {
 /// lw x3, 0(x1) in mode U: the PMP entry for fetches does not permit it. With MPRV it is checked in mode U in mode M too.
 #[test]
 fn judges_by_the_entries(rt: HostRuntime) -> Result<(), Fail> {
-    for (mode, mprv) in [(Mode::U, 0), (Mode::M, 0x2_0000)] {
-        run(rt, &[0x0000_a183], &judged(mode, mprv))?;
+    for (mode, mstatus) in [(Mode::U, 0), (Mode::M, MPRV)] {
+        run(rt, &[0x0000_a183], &judged(mode, mstatus))?;
     }
     Ok(())
 }
@@ -308,19 +346,31 @@ const COUNTED: [Line; 18] = [
     Line::Step,
     Line::Step,
     Line::Step,
-    Line::Fast(40, END, 39),
+    Line::Fast {
+        count: 40,
+        below: END,
+        done: 39,
+    },
     Line::Step,
     Line::X(1, 11),
     Line::X(3, 11),
     Line::Byte(RAM_BASE + 256, 11),
-    Line::Csr(0xb00, 44),
-    Line::Csr(0xb02, 44),
+    Line::Csr(MCYCLE, 44),
+    Line::Csr(MINSTRET, 44),
     Line::Pc(RAM_BASE),
-    Line::Fast(40, RAM_BASE as u64 + 12, 3),
+    Line::Fast {
+        count: 40,
+        below: RAM_BASE as u64 + 12,
+        done: 3,
+    },
     Line::Pc(RAM_BASE + 12),
     Line::X(3, 12),
-    Line::Csr(0xb02, 47),
-    Line::Fast(0, END, 0),
+    Line::Csr(MINSTRET, 47),
+    Line::Fast {
+        count: 0,
+        below: END,
+        done: 0,
+    },
 ];
 
 /// addi x1, x1, 1; sw x1, 256(x2); lw x3, 256(x2); bne x1, x0, -12. Accesses that earlier steps have made are executed on the fast path, within
@@ -339,20 +389,36 @@ const STOPPED: [Line; 14] = [
     Line::Step,
     Line::Set(1, 6),
     // an instruction that writes a control and status register, or that traps, is left to `step`
-    Line::Fast(9, END, 1),
+    Line::Fast {
+        count: 9,
+        below: END,
+        done: 1,
+    },
     Line::X(1, 7),
     Line::Pc(RAM_BASE + 8),
     Line::Trap(None),
-    Line::Fast(9, END, 0),
-    Line::Csr(0xb02, 3),
+    Line::Fast {
+        count: 9,
+        below: END,
+        done: 0,
+    },
+    Line::Csr(MINSTRET, 3),
     Line::Enter(Mode::M),
     // a single step is left to `step`
-    Line::Fast(1, END, 0),
+    Line::Fast {
+        count: 1,
+        below: END,
+        done: 0,
+    },
     // an interrupt is left to `step`
-    Line::Write(0x300, 8),
-    Line::Mie(0x80),
-    Line::Timer(true),
-    Line::Fast(9, END, 0),
+    Line::Write(MSTATUS, MSTATUS_MIE),
+    Line::Mie(MTIE),
+    Line::RaiseTimer,
+    Line::Fast {
+        count: 9,
+        below: END,
+        done: 0,
+    },
 ];
 
 /// addi x1, x0, 0; addi x1, x1, 1; csrrw x0, mscratch, x1; ebreak

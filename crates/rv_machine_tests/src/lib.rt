@@ -9,6 +9,8 @@ mod benches;
 #[cfg(test)]
 mod both_tests;
 #[cfg(test)]
+mod csr_numbers;
+#[cfg(test)]
 mod enclaves_tests;
 #[cfg(test)]
 mod hart_tests;

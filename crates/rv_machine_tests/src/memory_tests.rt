@@ -11,6 +11,12 @@ use std::test::Fail;
 /// The address after the last byte of the smallest memory.
 const END: u32 = RAM_BASE + 65_536;
 
+/// Every byte of the access is inside the memory.
+const INSIDE: bool = true;
+
+/// A byte of the access is outside the memory.
+const NOT_INSIDE: bool = false;
+
 /// Returns the size of a new memory.
 fn size_of_new(rt: HostRuntime, size: u32) -> Result<u32, RamFault> {
     match Ram::new(rt.alloc(), size) {
@@ -55,7 +61,7 @@ fn loads_what_was_stored(rt: HostRuntime) -> Result<(), Fail> {
 }
 
 /// The lines of the test `refuses_what_is_outside`.
-const OUTSIDE: [Line; 5] = [
+const REFUSED_OUTSIDE: [Line; 5] = [
     Line::Edges(Width::Byte, END - 1),
     Line::Edges(Width::Half, END - 2),
     Line::Edges(Width::Word, END - 4),
@@ -65,19 +71,19 @@ const OUTSIDE: [Line; 5] = [
 
 #[test]
 fn refuses_what_is_outside(rt: HostRuntime) -> Result<(), Fail> {
-    run(rt, &OUTSIDE)
+    run(rt, &REFUSED_OUTSIDE)
 }
 
 /// The lines of the test `changes_named_bytes_alone`.
 const CHANGED: [Line; 10] = [
     Line::WriteFirst([1, 2, 3, 4, 5]),
     Line::Zero(RAM_BASE + 1, 2),
-    Line::Poke(RAM_BASE + 3, 9, true),
+    Line::Poke(RAM_BASE + 3, 9, INSIDE),
     Line::First([1, 0, 0, 9, 5, 0]),
     Line::Peek(RAM_BASE + 3, Some(9)),
-    Line::Contains(END - 1, 1, true),
-    Line::Contains(END - 1, 2, false),
-    Line::Poke(END, 1, false),
+    Line::Contains(END - 1, 1, INSIDE),
+    Line::Contains(END - 1, 2, NOT_INSIDE),
+    Line::Poke(END, 1, NOT_INSIDE),
     Line::Peek(END, None),
     Line::Peek(RAM_BASE - 1, None),
 ];
@@ -87,16 +93,24 @@ fn changes_named_bytes_alone(rt: HostRuntime) -> Result<(), Fail> {
     run(rt, &CHANGED)
 }
 
+/// The address of the last word of the first 4096 bytes.
 const IN_ENTRY: u32 = RAM_BASE + 0xffc;
 
+/// The pmpaddr value of a NAPOT range: the first 4096 bytes of the memory.
+const FIRST_4096_BYTES: u32 = 0x2000_01ff;
+
+/// The configuration of a NAPOT entry that permits loads and no other access.
+const NAPOT_R: u8 = 0x19;
+
+/// Returns the error of an access that a PMP verdict refuses.
 const fn refused(verdict: Verdict) -> AccessFault {
     AccessFault::Refused(verdict)
 }
 
 /// Returns the lines for accesses that the PMP entries decide, with the index of the first entry.
-fn asked(first: PmpIndex) -> [Line; 8] {
+fn lines_of_entry(first: PmpIndex) -> [Line; 8] {
     [
-        Line::Entry(0x2000_01ff, 0x19),
+        Line::Entry(FIRST_4096_BYTES, NAPOT_R),
         Line::Load(Mode::U, IN_ENTRY, Width::Word, Ok(0)),
         Line::Store(
             Mode::U,
@@ -132,7 +146,7 @@ fn asked(first: PmpIndex) -> [Line; 8] {
 /// A PMP entry that permits reads and no writes, and no other entry for mode U.
 #[test]
 fn checks_the_entries_after_the_bounds(rt: HostRuntime) -> Result<(), Fail> {
-    run(rt, &asked(PmpIndex::new(0)))
+    run(rt, &lines_of_entry(PmpIndex::new(0)))
 }
 
 /// The lines of the test `complements_a_part`.

@@ -1,200 +1,217 @@
 //! Tests of the monitor with worked examples.
 
 mod machine;
+mod names;
 
-use machine::{A0, A1, A2, A3, A6, A7, KEY, Line, RA, Shown, T0, T1, T6, X0, run, run_two};
+use crate::csr_numbers::{MIP, PMPCFG0, PMPCFG3, SCAUSE, SEPC, STVAL};
+use machine::{Line, Shown, run, run_two};
+use names::{
+    A0, A1, A2, A3, A6, A7, ALL_NAPOT, BAD_ADDRESS, BAD_ENTRY, BAD_REGION, BAD_STATE, BAD_WINDOW,
+    CREATE, DESTROY, ECALL, ECALL_BYTE, ENCLAVE_0, EXIT, FREE, HOST, HOST_START,
+    ILLEGAL_INSTRUCTION, INCREMENT_T0, INTERRUPTED, KEY, LOAD_ACCESS_FAULT, LOAD_T0_FROM_T1,
+    MEASURE, MONITOR_NAPOT, MTIP, NAPOT, NAPOT_RW, NAPOT_RWX, NO, NO_ENCLAVE, NO_KEY, NO_REGION,
+    NO_SLOT, NOP_BYTE, NOT_ENTERED, NOT_LIVE, OVERLAP, RA, REGION, REGION_CLOSED, REGION_NAPOT,
+    REGION_OPEN, REST_CLOSED, REST_OPEN, RESUME, RUN, SIZE, STOP, STOPPED, SUCCESS, SUPERVISOR, T0,
+    T1, T6, WINDOW, WINDOW_NAPOT, X0, YES,
+};
 use rv_monitor::{Block, EnclaveState, SlotInfo};
 use std::test::Fail;
 
-/// The arguments of create for a region and a window of 4096 bytes each.
-const WITH_WINDOW: [u32; 5] = [0x8002_0000, 0x1000, 0x8003_0000, 0x1000, 0x8002_0000];
+/// The arguments of create for a region and a window of 4096 bytes each: base and size of both, and the entry.
+const WITH_WINDOW: [u32; 5] = [REGION, SIZE, WINDOW, SIZE, REGION];
 
 /// The arguments of create for a region without a window, whose first word is the entry.
-const ALONE: [u32; 5] = [0x8002_0000, 0x1000, 0, 0, 0x8002_0000];
+const WITHOUT_WINDOW: [u32; 5] = [REGION, SIZE, 0, 0, REGION];
+
+/// The arguments of another call for the enclave in slot 0.
+const SLOT_0: [u32; 5] = [0; 5];
 
 /// The lines of the test `an_enclave_runs`.
 const ENCLAVE: [Line; 57] = [
     // create
-    Line::Ask(1, WITH_WINDOW),
+    Line::PrepareCall(CREATE, WITH_WINDOW),
     Line::Step,
-    Line::See(Shown::Entered, None),
-    Line::See(Shown::X(A0), Some(0)),
-    Line::See(Shown::X(A1), Some(0)),
-    Line::See(Shown::Pc, Some(0x8001_0004)),
-    Line::See(Shown::PmpCfg(0), Some(0x18)),
-    Line::See(Shown::PmpCfg(1), Some(0x18)),
-    Line::See(Shown::PmpAddr(0), Some(0x2000_1fff)),
-    Line::See(Shown::PmpAddr(1), Some(0x2000_81ff)),
-    Line::See(Shown::PmpCfg(15), Some(0x1f)),
-    Line::See(Shown::PmpAddr(15), Some(0xffff_ffff)),
+    Line::Expect(Shown::Entered, NOT_ENTERED),
+    Line::Expect(Shown::X(A0), Some(SUCCESS)),
+    Line::Expect(Shown::X(A1), Some(0)),
+    Line::Expect(Shown::Pc, Some(HOST_START + 4)),
+    Line::Expect(Shown::PmpCfg(0), Some(NAPOT)),
+    Line::Expect(Shown::PmpCfg(1), Some(NAPOT)),
+    Line::Expect(Shown::PmpAddr(0), Some(MONITOR_NAPOT)),
+    Line::Expect(Shown::PmpAddr(1), Some(REGION_NAPOT)),
+    Line::Expect(Shown::PmpCfg(15), Some(NAPOT_RWX)),
+    Line::Expect(Shown::PmpAddr(15), Some(ALL_NAPOT)),
     // run
-    Line::Poke(0x8002_0000, 0x73),
-    Line::Poke(0x8002_0004, 0x73),
-    Line::Set(A6, 3),
-    Line::Set(A0, 0),
+    Line::Poke(REGION, ECALL_BYTE),
+    Line::Poke(REGION + 4, ECALL_BYTE),
+    Line::SetRegister(A6, RUN),
+    Line::SetRegister(A0, 0),
     Line::Step,
-    Line::See(Shown::Entered, Some(0)),
-    Line::See(Shown::World, Some(0)),
-    Line::See(Shown::Pc, Some(0x8002_0000)),
-    Line::See(Shown::PmpCfg(1), Some(0x1f)),
-    Line::See(Shown::PmpAddr(14), Some(0x2000_c1ff)),
-    Line::See(Shown::PmpCfg(14), Some(0x1b)),
-    Line::See(Shown::PmpAddr(15), Some(0)),
-    Line::See(Shown::X(A0), Some(0x8002_0000)),
-    Line::See(Shown::X(A1), Some(0x1000)),
-    Line::See(Shown::X(A2), Some(0x8003_0000)),
-    Line::See(Shown::X(A3), Some(0x1000)),
+    Line::Expect(Shown::Entered, ENCLAVE_0),
+    Line::Expect(Shown::World, ENCLAVE_0),
+    Line::Expect(Shown::Pc, Some(REGION)),
+    Line::Expect(Shown::PmpCfg(1), Some(NAPOT_RWX)),
+    Line::Expect(Shown::PmpAddr(14), Some(WINDOW_NAPOT)),
+    Line::Expect(Shown::PmpCfg(14), Some(NAPOT_RW)),
+    Line::Expect(Shown::PmpAddr(15), Some(0)),
+    Line::Expect(Shown::X(A0), Some(REGION)),
+    Line::Expect(Shown::X(A1), Some(SIZE)),
+    Line::Expect(Shown::X(A2), Some(WINDOW)),
+    Line::Expect(Shown::X(A3), Some(SIZE)),
     // stop
-    Line::Set(A7, KEY),
-    Line::Set(A6, 6),
-    Line::Set(A0, 5),
-    Line::Set(T0, 0x77),
+    Line::SetRegister(A7, KEY),
+    Line::SetRegister(A6, STOP),
+    Line::SetRegister(A0, 5),
+    Line::SetRegister(T0, 0x77),
     Line::Step,
-    Line::See(Shown::World, None),
-    Line::See(Shown::Pc, Some(0x8001_0008)),
-    Line::See(Shown::X(A0), Some(1)),
-    Line::See(Shown::X(A1), Some(5)),
-    Line::See(Shown::X(T0), Some(0)),
+    Line::Expect(Shown::World, HOST),
+    Line::Expect(Shown::Pc, Some(HOST_START + 8)),
+    Line::Expect(Shown::X(A0), Some(STOPPED)),
+    Line::Expect(Shown::X(A1), Some(5)),
+    Line::Expect(Shown::X(T0), Some(0)),
     // resume
-    Line::Set(A6, 4),
-    Line::Set(A0, 0),
+    Line::SetRegister(A6, RESUME),
+    Line::SetRegister(A0, 0),
     Line::Step,
-    Line::See(Shown::Entered, Some(0)),
-    Line::See(Shown::Pc, Some(0x8002_0004)),
-    Line::See(Shown::X(A0), Some(0)),
-    Line::See(Shown::X(A1), Some(0)),
-    Line::See(Shown::X(T0), Some(0x77)),
+    Line::Expect(Shown::Entered, ENCLAVE_0),
+    Line::Expect(Shown::Pc, Some(REGION + 4)),
+    Line::Expect(Shown::X(A0), Some(SUCCESS)),
+    Line::Expect(Shown::X(A1), Some(0)),
+    Line::Expect(Shown::X(T0), Some(0x77)),
     // exit, and a resume after the exit
-    Line::Set(A6, 7),
-    Line::Set(A0, 9),
+    Line::SetRegister(A6, EXIT),
+    Line::SetRegister(A0, 9),
     Line::Step,
-    Line::See(Shown::Pc, Some(0x8001_000c)),
-    Line::See(Shown::X(A0), Some(0)),
-    Line::See(Shown::X(A1), Some(9)),
-    Line::Set(A0, 0),
+    Line::Expect(Shown::Pc, Some(HOST_START + 12)),
+    Line::Expect(Shown::X(A0), Some(SUCCESS)),
+    Line::Expect(Shown::X(A1), Some(9)),
+    Line::SetRegister(A0, 0),
     Line::Step,
-    Line::See(Shown::Pc, Some(0x8001_0010)),
-    Line::See(Shown::X(A0), Some(0xffff_fff8)),
-    Line::See(Shown::Mode, Some(1)),
+    Line::Expect(Shown::Pc, Some(HOST_START + 16)),
+    Line::Expect(Shown::X(A0), Some(BAD_STATE)),
+    Line::Expect(Shown::Mode, SUPERVISOR),
 ];
 
 /// Create, run, stop, resume, exit.
 #[test]
 fn an_enclave_runs(rt: HostRuntime) -> Result<(), Fail> {
-    run(rt, &[0x73; 4], &ENCLAVE)
+    run(rt, &[ECALL; 4], &ENCLAVE)
 }
 
-/// The lines of the test `the_timer_stops`.
+/// The lines of the test `the_timer_stops_an_enclave`.
 const TIMER: [Line; 21] = [
-    Line::Ask(1, ALONE),
+    Line::PrepareCall(CREATE, WITHOUT_WINDOW),
     Line::Step,
-    Line::Poke(0x8002_0000, 0x13),
-    Line::Ask(3, [0; 5]),
+    Line::Poke(REGION, NOP_BYTE),
+    Line::PrepareCall(RUN, SLOT_0),
     Line::Step,
     Line::Step,
-    Line::See(Shown::Pc, Some(0x8002_0004)),
-    Line::Timer(true),
+    Line::Expect(Shown::Pc, Some(REGION + 4)),
+    Line::RaiseTimer,
     Line::Step,
-    Line::See(Shown::Trapped, Some(1)),
-    Line::See(Shown::Entered, None),
-    Line::See(Shown::World, None),
-    Line::See(Shown::Pc, Some(0x8001_0008)),
-    Line::See(Shown::X(A0), Some(2)),
-    Line::See(Shown::X(A1), Some(0)),
-    Line::See(Shown::Csr(0x344), Some(0)),
-    Line::Set(A6, 4),
-    Line::Set(A0, 0),
+    Line::Expect(Shown::Trapped, YES),
+    Line::Expect(Shown::Entered, NOT_ENTERED),
+    Line::Expect(Shown::World, HOST),
+    Line::Expect(Shown::Pc, Some(HOST_START + 8)),
+    Line::Expect(Shown::X(A0), Some(INTERRUPTED)),
+    Line::Expect(Shown::X(A1), Some(0)),
+    Line::Expect(Shown::Csr(MIP), Some(0)),
+    Line::SetRegister(A6, RESUME),
+    Line::SetRegister(A0, 0),
     Line::Step,
-    Line::See(Shown::Pc, Some(0x8002_0004)),
-    Line::See(Shown::X(A0), Some(0x8002_0000)),
+    Line::Expect(Shown::Pc, Some(REGION + 4)),
+    Line::Expect(Shown::X(A0), Some(REGION)),
 ];
 
 /// Example 14: the timer stops an enclave, which resumes at the same instruction.
 #[test]
-fn the_timer_stops(rt: HostRuntime) -> Result<(), Fail> {
-    run(rt, &[0x73; 3], &TIMER)
+fn the_timer_stops_an_enclave(rt: HostRuntime) -> Result<(), Fail> {
+    run(rt, &[ECALL; 3], &TIMER)
 }
 
-/// The lines of the test `a_region_is_shut`.
-const ACROSS: [Line; 8] = [
-    Line::Ask(1, ALONE),
+/// The lines of the test `the_host_cannot_load_from_a_region`.
+const LOAD_ACROSS: [Line; 8] = [
+    Line::PrepareCall(CREATE, WITHOUT_WINDOW),
     Line::Step,
-    Line::Set(T1, 0x8001_fffe),
+    Line::SetRegister(T1, REGION - 2),
     Line::Step,
-    Line::See(Shown::Pc, Some(0)),
-    Line::See(Shown::Csr(0x141), Some(0x8001_0004)),
-    Line::See(Shown::Csr(0x142), Some(5)),
-    Line::See(Shown::Csr(0x143), Some(0x8001_fffe)),
+    Line::Expect(Shown::Pc, Some(0)),
+    Line::Expect(Shown::Csr(SEPC), Some(HOST_START + 4)),
+    Line::Expect(Shown::Csr(SCAUSE), Some(LOAD_ACCESS_FAULT)),
+    Line::Expect(Shown::Csr(STVAL), Some(REGION - 2)),
 ];
 
 /// Example 9: a load across the start of a region traps to mode S of the host.
 #[test]
-fn a_region_is_shut(rt: HostRuntime) -> Result<(), Fail> {
-    run(rt, &[0x73, 0x0003_2283], &ACROSS)
+fn the_host_cannot_load_from_a_region(rt: HostRuntime) -> Result<(), Fail> {
+    run(rt, &[ECALL, LOAD_T0_FROM_T1], &LOAD_ACROSS)
 }
 
 /// The lines of the test `measure_checks_each_byte`.
 const MEASURED: [Line; 22] = [
-    Line::Ask(1, ALONE),
+    Line::PrepareCall(CREATE, WITHOUT_WINDOW),
     Line::Step,
-    Line::Ask(5, [0, 0x8001_ffe1, 0, 0, 0]),
+    // the last byte of the destination is in the region
+    Line::PrepareCall(MEASURE, [0, REGION - 0x1f, 0, 0, 0]),
     Line::Step,
-    Line::See(Shown::X(A0), Some(0xffff_fff7)),
-    Line::See(Shown::X(A1), Some(0)),
-    Line::See(Shown::Byte(0x8001_ffe1), Some(0)),
-    Line::Ask(5, [0, 0x8000_fff0, 0, 0, 0]),
+    Line::Expect(Shown::X(A0), Some(BAD_ADDRESS)),
+    Line::Expect(Shown::X(A1), Some(0)),
+    Line::Expect(Shown::Byte(REGION - 0x1f), Some(0)),
+    // the destination starts in the monitor's range
+    Line::PrepareCall(MEASURE, [0, HOST_START - 16, 0, 0, 0]),
     Line::Step,
-    Line::See(Shown::X(A0), Some(0xffff_fff7)),
-    Line::See(Shown::X(A1), Some(0)),
-    Line::See(Shown::Byte(0x8001_ffe1), Some(0)),
-    Line::Ask(5, [0, 0x800f_ffe1, 0, 0, 0]),
+    Line::Expect(Shown::X(A0), Some(BAD_ADDRESS)),
+    Line::Expect(Shown::X(A1), Some(0)),
+    Line::Expect(Shown::Byte(REGION - 0x1f), Some(0)),
+    // the last byte of the destination is after RAM
+    Line::PrepareCall(MEASURE, [0, 0x800f_ffe1, 0, 0, 0]),
     Line::Step,
-    Line::See(Shown::X(A0), Some(0xffff_fff7)),
-    Line::See(Shown::X(A1), Some(0)),
-    Line::See(Shown::Byte(0x8001_ffe1), Some(0)),
-    Line::Ask(5, [0, 0x8001_ffe0, 0, 0, 0]),
+    Line::Expect(Shown::X(A0), Some(BAD_ADDRESS)),
+    Line::Expect(Shown::X(A1), Some(0)),
+    Line::Expect(Shown::Byte(REGION - 0x1f), Some(0)),
+    // the destination ends directly before the region
+    Line::PrepareCall(MEASURE, [0, REGION - 0x20, 0, 0, 0]),
     Line::Step,
-    Line::See(Shown::X(A0), Some(0)),
-    Line::See(Shown::X(A1), Some(0)),
-    Line::SeeOther(Shown::Byte(0x8001_ffe1), Some(0)),
+    Line::Expect(Shown::X(A0), Some(SUCCESS)),
+    Line::Expect(Shown::X(A1), Some(0)),
+    Line::ExpectOther(Shown::Byte(REGION - 0x1f), Some(0)),
 ];
 
 /// Example 33: measure checks each byte of its destination.
 #[test]
 fn measure_checks_each_byte(rt: HostRuntime) -> Result<(), Fail> {
-    run(rt, &[0x73; 5], &MEASURED)
+    run(rt, &[ECALL; 5], &MEASURED)
 }
 
-/// The arguments of a create while the enclave of `ALONE` is live, and its status.
+/// The arguments of a create while the enclave of `WITHOUT_WINDOW` is live, and the status.
 const REFUSALS: [([u32; 5], u32); 11] = [
-    ([0xffff_f000, 0x1000, 0, 0, 0x8003_0000], 0xffff_fffe),
-    ([0x8003_0000, 0, 0, 0, 1], 0xffff_fffe),
-    ([0x8003_0000, 0x3000, 0, 0, 0x8003_0000], 0xffff_fffe),
-    ([0x8001_f000, 0x2000, 0, 0, 0x8003_0000], 0xffff_fffe),
-    (
-        [0x8003_0000, 0x1000, 0x8004_0000, 0x800, 0x8003_0000],
-        0xffff_fffd,
-    ),
-    ([0x8000_0000, 0x10_0000, 0, 0, 0x8003_0000], 0xffff_fffc),
-    ([0x8002_0000, 0x2000, 0, 0, 0x8003_0000], 0xffff_fffc),
-    (
-        [0x8003_0000, 0x1000, 0x8003_0000, 0x1000, 0x8003_0000],
-        0xffff_fffc,
-    ),
-    ([0x8003_0000, 0x1000, 0, 0, 0x8003_1000], 0xffff_fffb),
-    ([0x8003_0000, 0x1000, 0, 0, 0x8003_0002], 0xffff_fffb),
-    ([0x8003_0000, 0x1000, 0xffff_ffff, 0, 0x8003_0000], 0),
+    // the region is outside RAM, is empty, has no power of two as its size, or starts at no multiple of its size
+    ([0xffff_f000, SIZE, 0, 0, FREE], BAD_REGION),
+    ([FREE, 0, 0, 0, 1], BAD_REGION),
+    ([FREE, 0x3000, 0, 0, FREE], BAD_REGION),
+    ([REGION - SIZE, 2 * SIZE, 0, 0, FREE], BAD_REGION),
+    // the window has fewer than 4096 bytes
+    ([FREE, SIZE, 0x8004_0000, 0x800, FREE], BAD_WINDOW),
+    // the region overlaps the monitor's range, or a live region; the window overlaps the region
+    ([0x8000_0000, 0x10_0000, 0, 0, FREE], OVERLAP),
+    ([REGION, 2 * SIZE, 0, 0, FREE], OVERLAP),
+    ([FREE, SIZE, FREE, SIZE, FREE], OVERLAP),
+    // the entry is after the region, or is no multiple of 4
+    ([FREE, SIZE, 0, 0, FREE + SIZE], BAD_ENTRY),
+    ([FREE, SIZE, 0, 0, FREE + 2], BAD_ENTRY),
+    // the base of an empty window is ignored
+    ([FREE, SIZE, 0xffff_ffff, 0, FREE], SUCCESS),
 ];
 
-/// Returns the lines of a create while the enclave of `ALONE` is live, with its status and result.
-fn beside(arguments: [u32; 5], status: u32) -> [Line; 6] {
+/// Returns the lines of a create while the enclave of `WITHOUT_WINDOW` is live. They expect its status in a0, and its slot, 1, or 0 in a1.
+fn second_create(arguments: [u32; 5], status: u32) -> [Line; 6] {
     [
-        Line::Ask(1, ALONE),
+        Line::PrepareCall(CREATE, WITHOUT_WINDOW),
         Line::Step,
-        Line::Ask(1, arguments),
+        Line::PrepareCall(CREATE, arguments),
         Line::Step,
-        Line::See(Shown::X(A0), Some(status)),
-        Line::See(Shown::X(A1), Some(u32::from(status == 0))),
+        Line::Expect(Shown::X(A0), Some(status)),
+        Line::Expect(Shown::X(A1), Some(u32::from(status == SUCCESS))),
     ]
 }
 
@@ -202,68 +219,70 @@ fn beside(arguments: [u32; 5], status: u32) -> [Line; 6] {
 #[test]
 fn refusals_of_create(rt: HostRuntime) -> Result<(), Fail> {
     for (arguments, status) in REFUSALS {
-        run(rt, &[0x73; 2], &beside(arguments, status))?;
+        run(rt, &[ECALL; 2], &second_create(arguments, status))?;
     }
     Ok(())
 }
 
 /// The lines of the test `slots_are_taken_and_freed`.
 const SLOTS: [Line; 25] = [
-    Line::Create(0x8002_0000, 0, 0),
-    Line::Create(0x8002_1000, 0, 1),
-    Line::Create(0x8002_2000, 0, 2),
-    Line::Create(0x8002_3000, 0, 3),
-    Line::Create(0x8002_4000, 0, 4),
-    Line::Create(0x8002_5000, 0, 5),
-    Line::Create(0x8002_6000, 0, 6),
-    Line::Create(0x8002_7000, 0, 7),
-    Line::Create(0x8002_8000, 0, 8),
-    Line::Create(0x8002_9000, 0, 9),
-    Line::Create(0x8002_a000, 0, 10),
-    Line::Create(0x8002_b000, 0, 11),
-    Line::Create(0x8002_c000, 0, 12),
-    Line::Create(0x8008_0000, 0xffff_fffa, 0),
-    Line::Ask(2, [5, 7, 0, 0, 0]),
+    Line::Create(REGION, SUCCESS, 0),
+    Line::Create(REGION + 0x1000, SUCCESS, 1),
+    Line::Create(REGION + 0x2000, SUCCESS, 2),
+    Line::Create(REGION + 0x3000, SUCCESS, 3),
+    Line::Create(REGION + 0x4000, SUCCESS, 4),
+    Line::Create(REGION + 0x5000, SUCCESS, 5),
+    Line::Create(REGION + 0x6000, SUCCESS, 6),
+    Line::Create(REGION + 0x7000, SUCCESS, 7),
+    Line::Create(REGION + 0x8000, SUCCESS, 8),
+    Line::Create(REGION + 0x9000, SUCCESS, 9),
+    Line::Create(REGION + 0xa000, SUCCESS, 10),
+    Line::Create(REGION + 0xb000, SUCCESS, 11),
+    Line::Create(REGION + 0xc000, SUCCESS, 12),
+    Line::Create(0x8008_0000, NO_SLOT, 0),
+    // destroy the enclave in slot 5; the argument in a1 is ignored
+    Line::PrepareCall(DESTROY, [5, 7, 0, 0, 0]),
     Line::Step,
-    Line::See(Shown::X(A0), Some(0)),
-    Line::See(Shown::X(A1), Some(0)),
-    Line::See(Shown::Region(5), None),
-    Line::See(Shown::Region(13), None),
-    Line::Ask(2, [5, 7, 0, 0, 0]),
+    Line::Expect(Shown::X(A0), Some(SUCCESS)),
+    Line::Expect(Shown::X(A1), Some(0)),
+    Line::Expect(Shown::Region(5), NOT_LIVE),
+    Line::Expect(Shown::Region(13), NOT_LIVE),
+    // destroy the enclave again
+    Line::PrepareCall(DESTROY, [5, 7, 0, 0, 0]),
     Line::Step,
-    Line::See(Shown::X(A0), Some(0xffff_fff9)),
-    Line::See(Shown::X(A1), Some(0)),
-    Line::Create(0x8008_0000, 0, 5),
+    Line::Expect(Shown::X(A0), Some(NO_ENCLAVE)),
+    Line::Expect(Shown::X(A1), Some(0)),
+    Line::Create(0x8008_0000, SUCCESS, 5),
 ];
 
 /// There are only thirteen slots. create takes the free slot with the lowest number.
 #[test]
 fn slots_are_taken_and_freed(rt: HostRuntime) -> Result<(), Fail> {
-    run(rt, &[0x73; 20], &SLOTS)
+    run(rt, &[ECALL; 20], &SLOTS)
 }
 
 /// The lines of the test `destroy_zeroes`.
 const DESTROYED: [Line; 14] = [
-    Line::Ask(1, ALONE),
+    Line::PrepareCall(CREATE, WITHOUT_WINDOW),
     Line::Step,
-    Line::Poke(0x8002_0000, 0x55),
-    Line::Poke(0x8002_0fff, 0x66),
-    Line::Poke(0x8002_1000, 0x77),
-    Line::Ask(2, [0; 5]),
+    Line::Poke(REGION, 0x55),
+    Line::Poke(REGION + 0xfff, 0x66),
+    Line::Poke(REGION + SIZE, 0x77),
+    Line::PrepareCall(DESTROY, SLOT_0),
     Line::Step,
-    Line::See(Shown::Byte(0x8002_0000), Some(0)),
-    Line::See(Shown::Byte(0x8002_0fff), Some(0)),
-    Line::See(Shown::Byte(0x8002_1000), Some(0x77)),
-    Line::Set(T1, 0x8002_0ffe),
+    Line::Expect(Shown::Byte(REGION), Some(0)),
+    Line::Expect(Shown::Byte(REGION + 0xfff), Some(0)),
+    Line::Expect(Shown::Byte(REGION + SIZE), Some(0x77)),
+    Line::SetRegister(T1, REGION + 0xffe),
     Line::Step,
-    Line::See(Shown::Trapped, Some(0)),
-    Line::See(Shown::X(T0), Some(0x0077_0000)),
+    Line::Expect(Shown::Trapped, NO),
+    Line::Expect(Shown::X(T0), Some(0x0077_0000)),
 ];
 
 /// Example 17: destroy zeroes the region. The host may not load its bytes before, and may load them after.
 #[test]
 fn destroy_zeroes(rt: HostRuntime) -> Result<(), Fail> {
-    run(rt, &[0x73, 0x73, 0x0003_2283], &DESTROYED)
+    run(rt, &[ECALL, ECALL, LOAD_T0_FROM_T1], &DESTROYED)
 }
 
 /// SHA-256 of the words 80020000, 1000, 0, 0, 80020004, the byte 73 and 4095 zeros, computed with Python's hashlib.
@@ -272,315 +291,315 @@ const DIGEST: [u8; 32] = [
     0xe7, 0xf8, 0x5f, 0xdf, 0x1a, 0x9f, 0x67, 0xd8, 0x29, 0x30, 0xcd, 0x81, 0x80, 0x91, 0x3d, 0xd2,
 ];
 
-/// The record of that enclave. A window of size 0 has base 0.
+/// The record of the enclave with this measurement. A window of size 0 has base 0.
 const INFO: SlotInfo = SlotInfo {
     region: Block {
-        base: 0x8002_0000,
-        size: 0x1000,
+        base: REGION,
+        size: SIZE,
     },
     window: Block { base: 0, size: 0 },
-    entry: 0x8002_0004,
+    entry: REGION + 4,
     measurement: DIGEST,
     state: EnclaveState::Fresh,
 };
 
 /// The lines of the test `a_measurement_is_taken_at_create`.
-const DIGESTED: [Line; 10] = [
-    Line::Poke(0x8002_0000, 0x73),
-    Line::Ask(1, [0x8002_0000, 0x1000, 7, 0, 0x8002_0004]),
+const MEASURED_AT_CREATE: [Line; 10] = [
+    Line::Poke(REGION, ECALL_BYTE),
+    Line::PrepareCall(CREATE, [REGION, SIZE, 7, 0, REGION + 4]),
     Line::Step,
-    Line::Record(INFO),
-    Line::Poke(0x8002_0000, 0),
-    Line::Ask(5, [0, 0x8001_ffe0, 0, 0, 0]),
+    Line::ExpectRecord(INFO),
+    Line::Poke(REGION, 0),
+    Line::PrepareCall(MEASURE, [0, REGION - 0x20, 0, 0, 0]),
     Line::Step,
-    Line::See(Shown::X(A0), Some(0)),
-    Line::See(Shown::X(A1), Some(0)),
-    Line::Bytes(0x8001_ffe0, DIGEST),
+    Line::Expect(Shown::X(A0), Some(SUCCESS)),
+    Line::Expect(Shown::X(A1), Some(0)),
+    Line::ExpectBytes(REGION - 0x20, DIGEST),
 ];
 
 /// The measurement is the SHA-256 of the five words and the region at create, and does not change.
 #[test]
 fn a_measurement_is_taken_at_create(rt: HostRuntime) -> Result<(), Fail> {
-    run(rt, &[0x73; 2], &DIGESTED)
+    run(rt, &[ECALL; 2], &MEASURED_AT_CREATE)
 }
 
-/// The lines of the test `calls_of_nobody`.
-const NOBODY: [Line; 17] = [
-    Line::Nobody(0, 1),
-    Line::Nobody(0x0a45_4e42, 1),
-    Line::Nobody(KEY, 0),
-    Line::Nobody(KEY, 6),
-    Line::Nobody(KEY, 7),
-    Line::Nobody(KEY, 8),
-    Line::Ask(1, ALONE),
+/// The lines of the test `requests_that_are_no_calls_are_refused`.
+const NO_CALLS: [Line; 17] = [
+    Line::ExpectNotSupported(NO_KEY, CREATE),
+    Line::ExpectNotSupported(KEY - 1, CREATE),
+    Line::ExpectNotSupported(KEY, CREATE - 1),
+    Line::ExpectNotSupported(KEY, STOP),
+    Line::ExpectNotSupported(KEY, EXIT),
+    Line::ExpectNotSupported(KEY, EXIT + 1),
+    Line::PrepareCall(CREATE, WITHOUT_WINDOW),
     Line::Step,
-    Line::Ask(3, [0; 5]),
+    Line::PrepareCall(RUN, SLOT_0),
     Line::Step,
     Line::Step,
-    Line::See(Shown::Trapped, Some(1)),
-    Line::See(Shown::World, Some(0)),
-    Line::See(Shown::Pc, Some(0)),
-    Line::See(Shown::Mode, Some(1)),
-    Line::See(Shown::Csr(0x141), Some(0x8002_0000)),
-    Line::See(Shown::Csr(0x142), Some(2)),
+    Line::Expect(Shown::Trapped, YES),
+    Line::Expect(Shown::World, ENCLAVE_0),
+    Line::Expect(Shown::Pc, Some(0)),
+    Line::Expect(Shown::Mode, SUPERVISOR),
+    Line::Expect(Shown::Csr(SEPC), Some(REGION)),
+    Line::Expect(Shown::Csr(SCAUSE), Some(ILLEGAL_INSTRUCTION)),
 ];
 
 /// A request that is no call, or a call of the other world, is refused before any other check.
 #[test]
-fn calls_of_nobody(rt: HostRuntime) -> Result<(), Fail> {
-    run(rt, &[0x73; 20], &NOBODY)
+fn requests_that_are_no_calls_are_refused(rt: HostRuntime) -> Result<(), Fail> {
+    run(rt, &[ECALL; 20], &NO_CALLS)
 }
 
 /// The lines of the test `an_exception_stays_in_its_world`.
 const ILLEGAL: [Line; 11] = [
-    Line::Ask(1, ALONE),
+    Line::PrepareCall(CREATE, WITHOUT_WINDOW),
     Line::Step,
-    Line::Ask(3, [0; 5]),
+    Line::PrepareCall(RUN, SLOT_0),
     Line::Step,
     Line::Step,
-    Line::See(Shown::Trapped, Some(1)),
-    Line::See(Shown::World, Some(0)),
-    Line::See(Shown::Pc, Some(0)),
-    Line::See(Shown::Mode, Some(1)),
-    Line::See(Shown::Csr(0x141), Some(0x8002_0000)),
-    Line::See(Shown::Csr(0x142), Some(2)),
+    Line::Expect(Shown::Trapped, YES),
+    Line::Expect(Shown::World, ENCLAVE_0),
+    Line::Expect(Shown::Pc, Some(0)),
+    Line::Expect(Shown::Mode, SUPERVISOR),
+    Line::Expect(Shown::Csr(SEPC), Some(REGION)),
+    Line::Expect(Shown::Csr(SCAUSE), Some(ILLEGAL_INSTRUCTION)),
 ];
 
 /// An illegal word of an enclave traps to mode S of the enclave.
 #[test]
 fn an_exception_stays_in_its_world(rt: HostRuntime) -> Result<(), Fail> {
-    run(rt, &[0x73; 2], &ILLEGAL)
+    run(rt, &[ECALL; 2], &ILLEGAL)
 }
 
-/// The lines of the test `what_is_private_is_scrambled`.
+/// The lines of the test `scrambling_changes_private_state`.
 const SCRAMBLED: [Line; 37] = [
     // no live enclave to scramble; then an enclave that never ran, in which only the region changes
-    Line::Scramble(0, false),
-    Line::Scramble(12, false),
-    Line::Scramble(13, false),
-    Line::Scramble(255, false),
-    Line::Ask(1, ALONE),
+    Line::RefuseScramble(0),
+    Line::RefuseScramble(12),
+    Line::RefuseScramble(13),
+    Line::RefuseScramble(255),
+    Line::PrepareCall(CREATE, WITHOUT_WINDOW),
     Line::Step,
-    Line::Poke(0x8002_0000, 0x73),
-    Line::Poke(0x8002_0fff, 0x0f),
-    Line::Poke(0x8002_1000, 0x55),
-    Line::Scramble(1, false),
-    Line::See(Shown::Ends, Some(0x0073_0f55)),
-    Line::Scramble(0, true),
-    Line::See(Shown::Ends, Some(0x008c_f055)),
+    Line::Poke(REGION, ECALL_BYTE),
+    Line::Poke(REGION + 0xfff, 0x0f),
+    Line::Poke(REGION + SIZE, 0x55),
+    Line::RefuseScramble(1),
+    Line::Expect(Shown::Ends, Some(0x0073_0f55)),
+    Line::Scramble(0),
+    Line::Expect(Shown::Ends, Some(0x008c_f055)),
     // run: the registers of the first entry are complemented, except x0, pc and the mode; an enclave that runs is not scrambled
-    Line::Poke(0x8002_0000, 0x73),
-    Line::Poke(0x8002_0001, 0),
-    Line::Poke(0x8002_0002, 0),
-    Line::Poke(0x8002_0003, 0),
-    Line::Set(A6, 3),
-    Line::Set(A0, 0),
+    Line::Poke(REGION, ECALL_BYTE),
+    Line::Poke(REGION + 1, 0),
+    Line::Poke(REGION + 2, 0),
+    Line::Poke(REGION + 3, 0),
+    Line::SetRegister(A6, RUN),
+    Line::SetRegister(A0, 0),
     Line::Step,
-    Line::See(Shown::Entered, Some(0)),
-    Line::See(Shown::X(X0), Some(0)),
-    Line::See(Shown::X(RA), Some(0xffff_ffff)),
-    Line::See(Shown::X(T6), Some(0xffff_ffff)),
-    Line::See(Shown::X(A0), Some(0x7ffd_ffff)),
-    Line::See(Shown::X(A1), Some(0xffff_efff)),
-    Line::See(Shown::Pc, Some(0x8002_0000)),
-    Line::See(Shown::Mode, Some(1)),
-    Line::Scramble(0, false),
+    Line::Expect(Shown::Entered, ENCLAVE_0),
+    Line::Expect(Shown::X(X0), Some(0)),
+    Line::Expect(Shown::X(RA), Some(0xffff_ffff)),
+    Line::Expect(Shown::X(T6), Some(0xffff_ffff)),
+    Line::Expect(Shown::X(A0), Some(0x7ffd_ffff)),
+    Line::Expect(Shown::X(A1), Some(0xffff_efff)),
+    Line::Expect(Shown::Pc, Some(REGION)),
+    Line::Expect(Shown::Mode, SUPERVISOR),
+    Line::RefuseScramble(0),
     // exit: the saved context is all 0
-    Line::Set(A7, KEY),
-    Line::Set(A6, 7),
+    Line::SetRegister(A7, KEY),
+    Line::SetRegister(A6, EXIT),
     Line::Step,
-    Line::See(Shown::Exited(0), Some(1)),
-    Line::Scramble(0, true),
-    Line::See(Shown::Ends, Some(0x008c_0f55)),
-    Line::Scramble(0, true),
-    Line::See(Shown::Ends, Some(0x0073_f055)),
+    Line::Expect(Shown::Exited(0), YES),
+    Line::Scramble(0),
+    Line::Expect(Shown::Ends, Some(0x008c_0f55)),
+    Line::Scramble(0),
+    Line::Expect(Shown::Ends, Some(0x0073_f055)),
 ];
 
 /// Scrambling changes the private state of an enclave that does not run.
 #[test]
-fn what_is_private_is_scrambled(rt: HostRuntime) -> Result<(), Fail> {
-    run(rt, &[0x73; 4], &SCRAMBLED)
+fn scrambling_changes_private_state(rt: HostRuntime) -> Result<(), Fail> {
+    run(rt, &[ECALL; 4], &SCRAMBLED)
 }
 
 /// The lines of the test `two_harts`.
 const TWO_HARTS: [Line; 51] = [
-    Line::See(Shown::Harts, Some(2)),
-    // hart 1 starts as hart 0 does, but with a0 = 1
-    Line::See(Shown::X(A0), Some(0)),
-    Line::On(1),
-    Line::See(Shown::X(A0), Some(1)),
-    Line::See(Shown::X(A1), Some(0)),
-    Line::See(Shown::Pc, Some(0x8001_0000)),
-    Line::See(Shown::Mode, Some(1)),
-    Line::See(Shown::World, None),
-    Line::See(Shown::Csr(0x3a3), Some(0x1f00_0000)),
+    Line::Expect(Shown::Harts, Some(2)),
+    // both harts start at the same address, with the number of the hart in a0
+    Line::Expect(Shown::X(A0), Some(0)),
+    Line::SelectHart(1),
+    Line::Expect(Shown::X(A0), Some(1)),
+    Line::Expect(Shown::X(A1), Some(0)),
+    Line::Expect(Shown::Pc, Some(HOST_START)),
+    Line::Expect(Shown::Mode, SUPERVISOR),
+    Line::Expect(Shown::World, HOST),
+    Line::Expect(Shown::Csr(PMPCFG3), Some(REST_OPEN)),
     // create and run on hart 0; the PMP entries of hart 1 are those of the host
-    Line::On(0),
-    Line::Ask(1, ALONE),
+    Line::SelectHart(0),
+    Line::PrepareCall(CREATE, WITHOUT_WINDOW),
     Line::Step,
-    Line::See(Shown::Pc, Some(0x8001_0004)),
-    Line::On(1),
-    Line::See(Shown::Csr(0x3a0), Some(0x1818)),
-    Line::See(Shown::PmpAddr(1), Some(0x2000_81ff)),
-    Line::On(0),
-    Line::Poke(0x8002_0000, 0x13),
-    Line::Set(A6, 3),
-    Line::Set(A0, 0),
+    Line::Expect(Shown::Pc, Some(HOST_START + 4)),
+    Line::SelectHart(1),
+    Line::Expect(Shown::Csr(PMPCFG0), Some(REGION_CLOSED)),
+    Line::Expect(Shown::PmpAddr(1), Some(REGION_NAPOT)),
+    Line::SelectHart(0),
+    Line::Poke(REGION, NOP_BYTE),
+    Line::SetRegister(A6, RUN),
+    Line::SetRegister(A0, 0),
     Line::Step,
-    Line::See(Shown::Entered, Some(0)),
-    Line::See(Shown::World, Some(0)),
-    Line::See(Shown::Pc, Some(0x8002_0000)),
+    Line::Expect(Shown::Entered, ENCLAVE_0),
+    Line::Expect(Shown::World, ENCLAVE_0),
+    Line::Expect(Shown::Pc, Some(REGION)),
     // hart 1 cannot destroy an enclave that runs
-    Line::On(1),
-    Line::See(Shown::World, None),
-    Line::Ask(2, [0; 5]),
+    Line::SelectHart(1),
+    Line::Expect(Shown::World, HOST),
+    Line::PrepareCall(DESTROY, SLOT_0),
     Line::Step,
-    Line::See(Shown::Pc, Some(0x8001_0004)),
-    Line::See(Shown::X(A0), Some(0xffff_fff8)),
-    Line::Scramble(0, false),
+    Line::Expect(Shown::Pc, Some(HOST_START + 4)),
+    Line::Expect(Shown::X(A0), Some(BAD_STATE)),
+    Line::RefuseScramble(0),
     // a step of hart 0, and two of hart 1; the second loads from the region
-    Line::Set(A0, 0),
-    Line::Set(T1, 0x8002_0000),
-    Line::On(0),
+    Line::SetRegister(A0, 0),
+    Line::SetRegister(T1, REGION),
+    Line::SelectHart(0),
     Line::Step,
-    Line::See(Shown::Trapped, Some(0)),
-    Line::On(1),
+    Line::Expect(Shown::Trapped, NO),
+    Line::SelectHart(1),
     Line::Step,
-    Line::See(Shown::X(A0), Some(0xffff_fff8)),
+    Line::Expect(Shown::X(A0), Some(BAD_STATE)),
     Line::Step,
-    Line::See(Shown::Trapped, Some(1)),
-    Line::See(Shown::Pc, Some(0)),
-    Line::See(Shown::Csr(0x142), Some(5)),
-    Line::See(Shown::Csr(0x143), Some(0x8002_0000)),
-    Line::See(Shown::Csr(0x3a0), Some(0x1818)),
-    Line::See(Shown::Csr(0x3a3), Some(0x1f00_0000)),
-    Line::On(0),
-    Line::See(Shown::World, Some(0)),
-    Line::See(Shown::Pc, Some(0x8002_0004)),
-    Line::See(Shown::Csr(0x3a0), Some(0x1f18)),
-    Line::See(Shown::Csr(0x3a3), Some(0)),
+    Line::Expect(Shown::Trapped, YES),
+    Line::Expect(Shown::Pc, Some(0)),
+    Line::Expect(Shown::Csr(SCAUSE), Some(LOAD_ACCESS_FAULT)),
+    Line::Expect(Shown::Csr(STVAL), Some(REGION)),
+    Line::Expect(Shown::Csr(PMPCFG0), Some(REGION_CLOSED)),
+    Line::Expect(Shown::Csr(PMPCFG3), Some(REST_OPEN)),
+    Line::SelectHart(0),
+    Line::Expect(Shown::World, ENCLAVE_0),
+    Line::Expect(Shown::Pc, Some(REGION + 4)),
+    Line::Expect(Shown::Csr(PMPCFG0), Some(REGION_OPEN)),
+    Line::Expect(Shown::Csr(PMPCFG3), Some(REST_CLOSED)),
 ];
 
 /// Example 40: two harts with one memory and one table, each with its own PMP entries.
 #[test]
 fn two_harts(rt: HostRuntime) -> Result<(), Fail> {
-    run_two(rt, &[0x73, 0x73, 0x0003_2283], &TWO_HARTS)
+    run_two(rt, &[ECALL, ECALL, LOAD_T0_FROM_T1], &TWO_HARTS)
 }
 
-/// The lines of the test `the_first_of_two_harts_has_its_way`.
+/// The lines of the test `the_call_of_the_first_hart_succeeds`.
 const DESTROY_FIRST: [Line; 14] = [
-    Line::Ask(1, ALONE),
+    Line::PrepareCall(CREATE, WITHOUT_WINDOW),
     Line::Step,
-    Line::Ask(3, [0; 5]),
-    Line::On(1),
-    Line::Ask(2, [0; 5]),
+    Line::PrepareCall(RUN, SLOT_0),
+    Line::SelectHart(1),
+    Line::PrepareCall(DESTROY, SLOT_0),
     Line::Step,
-    Line::See(Shown::Pc, Some(0x8001_0004)),
-    Line::See(Shown::X(A0), Some(0)),
-    Line::On(0),
-    Line::See(Shown::Csr(0x3a0), Some(0x18)),
+    Line::Expect(Shown::Pc, Some(HOST_START + 4)),
+    Line::Expect(Shown::X(A0), Some(SUCCESS)),
+    Line::SelectHart(0),
+    Line::Expect(Shown::Csr(PMPCFG0), Some(NO_REGION)),
     Line::Step,
-    Line::See(Shown::World, None),
-    Line::See(Shown::Pc, Some(0x8001_0008)),
-    Line::See(Shown::X(A0), Some(0xffff_fff9)),
+    Line::Expect(Shown::World, HOST),
+    Line::Expect(Shown::Pc, Some(HOST_START + 8)),
+    Line::Expect(Shown::X(A0), Some(NO_ENCLAVE)),
 ];
 
-/// The lines of the test `the_first_of_two_harts_has_its_way`.
+/// The lines of the test `the_call_of_the_first_hart_succeeds`.
 const RUN_FIRST: [Line; 15] = [
-    Line::Ask(1, ALONE),
+    Line::PrepareCall(CREATE, WITHOUT_WINDOW),
     Line::Step,
-    Line::Ask(3, [0; 5]),
-    Line::On(1),
-    Line::Ask(2, [0; 5]),
-    Line::On(0),
+    Line::PrepareCall(RUN, SLOT_0),
+    Line::SelectHart(1),
+    Line::PrepareCall(DESTROY, SLOT_0),
+    Line::SelectHart(0),
     Line::Step,
-    Line::See(Shown::World, Some(0)),
-    Line::See(Shown::Pc, Some(0x8002_0000)),
-    Line::On(1),
+    Line::Expect(Shown::World, ENCLAVE_0),
+    Line::Expect(Shown::Pc, Some(REGION)),
+    Line::SelectHart(1),
     Line::Step,
-    Line::See(Shown::World, None),
-    Line::See(Shown::Pc, Some(0x8001_0004)),
-    Line::See(Shown::X(A0), Some(0xffff_fff8)),
-    Line::See(Shown::Region(0), Some(0x8002_0000)),
+    Line::Expect(Shown::World, HOST),
+    Line::Expect(Shown::Pc, Some(HOST_START + 4)),
+    Line::Expect(Shown::X(A0), Some(BAD_STATE)),
+    Line::Expect(Shown::Region(0), Some(REGION)),
 ];
 
 /// Example 40: hart 0 runs an enclave and hart 1 destroys it. The second call is refused.
 #[test]
-fn the_first_of_two_harts_has_its_way(rt: HostRuntime) -> Result<(), Fail> {
-    run_two(rt, &[0x73; 2], &DESTROY_FIRST)?;
-    run_two(rt, &[0x73; 2], &RUN_FIRST)
+fn the_call_of_the_first_hart_succeeds(rt: HostRuntime) -> Result<(), Fail> {
+    run_two(rt, &[ECALL; 2], &DESTROY_FIRST)?;
+    run_two(rt, &[ECALL; 2], &RUN_FIRST)
 }
 
-/// The lines of the test `an_enclave_goes_on_on_the_other_hart`.
-const ON_THE_OTHER: [Line; 35] = [
-    Line::Ask(1, ALONE),
+/// The lines of the test `an_enclave_resumes_on_the_other_hart`.
+const RESUMED_ON_HART_1: [Line; 35] = [
+    Line::PrepareCall(CREATE, WITHOUT_WINDOW),
     Line::Step,
-    Line::Ask(3, [0; 5]),
+    Line::PrepareCall(RUN, SLOT_0),
     Line::Step,
     // hart 1 can neither run nor resume an enclave that runs on hart 0, but can measure it
-    Line::On(1),
-    Line::Ask(3, [0; 5]),
+    Line::SelectHart(1),
+    Line::PrepareCall(RUN, SLOT_0),
     Line::Step,
-    Line::See(Shown::X(A0), Some(0xffff_fff8)),
-    Line::Ask(4, [0; 5]),
+    Line::Expect(Shown::X(A0), Some(BAD_STATE)),
+    Line::PrepareCall(RESUME, SLOT_0),
     Line::Step,
-    Line::See(Shown::X(A0), Some(0xffff_fff8)),
-    Line::Ask(5, [0, 0x8001_ffe0, 0, 0, 0]),
+    Line::Expect(Shown::X(A0), Some(BAD_STATE)),
+    Line::PrepareCall(MEASURE, [0, REGION - 0x20, 0, 0, 0]),
     Line::Step,
-    Line::See(Shown::X(A0), Some(0)),
+    Line::Expect(Shown::X(A0), Some(SUCCESS)),
     // the timer line of hart 1 stops nothing on hart 0; that of hart 0 does
-    Line::Timer(true),
-    Line::On(0),
-    Line::See(Shown::Csr(0x344), Some(0)),
-    Line::See(Shown::World, Some(0)),
-    Line::Timer(true),
+    Line::RaiseTimer,
+    Line::SelectHart(0),
+    Line::Expect(Shown::Csr(MIP), Some(0)),
+    Line::Expect(Shown::World, ENCLAVE_0),
+    Line::RaiseTimer,
     Line::Step,
-    Line::See(Shown::World, None),
-    Line::See(Shown::X(A0), Some(2)),
-    Line::See(Shown::Csr(0x3a0), Some(0x1818)),
-    Line::On(1),
-    Line::See(Shown::Csr(0x344), Some(0x80)),
-    Line::Timer(false),
-    Line::Ask(4, [0; 5]),
+    Line::Expect(Shown::World, HOST),
+    Line::Expect(Shown::X(A0), Some(INTERRUPTED)),
+    Line::Expect(Shown::Csr(PMPCFG0), Some(REGION_CLOSED)),
+    Line::SelectHart(1),
+    Line::Expect(Shown::Csr(MIP), Some(MTIP)),
+    Line::LowerTimer,
+    Line::PrepareCall(RESUME, SLOT_0),
     Line::Step,
-    Line::See(Shown::Entered, Some(0)),
-    Line::See(Shown::World, Some(0)),
-    Line::See(Shown::X(A0), Some(0x8002_0000)),
-    Line::See(Shown::Csr(0x3a0), Some(0x1f18)),
-    Line::On(0),
-    Line::See(Shown::World, None),
-    Line::See(Shown::Csr(0x3a0), Some(0x1818)),
+    Line::Expect(Shown::Entered, ENCLAVE_0),
+    Line::Expect(Shown::World, ENCLAVE_0),
+    Line::Expect(Shown::X(A0), Some(REGION)),
+    Line::Expect(Shown::Csr(PMPCFG0), Some(REGION_OPEN)),
+    Line::SelectHart(0),
+    Line::Expect(Shown::World, HOST),
+    Line::Expect(Shown::Csr(PMPCFG0), Some(REGION_CLOSED)),
 ];
 
 /// An enclave runs on one hart at a time, and may resume on the other hart.
 #[test]
-fn an_enclave_goes_on_on_the_other_hart(rt: HostRuntime) -> Result<(), Fail> {
-    run_two(rt, &[0x73; 5], &ON_THE_OTHER)
+fn an_enclave_resumes_on_the_other_hart(rt: HostRuntime) -> Result<(), Fail> {
+    run_two(rt, &[ECALL; 5], &RESUMED_ON_HART_1)
 }
 
-/// The lines of the test `a_step_leaves_the_other_hart`.
-const LEAVES: [Line; 17] = [
-    Line::Set(T0, 7),
-    Line::On(1),
-    Line::Set(T0, 9),
-    Line::On(0),
+/// The lines of the test `a_step_leaves_the_other_hart_unchanged`.
+const UNCHANGED: [Line; 17] = [
+    Line::SetRegister(T0, 7),
+    Line::SelectHart(1),
+    Line::SetRegister(T0, 9),
+    Line::SelectHart(0),
     Line::Step,
-    Line::See(Shown::Pc, Some(0x8001_0004)),
-    Line::See(Shown::X(T0), Some(8)),
-    Line::On(1),
-    Line::See(Shown::Pc, Some(0x8001_0000)),
-    Line::See(Shown::X(T0), Some(9)),
+    Line::Expect(Shown::Pc, Some(HOST_START + 4)),
+    Line::Expect(Shown::X(T0), Some(8)),
+    Line::SelectHart(1),
+    Line::Expect(Shown::Pc, Some(HOST_START)),
+    Line::Expect(Shown::X(T0), Some(9)),
     Line::Step,
     Line::Step,
-    Line::See(Shown::Pc, Some(0x8001_0008)),
-    Line::See(Shown::X(T0), Some(11)),
-    Line::On(0),
-    Line::See(Shown::Pc, Some(0x8001_0004)),
-    Line::See(Shown::X(T0), Some(8)),
+    Line::Expect(Shown::Pc, Some(HOST_START + 8)),
+    Line::Expect(Shown::X(T0), Some(11)),
+    Line::SelectHart(0),
+    Line::Expect(Shown::Pc, Some(HOST_START + 4)),
+    Line::Expect(Shown::X(T0), Some(8)),
 ];
 
-/// Each hart has its own registers and pc. addi x5, x5, 1
+/// Each hart has its own registers and pc. The program increments t0.
 #[test]
-fn a_step_leaves_the_other_hart(rt: HostRuntime) -> Result<(), Fail> {
-    run_two(rt, &[0x0012_8293; 2], &LEAVES)
+fn a_step_leaves_the_other_hart_unchanged(rt: HostRuntime) -> Result<(), Fail> {
+    run_two(rt, &[INCREMENT_T0; 2], &UNCHANGED)
 }

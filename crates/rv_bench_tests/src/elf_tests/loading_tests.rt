@@ -1,6 +1,6 @@
 //! Tests of RAM after an image was loaded or refused: the bytes of its segments, the zeros after them, and all other bytes unchanged.
 
-use super::files::{ProgramHeader, expect_number, file_of, segment};
+use super::files::{ProgramHeader, WITHOUT_MONITOR, expect_number, file_of, segment};
 use rv_elf::{ElfFault, load, plan, plan_raw};
 use rv_memory::{RAM_BASE, Ram};
 use std::alloc::Global;
@@ -14,6 +14,7 @@ const WORKED: [u8; 88] = [
     0, 0x93, 0, 0xf0, 0xff,
 ];
 
+/// The bytes of RAM in these tests.
 const RAM_SIZE: u32 = 65_536;
 
 /// Returns the byte at an address before an image is loaded. It is not 0, and differs from its neighbours.
@@ -49,9 +50,9 @@ fn are_equal(one: &Ram, other: &Ram) -> bool {
 
 /// Loads an ELF file, and returns its entry.
 fn load_file(file: &[u8], ram: &mut Ram) -> Result<u32, ElfFault> {
-    let plan = plan(file, ram.size(), false)?;
-    load(&plan, file, ram);
-    Ok(plan.entry())
+    let segments = plan(file, ram.size(), WITHOUT_MONITOR)?;
+    load(&segments, file, ram);
+    Ok(segments.entry())
 }
 
 /// Loads an ELF file into a RAM, and expects its entry and the bytes that change.
@@ -103,7 +104,7 @@ fn headers_of_64(step: u32) -> [ProgramHeader; 64] {
     headers
 }
 
-/// Returns the RAM after they are loaded. The 192 bytes are the numbers from 0 on.
+/// Returns the RAM after the segments of `headers_of_64` are loaded. The 192 bytes after the table are the numbers from 0 on.
 fn ram_of_64(rt: &impl Abort, alloc: Global) -> Ram {
     let mut ram = ram_with(rt, alloc, &[]);
     for number in 0..64u32 {
@@ -188,7 +189,7 @@ fn refused_files_leave_ram(rt: HostRuntime) {
 /// Loads a raw image into a RAM, and expects its bytes and all others unchanged.
 fn expect_raw(rt: &impl Abort, alloc: Global, image: &[u8]) {
     let mut ram = ram_with(rt, alloc, &[]);
-    let plan = plan_raw(image.len(), ram.size(), false).expect(rt, "no fault");
+    let plan = plan_raw(image.len(), ram.size(), WITHOUT_MONITOR).expect(rt, "no fault");
     load(&plan, image, &mut ram);
     assert!(rt; are_equal(&ram, &ram_with(rt, alloc, &[(RAM_BASE, image)])));
 }

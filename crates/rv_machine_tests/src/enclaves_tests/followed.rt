@@ -16,32 +16,35 @@ pub enum Line {
     Destroy(u32, Result<u32, u32>),
     /// Measures the enclave in the slot with a number, for a world and to an address, with the PMP entries of the table and that world.
     Measure(World, u32, u32, Result<u32, u32>),
+    /// Scrambles the enclave in the slot with a number, and expects whether this succeeds.
     Scramble(u32, bool),
+    /// Sets the state of the enclave in the slot with a number.
     SetState(u32, EnclaveState),
     /// Expects the state in a slot, if its enclave is live.
     State(u32, Option<EnclaveState>),
     /// Expects a register of the saved context of a slot, if there is one.
-    Kept(u32, u8, Option<u32>),
+    SavedRegister(u32, u8, Option<u32>),
+    /// Writes a byte of memory.
     Poke(u32, u8),
+    /// Expects a byte of memory, or none outside RAM.
     Byte(u32, Option<u8>),
-    /// Expects the cfg byte and the address of a PMP entry, for the table and a world.
+    /// Expects the configuration byte and the pmpaddr value of a PMP entry, for the table and a world.
     Entry(World, u8, u8, u32),
 }
 
 /// Executes lines on a new memory of 262144 bytes and a table without enclaves. Fails at the first line that does not hold, and returns its
 /// index.
 ///
-/// The helper functions have no contracts. A run of the test shows what they do, and the proof of a test stays small without the contracts of
-/// each call.
+/// The helper functions have no contracts, so that the proof of a test stays small. The run of a test shows what they do.
 pub fn run(rt: HostRuntime, lines: &[Line]) -> Result<(), Fail> {
     let mut shared = Shared {
         memory: Ram::new(rt.alloc(), 262_144).ok().ok_or("a RAM")?,
         table: Table::new(),
         contexts: [None; 13],
     };
-    for (place, line) in lines.iter().enumerate() {
+    for (index, line) in lines.iter().enumerate() {
         if !holds(&mut shared, *line) {
-            return Err(Fail::new(format_args!("line {place}")));
+            return Err(Fail::new(format_args!("line {index}")));
         }
     }
     Ok(())
@@ -68,7 +71,7 @@ fn holds_of_slot(shared: &mut Shared, line: Line) -> bool {
         Line::Scramble(number, wanted) => scramble(shared, number) == Some(wanted),
         Line::SetState(number, state) => set_state(shared, number, state),
         Line::State(number, wanted) => state(shared, number) == wanted,
-        Line::Kept(number, reg, wanted) => kept(shared, number, reg) == wanted,
+        Line::SavedRegister(number, reg, wanted) => saved_register(shared, number, reg) == wanted,
         _ => false,
     }
 }
@@ -113,7 +116,7 @@ fn state(shared: &Shared, number: u32) -> Option<EnclaveState> {
     shared.table.get(Slot::new(number)?).map(|info| info.state)
 }
 
-fn kept(shared: &Shared, number: u32, reg: u8) -> Option<u32> {
+fn saved_register(shared: &Shared, number: u32, reg: u8) -> Option<u32> {
     let slot = Slot::new(number)?;
     let context = shared.contexts[usize::from(slot.number())]?;
     (reg < 32).then(|| context.regs.get(Reg::new(reg)))

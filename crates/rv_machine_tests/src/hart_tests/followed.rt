@@ -14,22 +14,27 @@ pub enum Line {
     Set(u8, u32),
     /// Writes a control and status register in mode M. The write must succeed.
     Write(u16, u32),
+    /// Sets mepc.
     Mepc(u32),
+    /// Sets mie.
     Mie(u32),
-    Timer(bool),
+    /// Raises the timer line.
+    RaiseTimer,
     /// Sets pc to the first word, and the mode.
     Enter(Mode),
     /// Writes the bytes of the first word.
     Patch([u8; 4]),
     /// Executes a step, with any outcome.
     Step,
-    /// Executes fast steps: the maximal number, the limit of addresses for fetches, and the expected number.
-    Fast(u32, u64, u32),
+    /// Executes at most `count` steps on the fast path, with fetches below an address. Expects that `done` steps were executed.
+    Fast { count: u32, below: u64, done: u32 },
     /// Executes a step, and expects its trap.
     Trap(Option<Trap>),
     /// Executes a step, and expects its outcome.
     Outcome(StepOutcome),
+    /// Expects pc.
     Pc(u32),
+    /// Expects the mode.
     Mode(Mode),
     /// Expects the word in a register.
     X(u8, u32),
@@ -41,13 +46,12 @@ pub enum Line {
 
 /// Executes lines on a new machine in mode M with the words of a program. Fails at the first line that does not hold, and returns its index.
 ///
-/// The helper functions have no contracts. A run of the test shows what they do, and the proof of a test stays small without the contracts of
-/// each call of the machine.
+/// The helper functions have no contracts, so that the proof of a test stays small. The run of a test shows what they do.
 pub fn run(rt: HostRuntime, words: &[u32], lines: &[Line]) -> Result<(), Fail> {
     let mut machine = machine_with(rt, words)?;
-    for (place, line) in lines.iter().enumerate() {
+    for (index, line) in lines.iter().enumerate() {
         if !holds(&mut machine, *line) {
-            return Err(Fail::new(format_args!("line {place} over {words:?}")));
+            return Err(Fail::new(format_args!("line {index} over {words:?}")));
         }
     }
     Ok(())
@@ -75,13 +79,13 @@ fn holds(machine: &mut Machine, line: Line) -> bool {
         Line::Write(number, word) => return write(machine, number, word),
         Line::Mepc(word) => set_mepc(machine, word),
         Line::Mie(word) => set_mie(machine, word),
-        Line::Timer(raised) => set_timer(machine, raised),
+        Line::RaiseTimer => set_timer(machine, true),
         Line::Enter(mode) => machine.set_pc(RAM_BASE, mode),
         Line::Patch(bytes) => return patch(machine, bytes),
         Line::Step => {
             step(machine);
         }
-        Line::Fast(count, below, done) => return run_fast(machine, count, below) == done,
+        Line::Fast { count, below, done } => return run_fast(machine, count, below) == done,
         Line::Trap(trap) => return step(machine).trap == trap,
         Line::Outcome(outcome) => return step(machine) == outcome,
         Line::Pc(address) => return machine.pc() == address,
@@ -98,15 +102,15 @@ fn step(machine: &mut Machine) -> StepOutcome {
 }
 
 fn run_fast(machine: &mut Machine, count: u32, below: u64) -> u32 {
-    let all = Interval {
+    let all_addresses = Interval {
         from: 0,
         to: 0x1_0000_0000,
     };
     let fetch = Interval { from: 0, to: below };
     let limits = Limits {
         fetch,
-        read: all,
-        write: all,
+        read: all_addresses,
+        write: all_addresses,
     };
     machine.run_fast(&limits, count)
 }

@@ -9,38 +9,47 @@ use std::test::Fail;
 /// A line of a test: a call, and its expected result.
 #[derive(Clone, Copy)]
 pub enum Line {
+    /// A load of a mode from an address, and its expected result.
     Load(Mode, u32, Width, Result<u32, AccessFault>),
+    /// A fetch of a mode from an address, and its expected result.
     Fetch(Mode, u32, Result<u32, AccessFault>),
-    /// A store of a word, and its expected result.
+    /// A store of a mode to an address, with the value, and its expected result.
     Store(Mode, u32, Width, u32, Result<(), AccessFault>),
     /// A store at the last address with room for it, and loads and stores at addresses outside.
     Edges(Width, u32),
-    /// Sets the address and the cfg byte of entry 0.
+    /// Sets the pmpaddr value and the configuration byte of PMP entry 0.
     Entry(u32, u8),
+    /// Expects the verdict of the PMP entries on an access.
     Judge(Mode, Access, u32, Width, Verdict),
-    /// Expects the first six bytes of the memory, or its last five.
+    /// Expects the first six bytes of the memory.
     First([u8; 6]),
+    /// Expects the last five bytes of the memory.
     Last([u8; 5]),
-    /// Writes the first five bytes, or the last four.
+    /// Writes the first five bytes.
     WriteFirst([u8; 5]),
+    /// Writes the last four bytes.
     WriteLast([u8; 4]),
+    /// Zeroes bytes, by their first address and their number.
     Zero(u32, u32),
+    /// Complements bytes, by their first address and their number.
     Complement(u32, u32),
+    /// Expects whether bytes are inside the memory, by their first address and their number.
     Contains(u32, u32, bool),
+    /// Writes a byte to an address, and expects whether the address is inside the memory.
     Poke(u32, u8, bool),
+    /// Expects the byte at an address, or none outside the memory.
     Peek(u32, Option<u8>),
 }
 
 /// Executes lines on a new memory of 65536 bytes and PMP entries at reset. Fails at the first line that does not hold, and returns its index.
 ///
-/// The helper functions have no contracts. A run of the test shows what they do, and the proof of a test stays small without the contracts of
-/// each call of the memory.
+/// The helper functions have no contracts, so that the proof of a test stays small. The run of a test shows what they do.
 pub fn run(rt: HostRuntime, lines: &[Line]) -> Result<(), Fail> {
     let mut ram = Ram::new(rt.alloc(), 65_536).ok().ok_or("a RAM")?;
     let mut pmp = Pmp::new();
-    for (place, line) in lines.iter().enumerate() {
+    for (index, line) in lines.iter().enumerate() {
         if !accesses(&mut ram, &mut pmp, *line) {
-            return Err(Fail::new(format_args!("line {place}")));
+            return Err(Fail::new(format_args!("line {index}")));
         }
     }
     Ok(())
@@ -109,6 +118,7 @@ fn store(
     ram.store(pmp, mode, address, width, value)
 }
 
+/// Stores at the last address with room, and returns whether accesses at addresses outside are refused.
 fn edges(ram: &mut Ram, pmp: &mut Pmp, width: Width, last: u32) -> bool {
     if store(ram, pmp, Mode::M, last, width, u32::MAX) != Ok(()) {
         return false;
@@ -123,6 +133,7 @@ fn edges(ram: &mut Ram, pmp: &mut Pmp, width: Width, last: u32) -> bool {
     true
 }
 
+/// Sets PMP entry 0.
 fn set_entry(pmp: &mut Pmp, address: u32, configuration: u8) {
     let first = PmpIndex::new(0);
     pmp.write_addr(first, address);
@@ -146,6 +157,7 @@ fn write(ram: &mut Ram, base: u32, bytes: &[u8]) -> bool {
     is_inside
 }
 
+/// Zeroes bytes, and returns whether they are inside the memory.
 fn zero(ram: &mut Ram, base: u32, size: u32) -> bool {
     let is_inside = ram.contains(base, size);
     if is_inside {
@@ -154,6 +166,7 @@ fn zero(ram: &mut Ram, base: u32, size: u32) -> bool {
     is_inside
 }
 
+/// Complements bytes, and returns whether they are inside the memory.
 fn complement(ram: &mut Ram, base: u32, size: u32) -> bool {
     let is_inside = ram.contains(base, size);
     if is_inside {

@@ -3,73 +3,36 @@
 ghost use Rattle.std.specs.Prelude.{◌<◌};
 ghost use Rattle.rv_monitor.specs.MonitoredMachine.{count_of};
 
+use super::names::{
+    A0, A1, A2, A3, A4, A6, A7, CREATE, HOST_START, KEY, NOT_SUPPORTED, REGION, SIZE,
+};
 use rv_memory::Ram;
 use rv_monitor::{EnclaveState, Harts, MonitoredMachine, Slot, SlotInfo, World};
 use rv_pmp::{Mode, PmpIndex};
 use rv_word::{Reg, le_bytes};
 use std::test::Fail;
 
-/// The address after the monitor's range.
-const FIRST: u32 = 0x8001_0000;
-
-/// The value of a7 in a call.
-pub const KEY: u32 = 0x0a45_4e43;
-
-/// The number of x0.
-pub const X0: u8 = 0;
-
-/// The number of register ra.
-pub const RA: u8 = 1;
-
-/// The number of register t0.
-pub const T0: u8 = 5;
-
-/// The number of register t1.
-pub const T1: u8 = 6;
-
-/// The number of register a0.
-pub const A0: u8 = 10;
-
-/// The number of register a1.
-pub const A1: u8 = 11;
-
-/// The number of register a2.
-pub const A2: u8 = 12;
-
-/// The number of register a3.
-pub const A3: u8 = 13;
-
-/// The number of register a4.
-pub const A4: u8 = 14;
-
-/// The number of register a6.
-pub const A6: u8 = 16;
-
-/// The number of register a7.
-pub const A7: u8 = 17;
-
-/// The number of register t6.
-pub const T6: u8 = 31;
-
 /// The parts of a machine that a line can show. With two harts, they are those of the hart that the lines select.
 #[derive(Clone, Copy)]
 pub enum Shown {
     /// The slot of the enclave that runs, or none if the host runs.
     World,
+    /// The address of the next instruction.
     Pc,
-    /// 0 for U, 1 for S, 3 for M.
+    /// The privilege mode: 0 for U, 1 for S, 3 for M.
     Mode,
     /// A register by its number, 0 to 31.
     X(u8),
     /// A control and status register, as mode M reads it.
     Csr(u16),
-    /// The cfg byte of a PMP entry, 0 to 15, and its address.
+    /// The configuration byte of a PMP entry, 0 to 15.
     PmpCfg(u8),
+    /// The pmpaddr register of a PMP entry, 0 to 15.
     PmpAddr(u8),
     /// The byte of memory at an address.
     Byte(u32),
-    /// Four bytes in one word, from the highest: the byte before 80020000, the bytes at both ends of the 4096 bytes from there, and the byte
-    /// after them.
+    /// Four bytes in one word, the first in the highest byte: the byte before the region at 80020000, its first byte, its last byte, and the byte
+    /// after the region.
     Ends,
     /// The base of the region of a slot's enclave, if it is live.
     Region(u8),
@@ -87,32 +50,40 @@ pub enum Shown {
 #[derive(Clone, Copy)]
 pub enum Line {
     /// Selects the hart for the lines after it. Before the first such line, hart 0 is selected.
-    On(u8),
+    SelectHart(u8),
     /// Sets a register by its number.
-    Set(u8, u32),
-    /// Sets the registers of a call: a7, a6, and a0 to a4.
-    Ask(u32, [u32; 5]),
+    SetRegister(u8, u32),
+    /// Sets the registers of a call: a7 to the key, a6 to the number of the call, and a0 to a4 to the arguments.
+    PrepareCall(u32, [u32; 5]),
+    /// Executes one step of the selected hart.
     Step,
+    /// Sets the byte of memory at an address.
     Poke(u32, u8),
-    Timer(bool),
-    /// Scrambles a slot, and expects whether this succeeds.
-    Scramble(u8, bool),
-    See(Shown, Option<u32>),
+    /// Raises the timer line of the selected hart.
+    RaiseTimer,
+    /// Lowers the timer line of the selected hart.
+    LowerTimer,
+    /// Scrambles a slot, and expects success.
+    Scramble(u8),
+    /// Scrambles a slot, and expects a refusal.
+    RefuseScramble(u8),
+    /// Expects this value of a part of the machine.
+    Expect(Shown, Option<u32>),
     /// Expects another value than this one.
-    SeeOther(Shown, Option<u32>),
+    ExpectOther(Shown, Option<u32>),
     /// Calls create for a region of 4096 bytes without a window, whose first word is the entry. The fields are its base, and the expected status
     /// and slot.
     Create(u32, u32, u32),
-    /// Calls a function with a key and the arguments 1 to 5, and expects that it is refused as no call. The fields are the key and the function.
-    Nobody(u32, u32),
+    /// Makes a request with the arguments 1 to 5, and expects the status `NOT_SUPPORTED`. The fields are the key and the number of the call.
+    ExpectNotSupported(u32, u32),
     /// Expects the record of the enclave in slot 0, which is live.
-    Record(SlotInfo),
+    ExpectRecord(SlotInfo),
     /// Expects the bytes of memory from an address on.
-    Bytes(u32, [u8; 32]),
+    ExpectBytes(u32, [u8; 32]),
 }
 
-/// Executes lines on a new machine with the words of a program. Fails at the first line with an unexpected state, and returns its index and the
-/// state there.
+/// Executes lines on a new machine with the words of a program. Fails at the first line that finds an unexpected state. The message has the index
+/// of the line and the state.
 pub fn run(rt: HostRuntime, words: &[u32], lines: &[Line]) -> Result<(), Fail> {
     let mut machine = Machine::new(rt, words, Harts::One)?;
     machine.follow(lines)
@@ -129,21 +100,21 @@ fn number(slot: Slot) -> u32 {
     u32::from(slot.number())
 }
 
-/// A monitored machine, the selected hart, and the outcome of the last step. The contracts of its methods state only that the machine has this
-/// hart. A run of the test shows what they do, and the proof of a test stays small without the contracts of each call.
+/// A monitored machine, the selected hart, and the outcome of the last step. The contracts of the methods state only that the machine has the
+/// selected hart, so that the proof of a test stays small. The run of a test shows what the methods do.
 #[derive(Drop)]
 struct Machine {
     monitored: MonitoredMachine,
-    named: u8,
+    selected: u8,
     entered: Option<Slot>,
     trapped: bool,
 }
 
 impl Machine {
-    /// Returns a machine with the words of a program at 80010000.
+    /// Returns a machine with the words of a program at 80010000, where the host starts.
     fn new(rt: HostRuntime, words: &[u32], harts: Harts) -> Result<Self, Fail> {
         let mut ram = Ram::new(rt.alloc(), 1_048_576).ok().ok_or("a RAM")?;
-        let mut address = FIRST;
+        let mut address = HOST_START;
         for word in words {
             for byte in le_bytes(*word) {
                 ram.poke(address, byte);
@@ -151,8 +122,8 @@ impl Machine {
             }
         }
         Ok(Machine {
-            monitored: MonitoredMachine::new(ram, FIRST, harts),
-            named: 0,
+            monitored: MonitoredMachine::new(ram, HOST_START, harts),
+            selected: 0,
             entered: None,
             trapped: false,
         })
@@ -160,67 +131,75 @@ impl Machine {
 
     /// Executes the lines of a test. Fails at the first line with an unexpected state.
     fn follow(&mut self, lines: &[Line]) -> Result<(), Fail> {
-        for (place, line) in lines.iter().enumerate() {
-            if let Some(seen) = self.other(*line) {
-                return Err(Fail::new(format_args!("at line {place}: {seen:?}")));
+        for (index, line) in lines.iter().enumerate() {
+            if let Some(found) = self.unexpected_state(*line) {
+                return Err(Fail::new(format_args!("at line {index}: {found:?}")));
             }
         }
         Ok(())
     }
 
-    /// Executes a line. Returns the state there, if it is not the expected one.
-    fn other(&mut self, line: Line) -> Option<Option<u32>> {
+    /// Executes a line. Returns the state that was found, if it is not the expected one.
+    fn unexpected_state(&mut self, line: Line) -> Option<Option<u32>> {
         match line {
-            Line::On(hart) => self.named = hart,
-            Line::Set(register, value) => self.set(register, value),
-            Line::Ask(function, arguments) => self.ask(function, arguments),
+            Line::SelectHart(hart) => self.selected = hart,
+            Line::SetRegister(register, value) => self.set(register, value),
+            Line::PrepareCall(function, arguments) => self.prepare_call(function, arguments),
             Line::Step => self.step(),
             Line::Poke(address, byte) => self.poke(address, byte),
-            Line::Timer(raised) => self.set_timer(raised),
-            Line::Scramble(slot, wanted) => {
-                let done = self.scramble(slot);
-                return (done != wanted).then_some(Some(u32::from(done)));
+            Line::RaiseTimer => self.set_timer(true),
+            Line::LowerTimer => self.set_timer(false),
+            Line::Scramble(slot) => {
+                let is_done = self.scramble(slot);
+                return (!is_done).then_some(Some(0));
             }
-            Line::See(what, wanted) => {
-                let seen = self.show(what);
-                return (seen != wanted).then_some(seen);
+            Line::RefuseScramble(slot) => {
+                let is_done = self.scramble(slot);
+                return is_done.then_some(Some(1));
             }
-            Line::SeeOther(what, unwanted) => {
-                let seen = self.show(what);
-                return (seen == unwanted).then_some(seen);
+            Line::Expect(part, wanted) => {
+                let found = self.show(part);
+                return (found != wanted).then_some(found);
+            }
+            Line::ExpectOther(part, unwanted) => {
+                let found = self.show(part);
+                return (found == unwanted).then_some(found);
             }
             Line::Create(base, status, slot) => return self.create(base, status, slot),
-            Line::Nobody(key, function) => return self.nobody(key, function),
-            Line::Record(info) => {
+            Line::ExpectNotSupported(key, function) => return self.not_supported(key, function),
+            Line::ExpectRecord(info) => {
                 return (self.record(0) != Some(info)).then_some(None);
             }
-            Line::Bytes(address, bytes) => return self.other_byte(address, bytes),
+            Line::ExpectBytes(address, bytes) => return self.unexpected_byte(address, bytes),
         }
         None
     }
 
+    /// Executes `Line::Create`.
     fn create(&mut self, base: u32, status: u32, slot: u32) -> Option<Option<u32>> {
-        self.ask(1, [base, 0x1000, 0, 0, base]);
+        self.prepare_call(CREATE, [base, SIZE, 0, 0, base]);
         self.step();
-        self.other_than(A0, status).or(self.other_than(A1, slot))
+        self.unexpected_register(A0, status)
+            .or(self.unexpected_register(A1, slot))
     }
 
-    fn nobody(&mut self, key: u32, function: u32) -> Option<Option<u32>> {
-        self.ask(function, [1, 2, 3, 4, 5]);
+    /// Executes `Line::ExpectNotSupported`.
+    fn not_supported(&mut self, key: u32, function: u32) -> Option<Option<u32>> {
+        self.prepare_call(function, [1, 2, 3, 4, 5]);
         self.set(A7, key);
         self.step();
-        self.other_than(A0, 0xffff_ffff)
-            .or(self.other_than(A1, 0))
-            .or(self.other_than(A2, 3))
+        self.unexpected_register(A0, NOT_SUPPORTED)
+            .or(self.unexpected_register(A1, 0))
+            .or(self.unexpected_register(A2, 3))
     }
 
     /// Returns the first byte of memory from an address on that is not the expected one.
-    fn other_byte(&self, address: u32, bytes: [u8; 32]) -> Option<Option<u32>> {
+    fn unexpected_byte(&self, address: u32, bytes: [u8; 32]) -> Option<Option<u32>> {
         let mut at = address;
         for byte in bytes {
-            let seen = self.peek(at);
-            if seen != Some(byte) {
-                return Some(seen.map(u32::from));
+            let found = self.peek(at);
+            if found != Some(byte) {
+                return Some(found.map(u32::from));
             }
             at = at.wrapping_add(1);
         }
@@ -228,17 +207,17 @@ impl Machine {
     }
 
     /// Returns the word in a register, if it is not the expected one.
-    fn other_than(&self, register: u8, word: u32) -> Option<Option<u32>> {
-        let held = self.x(register);
-        (held != word).then_some(Some(held))
+    fn unexpected_register(&self, register: u8, wanted: u32) -> Option<Option<u32>> {
+        let found = self.x(register);
+        (found != wanted).then_some(Some(found))
     }
 
     /// Returns the selected hart, or hart 0 if there is no such hart.
     fn hart(&self) -> u8
         ensures { result < count_of self.now.monitored }
     {
-        if self.named < self.monitored.harts() {
-            self.named
+        if self.selected < self.monitored.harts() {
+            self.selected
         } else {
             0
         }
@@ -256,7 +235,7 @@ impl Machine {
         self.monitored.set_reg(hart, Reg::new(register % 32), value);
     }
 
-    fn ask(&mut self, function: u32, arguments: [u32; 5]) {
+    fn prepare_call(&mut self, function: u32, arguments: [u32; 5]) {
         let [a0, a1, a2, a3, a4] = arguments;
         self.set(A7, KEY);
         self.set(A6, function);
@@ -284,8 +263,8 @@ impl Machine {
     }
 
     /// Returns the value of a part of the machine, if there is one.
-    fn show(&self, what: Shown) -> Option<u32> {
-        match what {
+    fn show(&self, part: Shown) -> Option<u32> {
+        match part {
             Shown::World => self.slot().map(number),
             Shown::Pc => Some(self.monitored.pc(self.hart())),
             Shown::Mode => Some(self.mode()),
@@ -346,7 +325,7 @@ impl Machine {
 
     fn ends(&self) -> Option<u32> {
         let mut word = 0u32;
-        for address in [0x8001_ffff, 0x8002_0000, 0x8002_0fff, 0x8002_1000] {
+        for address in [REGION - 1, REGION, REGION + SIZE - 1, REGION + SIZE] {
             let byte = self.peek(address)?;
             word = word.wrapping_mul(256).wrapping_add(u32::from(byte));
         }

@@ -11,38 +11,55 @@ pub enum Line {
     Put(u16, u32),
     /// Expects the value that a register reads in mode M.
     Reads(u16, u32),
+    /// Sets mie.
     Mie(u32),
+    /// Raises or lowers the timer line.
     Timer(bool),
+    /// Sets mepc.
     Mepc(u32),
+    /// Sets MPP in mstatus.
     Mpp(Mode),
-    /// Takes a trap from a mode, with pc, its cause and mtval, and expects the address at which the hart continues.
-    Trap(Mode, u32, Cause, u32, u32),
-    /// Executes a return, and expects the mode and the address at which the hart continues.
+    /// Takes a trap from a mode, with pc, the cause and mtval, and expects the address at which the hart continues.
+    Trap {
+        mode: Mode,
+        pc: u32,
+        cause: Cause,
+        tval: u32,
+        target: u32,
+    },
+    /// Executes mret, and expects the mode and the address at which the hart continues.
     Mret(Mode, u32),
+    /// Executes sret, and expects the mode and the address at which the hart continues.
     Sret(Mode, u32),
     /// Expects the interrupt that is taken in a mode.
     Pending(Mode, Option<Interrupt>),
-    /// Counts a step: whether it retired, the counters that are held, and the register that it wrote.
-    Tick(bool, u32, Option<u16>),
+    /// Counts a step: whether the instruction retired, the counters that are held, and the register that the instruction wrote.
+    Tick {
+        retired: bool,
+        held: u32,
+        written: Option<u16>,
+    },
     /// Counts a step that retired and wrote no register. mcountinhibit gives the counters that are held.
     TickHeld,
-    /// Sets the registers of mode S, or expects their values.
+    /// Sets the registers of mode S.
     SetContext(SContext),
+    /// Expects the values of the registers of mode S.
     Context(SContext),
-    /// Expects the values that the accessors of mstatus, stvec and mepc return.
+    /// Expects the value that the accessor of mstatus returns.
     Mstatus(u32),
+    /// Expects the value that the accessor of stvec returns.
     StvecIs(u32),
+    /// Expects the value that the accessor of mepc returns.
     MepcIs(u32),
 }
 
 /// Executes lines on registers. Fails at the first line that does not hold, and returns its index.
 ///
-/// The helper functions have no contracts. A run of the test shows what they do, and the proof of a test stays small without the contracts of
-/// each call.
+/// The helper functions have no contracts, so that the proof of a test stays small. The run of a test shows what they do.
 pub fn follow(mut csrs: Csrs, lines: &[Line]) -> Result<(), Fail> {
-    for (place, line) in lines.iter().enumerate() {
+    for (index, line) in lines.iter().enumerate() {
         if !holds(&mut csrs, *line) {
-            return Err(Fail::new(format_args!("line {place}")));
+            return Err(Fail::new(format_args!("line {index}")));
         }
     }
     Ok(())
@@ -61,7 +78,11 @@ fn holds(csrs: &mut Csrs, line: Line) -> bool {
         Line::Timer(raised) => csrs.set_timer(raised),
         Line::Mepc(word) => csrs.set_mepc(word),
         Line::Mpp(mode) => csrs.set_mpp(mode),
-        Line::Tick(retired, held, written) => csrs.tick_counters(retired, held, written),
+        Line::Tick {
+            retired,
+            held,
+            written,
+        } => csrs.tick_counters(retired, held, written),
         Line::TickHeld => tick_held(csrs),
         Line::SetContext(context) => csrs.set_s_context(context),
         other => return shows(csrs, other),
@@ -72,9 +93,13 @@ fn holds(csrs: &mut Csrs, line: Line) -> bool {
 /// Returns whether a line with an expected result holds.
 fn shows(csrs: &mut Csrs, line: Line) -> bool {
     match line {
-        Line::Trap(mode, pc, cause, tval, target) => {
-            csrs.enter_trap(mode, pc, cause, tval) == target
-        }
+        Line::Trap {
+            mode,
+            pc,
+            cause,
+            tval,
+            target,
+        } => csrs.enter_trap(mode, pc, cause, tval) == target,
         Line::Mret(mode, pc) => csrs.do_mret() == (mode, pc),
         Line::Sret(mode, pc) => csrs.do_sret() == (mode, pc),
         Line::Reads(number, word) => read(csrs, number) == Some(word),

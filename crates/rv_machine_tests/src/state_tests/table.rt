@@ -1,6 +1,7 @@
 //! Tests of every register number in every mode.
 
 use super::followed::{Line, run};
+use crate::csr_numbers::{MCYCLE, MCYCLEH, MINSTRETH, MSTATUS, SATP, SSTATUS};
 use rv_pmp::Mode;
 use rv_state::{CsrFault, Csrs, Regs};
 use rv_word::Reg;
@@ -77,6 +78,7 @@ fn wanted_read(number: u16, mode: Mode) -> Result<u32, CsrFault> {
 /// The result of a write of all ones in a mode at reset, and of a read in mode M after it.
 type Written = (Result<(), CsrFault>, Result<u32, CsrFault>);
 
+/// Returns the expected result of a write of all ones in a mode at reset.
 fn wanted_write(number: u16, mode: Mode) -> Written {
     match expected(number) {
         None => (Err(CsrFault::Missing), Err(CsrFault::Missing)),
@@ -98,6 +100,7 @@ fn write(csrs: &mut Csrs, number: u16, word: u32, mode: Mode) -> Result<(), CsrF
     csrs.write(number, word, mode)
 }
 
+/// Writes all ones to a register in a mode at reset, and returns the result.
 fn written(number: u16, mode: Mode) -> Written {
     let mut csrs = Csrs::new();
     let done = write(&mut csrs, number, 0xFFFF_FFFF, mode);
@@ -119,7 +122,7 @@ fn every_number_reads_in_every_mode_as_listed() -> Result<(), Fail> {
 }
 
 #[test]
-fn so_many_registers_are_listed(rt: HostRuntime) {
+fn there_are_143_registers(rt: HostRuntime) {
     let mut found = 0u32;
     for number in 0u16..4096 {
         if expected(number).is_some() {
@@ -142,18 +145,21 @@ fn every_number_is_written_in_every_mode_as_listed() -> Result<(), Fail> {
     Ok(())
 }
 
+/// The bit TVM of mstatus, with which accesses to satp trap in mode S.
+const TVM: u32 = 0x0010_0000;
+
 /// The lines of the test `keeps_fields_and_halves`.
 const FIELDS: [Line; 10] = [
-    Line::Put(0x300, 0x1000),
-    Line::Reads(0x300, 0),
-    Line::Put(0x300, 0x0800),
-    Line::Put(0x100, 0xFFFF_FFFF),
-    Line::Put(0xB80, 0x1234_5678),
-    Line::Put(0xB00, 0x9ABC_DEF0),
-    Line::Reads(0x300, 0x0008_0922),
-    Line::Reads(0xB80, 0x1234_5678),
-    Line::Reads(0xB00, 0x9ABC_DEF0),
-    Line::Reads(0xB82, 0),
+    Line::Put(MSTATUS, 0x1000),
+    Line::Reads(MSTATUS, 0),
+    Line::Put(MSTATUS, 0x0800),
+    Line::Put(SSTATUS, 0xFFFF_FFFF),
+    Line::Put(MCYCLEH, 0x1234_5678),
+    Line::Put(MCYCLE, 0x9ABC_DEF0),
+    Line::Reads(MSTATUS, 0x0008_0922),
+    Line::Reads(MCYCLEH, 0x1234_5678),
+    Line::Reads(MCYCLE, 0x9ABC_DEF0),
+    Line::Reads(MINSTRETH, 0),
 ];
 
 /// MPP (bits 12:11) cannot have the value 2, which is no mode. Each half of a counter is stored separately.
@@ -165,15 +171,16 @@ fn keeps_fields_and_halves() -> Result<(), Fail> {
 /// The result of a read of satp in a mode, and the error of a write.
 type Answered = (Result<u32, CsrFault>, Option<CsrFault>);
 
+/// Reads and writes satp in a mode.
 fn satp(csrs: &mut Csrs, mode: Mode) -> Answered {
-    let shown = read(csrs, 0x180, mode);
-    (shown, write(csrs, 0x180, 1, mode).err())
+    let shown = read(csrs, SATP, mode);
+    (shown, write(csrs, SATP, 1, mode).err())
 }
 
 /// Accesses satp in mode U, in mode S and in mode M, with TVM (bit 20) set.
 fn satp_under_tvm() -> [Answered; 3] {
     let mut csrs = Csrs::new();
-    let _ = write(&mut csrs, 0x300, 0x0010_0000, Mode::M);
+    let _ = write(&mut csrs, MSTATUS, TVM, Mode::M);
     let of_user = satp(&mut csrs, Mode::U);
     let of_supervisor = satp(&mut csrs, Mode::S);
     [of_user, of_supervisor, satp(&mut csrs, Mode::M)]

@@ -1,6 +1,10 @@
 //! Tests of traps, returns, interrupts and counters, with values computed by hand from the manual.
 
 use super::followed::{Line, follow, run};
+use crate::csr_numbers::{
+    MCAUSE, MCOUNTINHIBIT, MCYCLE, MCYCLEH, MEPC, MIE, MINSTRET, MIP, MSTATUS, MTVAL, MTVEC,
+    SCAUSE, SEPC, SSCRATCH, SSTATUS, STVAL, STVEC,
+};
 use rv_pmp::Mode;
 use rv_state::{Cause, Csrs, Exception, Interrupt, SContext};
 use std::test::Fail;
@@ -16,18 +20,30 @@ const FETCH: Cause = Cause::Exception(Exception::InstructionAccessFault);
 
 /// Writes of CSRs, two traps, and the CSRs after each of them.
 const TRAPS: [Line; 12] = [
-    Line::Put(0x305, 0x401),
-    Line::Put(0x304, 0x80),
-    Line::Put(0x300, 0x8),
-    Line::Trap(Mode::M, 0x8000_000C, TIMER, 0, 0x41C),
-    Line::Reads(0x341, 0x8000_000C),
-    Line::Reads(0x342, 0x8000_0007),
-    Line::Reads(0x300, 0x1880),
-    Line::Trap(Mode::M, 0x41C, BREAKPOINT, 0x41C, 0x400),
-    Line::Reads(0x341, 0x41C),
-    Line::Reads(0x342, 3),
-    Line::Reads(0x343, 0x41C),
-    Line::Reads(0x300, 0x1800),
+    Line::Put(MTVEC, 0x401),
+    Line::Put(MIE, 0x80),
+    Line::Put(MSTATUS, 0x8),
+    Line::Trap {
+        mode: Mode::M,
+        pc: 0x8000_000C,
+        cause: TIMER,
+        tval: 0,
+        target: 0x41C,
+    },
+    Line::Reads(MEPC, 0x8000_000C),
+    Line::Reads(MCAUSE, 0x8000_0007),
+    Line::Reads(MSTATUS, 0x1880),
+    Line::Trap {
+        mode: Mode::M,
+        pc: 0x41C,
+        cause: BREAKPOINT,
+        tval: 0x41C,
+        target: 0x400,
+    },
+    Line::Reads(MEPC, 0x41C),
+    Line::Reads(MCAUSE, 3),
+    Line::Reads(MTVAL, 0x41C),
+    Line::Reads(MSTATUS, 0x1800),
 ];
 
 /// A timer interrupt in mode M with mtvec 401 (mode Vectored), followed by an exception.
@@ -36,54 +52,65 @@ fn takes_a_timer_interrupt() -> Result<(), Fail> {
     follow(Csrs::default(), &TRAPS)
 }
 
-/// Returns the lines for the interrupt that is taken in a mode, with the words of mstatus, mie and mip, and the timer line.
-fn taken(words: [u32; 3], timer: bool, mode: Mode, interrupt: Option<Interrupt>) -> [Line; 5] {
-    let [mstatus, mie, mip] = words;
+/// Returns the lines for the interrupt that is taken in a mode, with the values of mstatus, mie and mip, and the timer line.
+fn taken(values: [u32; 3], timer: bool, mode: Mode, interrupt: Option<Interrupt>) -> [Line; 5] {
+    let [mstatus, mie, mip] = values;
     [
-        Line::Put(0x300, mstatus),
-        Line::Put(0x344, mip),
+        Line::Put(MSTATUS, mstatus),
+        Line::Put(MIP, mip),
         Line::Mie(mie),
         Line::Timer(timer),
         Line::Pending(mode, interrupt),
     ]
 }
 
-/// The inputs of the test `takes_interrupts_in_order`.
+/// The state of a raised timer line.
+const RAISED: bool = true;
+
+/// The state of a lowered timer line.
+const LOWERED: bool = false;
+
+/// For each row, the values of mstatus, mie and mip, the timer line, the mode, and the interrupt that is taken.
 const TAKEN: [([u32; 3], bool, Mode, Option<Interrupt>); 7] = [
     (
         [0, 0xAAA, 0x222],
-        true,
+        RAISED,
         Mode::S,
         Some(Interrupt::MachineTimer),
     ),
     (
         [0, 0xAAA, 0x222],
-        false,
+        LOWERED,
         Mode::S,
         Some(Interrupt::SupervisorExternal),
     ),
     (
         [0, 0xAAA, 0x022],
-        false,
+        LOWERED,
         Mode::U,
         Some(Interrupt::SupervisorSoftware),
     ),
     (
         [0, 0xAAA, 0x020],
-        false,
+        LOWERED,
         Mode::U,
         Some(Interrupt::SupervisorTimer),
     ),
-    ([0, 0x002, 0x020], true, Mode::U, None),
-    ([0, 0x080, 0], true, Mode::M, None),
-    ([8, 0x080, 0], true, Mode::M, Some(Interrupt::MachineTimer)),
+    ([0, 0x002, 0x020], RAISED, Mode::U, None),
+    ([0, 0x080, 0], RAISED, Mode::M, None),
+    (
+        [8, 0x080, 0],
+        RAISED,
+        Mode::M,
+        Some(Interrupt::MachineTimer),
+    ),
 ];
 
 /// The order of the interrupts that can be pending here is 7, 9, 1, 5. In mode M an interrupt is taken only if MIE is set.
 #[test]
 fn takes_interrupts_in_order() -> Result<(), Fail> {
-    for (words, timer, mode, interrupt) in TAKEN {
-        run(&taken(words, timer, mode, interrupt))?;
+    for (values, timer, mode, interrupt) in TAKEN {
+        run(&taken(values, timer, mode, interrupt))?;
     }
     Ok(())
 }
@@ -91,9 +118,15 @@ fn takes_interrupts_in_order() -> Result<(), Fail> {
 /// The lines of the test `traps_from_mode_u_to_mode_m`.
 const FROM_USER: [Line; 4] = [
     Line::Sret(Mode::U, 0),
-    Line::Trap(Mode::U, 0, FETCH, 0, 0),
-    Line::Reads(0x300, 0x20),
-    Line::Reads(0x342, 1),
+    Line::Trap {
+        mode: Mode::U,
+        pc: 0,
+        cause: FETCH,
+        tval: 0,
+        target: 0,
+    },
+    Line::Reads(MSTATUS, 0x20),
+    Line::Reads(MCAUSE, 1),
 ];
 
 /// sret at reset returns to mode U. A trap from there is taken in mode M.
@@ -104,18 +137,18 @@ fn traps_from_mode_u_to_mode_m() -> Result<(), Fail> {
 
 /// The lines of the test `returns_to_the_mode_before`.
 const RETURNS: [Line; 12] = [
-    Line::Put(0x300, 0x0002_0188), // MPRV, SPP, MPIE, MIE
-    Line::Put(0x141, 0x8000_0020), // sepc
+    Line::Put(MSTATUS, 0x0002_0188), // MPRV, SPP, MPIE, MIE
+    Line::Put(SEPC, 0x8000_0020),
     Line::Mepc(0x8000_0013),
     Line::Mpp(Mode::S),
     Line::Mret(Mode::S, 0x8000_0010),
-    Line::Reads(0x300, 0x188),
-    Line::Put(0x300, 0x0002_0188),
+    Line::Reads(MSTATUS, 0x188),
+    Line::Put(MSTATUS, 0x0002_0188),
     Line::Sret(Mode::S, 0x8000_0020),
     Line::Mstatus(0xA8),
-    Line::Put(0x300, 0x0002_1800), // MPRV, MPP = M
+    Line::Put(MSTATUS, 0x0002_1800), // MPRV, MPP = M
     Line::Mret(Mode::M, 0x8000_0010),
-    Line::Reads(0x300, 0x0002_0080),
+    Line::Reads(MSTATUS, 0x0002_0080),
 ];
 
 /// MPRV (bit 17) stays set only if mret returns to mode M. sret clears it.
@@ -126,22 +159,34 @@ fn returns_to_the_mode_before() -> Result<(), Fail> {
 
 /// The lines of the test `counts_steps`.
 const COUNTS: [Line; 16] = [
-    Line::Put(0xB00, 0xFFFF_FFFF),
-    Line::Put(0xB80, 0xFFFF_FFFF),
-    Line::Tick(true, 0, Some(0xB80)),
-    Line::Reads(0xB00, 0xFFFF_FFFF),
-    Line::Reads(0xB02, 1),
-    Line::Tick(false, 0, None),
-    Line::Reads(0xB00, 0),
-    Line::Reads(0xB80, 0),
-    Line::Reads(0xB02, 1),
-    Line::Tick(true, 0, None),
-    Line::Reads(0xB00, 1),
-    Line::Reads(0xB02, 2),
-    Line::Put(0x320, 0x1),
+    Line::Put(MCYCLE, 0xFFFF_FFFF),
+    Line::Put(MCYCLEH, 0xFFFF_FFFF),
+    Line::Tick {
+        retired: true,
+        held: 0,
+        written: Some(MCYCLEH),
+    },
+    Line::Reads(MCYCLE, 0xFFFF_FFFF),
+    Line::Reads(MINSTRET, 1),
+    Line::Tick {
+        retired: false,
+        held: 0,
+        written: None,
+    },
+    Line::Reads(MCYCLE, 0),
+    Line::Reads(MCYCLEH, 0),
+    Line::Reads(MINSTRET, 1),
+    Line::Tick {
+        retired: true,
+        held: 0,
+        written: None,
+    },
+    Line::Reads(MCYCLE, 1),
+    Line::Reads(MINSTRET, 2),
+    Line::Put(MCOUNTINHIBIT, 0x1),
     Line::TickHeld,
-    Line::Reads(0xB00, 1),
-    Line::Reads(0xB02, 3),
+    Line::Reads(MCYCLE, 1),
+    Line::Reads(MINSTRET, 3),
 ];
 
 /// A held counter does not change. A write to one half replaces the increment of the whole counter.
@@ -166,24 +211,24 @@ const ONES: SContext = SContext {
 /// Returns the lines for the registers of mode S, with their values at the start.
 fn contexts(first: SContext) -> [Line; 18] {
     [
-        Line::Put(0x300, 0x0000_0088),
-        Line::Put(0x341, 0x8000_0013),
+        Line::Put(MSTATUS, 0x0000_0088),
+        Line::Put(MEPC, 0x8000_0013),
         Line::Context(first),
         Line::SetContext(ONES),
-        Line::Reads(0x105, 0xFFFF_FFFD),
-        Line::Reads(0x140, u32::MAX),
-        Line::Reads(0x141, 0xFFFF_FFFC),
-        Line::Reads(0x142, u32::MAX),
-        Line::Reads(0x143, u32::MAX),
-        Line::Reads(0x100, 0x0008_0122),
-        Line::Reads(0x300, 0x0008_01AA),
+        Line::Reads(STVEC, 0xFFFF_FFFD),
+        Line::Reads(SSCRATCH, u32::MAX),
+        Line::Reads(SEPC, 0xFFFF_FFFC),
+        Line::Reads(SCAUSE, u32::MAX),
+        Line::Reads(STVAL, u32::MAX),
+        Line::Reads(SSTATUS, 0x0008_0122),
+        Line::Reads(MSTATUS, 0x0008_01AA),
         Line::StvecIs(0xFFFF_FFFD),
         Line::MepcIs(0x8000_0010),
         Line::SetContext(first),
         Line::Context(first),
-        Line::Reads(0x105, 0),
-        Line::Reads(0x141, 0),
-        Line::Reads(0x300, 0x88),
+        Line::Reads(STVEC, 0),
+        Line::Reads(SEPC, 0),
+        Line::Reads(MSTATUS, 0x88),
     ]
 }
 
