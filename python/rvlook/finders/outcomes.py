@@ -64,7 +64,7 @@ class Watched(NamedTuple):
         if look.kind in ("call", "timer"):
             return True
         if look.kind == "w":
-            return not self.addresses.isdisjoint(range(look.at, look.at + look.width))
+            return not self.addresses.isdisjoint(range(look.address, look.address + look.width))
         word = look.key[2]
         return word is not None and (hart, operands(word).writes) in self.registers
 
