@@ -99,8 +99,7 @@ class TraceJudge:
             self.seen.usual_targets[key].add(trace.following(index))
 
     def take(self, trace: Trace) -> bool:
-        """Takes a trace. Returns whether the search should go on from it: it reached something new, and no finding makes its further steps
-        meaningless."""
+        """Takes a trace. Returns whether to go on from it: it reached something new, and no finding makes later steps meaningless."""
         is_new, sure_finding = False, None
         unsure_accesses: list[Key] = []
         for index in self.unusual(trace):
@@ -130,8 +129,7 @@ class TraceJudge:
         return is_new
 
     def unusual(self, trace: Trace) -> Iterator[int]:
-        """Yields the indices of the steps that differ from those of the parent. Leaves out plain steps, and steps that equal an earlier step
-        without a finding."""
+        """Yields the indices of the steps that differ from the parent's, without plain steps, and without repeated steps that are no finding."""
         if self.version != self.tracer.contexts.version:
             self.version = self.tracer.contexts.version
             self.usual_steps.clear()
@@ -245,8 +243,7 @@ class TraceJudge:
 
     @staticmethod
     def is_inner(place: ObjectPlace, usual: set[ObjectPlace]) -> bool:
-        """Returns whether an object is a member of a variable that has a usual object too, and no array ends between the two. The access may reach
-        it."""
+        """Returns whether an object is a member of a variable with a usual object, and no array ends between them: it may be accessed."""
         return any(it.variable and it.variable == place.variable and not it.is_array for it in usual)
 
     def previous(self, trace: Trace, index: int, key: Key) -> Optional[int]:

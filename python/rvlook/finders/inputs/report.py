@@ -81,8 +81,7 @@ def texts_of(search: InputSearch, finding: InputFinding, heading: str) -> tuple[
 
 
 def write_scripts(folder: str, search: InputSearch, findings: Sequence[InputFinding], headings: Sequence[str]) -> None:
-    """Writes two files for each finding: `finding_N` replays the finding, `finding_N.input` ends after its last change. Raises Unfinished if a
-    file cannot be written."""
+    """Writes `finding_N`, which replays a finding, and `finding_N.input`, up to its last change. Raises Unfinished if a file cannot be written."""
     write_files(folder, ((name % number, text) for number, (finding, heading) in enumerate(zip(findings, headings), 1)
                          for name, text in zip(("finding_%d", "finding_%d.input"), texts_of(search, finding, heading))))
 
@@ -162,8 +161,7 @@ class Inputs:
 
 def find_inputs(run: Run, variables: Variables, options: InputsOptions, heard: Callable[[Sequence[Failure]], None] = lambda it: None,
                 models: Optional[Models] = None) -> Inputs:
-    """Searches the inputs of an enclave, and replays the findings. Calls `heard` with the failures of the run itself before the search. `models`
-    proposes inputs."""
+    """Searches inputs, proposed by `models` too, and replays the findings. Calls `heard` first, with the failures of the run itself."""
     found = Inputs(options, TimeLimit(options.seconds), models, failures_in(run, options.slot))
     heard(found.failures)
     found.work(run, run.setup.symbols, variables)
@@ -175,8 +173,7 @@ def find_inputs(run: Run, variables: Variables, options: InputsOptions, heard: C
 
 
 def show_inputs(run: Run, variables: Variables, printer: Printer, options: InputsOptions, findings: ReportedCases, models: Models) -> None:
-    """Searches the inputs of an enclave, and prints the findings and the coverage. After Ctrl-C it prints what it has found, and raises
-    KeyboardInterrupt."""
+    """Searches the inputs of an enclave, and prints the findings and the coverage, also after Ctrl-C, before it raises KeyboardInterrupt."""
     symbols = run.setup.symbols
     if printer.as_json:
         run_object(printer, run, symbols)
@@ -294,8 +291,7 @@ def change_text(change: Change) -> str:
 
 
 def with_old_values(run: Run, changes: Changes) -> Changes:
-    """Returns changes with the values that each of them replaces. A replaced value is that of a run with only the earlier changes, at the step of
-    the change."""
+    """Returns changes with the values that they replace: those of a run with only the earlier changes, at the step of each change."""
     found: list[Change] = []
     for change in changes:
         with run.replay() as replay:
@@ -318,8 +314,7 @@ def place_of(change: Change) -> str:
 
 
 def coverage_of(search: InputSearch) -> dict[str, int]:
-    """Counts what the search covered: inputs, runs with another value, branches that were executed and that went both ways, source lines, and
-    instructions."""
+    """Counts what was covered: inputs, runs with another value, executed branches and those that went both ways, source lines, instructions."""
     branches: dict[int, set[int]] = {}
     for pc, following in search.judge.seen.pairs:
         if search.tracer.code[pc].kind is Kind.BRANCH:

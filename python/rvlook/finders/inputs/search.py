@@ -195,7 +195,7 @@ class InputSearch:
         self.is_exhausted = True
 
     def traced(self, parent: Trace, children: Sequence[Child], started: deque[Started]) -> Iterator[Trace]:
-        """Yields the traces of runs. Starts each run before the AHEAD runs before it are complete."""
+        """Yields the traces of runs. Starts each run before the RUNS_AHEAD runs before it are complete."""
         for child in [*children, *[None] * RUNS_AHEAD]:
             if child is not None:
                 started.append(self.tracer.start(parent, child.index, child.changes))
@@ -208,7 +208,7 @@ class InputSearch:
         return self.root if self.root and is_turn_of_root else self.parents.popleft()
 
     def next_batch(self, parent: Parent, runs: int) -> list[Child]:
-        """Returns the next runs from a trace that were not tried before: SHARE of them, unless fewer are left."""
+        """Returns the next runs from a trace that were not tried before: BATCH_RUNS of them, unless fewer are left."""
         batch: list[Child] = []
         for child in parent.children if self.tracer.runs < runs else ():
             key = tuple((it.step, it.at, it.register, it.value) for it in child.changes)

@@ -234,8 +234,7 @@ def versions(stores: list[dict[int, int]], loads: list[dict[int, int]], state: S
 
 
 def successors(stores: list[dict[int, int]], loads: list[dict[int, int]], at: int, value: bytes) -> set[bytes]:
-    """Returns the states that the enclave made from a value: those that an activation stored at an address after it had loaded the value, or a state
-    made from it."""
+    """Returns the states that activations stored at an address after they had loaded a value, or a state made from the value."""
     ancestors, successors_so_far = {value}, set()
     for stored, loaded in zip(stores, loads):
         if all(at + n in stored for n in range(len(value))) and any(old in data for _, data in runs_of(loaded) for old in ancestors):
@@ -258,8 +257,7 @@ def window_bytes(search: InputSearch, trace: Trace, visit: TraceVisit, kind: Kin
 
 
 def replayed_states(search: InputSearch, loaded: dict[int, bytes]) -> Iterator[InputFinding]:
-    """Yields the findings that an activation accepts an older state: it takes no branch that the run itself does not take, and it answers or
-    stores something else."""
+    """Yields the findings of accepted older states: no other branch than in the run itself, but another answer or other stored bytes."""
     base, tried_changes = search.base, set()
     usual = {(base.pcs[n], base.following(n)) for n in range(len(base)) if search.tracer.code[base.pcs[n]].kind in ENDS_BLOCK}
     for state in older_states(search, loaded):

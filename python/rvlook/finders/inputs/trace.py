@@ -135,7 +135,7 @@ class Trace:
         return max(n for n, it in enumerate(self.visits) if it.first <= index)
 
     def following(self, index: int) -> int:
-        """Returns the pc after a step of the enclave, or LEFT if the enclave leaves with it."""
+        """Returns the pc after a step of the enclave, or NO_PC if the enclave leaves with it."""
         for it in self.visits:
             if it.last == index:
                 return NO_PC

@@ -176,8 +176,7 @@ class Tracer:
         return Started(run, parent, joined, changes, replay, first=first, before=len(before), count=count)
 
     def follow(self, started: Started, trace: Trace) -> Joined | None:
-        """Adds the steps that a run has in common with its parent. Returns the index of the parent and the position from which the run must be
-        explored, or None if it is complete."""
+        """Adds the steps in common with the parent. Returns the index there and the position from which to explore, or None at the end."""
         parent, (index, start) = started.parent, started.joined
         with started.replay as replay:
             if started.first is None:
@@ -232,8 +231,7 @@ class Tracer:
     # ---- a new path
 
     def explore(self, run: Run, trace: Trace, position: int, other: tuple[Trace, int] | None) -> Joined | None:
-        """Adds the steps of a run from a position on to its trace: up to its end, to the limit, or to where it joins another trace after an index.
-        Returns where it joins the other trace, or None."""
+        """Adds steps from a position on, up to the end, the limit, or where they join another trace after an index: returns where, or None."""
         begin = at = len(trace)
         with ExitStack() as benches:
             leader = reader = benches.enter_context(run.replay())
@@ -294,8 +292,7 @@ class Tracer:
         return "limit"
 
     def is_waiting(self, leader: Timeline) -> bool:
-        """Returns whether the enclave waits for the host, as in a spin lock: it repeats steps without any change of a register, and each round loads
-        from its window."""
+        """Returns whether the enclave waits for the host: it repeats steps with the same registers, and each round loads from its window."""
         assert self.enclave is not None
         lines = leader.bench.block(b"regs\nstep 1\n" * MAX_LOOP_STEPS, (REGISTER_LINES + 1) * MAX_LOOP_STEPS).splitlines()
         states = [lines[at:at + REGISTER_LINES] for at in range(0, len(lines), REGISTER_LINES + 1)]
@@ -309,8 +306,7 @@ class Tracer:
         return False
 
     def mark(self, part: TracePart, first: int, reader: Timeline) -> None:
-        """Brings a reader before the first step of the enclave in a part, and marks the steps that need more than a pc. `first` is the number of the
-        first step of the part."""
+        """Brings a reader before the first own step of a part, and marks the steps that need more than a pc. `first` numbers the first step."""
         reader.bench.replies_to(reader.lines_to(first + part.own_steps[0] - 1))
         if self.enclave is None:
             self.enclave = next(it for it in map(enclave_of, reader.bench.ask("enclaves")[0]) if it.slot == self.slot)

@@ -153,8 +153,7 @@ class Values:
         return sorted(found, key=lambda it: (it.index, it.at, it.width, it.register))
 
     def loads(self, trace: Trace, details: Details, visit: TraceVisit) -> Iterator[tuple[int, int, bytes]]:
-        """Yields the index, the address and the bytes of each load of an activation from the window. Leaves out loads of bytes that the activation
-        has stored."""
+        """Yields index, address and bytes of each load of an activation from the window, without bytes that the activation has stored."""
         stored_addresses: set[int] = set()
         last = len(trace) - 1 if visit.last is None else visit.last
         for index in range(visit.first, last + 1):
@@ -215,8 +214,8 @@ class Values:
         yield from self.round_robin(trace, details, repeated_inputs)
 
     def round_robin(self, trace: Trace, details: Details, inputs: list[Input]) -> Iterator[Child]:
-        """Yields the first value of each input, then the second of each, and so on. From the third value on, other inputs get PER_PART values for
-        each value of a part of a buffer: branches and addresses depend on other inputs more often."""
+        """Yields the first value of each input, then the second of each, and so on. From the third value on, other inputs get VALUES_PER_PART values
+        for each value of a part of a buffer: branches and addresses depend on other inputs more often."""
         values_of_inputs = [(it, list(self.values(trace, details, it))) for it in inputs]
         for turn in range(VALUES_PER_PART * max((len(values) for _, values in values_of_inputs), default=0)):
             for input_, values in values_of_inputs:

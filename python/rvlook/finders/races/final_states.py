@@ -168,8 +168,7 @@ class Component:
         return HartEnd(HALTS if machine.ends and not machine.limit and pc not in machine.ends else ENDED, pc)
 
     def run_alone(self, hart: int) -> Iterator[Work]:
-        """Runs a hart alone from the first state of the component until the hart returns to this state; yields it after each step. Raises
-        RvlookError if the hart does not return."""
+        """Runs a hart alone from the component's first state back to it; yields it after each step. Raises RvlookError without a return."""
         work, loop = Work(self.machine, self.state, hart), self.loop(hart)
         start = full_state(work)
         max_steps = loop.length if loop and hart not in self.moves else sum(move.steps for move in self.moves[hart])
@@ -180,8 +179,7 @@ class Component:
         raise RvlookError("hart %d does not return to its state in the endless loop at %08x" % (hart, work.pc))
 
     def values(self, outcome: Sequence[Observed]) -> tuple[dict[tuple[Value, ...], OutcomeState], bool]:
-        """Returns the sets of values that hold again and again, each with a vertex, the state and the schedule from the vertex to it; and
-        whether some may be missing."""
+        """Returns the recurring sets of values, each with a vertex, a state and the schedule between them; and whether some may be missing."""
         machine = self.machine
         found: dict[tuple[Value, ...], OutcomeState] = {}
         for vertex in self.vertices:

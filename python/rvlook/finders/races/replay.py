@@ -33,8 +33,7 @@ class Replays:
         return [it.decode() for it in bench.replies_to(self.commands)]
 
     def check_all(self, ends: Sequence[FinalState], jobs: int) -> Iterator[int]:
-        """Replays final states in `jobs` processes; yields the index of each after its replay. Raises RvlookError if the bench comes to another
-        state."""
+        """Replays final states in `jobs` processes; yields the index of each. Raises RvlookError if the bench comes to another state."""
         if jobs > 1 and len(ends) > 1:
             with self.machine.bench_after_script() as bench:
                 self.rows = self.ram(bench)  # once, for all processes

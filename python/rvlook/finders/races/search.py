@@ -151,7 +151,7 @@ class Graph:
     moves: dict[MoveKey, Move | None] = field(default_factory=dict)  # None: the hart stops
     loops: dict[tuple[CachedState, int], Loop] = field(default_factory=dict)  # by state and hart: endless loops that no other hart can affect
     unended_in_move: set[tuple[CachedState, int]] = field(default_factory=set)  # states in which a hart was given up within a move
-    unended_alone: set[tuple[CachedState, int]] = field(default_factory=set)  # states in which a hart was given up after MOST_ALONE moves
+    unended_alone: set[tuple[CachedState, int]] = field(default_factory=set)  # states in which a hart was given up after MAX_MOVES_ALONE moves
 
 
 class SearchBounds(NamedTuple):
@@ -336,8 +336,7 @@ class ScheduleSearch:
         return self.timer_move(state, hart, schedule) if is_timer else self.hart_move(state, hart, schedule)
 
     def timer_move(self, state: CachedState, hart: int, schedule: Schedule) -> Move | None:
-        """Sets the timer interrupt pending; returns the move, or None. Under the monitor this matters only to enclaves, and stops one before its
-        next instruction."""
+        """Returns the move of a timer interrupt, or None. Under the monitor only an enclave is interrupted, before its next instruction."""
         work = Work(self.machine, state, hart)
         world = work.hart_context.world
         if world == "host" or work.hart_context.is_timer_pending or self.machine.is_over(work):
@@ -397,8 +396,7 @@ class ScheduleSearch:
         return Move(state_after, work.done, dependent, has_changes)
 
     def run_to_loop_state(self, state: CachedState, work: Work, length: int, first: int, schedule: Schedule) -> Work:
-        """Runs a hart in an endless loop to the state that represents the loop, and records the loop. The search then treats all states of the loop
-        as one."""
+        """Runs a hart in an endless loop to the state that represents all states of the loop, and records the loop."""
         loop, loop_state = loop_of(self.machine, work, length, schedule)
         arrived = first_arrival(self.machine, state, work, loop_state, first)
         self.graph.loops[arrived.cached_state()._replace(steps=()), work.hart] = loop

@@ -209,8 +209,7 @@ class RacesOptions(NamedTuple):
 
 
 def find_races(run: Run, options: RacesOptions) -> RacesReport:
-    """Searches all orders, and replays the final states. Writes their inputs if the options have a folder. Raises Unfinished if the program cannot be
-    searched."""
+    """Searches all orders, replays the final states, and writes them to the folder of the options. Raises Unfinished if no search is possible."""
     symbols = run.setup.symbols
     conditions = [condition_of(it, symbols) for it in options.forbid]
     outcome = outcomes_of(options.outcome, conditions, run, options.symbols)
@@ -295,8 +294,7 @@ def completed(report: RacesReport, options: RacesOptions) -> RacesReport:
 
 
 def note(findings: ReportedCases, report: RacesReport) -> None:
-    """Notes what counts as found: with --forbid the ends that are forbidden, else each end but the first, and each in which a hart does
-    not come to its end."""
+    """Notes the findings: final states that --forbid names; without it all but the first, and those in which a hart does not end."""
     for story in report.stories if not report.conditions else ():
         findings.add("final state %d" % story.end.number, story.heading() if report.is_finding(story) else "")
     for condition, end in report.bad:
