@@ -146,11 +146,11 @@ def shrunk_of(items, is_different, name="x1"):
     """Shrinks a list of numbers in place of items; a run differs if `is_different` accepts the numbers."""
     from rvlook.monitors import conform
     from rvlook.monitors.comparison import MonitorDifference, DifferenceKind
-    from rvlook.monitors.pair import Played, PairStep
+    from rvlook.monitors.pair import PlayedScript, PairStep
 
     def played(numbers):
         different = [MonitorDifference(DifferenceKind.register, is_different(numbers), "0", "1")] if is_different(numbers) else []
-        return Played("test", [PairStep(it, "host", "") for it in numbers], different)
+        return PlayedScript("test", [PairStep(it, "host", "") for it in numbers], different)
 
     original = conform.play
     conform.play = lambda setup, script, numbers, memory: played(numbers)

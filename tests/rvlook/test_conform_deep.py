@@ -81,10 +81,10 @@ def test_ram_that_is_given_is_that_of_all_scripts(tmp_path):
 def test_report_of_a_long_script_shows_its_ends():
     from rvlook.monitors.conform_text import DifferenceReport
     from rvlook.monitors.items import call
-    from rvlook.monitors.pair import Played, PairStep
+    from rvlook.monitors.pair import PlayedScript, PairStep
     from rvlook.output.printer import Printer
     stream = io.StringIO()
-    DifferenceReport(None, None, Printer(stream=stream), None).show_items(Played("test", [PairStep(call(n), "host", "") for n in range(100, 200)]))
+    DifferenceReport(None, None, Printer(stream=stream), None).show_items(PlayedScript("test", [PairStep(call(n), "host", "") for n in range(100, 200)]))
     lines = stream.getvalue().splitlines()
     assert len(lines) == 41 and lines[20] == "  ... 60 items"
     assert (lines[0].split(), lines[19].split(), lines[21].split(), lines[-1].split()) == tuple(

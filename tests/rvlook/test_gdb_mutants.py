@@ -9,7 +9,7 @@ MUTANTS = (
            "test_gdb_stops.py::test_continue_halts_at_each_break_and_watch[count]"),
     Mutant("reverse_continue_goes_to_the_first_stop", "gdb/reverse.py", "position, halt = halts[-1]", "position, halt = halts[0]",
            "test_gdb_stops.py::test_continue_halts_at_each_break_and_watch[count]"),
-    Mutant("edits_are_not_replayed", "protocol/timeline.py", "if first < at <= end:", "if False:", "test_gdb_edits.py::test_edit_is_replayed_at_its_step"),
+    Mutant("edits_are_not_replayed", "protocol/timeline.py", "if first < position <= end:", "if False:", "test_gdb_edits.py::test_edit_is_replayed_at_its_step"),
     Mutant("breakpoint_is_written_to_memory", "gdb/stops.py", "        if conditions:\n",
            "        timeline.do_all(['poke %x %s' % (at + n, it) for n, it in enumerate(('73', '00', '10', '00'))])\n        if conditions:\n",
            "test_gdb_server.py::test_breakpoints_write_no_byte"),

@@ -22,9 +22,9 @@ from rvlook.finders.inputs.objects import NOTHING, OUTSIDE, UNUSED, WINDOW, Obje
 from rvlook.finders.inputs.trace import TraceProbe, Probes  # noqa: E402
 from rvlook.finders.inputs.values import HostRequest, reordered  # noqa: E402
 from rvlook.finders.inputs.search import InputSearch  # noqa: E402
-from rvlook.finders.inputs.secret_rules import known_states, versions  # noqa: E402
-from rvlook.finders.inputs.trace import LEFT, Change, Trace, TraceVisit, runs_of  # noqa: E402
-from rvlook.finders.inputs.values import with_change, words_of  # noqa: E402
+from rvlook.finders.inputs.secret_rules import stored_states, versions  # noqa: E402
+from rvlook.finders.inputs.trace import NO_PC, Change, Trace, TraceVisit, runs_of  # noqa: E402
+from rvlook.finders.inputs.values import with_change, word_inputs  # noqa: E402
 from rvlook.image.variables import Local, Member, Variables, places_of, signed, variables_of  # noqa: E402
 from rvlook.protocol.reader import values_of  # noqa: E402
 from rvlook.protocol.replies import Enclave  # noqa: E402
@@ -93,7 +93,7 @@ def test_steps_of_an_earlier_trace_are_those_that_are_added_one_by_one(search, m
     monkeypatch.setattr(tracer, "take", lambda trace, *more: (taken.append((trace.context, *more)), type(tracer).take(tracer, trace, *more)))
     for child in list(it.root.children)[:40]:
         tracer.child(it.base, child.index, child.changes)
-    assert sum(part.added is not None for _, part, _, _ in taken) > 10
+    assert sum(part.last_added is not None for _, part, _, _ in taken) > 10
 
     def check(context, part, first, registers):
         found, wanted = Trace(context=context), Trace(context=context)
@@ -108,7 +108,7 @@ def test_steps_of_an_earlier_trace_are_those_that_are_added_one_by_one(search, m
         check(next(other for other in range(9) if other != context), part, first, registers)
         check(context, part, first, registers.replace(b"=8002", b"=8003"))
         check(context, part, first, registers)
-        for used in set(part.added.trace.contexts) & tracer.contexts.frames.keys():
+        for used in set(part.last_added.trace.contexts) & tracer.contexts.frames.keys():
             tracer.contexts.frames[used] += 16
         check(context, part, first, registers)
 
@@ -175,14 +175,15 @@ def test_objects_are_named(objects):
     it, inner = objects
     names = {0x80020ee8: "part in inner", 0x80020ef0: "the frame of inner", 0x80020ef4: "sum in inner", 0x80020efc: "the saved registers of inner",
              0x80020f04: "the frame of outer", 0x80020804: "user.name", 0x80020808: "user.is_admin", 0x80020110: "outer"}
-    assert {at: it.at(at, inner, 0x80020210).name for at in names} == names
-    assert it.at(0x80030010, inner, 0) is WINDOW and it.at(0x80010000, inner, 0) is OUTSIDE and it.at(0x80020e00, inner, 0x80020210) is UNUSED
-    assert it.at(0x80020010, inner, 0) is NOTHING
+    assert {at: it.object_at(at, inner, 0x80020210).name for at in names} == names
+    assert it.object_at(0x80030010, inner, 0) is WINDOW and it.object_at(0x80010000, inner, 0) is OUTSIDE
+    assert it.object_at(0x80020e00, inner, 0x80020210) is UNUSED
+    assert it.object_at(0x80020010, inner, 0) is NOTHING
 
 
 def test_place_knows_its_variable_and_whether_it_is_an_array(objects):
     it, inner = objects
-    assert it.at(0x80020800, inner, 0)[1:] == ("user", True) and it.at(0x80020808, inner, 0)[1:] == ("user", False)
+    assert it.object_at(0x80020800, inner, 0)[1:] == ("user", True) and it.object_at(0x80020808, inner, 0)[1:] == ("user", False)
 
 
 def test_probes_show_the_first_difference_of_the_path_and_each_of_an_access():
@@ -191,11 +192,11 @@ def test_probes_show_the_first_difference_of_the_path_and_each_of_an_access():
                    b"ran 3 pc=80010000 mode=S", b"x10=00000001", b"x11=00000002"]
     assert it.text_from(1, 12) == (b"step 2\nstep 2\nreg 6\nreg 7\nstep 3\nreg 10\nreg 11\n", 7)
     same = it.compare(1, [b"ran 2 pc=80020010 mode=U", *it.expected[3:]])
-    assert (same.end, same.changed, same.answers) == (None, {}, {})
+    assert (same.end, same.changed_accesses, same.changed_answers) == (None, {}, {})
     other = it.compare(0, [*it.expected[:4], b"x6=00000009", *it.expected[5:8], b"x11=00000007"])
-    assert (other.end, other.changed, other.answers) == (None, {5: [9, 3]}, {7: (1, 7)})
+    assert (other.end, other.changed_accesses, other.changed_answers) == (None, {5: [9, 3]}, {7: (1, 7)})
     left = it.compare(0, [*it.expected[:3], b"ran 2 pc=80020020 mode=U", *it.expected[4:]])
-    assert (left.end, left.changed) == (3, {})
+    assert (left.end, left.changed_accesses) == (3, {})
     it = Probes([TraceProbe(3, 14, b"reg 10\nreg 11\n", True), TraceProbe(4, 20)])
     it.expected = [b"x0=00000000", b"x10=00000001", b"x11=00000002", b"ran 6 pc=80020018 mode=U"]
     assert it.compare(0, [*it.expected[:3], b"ran 6 pc=8001001c mode=S"]).end == 4
@@ -206,7 +207,7 @@ def test_trace_knows_where_the_enclave_leaves():
     trace.pcs.extend([4, 8, 12])
     trace.visits = [TraceVisit(0, 1, "stop", (1, 2)), TraceVisit(2)]
     trace.next_pc = 16
-    assert [trace.following(n) for n in range(3)] == [8, LEFT, 16] and [trace.visit_at(n) for n in range(3)] == [0, 0, 1]
+    assert [trace.following(n) for n in range(3)] == [8, NO_PC, 16] and [trace.visit_at(n) for n in range(3)] == [0, 0, 1]
 
 
 def test_change_of_the_same_bytes_replaces_the_older_one():
@@ -217,13 +218,13 @@ def test_change_of_the_same_bytes_replaces_the_older_one():
 
 def test_bytes_that_are_loaded_one_by_one_make_words():
     content = {0x80030002 + n: n for n in range(12)}
-    found = list(words_of(content, {at: at - 0x80030002 for at in content}, 0, 3))
+    found = list(word_inputs(content, {at: at - 0x80030002 for at in content}, 0, 3))
     assert [(it.at, it.value, it.start) for it in found] == [(0x80030004, b"\2\3\4\5", 2), (0x80030008, b"\6\7\x08\x09", 6)]
 
 
 def test_states_are_found_at_another_address_and_in_each_version():
     old, new = dict(enumerate(b"state 1x", 0x80030040)), dict(enumerate(b"state 2x", 0x80030040))
-    (known, size), = known_states(0x80030040, b"..state 2x", [new])
+    (known, size), = stored_states(0x80030040, b"..state 2x", [new])
     assert (known.offset, known.at, size) == (2, 0x80030040, 8)
     loads = [dict(enumerate(b"..state 0x", 0x80030000))]
     assert list(versions([old, new], loads, known, 0x80030000, 8)) == [(b"state 1x", 0), (b"state 2x", 1), (b"state 0x", None)]
@@ -321,7 +322,7 @@ def test_races_start_after_the_input_of_a_finding(rvlook, tmp_path):
 
 def known_parts(first, data, at, value):
     """The parts of loaded bytes that an earlier activation stored: offset, address and size."""
-    return [(place.offset, place.at, size) for place, size in known_states(first, data, [{at + n: it for n, it in enumerate(value)}])]
+    return [(place.offset, place.at, size) for place, size in stored_states(first, data, [{at + n: it for n, it in enumerate(value)}])]
 
 
 def test_small_number_is_a_state_only_where_it_was_stored():

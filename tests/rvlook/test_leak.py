@@ -105,11 +105,11 @@ def test_first_pair_with_equal_answers_is_shown(rvlook):
 
 def test_pair_with_equal_answers_is_shown_before_one_with_others(monkeypatch):
     shown, lines = [], []
-    monkeypatch.setattr(leak_text, "pair_text", lambda leak, printer, pair: shown.append(pair.found))
+    monkeypatch.setattr(leak_text, "pair_text", lambda leak, printer, pair: shown.append(pair.result))
     leak, printer = SimpleNamespace(channels=("pc", "answer")), SimpleNamespace(line=lines.append)
-    pairs = {number: leak_text.Compared(number, (), False, (), channels, "pair %d" % number, ())
+    pairs = {number: leak_text.ComparedPair(number, (), False, (), channels, "pair %d" % number, ())
              for number, channels in ((1, ("pc", "answer")), (2, ("pc",)))}
-    leak_text.print_result(leak, printer, leak_text.Tried([*pairs.values()]), pairs, set())
+    leak_text.print_result(leak, printer, leak_text.TriedPairs([*pairs.values()]), pairs, set())
     assert shown == ["pair 2"] and lines[0] == "pair 2 of 2, the first that differs with the same answer"
 
 

@@ -197,8 +197,8 @@ def test_search_is_bounded_on_the_attacker_after_some_nops(final_states):
 
 def test_hart_that_counts_forever_makes_the_result_incomplete(final_states, monkeypatch):
     from rvlook.finders.races import machine as races_machine, search as races
-    monkeypatch.setattr(races, "MOST_ALONE", 20)
-    monkeypatch.setattr(races_machine, "AHEAD", 64)
+    monkeypatch.setattr(races, "MAX_MOVES_ALONE", 20)
+    monkeypatch.setattr(races_machine, "MAX_RUN_STEPS", 64)
     search, ends = final_states(model.image_of(model.linked(VICTIMS["one load"], COUNTS)), *WATCHED, steps=200)
     assert not search.is_whole()
     assert {it.values[1] for it in ends.ends if it.harts[0][0] == "ended"} >= set(range(10))
@@ -237,7 +237,7 @@ def test_bound_of_preemptions_keeps_the_final_states_that_need_none(final_states
 
 def test_search_without_a_time_limit_is_bounded(final_states, monkeypatch):
     from rvlook.finders.races import search as races
-    monkeypatch.setattr(races, "MOST_STATES", 3)
+    monkeypatch.setattr(races, "MAX_STATES", 3)
     search, _ = final_states(model.image_of(model.linked(VICTIMS["one load"], VALUES + [NOP, *STORES, ("jal", 3)])), *WATCHED)
     assert search.why_cut == "the limit of 3 states"
     assert not search.is_whole()

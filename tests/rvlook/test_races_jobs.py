@@ -30,7 +30,7 @@ results_of = parallel.results_of
 
 text.MovesAhead = Counted
 parallel.time = SimpleNamespace(thread_time=lambda: next(seconds))  # each move takes a second, so that each run gives the same nodes away
-parallel.PAUSE, parallel.LEAST = 1, 0
+parallel.FIRST_PAUSE, parallel.MIN_SECONDS_PER_MOVE = 1, 0
 %s
 status = main(sys.argv[1:])
 print(sum(it.taken for it in made), file=sys.stderr)

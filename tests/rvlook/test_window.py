@@ -121,7 +121,7 @@ def test_rows_name_the_fields_of_the_window(rvlook, built, tmp_path):
 
 def reread_rows(pairs, lines=()):
     """The rows of bytes that pairs of instructions load again, by offset."""
-    found = {at: Byte(again=dict.fromkeys(several, True)) for at, several in pairs.items()}
+    found = {at: Byte(repeated_loads=dict.fromkeys(several, True)) for at, several in pairs.items()}
     return [(it.first, it.size, it.pcs) for it in reread(found, Symbols((), [Unit(ALL, lambda: lines)]))]
 
 

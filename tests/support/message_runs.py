@@ -25,7 +25,7 @@ class Forgetful(dict):
         return None
 decode_step = machine.RaceMachine.decode_step
 def forgetful(self, *more):
-    self.known = Forgetful(self.known)
+    self.results = Forgetful(self.results)
     return decode_step(self, *more)
 machine.RaceMachine.decode_step = forgetful
 """

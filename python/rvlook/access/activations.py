@@ -33,8 +33,7 @@ class Operation(NamedTuple):
 
 @dataclass
 class Activation:
-    """An activation: an enclave on a hart, from its first step to the one that leaves it. An index counts the steps of the enclave from
-    0."""
+    """An activation: an enclave on a hart, from its first step to the step that leaves it. An index counts its steps from 0."""
     world: str  # the enclave, such as `e0`; `bare` on the bare bench
     hart: int  # on which it runs
     first: int  # number of its first step
@@ -61,20 +60,19 @@ class Activation:
 
 
 def access_of(line: bytes) -> Need[MemoryOperand] | None:
-    """Returns the access of the instruction in a reply of `dis`, with the registers of its address and its stored value. Returns None for an
-    instruction without an access."""
+    """Returns the access in a reply of `dis`, with the registers of its address and its stored value; None for an instruction without one."""
     instruction = instruction_of(line)
     memory = instruction.memory if instruction else None
     return (memory, (memory.base, memory.register) if memory.kind == "w" else (memory.base,), False) if memory else None
 
 
 def operands_of(line: bytes) -> Need[MemoryOperand] | None:
-    """Returns what `access_of` returns. For a division returns its two operands, as an access of the kind `d`."""
+    """Returns the access as `access_of` does; for a division its two operands, as an access of the kind `d`."""
     instruction = instruction_of(line)
     if instruction is None or instruction.name not in DIVISIONS:
         return access_of(line)
-    _, one, two = instruction.operands
-    return MemoryOperand("d", width=0, base=one, offset=0, register=two), (one, two), False
+    _, dividend, divisor = instruction.operands
+    return MemoryOperand("d", width=0, base=dividend, offset=0, register=divisor), (dividend, divisor), False
 
 
 @lru_cache(maxsize=65536)
@@ -107,38 +105,38 @@ class Activations:
                         yield from self.take(part, reader)
             for activation in (it for it in self.open if it):
                 assert self.end is not None
-                yield self.closed(activation, self.end.steps, None, "none")
+                yield self.complete(activation, self.end.steps, pc=None, ended_by="none")
 
     def take(self, part: Stretch, reader: Reader[MemoryOperand]) -> Iterator[Activation]:
         """Takes steps in one world; yields the activation that ends with them."""
         hart, world, after = part.hart, part.before[2].decode(), part.last[2].decode()
         if world.startswith("e") or not self.run.setup.monitor:
-            activation = self.open[hart] or self.opened(world, hart, max(self.start, part.first - 1))
+            activation = self.open[hart] or self.begin_activation(world, hart, max(self.start, part.first - 1))
             extend(activation, part, reader.read(part))
             self.open[hart] = activation if after == world else None
             if after != world:
-                yield self.closed(activation, part.first + part.count - 1, int(part.columns.pcs[-1], 16))
+                yield self.complete(activation, part.first + part.count - 1, int(part.columns.pcs[-1], 16))
         self.worlds[hart] = after
 
     @staticmethod
-    def entered(worlds: Iterable[bytes], after: Iterable[bytes]) -> list[str]:
-        """Returns the worlds that steps entered."""
-        return [now.decode() for was, now in zip(worlds, after) if now != was and now.startswith(b"e")]
+    def entered(worlds: Iterable[bytes], worlds_after: Iterable[bytes]) -> list[str]:
+        """Returns the enclaves that steps entered."""
+        return [after.decode() for before, after in zip(worlds, worlds_after) if after != before and after.startswith(b"e")]
 
     # ---- begin and end of an activation
 
-    def opened(self, world: str, hart: int, step: int) -> Activation:
+    def begin_activation(self, world: str, hart: int, step: int) -> Activation:
         """Returns an activation that begins after a step."""
         self.numbers[world] += 1
-        enclave, before = self.seen(world, step)
+        enclave, before = self.table_and_window(world, step)
         activation = Activation(world, hart, step + 1, self.numbers[world], enclave, before=before)
         activation.table = tuple(map(enclave_of, self.viewer.bench.ask("enclaves")[0]))
         activation.others = tuple(it for number, it in enumerate(self.worlds) if number != hart)
         return activation
 
-    def closed(self, activation: Activation, step: int, pc: int | None, ended_by: str | None = None) -> Activation:
+    def complete(self, activation: Activation, step: int, pc: int | None, ended_by: str | None = None) -> Activation:
         """Completes an activation that ends with a step, and returns it."""
-        _, activation.after = self.seen(activation.world, step, activation.enclave)
+        _, activation.after = self.table_and_window(activation.world, step, activation.enclave)
         activation.last, activation.pc, activation.ended_by = step, pc, ended_by or ""
         if ended_by is None:
             before, after = map(self.run.setup.choice, (activation.hart, self.viewer.hart))
@@ -146,15 +144,15 @@ class Activations:
             activation.ended_by, activation.answer = ENDED_BY.get(values[10], "?"), (values[10], values[11])
         return activation
 
-    def seen(self, world: str, step: int, enclave: Enclave | None = None) -> tuple[Enclave, bytes]:
+    def table_and_window(self, world: str, step: int, enclave: Enclave | None = None) -> tuple[Enclave, bytes]:
         """Returns the table entry of an enclave and the bytes of its window after a step."""
         bench = self.viewer.bench
         *_, table = bench.ask(*self.viewer.lines_to(step), "enclaves")
-        found = next((it for it in map(enclave_of, table) if it.world == world), enclave or self.whole(world))
-        assert found is not None
-        return found, bench.memory(found.window, found.window_size)
+        entry = next((it for it in map(enclave_of, table) if it.world == world), enclave or self.bare_region(world))
+        assert entry is not None
+        return entry, bench.memory(entry.window, entry.window_size)
 
-    def whole(self, world: str) -> Enclave | None:
+    def bare_region(self, world: str) -> Enclave | None:
         """Returns all of RAM in place of the region of an enclave, for a bare run; None for an enclave that is not live."""
         ram = self.run.setup.ram
         return Enclave(0, "Running", RAM_BASE, ram, window=0, window_size=0, entry=RAM_BASE, measurement="") if world == BARE else None
@@ -167,9 +165,9 @@ def extend(activation: Activation, part: Stretch, reads: Reads[MemoryOperand]) -
     activation.steps.extend(range(part.first, part.first + part.count))
     if columns.traps.count(NO_TRAP) < part.count:
         activation.traps.update([(begin_at + n, it) for n, it in enumerate(columns.traps) if it != NO_TRAP])
-    found = operations_of(part, reads)
-    activation.operations += found
-    activation.operations_at.extend([begin_at - part.first + it.step for it in found])
+    operations = operations_of(part, reads)
+    activation.operations += operations
+    activation.operations_at.extend([begin_at - part.first + it.step for it in operations])
 
 
 def operations_of(part: Stretch, reads: Reads[MemoryOperand]) -> list[Operation]:

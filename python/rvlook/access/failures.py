@@ -25,18 +25,18 @@ from rvlook.protocol.schedule import turns_of
 from rvlook.protocol.symbols import Symbols
 from rvlook.protocol.timeline import Line, steps_within
 
-PART = 1 << 16  # steps between two looks at the counters
-PARTS = 16  # parts in one exchange
-MOST = 100000  # failures after which the scan ends: a handler that fails itself traps at each step
+STEPS_PER_PART = 1 << 16  # steps between two reads of the counters
+PARTS_PER_EXCHANGE = 16  # parts in one exchange
+MAX_FAILURES = 100000  # failures after which the scan ends: a handler that fails itself traps at each step
 COUNTERS = ("csr b00", "csr b02", "csr 320")  # mcycle, minstret and mcountinhibit
 TRAPPED = re.compile(rb"trap=[0-9a-f]")
-ILLEGAL = "00000002"
+ILLEGAL, INTERRUPT = "00000002", "8"  # a cause; the first digit of the cause of each interrupt
 ECALLS = ("00000008", "00000009", "0000000b")
 A0, READ, REGISTERS = 10, (10, 16, 17), 32  # the status of a call; that, its number and its key; all registers
-MASK = 0xFFFFFFFF
-MOST_SHOWN = 20  # failures that are printed; each of them counts
+WORD_MASK = 0xFFFFFFFF
+MAX_SHOWN = 20  # failures that are printed; each of them counts
 CAUSES = [name for cause, name in names.CAUSES.items() if cause[0] == "0" and not name.startswith("ecall")]
-KNOWN = {it.lower(): it for it in (*names.STATUSES.values(), *CAUSES, *names.MARKS.values())}
+FAILURE_NAMES = {it.lower(): it for it in (*names.STATUSES.values(), *CAUSES, *names.MARKS.values())}
 
 
 class Turn(NamedTuple):
@@ -73,11 +73,11 @@ class Failure:
 
 def failures_of(run: Run, schedule: str, steps: int) -> list[Failure]:
     """Returns the failures in the first steps of a run, by step; `schedule` orders the steps of two harts after the script. Failures of one
-    instruction with the same name are one. The scan ends after MOST of them."""
+    instruction with the same name are one. The scan ends after MAX_FAILURES of them."""
     found: dict[tuple[object, ...], Failure] = {}
     with run.setup.bench() as leader, run.setup.bench() as follower, run.setup.bench() as reader:
-        scan = Scan(run, Lagging(leader), Lagging(follower), Lagging(reader))
-        for failure in itertools.islice(scan.failures(parts_of(turns(run, schedule, steps))), MOST):
+        scan = Scan(run, LaggingBench(leader), LaggingBench(follower), LaggingBench(reader))
+        for failure in itertools.islice(scan.failures(parts_of(turns(run, schedule, steps))), MAX_FAILURES):
             old = found.get(failure.key)
             found[failure.key] = failure if old is None else replace(old, count=old.count + 1)
     return sorted(found.values(), key=lambda it: it.step)
@@ -88,35 +88,36 @@ def turns(run: Run, schedule: str, left: int) -> Iterator[Turn]:
     pending: list[str] = []
     for item in run.plan:
         if isinstance(item, Line):
-            pending += [item.text] if item.changes_state else []
+            if item.changes_state:
+                pending.append(item.text)
             continue
         for hart, count in steps_within(item, 0, left).by_hart():
             yield Turn((*pending, *run.setup.choice(hart)), hart, count)
             pending, left = [], left - count
-    tail = turns_of(schedule) if schedule else iter(lambda: (run.hart, PART), None)
+    tail = turns_of(schedule) if schedule else iter(lambda: (run.hart, STEPS_PER_PART), None)
     while left > 0:
         hart, count = next(tail)
         yield Turn((*pending, *run.setup.choice(hart)), hart, min(count, left))
         pending, left = [], left - count
 
 
-def parts_of(every: Iterable[Turn]) -> Iterator[list[Turn]]:
-    """Yields turns in parts of at most PART steps; splits turns that are longer."""
+def parts_of(turns_of_run: Iterable[Turn]) -> Iterator[list[Turn]]:
+    """Yields turns in parts of at most STEPS_PER_PART steps; splits turns that are longer."""
     part: list[Turn] = []
-    room = PART
-    for turn in every:
+    room = STEPS_PER_PART
+    for turn in turns_of_run:
         while turn.steps > room:
             part.append(turn._replace(steps=room))
             turn = Turn((), turn.hart, turn.steps - room)
             yield part
-            part, room = [], PART
+            part, room = [], STEPS_PER_PART
         part.append(turn)
         room -= turn.steps
     if part:
         yield part
 
 
-class Lagging:
+class LaggingBench:
     """A bench that does the parts of a run. Parts that it skips are done before the next one that it examines."""
 
     def __init__(self, bench: Bench) -> None:
@@ -125,11 +126,10 @@ class Lagging:
 
     def skip(self, part: Sequence[Turn]) -> None:
         """Skips a part."""
-        self.skipped += whole(part)
+        self.skipped += full_speed_commands(part)
 
     def ask(self, commands: Sequence[str]) -> list[bytes]:
-        """Runs the commands of the skipped parts and then these commands; returns the replies to these commands. Each command has a reply of one
-        line."""
+        """Runs the commands of the skipped parts and then these, each with a reply of one line; returns the replies to these."""
         return self.block("".join(it + "\n" for it in commands).encode(), len(commands)).split(b"\n")[:-1]
 
     def block(self, text: bytes, count: int) -> bytes:
@@ -139,7 +139,7 @@ class Lagging:
         return self.bench.block(text, count) if count else b""
 
 
-def whole(part: Sequence[Turn]) -> list[str]:
+def full_speed_commands(part: Sequence[Turn]) -> list[str]:
     """Returns the commands of a part at full speed."""
     return [line for it in part for line in (*it.commands, *(["step %d" % it.steps] if it.steps else []))]
 
@@ -147,7 +147,7 @@ def whole(part: Sequence[Turn]) -> list[str]:
 class Scan:
     """A scan of a run with three benches."""
 
-    def __init__(self, run: Run, leader: Lagging, follower: Lagging, reader: Lagging) -> None:
+    def __init__(self, run: Run, leader: LaggingBench, follower: LaggingBench, reader: LaggingBench) -> None:
         self.leader, self.follower, self.reader = leader, follower, reader  # `follower` and `reader` lag behind `leader`
         self.harts = range(run.setup.harts)  # their numbers
         self.locations = [Location(run.pc, run.mode, run.world) for _ in self.harts]  # where each hart is
@@ -156,10 +156,10 @@ class Scan:
 
     def failures(self, parts: Iterator[list[Turn]]) -> Iterator[Failure]:
         """Yields each failure in the order of steps."""
-        while several := list(itertools.islice(parts, PARTS)):
-            replies = iter(self.leader.ask([line for part in several for line in [*whole(part), *self.queries(part)]]))
-            for part in several:
-                ran = [next(replies) for _ in whole(part)]
+        while batch := list(itertools.islice(parts, PARTS_PER_EXCHANGE)):
+            replies = iter(self.leader.ask([line for part in batch for line in [*full_speed_commands(part), *self.queries(part)]]))
+            for part in batch:
+                ran = [next(replies) for _ in full_speed_commands(part)]
                 if self.is_quiet([next(replies) for _ in self.queries(part)]):
                     self.follower.skip(part)
                     self.reader.skip(part)
@@ -177,7 +177,7 @@ class Scan:
     def is_quiet(self, replies: Sequence[bytes]) -> bool:
         """Returns whether no step of a part trapped, by the replies to the queries after it."""
         values = [int(it[8:], 16) for it in replies if it.startswith(b"csr ")]
-        before, self.traps = self.traps, [cycles - retired & MASK for cycles, retired in zip(values[::3], values[1::3])]
+        before, self.traps = self.traps, [cycles - retired & WORD_MASK for cycles, retired in zip(values[::3], values[1::3])]
         return before == self.traps and not any(values[2::3])
 
     def take(self, part: Sequence[Turn], replies: Sequence[bytes]) -> list[Location]:
@@ -197,18 +197,18 @@ class Scan:
         calls = [it for it in trapped if it.ran.trap and it.ran.trap.cause == names.ECALL_FROM_S and it.ran.world == it.at.world != "bare"]
         refused = dict(zip(calls, self.refused(part, position, calls)))
         for trap in trapped:
-            found = refused[trap] if trap in refused else trap_of(trap)
-            if found:
-                yield found
+            failure = refused[trap] if trap in refused else trap_of(trap)
+            if failure:
+                yield failure
 
     def refused(self, part: Sequence[Turn], position: int, calls: Sequence[Trapped]) -> list[Failure | None]:
         """Returns for each call of a part the failure, or None if the monitor accepted it. Reads its registers right after its step."""
         if not calls:
             self.reader.skip(part)
             return []
-        commands, wanted = [], [it.step for it in calls]
+        commands, call_steps = [], [it.step for it in calls]
         for turn in part:
-            commands += [*turn.commands, *reading(turn, position, wanted)]
+            commands += [*turn.commands, *commands_reading(turn, position, call_steps)]
             position += turn.steps
         values = register_values(it for it in self.reader.ask(commands) if it.startswith(b"x"))
         registers = [dict(zip(READ, values[at:])) for at in range(0, len(values), len(READ))]
@@ -216,14 +216,13 @@ class Scan:
 
 
 def trapped_in(part: Sequence[Turn], block: bytes, position: int, starts: Sequence[Location]) -> Iterator[Trapped]:
-    """Yields the steps that trapped, from the replies to the commands and single steps of a part. `starts` has where the hart of each turn is before
-    it."""
+    """Yields the steps of a part that trapped, from its replies. `starts` has where the hart of each turn is before it."""
     ends = list(itertools.accumulate(len(it.commands) + it.steps for it in part))  # line numbers
     firsts = list(itertools.accumulate((it.steps for it in part), initial=position))  # steps before each turn
     for number, before, line in trapping_lines(block):
-        at = bisect_right(ends, number)
-        offset = number - ends[at] + part[at].steps
-        yield Trapped(firsts[at] + offset + 1, part[at].hart, location_of(before) if offset else starts[at], step_of(line.decode()))
+        index = bisect_right(ends, number)
+        offset = number - ends[index] + part[index].steps
+        yield Trapped(firsts[index] + offset + 1, part[index].hart, location_of(before) if offset else starts[index], step_of(line.decode()))
 
 
 def trapping_lines(block: bytes) -> Iterator[tuple[int, bytes, bytes]]:
@@ -237,10 +236,10 @@ def trapping_lines(block: bytes) -> Iterator[tuple[int, bytes, bytes]]:
         yield number, before, block[start:block.find(b"\n", at)]
 
 
-def reading(turn: Turn, position: int, wanted: Sequence[int]) -> list[str]:
-    """Returns the commands that do a turn from a position, and read the registers after the wanted steps, which are in order."""
+def commands_reading(turn: Turn, position: int, steps: Sequence[int]) -> list[str]:
+    """Returns the commands that do a turn from a position, and read the registers after these steps, which are in order."""
     commands, done = [], 0
-    for step in wanted[bisect_right(wanted, position):bisect_right(wanted, position + turn.steps)]:
+    for step in steps[bisect_right(steps, position):bisect_right(steps, position + turn.steps)]:
         count = step - position
         commands += ["step %d" % (count - done), *("reg %d" % number for number in READ)]
         done = count
@@ -257,7 +256,8 @@ def trap_of(trapped: Trapped) -> Failure | None:
     """Returns the failure of a step that trapped, or None for a call or an interrupt."""
     assert trapped.ran.trap is not None
     cause, value = trapped.ran.trap.cause, trapped.ran.trap.value
-    return None if cause in ECALLS or cause.startswith("8") else Failure(names.trap_name(cause, value), trapped.step, trapped.hart, trapped.at, value)
+    is_call_or_interrupt = cause in ECALLS or cause.startswith(INTERRUPT)
+    return None if is_call_or_interrupt else Failure(names.trap_name(cause, value), trapped.step, trapped.hart, trapped.at, value)
 
 
 def refused_call(step: int, hart: int, at: Location, registers: Sequence[int]) -> Failure | None:
@@ -269,7 +269,7 @@ def refused_call(step: int, hart: int, at: Location, registers: Sequence[int]) -
 
 
 def failure_text(failure: Failure, symbols: Symbols) -> str:
-    """Returns a failure as a line: what failed, where, and how often."""
+    """Returns a failure as a line: its name, place and count."""
     times = ", %d times" % failure.count if failure.count > 1 else ""
     where = (failure.at.mode, failure.at.world, failure.step, place_text(failure.at.pc, symbols) + times)
     if failure.call:
@@ -302,14 +302,14 @@ class Expectation(NamedTuple):
 def expectation_of(text: str, symbols: Symbols) -> Expectation:
     """Parses the value of --expect: a cause or a status, @PLACE, or both. Raises UsageError if the name or the place is unknown."""
     name, _, place = text.partition("@")
-    known = KNOWN.get(" ".join(name.replace("-", " ").lower().split()), "")
-    if not known and (name or not place):
-        near = nearest(name, KNOWN)
-        meant = ", such as '%s'" % KNOWN[near] if near else ""
+    failure_name = FAILURE_NAMES.get(" ".join(name.replace("-", " ").lower().split()), "")
+    if not failure_name and (name or not place):
+        near = nearest(name, FAILURE_NAMES)
+        meant = ", such as '%s'" % FAILURE_NAMES[near] if near else ""
         raise UsageError("invalid --expect '%s' (expected @PLACE or the name of a trap or a status%s)" % (text, meant))
     if place and symbols.address(place) is None:
         raise UsageError("'%s' is neither a hexadecimal address nor a symbol" % place)
-    return Expectation(text, known, place)
+    return Expectation(text, failure_name, place)
 
 
 class FailureReport:
@@ -329,15 +329,15 @@ class FailureReport:
                 self.findings.add(text, text)
             if self.printer.as_json:
                 self.printer.object("failure", **failure_object(failure, self.symbols), expected=is_expected)
-            elif number < MOST_SHOWN and is_expected:
+            elif number < MAX_SHOWN and is_expected:
                 note("expected: " + text)
-            elif number < MOST_SHOWN:
+            elif number < MAX_SHOWN:
                 warn(text)
-        if len(failures) > MOST_SHOWN and not self.printer.as_json:
-            warn("%d more traps and refused calls are not shown; use --json" % (len(failures) - MOST_SHOWN))
-        if sum(it.count for it in failures) >= MOST:
-            self.findings.add("all failures", "the search for traps and refused calls ended after %d of them" % MOST)
-            warn("the search for traps and refused calls ended after %d of them" % MOST)
+        if len(failures) > MAX_SHOWN and not self.printer.as_json:
+            warn("%d more traps and refused calls are not shown; use --json" % (len(failures) - MAX_SHOWN))
+        if sum(it.count for it in failures) >= MAX_FAILURES:
+            self.findings.add("all failures", "the search for traps and refused calls ended after %d of them" % MAX_FAILURES)
+            warn("the search for traps and refused calls ended after %d of them" % MAX_FAILURES)
 
     def show_missing(self, failures: Sequence[Failure]) -> None:
         """Reports each expected failure that did not occur as a finding."""

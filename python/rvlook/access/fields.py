@@ -55,20 +55,21 @@ class FieldReader:
 
     def __init__(self, run: Run, parameters: Sequence[Parameter], fields: WindowFields) -> None:
         self.run, self.parameters, self.fields = run, parameters, fields  # `fields` receives the fields that are found
-        self.known: set[int] = set()  # functions
+        self.read_functions: set[int] = set()  # functions whose arguments were read
 
     def read(self, activation: Activation) -> None:
         """Reads the arguments at the first call of each function in an activation."""
-        functions = {it.function for it in self.parameters} - self.known
-        first: dict[int, int] = {}
+        functions = {it.function for it in self.parameters} - self.read_functions
+        first_steps: dict[int, int] = {}
         for pc in (it for it in set(activation.pcs) if it & -4 in functions):
             step = activation.steps[activation.pcs.index(pc)]
-            first[pc & -4] = min(step, first.get(pc & -4, step))
-        for step, function in sorted((step, function) for function, step in first.items()):
-            self.known.add(function)
+            first_steps[pc & -4] = min(step, first_steps.get(pc & -4, step))
+        for step, function in sorted((step, function) for function, step in first_steps.items()):
+            self.read_functions.add(function)
             with self.run.replay() as replay:
                 replay.go(step - 1)
                 for it in (it for it in self.parameters if it.function == function):
-                    value = value_of(replay.bench.ask(*self.run.setup.choice(activation.hart), "reg %d" % (A0 + it.number))[-1][0])
+                    (reply,) = replay.bench.ask(*self.run.setup.choice(activation.hart), "reg %d" % (A0 + it.number))[-1]
+                    value = value_of(reply)
                     if activation.enclave.shares(value):
                         self.fields.add(value, it.members)

@@ -76,7 +76,7 @@ def events(run: Run) -> Iterator[Event | End]:
 
 
 def events_and_refusals(run: Run) -> Iterator[Event | Failure | End]:
-    """Yields what `events` yields, and each call that the monitor refuses."""
+    """Yields the items of `events`, and each call that the monitor refuses."""
     finder = EventFinder(run)
     with run.replay() as replay:
         yield finder.at_reset(replay)
@@ -131,7 +131,7 @@ class EventFinder:
     def at_reset(self, replay: Timeline) -> Event:
         """Returns the event at reset."""
         self.state = self.state_of(replay, [self.run.world] * self.setup.harts)
-        return self.event(0, 0, Cause("reset"), Location(self.run.pc, self.run.mode, self.run.world))
+        return self.event(step=0, hart=0, cause=Cause("reset"), location=Location(self.run.pc, self.run.mode, self.run.world))
 
     def at_step(self, replay: Timeline, step: int, hart: int) -> Event | Failure | None:
         """Returns the event after a step, or a refused call; None if nothing has changed."""
@@ -163,25 +163,23 @@ class EventFinder:
     def event(self, step: int, hart: int, cause: Cause, location: Location) -> Event:
         """Returns the event after step `step`, in the present state. `location` is the pc before the step, and mode and world after it."""
         columns = self.columns()
-        return Event(step, hart, cause.name, cause.slot, cause.status, cause.text, *location, self.state.enclaves, columns,
-                     tuple(self.rows(columns)))
+        return Event(step, hart, cause.name, cause.slot, cause.status, cause.text, *location, self.state.enclaves, columns, tuple(self.rows(columns)))
 
     def columns(self) -> tuple[Column, ...]:
         """Returns a column for the world of each hart, and one for each world that runs on no hart."""
         worlds = self.state.worlds
-        shown = [Column("hart %d: %s" % (hart, world) if len(worlds) > 1 else world, world, hart)
-                 for hart, world in enumerate(worlds)]
+        running = [Column("hart %d: %s" % (hart, world) if len(worlds) > 1 else world, world, hart) for hart, world in enumerate(worlds)]
         live = ["host"] + [it.world for it in self.state.enclaves] if self.setup.monitor else []
-        return tuple(shown + [Column(world, world, None) for world in live if world not in worlds])
+        return tuple(running + [Column(world, world, hart=None) for world in live if world not in worlds])
 
     def rows(self, columns: Sequence[Column]) -> Iterator[Row]:
         """Yields the ranges between all boundaries: those of the PMP entries, and those of the table of enclaves."""
         by_hart = [self.verdicts[lines] for lines in self.state.entries]
-        cuts = table_boundaries(self.state.enclaves, self.setup.ram) if self.setup.monitor else set()
+        ends = table_boundaries(self.state.enclaves, self.setup.ram) if self.setup.monitor else set()
         for verdicts in by_hart:
-            cuts.update(it.range.first for it in verdicts)
-            cuts.add(verdicts[-1].range.end)
-        boundaries = sorted(cuts)
+            ends.update(it.range.first for it in verdicts)
+            ends.add(verdicts[-1].range.end)
+        boundaries = sorted(ends)
         starts = [[it.range.first for it in verdicts] for verdicts in by_hart]
         for first, end in zip(boundaries, boundaries[1:]):
             may: dict[str, dict[str, str]] = {}
@@ -189,14 +187,14 @@ class EventFinder:
                 if column.hart is None:
                     may[column.name] = dict.fromkeys(self.setup.modes, derived_rights(column.world, self.state.enclaves, first))
                 else:
-                    at = bisect_right(starts[column.hart], first) - 1
-                    may[column.name] = by_hart[column.hart][at].may
-            what = meaning(self.state.enclaves, first) if self.setup.monitor else ""
-            yield Row(Range(first, end), what, may)
+                    index = bisect_right(starts[column.hart], first) - 1
+                    may[column.name] = by_hart[column.hart][index].may
+            owner = meaning(self.state.enclaves, first) if self.setup.monitor else ""
+            yield Row(Range(first, end), owner, may)
 
 
 def cause_of(ran: Ran, old: RightsState, hart: int, before: Sequence[int], after: Sequence[int], text: str) -> Cause:
-    """Returns what a step did that changed the access rights."""
+    """Returns the cause of a step that changed the access rights."""
     world = old.worlds[hart]
     if world == "bare":
         return Cause("pmp", text=text)

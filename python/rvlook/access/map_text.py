@@ -103,14 +103,12 @@ def print_brief(printer: Printer, event: Event, before: Event | None, symbols: S
 
 
 def changed_rows(event: Event, before: Event | None) -> list[tuple[Range, str, list[str]]]:
-    """Returns each range in which the access rights of a world change, with its meaning and the changes; without an earlier event all ranges.
-    Adjacent ranges with the same changes are joined."""
+    """Returns each range whose access rights change, with its meaning and changes, joined if alike; all ranges without an earlier event."""
     found: list[tuple[Range, str, list[str]]] = []
     starts = sorted({row.range.first for it in (event, before) if it for row in it.rows})
     for first, end in zip(starts, [*starts[1:], event.rows[-1].range.end]):
         old, new = rights_of(before, first) if before else {}, rights_of(event, first)
-        changed = [change_text(key, old.get(key), new.get(key, NOTHING)) for key in {**old, **new}
-                   if old.get(key, NOTHING) != new.get(key, NOTHING)]
+        changed = [change_text(key, old.get(key), new.get(key, NOTHING)) for key in {**old, **new} if old.get(key, NOTHING) != new.get(key, NOTHING)]
         what = row_at(event, first).what
         if changed and found and found[-1][1:] == (what, changed) and found[-1][0].end == first:
             found[-1] = (Range(found[-1][0].first, end), what, changed)

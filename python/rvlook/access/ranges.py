@@ -44,22 +44,22 @@ def entry_range(entries: Sequence[PmpEntry], index: int) -> Range | None:
 
 def boundaries(entries: Sequence[PmpEntry], ram: int) -> list[int]:
     """Returns the boundaries of the PMP entries in RAM, sorted. All bytes between two of them have the same access rights."""
-    cuts = {RAM_BASE, RAM_BASE + ram}
+    ends = {RAM_BASE, RAM_BASE + ram}
     for index in range(len(entries)):
         covered = entry_range(entries, index)
         if covered:
-            cuts.update(at for at in (covered.first, covered.end) if RAM_BASE < at < RAM_BASE + ram)
-    return sorted(cuts)
+            ends.update(at for at in (covered.first, covered.end) if RAM_BASE < at < RAM_BASE + ram)
+    return sorted(ends)
 
 
 def verdicts_of(bench: Bench, pmp_lines: Sequence[str], modes: str, ram: int) -> list[Verdicts]:
     """Queries the access rights to all of RAM under the PMP entries: `access` of the first byte after each boundary."""
-    cuts = boundaries([entry_of(line) for line in pmp_lines], ram)
+    ends = boundaries([entry_of(line) for line in pmp_lines], ram)
     queries = [(mode, kind) for mode in modes for kind in KINDS]
-    lines = ["access %s %s %x 1" % (mode, kind, at) for at in cuts[:-1] for mode, kind in queries]
+    lines = ["access %s %s %x 1" % (mode, kind, at) for at in ends[:-1] for mode, kind in queries]
     replies = [reply[0] for reply in bench.ask(*lines)]
     found = []
-    for index, (first, end) in enumerate(zip(cuts, cuts[1:])):
+    for index, (first, end) in enumerate(zip(ends, ends[1:])):
         verdicts = replies[index * len(queries):(index + 1) * len(queries)]
         may = {mode: "".join(kind if verdicts[i * 3 + k].startswith("allowed") else "-" for k, kind in enumerate(KINDS))
                for i, mode in enumerate(modes)}
@@ -92,18 +92,18 @@ def derived_rights(world: str, enclaves: Sequence[Enclave], at: int) -> str:
 
 def table_boundaries(enclaves: Sequence[Enclave], ram: int) -> set[int]:
     """Returns the boundaries of the monitor's range, the regions and the windows."""
-    cuts = {RAM_BASE, MONITOR_END, RAM_BASE + ram}
+    ends = {RAM_BASE, MONITOR_END, RAM_BASE + ram}
     for enclave in enclaves:
-        cuts.update((enclave.base, enclave.base + enclave.size))
+        ends.update((enclave.base, enclave.base + enclave.size))
         if enclave.window_size:
-            cuts.update((enclave.window, enclave.window + enclave.window_size))
-    return cuts
+            ends.update((enclave.window, enclave.window + enclave.window_size))
+    return ends
 
 
 def meaning(enclaves: Sequence[Enclave], at: int) -> str:
-    """Returns what a byte belongs to, by the enclave table; empty if to nothing."""
+    """Returns the owner of a byte in words, by the enclave table; empty if there is none."""
     if at < MONITOR_END:
         return "monitor"
-    found = ["region of " + it.world for it in enclaves if it.has(at)]
-    found += ["window of " + it.world for it in enclaves if it.shares(at)]
-    return ", ".join(found)
+    names = ["region of " + it.world for it in enclaves if it.has(at)]
+    names += ["window of " + it.world for it in enclaves if it.shares(at)]
+    return ", ".join(names)

@@ -47,24 +47,24 @@ def mode_returns(run: Run) -> Iterator[tuple[int, str, str] | End]:
 
 def returns_of(run: Run, changes: Sequence[Event]) -> Iterator[Return | End]:
     """Yields each return from M with its access rights, and then the End. `changes` are the events of the run."""
-    at, before = 0, None
+    index, before = 0, None
     for item in mode_returns(run):
         if isinstance(item, End):
             yield item
             continue
         step, pc, mode = item
-        first = at
-        while at + 1 < len(changes) and changes[at + 1].step <= step:
-            at += 1
-        inside = changes[first + 1:at] if before else changes[first:at]
-        yield Return(step, pc, mode, changes[at], tuple(transients_of(before, inside, changes[at])))
-        before = changes[at]
+        first = index
+        while index + 1 < len(changes) and changes[index + 1].step <= step:
+            index += 1
+        events_in_m = changes[first + 1:index] if before else changes[first:index]
+        yield Return(step, pc, mode, changes[index], tuple(transients_of(before, events_in_m, changes[index])))
+        before = changes[index]
 
 
-def transients_of(before: Optional[Event], inside: Sequence[Event], after: Event) -> Iterator[Transient]:
+def transients_of(before: Optional[Event], events_in_m: Sequence[Event], after: Event) -> Iterator[Transient]:
     """Yields for each state of a stay the first range in which S may access more than before and after the stay."""
     ends = [it for it in (before, after) if it]
-    for event in inside:
+    for event in events_in_m:
         starts = sorted({row.range.first for it in (event, *ends) for row in it.rows})
         for first, end in zip(starts, [*starts[1:], event.rows[-1].range.end]):
             more = supervisor_rights(event, first).difference(*(supervisor_rights(it, first) for it in ends))
@@ -74,7 +74,7 @@ def transients_of(before: Optional[Event], inside: Sequence[Event], after: Event
 
 
 def supervisor_rights(event: Event, address: int) -> set[str]:
-    """Returns the letters of what S may do at an address."""
+    """Returns the letters of the access rights of S to an address."""
     (may,) = row_at(event, address).may.values()
     return set(may["S"]) - {"-"}
 
@@ -100,10 +100,10 @@ def print_return(printer: Printer, item: Return, before: Optional[Event], symbol
     """Prints a return, and the ranges whose access rights differ from those at the return before it."""
     printer.line("return at step %d to %s at %s" % (item.step, item.mode, place_text(item.pc, symbols)))
     for found, _, changed in changed_rows(item.event, before) if item.event is not before else ():
-        shown = [it for it in changed if not it.startswith("M ")]
-        if shown:
+        changes_below_m = [it for it in changed if not it.startswith("M ")]
+        if changes_below_m:
             size = names.size_text(found.end - found.first)
-            printer.line("  %08x-%08x %7s  %s" % (found.first, found.end - 1, size, "  ".join(shown)))
+            printer.line("  %08x-%08x %7s  %s" % (found.first, found.end - 1, size, "  ".join(changes_below_m)))
 
 
 def write_return(printer: Printer, item: Return, before: Optional[Event], symbols: Symbols) -> None:

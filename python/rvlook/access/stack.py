@@ -30,14 +30,14 @@ SP, A0, A1 = 2, 10, 11  # numbers of registers
 WORD = 4  # bytes of a pointer
 REGISTERS = 32
 NAME = re.compile(r"(.*(host|runtime|application|monitor))_stack_bottom\Z")
-KINDS = {"host": ("host",), "runtime": ("runtime", "application"), "application": ("runtime", "application")}  # the stacks of a world, by one of them
-POINTED = {"host": ("host",), "runtime": ("runtime", "application"), "application": ("application",)}  # the stacks that a store may reach
-MASK = 0xFFFFFFFF
+WORLD_KINDS = {"host": ("host",), "runtime": ("runtime", "application"), "application": ("runtime", "application")}  # of one world
+REACHABLE_KINDS = {"host": ("host",), "runtime": ("runtime", "application"), "application": ("application",)}  # the stacks that a store may reach
+WORD_MASK = 0xFFFFFFFF
 TIMER, CALL = names.TIMER.encode(), names.ECALL_FROM_S.encode()  # causes of traps
 
 
 FACTORS = {"add": (1, 1), "or": (1, 1), "sub": (1, -1)}
-UPPER = ("lui", "auipc")  # build the upper part of a constant
+UPPER_INSTRUCTIONS = ("lui", "auipc")  # build the upper part of a constant
 
 
 class PointerOperation(NamedTuple):
@@ -72,7 +72,7 @@ def computation_of(instruction: Instruction) -> PointerOperation:
         sources, factors = (operands[1], operands[2]), FACTORS[name]
     elif name in ("addi", "ori") or name == "andi" and operands[2] < 0:
         sources, factors = (operands[1], 0), (1, 0)
-    return PointerOperation(writes, sources, factors, register=SP if writes == SP else None, is_upper=name in UPPER)
+    return PointerOperation(writes, sources, factors, register=SP if writes == SP else None, is_upper=name in UPPER_INSTRUCTIONS)
 
 
 @dataclass
@@ -196,7 +196,7 @@ class OverflowFinder:
             if register is None:
                 registers[writes] = first * registers[one] + second * registers[two]
                 continue
-            address = next(values) + memory.offset & MASK if memory else next(values)
+            address = next(values) + memory.offset & WORD_MASK if memory else next(values)
             if is_store or writes == SP:
                 self.check(part, at, operation, pointers, address)
             pointers.access(memory, address) if memory else pointers.set_stack_pointer(operation)
@@ -212,7 +212,7 @@ class OverflowFinder:
                 pointers.answer()
             if operation is None or operation.register is None:
                 continue
-            address = next(values) + operation.memory.offset & MASK if operation.memory else next(values)
+            address = next(values) + operation.memory.offset & WORD_MASK if operation.memory else next(values)
             if (operation.is_store or operation.writes == SP) and not is_timer:
                 self.check(part, at, operation, pointers, address)
 
@@ -241,15 +241,15 @@ class OverflowFinder:
         """Returns whether a step uses a stack outside its range. Only the first use of each kind of stack counts."""
         if kind in self.found or kind not in self.stacks:
             return False
-        wanted: Sequence[str] = ()
+        allowed_kinds: Sequence[str] = ()
         is_store = operation.is_store
         if is_store:
             base = operation.sources[0]
-            wanted = (kind,) if base == SP else POINTED.get(kind, ()) if pointers.is_pointer(base) else ()
+            allowed_kinds = (kind,) if base == SP else REACHABLE_KINDS.get(kind, ()) if pointers.is_pointer(base) else ()
         elif operation.memory is None and not operation.is_upper and address:
             # 0 is no stack: a handler exchanges sp with sscratch
-            wanted = (kind,) if pointers.has_source(operation) else self.stacks_of_world(kind)
-        stacks = [stack for name in wanted for stack in self.stacks.get(name, ())]
+            allowed_kinds = (kind,) if pointers.has_source(operation) else self.stacks_of_world(kind)
+        stacks = [stack for name in allowed_kinds for stack in self.stacks.get(name, ())]
         return bool(stacks) and not any(stack.bottom <= address and address - (not is_store) < stack.top for stack in stacks)
 
     def nearest(self, kind: str, address: int) -> Stack:
@@ -258,7 +258,7 @@ class OverflowFinder:
 
     def stacks_of_world(self, kind: str) -> Sequence[str]:
         """Returns the kinds of stacks to which a world may switch. Returns no kind if the symbols do not define each of them."""
-        kinds = KINDS.get(kind, ())
+        kinds = WORLD_KINDS.get(kind, ())
         return kinds if all(it in self.stacks for it in kinds) else ()
 
 

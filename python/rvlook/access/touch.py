@@ -70,20 +70,20 @@ class Counting:
         worlds, traps = columns.modes if self.by_mode else columns.worlds, columns.traps
         self.steps.update(zip(columns.pcs, worlds, traps))
         bases = map(reads.values.__getitem__, reads.starts)
-        several = Counter(zip(map(worlds.__getitem__, reads.indices), reads.items, bases, map(traps.__getitem__, reads.indices)))
-        for (world, memory, base, trap), count in several.items():
+        counts = Counter(zip(map(worlds.__getitem__, reads.indices), reads.items, bases, map(traps.__getitem__, reads.indices)))
+        for (world, memory, base, trap), count in counts.items():
             if trap == NO_TRAP or trap[:8].decode() in names.ACCESS_FAULTS:
                 self.touched[world, memory.kind, base + memory.offset & 0xFFFFFFFF, memory.width, trap == NO_TRAP] += count
 
     def found(self) -> Counter[Access]:
         """Returns all counts. Each step fetches the word at pc, except if an interrupt replaces it."""
-        every = Counter({Access(it[0].decode(), *it[1:]): count for it, count in self.touched.items()})
+        counts = Counter({Access(it[0].decode(), *it[1:]): count for it, count in self.touched.items()})
         for (pc, world, trap), count in self.steps.items():
             cause, _, value = trap.decode().partition(":")
             is_refused = cause in names.FETCH_FAULTS and value == pc.decode()
-            if not cause.startswith("8"):
-                every[Access(world.decode(), "x", int(pc, 16), 4, not is_refused)] += count
-        return every
+            if not cause.startswith("8"):  # no interrupt
+                counts[Access(world.decode(), "x", int(pc, 16), 4, not is_refused)] += count
+        return counts
 
 
 class AccessKind(NamedTuple):
@@ -139,10 +139,9 @@ class Touches:
                 self.allow_mode(item.event, "U")
 
     def allow(self, event: Event) -> None:
-        """Adds the access rights that a event gives to each world that runs."""
+        """Adds the access rights that an event gives to each world that runs."""
         for column in (it for it in event.columns if not it.derived):
-            self.permitted[column.world] += [(row.range, row.what, set("".join(row.may[column.name].values())) - {"-"})
-                                             for row in event.rows]
+            self.permitted[column.world] += [(row.range, row.what, set("".join(row.may[column.name].values())) - {"-"}) for row in event.rows]
 
     def allow_mode(self, event: Event, mode: str) -> None:
         """Adds the access rights of a mode in the state that an event begins."""
@@ -172,10 +171,10 @@ class Touches:
         """Yields each range that a world was ever permitted to access, with its accesses there."""
         touched = {kind: self.bytes_of(world, kind) for kind in KINDS}
         for found, what, kinds in joined(self.permitted[world]):
-            inside = {kind: within(all_of, found) for kind, all_of in touched.items()}
-            every = [at for part in inside.values() for at in part]
-            yield Permitted(what, found, kinds, {kind: len(part) for kind, part in inside.items()}, min(every, default=None),
-                            max(every, default=None))
+            by_kind = {kind: within(addresses, found) for kind, addresses in touched.items()}
+            every = [address for addresses in by_kind.values() for address in addresses]
+            counts = {kind: len(addresses) for kind, addresses in by_kind.items()}
+            yield Permitted(what, found, kinds, counts, min(every, default=None), max(every, default=None))
 
     def executed(self, world: str) -> dict[int, int]:
         """Returns how often a world executed each instruction, by address."""
@@ -184,12 +183,12 @@ class Touches:
 
 def joined(rows: Iterable[tuple[Range, str, set[str]]]) -> list[tuple[Range, str, str]]:
     """Splits overlapping ranges into disjoint ones, each with all its names and kinds. Leaves out ranges without a kind."""
-    cuts = sorted({at for it, _, _ in rows for at in (it.first, it.end)})
+    ends = sorted({address for it, _, _ in rows for address in (it.first, it.end)})
     found: list[tuple[Range, str, str]] = []
-    for first, end in zip(cuts, cuts[1:]):
-        over = [(what, kinds) for it, what, kinds in rows if it.first <= first < it.end]
-        what = ", ".join(sorted({what for what, _ in over} - {""}))
-        kinds = "".join(kind if any(kind in it for _, it in over) else "-" for kind in KINDS)
+    for first, end in zip(ends, ends[1:]):
+        covering = [(what, kinds) for it, what, kinds in rows if it.first <= first < it.end]
+        what = ", ".join(sorted({what for what, _ in covering} - {""}))
+        kinds = "".join(kind if any(kind in it for _, it in covering) else "-" for kind in KINDS)
         if found and found[-1][1:] == (what, kinds) and found[-1][0].end == first:
             found[-1] = (Range(found[-1][0].first, end), what, kinds)
         elif kinds != NOTHING:

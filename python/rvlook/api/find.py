@@ -16,7 +16,7 @@ from rvlook.api.program import RAM, STEPS, Program
 from rvlook.cli.opening import sets_order
 from rvlook.errors import UsageError, heard
 from rvlook.finders.inputs.report import InputsOptions, details_of, find_inputs, print_text, texts_of
-from rvlook.finders.leak_search import Compared, Leak, LeakOptions, compare_drawn, compare_given
+from rvlook.finders.leak_search import ComparedPair, Leak, LeakOptions, compare_drawn, compare_given
 from rvlook.finders.leak_text import finish, pair_text, text_of_channel, text_of_pair
 from rvlook.finders.races.text import RacesOptions, find_races, texts
 from rvlook.finders.timer import TimerOptions, find_timer, timer_text
@@ -153,10 +153,10 @@ def leaks(program: Program, secret: str, values: Sequence[bytes] = (), *, tries:
     return found
 
 
-def leak_finding(program: Program, title: str, text: str, pair: Compared) -> Finding:
+def leak_finding(program: Program, title: str, text: str, pair: ComparedPair) -> Finding:
     """Returns a difference of two runs as a finding, at its first instruction."""
     every = pair.comparison.all()
-    first = next((it for it in every if it.what == title), every[0])
+    first = next((it for it in every if it.channel == title), every[0])
     return Finding(title, text, step=first.steps[0], **at_place(program, first.pc))
 
 

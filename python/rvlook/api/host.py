@@ -13,7 +13,7 @@ from rvlook.api.values import CallResult, NotReached, answer_of
 from rvlook.api.views import View
 from rvlook.errors import RvlookError
 from rvlook.monitors.encodings import BACK, ECALL, MRET
-from rvlook.monitors.sides import words_in
+from rvlook.monitors.sides import addresses_of_word
 from rvlook.protocol import names
 from rvlook.protocol.memory_map import MONITOR_END, RAM_BASE
 from rvlook.protocol.replies import Enclave, Ran, bytes_of, memory_commands, poke_commands, register_values, step_of
@@ -41,7 +41,7 @@ class HostStepper(Stepper):
         image, found = self.setup.image, []
         start = MONITOR_END if self.setup.monitor else RAM_BASE
         for address, size in [(it.address, it.in_memory) for it in image.segments()] or [(start, len(image.data or b""))]:
-            found += words_in(self.read_bytes(address, size), address, word)
+            found += addresses_of_word(self.read_bytes(address, size), address, word)
         if len(found) > MOST_BREAKS:
             raise RvlookError("the image has %d copies of one instruction, and the simulator %d breakpoints; run to a place instead" % (
                 len(found), MOST_BREAKS))

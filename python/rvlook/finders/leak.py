@@ -13,21 +13,21 @@ from typing import Any, Iterator, Mapping, NamedTuple, Optional, Sequence
 
 from rvlook.access.activations import Activation, Activations, Operation
 from rvlook.errors import Unfinished
-from rvlook.finders.secrets import Secret, place_and_size
+from rvlook.finders.secrets import WORD, Secret, place_and_size
 from rvlook.protocol.replies import Enclave
 from rvlook.protocol.run import Run
 from rvlook.protocol.symbols import Symbols
 
 CHANNELS = ("pc", "steps", "address", "operand", "answer", "window")
-SAME, FAR = 4, 4096  # equal steps after which two runs have converged; the most steps in which this is searched
+CONVERGED_STEPS, MAX_DISTANCE = 4, 4096  # equal steps after which two runs have converged; steps of a run in which this is searched
 
 
 @dataclass
 class Difference:
     """A difference of two runs in a channel at an instruction."""
-    what: str  # the channel, one of CHANNELS
+    channel: str  # one of CHANNELS
     steps: tuple[int, int]  # the number of the first step, in each run
-    values: tuple[Any, ...]  # their form depends on `what`
+    values: tuple[Any, ...]  # their form depends on `channel`
     pc: Optional[int] = None  # of the instruction; None for the total number of steps
     count: int = 1  # how often the channel differs there
 
@@ -48,21 +48,20 @@ class Public(NamedTuple):
 
     def has(self, address: int) -> bool:
         """Returns whether an address may differ."""
-        return any(at <= address < at + count for at, count in self.ranges)
+        return any(start <= address < start + size for start, size in self.ranges)
 
 
 def public_of(texts: Sequence[str] | None, symbols: Symbols) -> Public:
-    """Returns what --public names."""
-    found = [it for it in texts or () if it != "answer"]
-    return Public("answer" in (texts or ()), tuple((at, count or 4) for at, count in (place_and_size(it, symbols) for it in found)))
+    """Returns the differences that --public permits."""
+    places = [place_and_size(it, symbols) for it in texts or () if it != "answer"]
+    return Public(answer="answer" in (texts or ()), ranges=tuple((address, size or WORD) for address, size in places))
 
 
 def observe(run: Run, secret: Secret, is_strict: bool) -> Observation:
-    """Records what a host observes of the enclave in the slot of the secret, until the enclave exits. Raises Unfinished if it is never
-    entered."""
+    """Records what a host observes of the enclave with the secret, until it exits. Raises Unfinished if it is never entered."""
     found, activations = [], Activations(run, secret.step, is_strict)
-    with closing(activations.all()) as every:
-        for activation in every:
+    with closing(activations.all()) as all_activations:
+        for activation in all_activations:
             if activation.slot == secret.slot:
                 found.append(activation)
                 if activation.ended_by == "exit":
@@ -78,29 +77,29 @@ class Comparison:
 
     def __init__(self, one: Observation, two: Observation, secret: Secret, public: Public, is_strict: bool) -> None:
         self.one, self.two, self.secret, self.public, self.is_strict = one, two, secret, public, is_strict  # `public`: what may differ
-        self.found: dict[tuple[str, int | None], Difference] = {}  # by channel and instruction
+        self.differences: dict[tuple[str, int | None], Difference] = {}  # by channel and instruction
         self.writers: dict[int, int] = {}  # the instruction that stored each byte of the window last
         for pair in zip(one.activations, two.activations):
             self.compare_steps(*pair)
             self.compare_ends(*pair)
         if one.last != two.last:
             self.add("steps", (one.last, two.last), (one.last, two.last))
-        if len(one.activations) != len(two.activations) and not any(it.what == "answer" for it in self.found.values()):
+        if len(one.activations) != len(two.activations) and not any(it.channel == "answer" for it in self.differences.values()):
             self.add("answer", (one.last, two.last), tuple("%d exits" % len(it.activations) for it in (one, two)))
 
     def channels(self) -> list[str]:
         """Returns the channels in which the runs differ, in the order of CHANNELS."""
-        return [it for it in CHANNELS if any(found.what == it for found in self.found.values())]
+        return [it for it in CHANNELS if any(found.channel == it for found in self.differences.values())]
 
     def all(self) -> list[Difference]:
         """Returns all differences, by channel and step."""
-        return sorted(self.found.values(), key=lambda it: (CHANNELS.index(it.what), it.steps))
+        return sorted(self.differences.values(), key=lambda it: (CHANNELS.index(it.channel), it.steps))
 
-    def add(self, what: str, steps: tuple[int, int], values: tuple[Any, ...], pc: int | None = None) -> None:
+    def add(self, channel: str, steps: tuple[int, int], values: tuple[Any, ...], pc: int | None = None) -> None:
         """Adds a difference, or counts it if there is one at the same instruction."""
         if pc is not None and self.public.has(pc):
             return
-        old = self.found.setdefault((what, pc), Difference(what, steps, values, pc, 0))
+        old = self.differences.setdefault((channel, pc), Difference(channel, steps, values, pc, count=0))
         old.count += 1
 
     def compare_steps(self, one: Activation, two: Activation) -> None:
@@ -112,19 +111,19 @@ class Comparison:
             for number in range(bisect_left(one.operations_at, x), bisect_left(one.operations_at, x + same)):
                 first, second = one.operations[number], second_operations.get(one.operations_at[number] - x + y)
                 if second is not None and first != second:
-                    self.access(first, second, one.enclave)
+                    self.compare_access(first, second, one.enclave)
             x, y = x + same, y + same
             if x == len(one.pcs) and y == len(two.pcs):
                 return
-            x, y = self.diverge(one, x, two, y, second_operations)
+            x, y = self.add_divergence(one, x, two, y, second_operations)
 
-    def diverge(self, one: Activation, x: int, two: Activation, y: int, second_operations: Mapping[int, Operation]) -> tuple[int, int]:
+    def add_divergence(self, one: Activation, x: int, two: Activation, y: int, second_operations: Mapping[int, Operation]) -> tuple[int, int]:
         """Adds the step by which two runs diverge before x and y; returns where they are compared again. If the pcs at x and y are equal, this
         step is the next one: it traps in one run only, or has another trap in the other. Then compares its access too."""
         if x < len(one.pcs) and y < len(two.pcs) and one.pcs[x] == two.pcs[y]:
             first, second = operation_at(one, x), second_operations.get(y)
             if first and second:
-                self.access(first, second, one.enclave)
+                self.compare_access(first, second, one.enclave)
             self.add("pc", (one.steps[x], two.steps[y]), (), one.pcs[x] & -4)
             x, y = x + 1, y + 1
             return (x, y) if one.pcs[x:x + 1] == two.pcs[y:y + 1] else convergence(one, x, two, y)
@@ -132,18 +131,18 @@ class Comparison:
         self.add("pc", steps, (), one.pcs[max(0, x - 1)] & -4)
         return convergence(one, x, two, y)
 
-    def access(self, first: Operation, second: Operation, enclave: Enclave) -> None:
+    def compare_access(self, first: Operation, second: Operation, enclave: Enclave) -> None:
         """Compares the operations of two corresponding steps, one of each run."""
-        steps, both = (first.step, second.step), (first, second)
+        steps, operations = (first.step, second.step), (first, second)
         if first.kind == "d":
             if first.values != second.values:
-                self.add("operand", steps, tuple("%08x and %08x" % operation.values for operation in both), first.pc)
+                self.add("operand", steps, tuple("%08x and %08x" % operation.values for operation in operations), first.pc)
         elif first.address != second.address:
-            self.add("address", steps, tuple((operation.kind, operation.address) for operation in both), first.pc)
-        elif first.kind == "w" and first.values != second.values and self.is_shown(first, enclave):
-            self.add("window", steps, tuple((operation.address, bytes(operation.values)) for operation in both), first.pc)
+            self.add("address", steps, tuple((operation.kind, operation.address) for operation in operations), first.pc)
+        elif first.kind == "w" and first.values != second.values and self.is_visible(first, enclave):
+            self.add("window", steps, tuple((operation.address, bytes(operation.values)) for operation in operations), first.pc)
 
-    def is_shown(self, operation: Operation, enclave: Enclave) -> bool:
+    def is_visible(self, operation: Operation, enclave: Enclave) -> bool:
         """Returns whether a store is to a byte of the window that may not differ."""
         addresses = range(operation.address, operation.address + operation.width)
         return any(enclave.shares(at) and not self.public.has(at) for at in addresses)
@@ -154,26 +153,26 @@ class Comparison:
             self.add("answer", (one.last, two.last), tuple((it.ended_by, *it.answer) for it in (one, two)), one.pc)
         self.writers.update(writers_of(one, two))
         if one.after != two.after:
-            base, writers, reported = one.enclave.window, self.writers, {pc for what, pc in self.found if what == "window"}
-            for at, (x, y) in enumerate(zip(one.after, two.after)):
-                pc = writers.get(base + at, one.pc)
-                if x != y and not self.public.has(base + at) and pc not in reported:
-                    self.add("window", (one.last, two.last), ((base + at, bytes([x])), (base + at, bytes([y]))), pc)
+            base, writers, reported = one.enclave.window, self.writers, {pc for channel, pc in self.differences if channel == "window"}
+            for address, (value, other) in enumerate(zip(one.after, two.after), base):
+                pc = writers.get(address, one.pc)
+                if value != other and not self.public.has(address) and pc not in reported:
+                    self.add("window", (one.last, two.last), ((address, bytes([value])), (address, bytes([other]))), pc)
 
 
 def operation_at(activation: Activation, index: int) -> Operation | None:
     """Returns the operation of the step at an index of the activation, or None."""
-    at = bisect_left(activation.operations_at, index)
-    return activation.operations[at] if activation.operations_at[at:at + 1] == array("I", [index]) else None
+    number = bisect_left(activation.operations_at, index)
+    return activation.operations[number] if activation.operations_at[number:number + 1] == array("I", [index]) else None
 
 
 def writers_of(one: Activation, two: Activation) -> dict[int, int]:
     """Returns the instruction that stored each byte of the window last, in either run, by address."""
-    found: dict[int, int] = {}
+    writers: dict[int, int] = {}
     for activation in (two, one):
         for store in stores_to_window(activation):
-            found.update((store.address + n, store.pc) for n in range(store.width))
-    return found
+            writers.update((store.address + n, store.pc) for n in range(store.width))
+    return writers
 
 
 def stores_to_window(activation: Activation) -> Iterator[Operation]:
@@ -186,13 +185,13 @@ def stores_to_window(activation: Activation) -> Iterator[Operation]:
 
 def equal_length(one: array[int], x: int, two: array[int], y: int) -> int:
     """Returns how many numbers from x and y on are equal."""
-    count, most, part = 0, min(len(one) - x, len(two) - y), 1
-    if one[x:x + most] == two[y:y + most]:
-        return most
+    count, max_count, part = 0, min(len(one) - x, len(two) - y), 1
+    if one[x:x + max_count] == two[y:y + max_count]:
+        return max_count
     while one[x + count:x + count + part] == two[y + count:y + count + part]:
         count, part = count + part, 2 * part
     while part:
-        if count + part <= most and one[x + count:x + count + part] == two[y + count:y + count + part]:
+        if count + part <= max_count and one[x + count:x + count + part] == two[y + count:y + count + part]:
             count += part
         part //= 2
     return count
@@ -208,15 +207,15 @@ def common_length(one: Activation, x: int, two: Activation, y: int) -> int:
 def convergence(one: Activation, x: int, two: Activation, y: int) -> tuple[int, int]:
     """Returns where two activations converge: after the fewest steps from x and y. Returns the ends if they do not converge."""
     indices = defaultdict(list)
-    for second in range(y, min(y + FAR, len(two.pcs))):
+    for second in range(y, min(y + MAX_DISTANCE, len(two.pcs))):
         indices[two.pcs[second]].append(second)
     best = None
-    for first in range(x, min(x + FAR, len(one.pcs))):
+    for first in range(x, min(x + MAX_DISTANCE, len(one.pcs))):
         if best and first - x > best[0]:
             break
         for second in indices.get(one.pcs[first], ()):
             cost = first - x + second - y
-            if cost and (best is None or cost < best[0]) and one.pcs[first:first + SAME] == two.pcs[second:second + SAME]:
+            if cost and (best is None or cost < best[0]) and one.pcs[first:first + CONVERGED_STEPS] == two.pcs[second:second + CONVERGED_STEPS]:
                 best = cost, first, second
                 break
     return best[1:] if best else (len(one.pcs), len(two.pcs))

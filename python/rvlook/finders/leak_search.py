@@ -14,7 +14,7 @@ from rvlook.output.progress import Progress
 from rvlook.protocol.jobs import results_of, uninterrupted
 from rvlook.protocol.run import Run
 
-MOST_GUESSES = 8  # values of the host near which secrets are drawn
+MAX_GUESSES = 8  # values of the host near which secrets are drawn
 
 
 class LeakOptions(NamedTuple):
@@ -39,7 +39,7 @@ class Leak:
         # `cut`: why an observation ended early; `is_hidden` decides whether no secret changes what the host observes
         self.run, self.symbols, self.options, self.cut, self.is_hidden = run, run.setup.symbols, options, "", is_hidden
         self.public, self.is_strict = public_of(options.public, self.symbols), options.is_strict
-        left_out = {"operand"} - ({"operand"} if self.is_strict else set()) | (set() if run.setup.monitor else {"answer", "window"})
+        left_out = {*([] if self.is_strict else ["operand"]), *([] if run.setup.monitor else ["answer", "window"])}
         self.channels = [it for it in CHANNELS if it not in left_out]  # that are compared
 
     def secret(self, size: int | None = None) -> Secret:
@@ -59,28 +59,28 @@ class Leak:
         return Comparison(one, two, secret, self.public, self.is_strict)
 
 
-class Compared(NamedTuple):
+class ComparedPair(NamedTuple):
     """The result of comparing two runs with a pair of secrets."""
     number: int  # of the pair, from 1
     secrets: Sequence[Secret]  # the two secrets
     is_own: bool  # whether the first secret is that of the program
     answers: Sequence[object]  # what the enclave answered with each secret; empty if the secrets were given
     channels: Sequence[str]  # in which the runs differ
-    found: Optional[Comparison]  # None for a drawn pair that does not differ, or that another process compared
-    both: Sequence[Observation]  # the observations; empty if `found` is None
+    result: Optional[Comparison]  # None for a drawn pair that does not differ, or that another process compared
+    observations: Sequence[Observation]  # of the two runs; empty if `result` is None
 
     @property
     def comparison(self) -> Comparison:
         """Returns the comparison of a pair that has one."""
-        assert self.found is not None
-        return self.found
+        assert self.result is not None
+        return self.result
 
 
 @dataclass
-class Tried:
+class TriedPairs:
     """The result of drawn pairs."""
-    pairs: List[Compared] = field(default_factory=list)  # that were compared
-    again: Callable[[Compared], Compared] = lambda it: it  # returns a pair with its comparison, which it repeats if need be
+    pairs: List[ComparedPair] = field(default_factory=list)  # that were compared
+    again: Callable[[ComparedPair], ComparedPair] = lambda it: it  # returns a pair with its comparison, which it repeats if need be
     cut: str = ""  # why some pairs were left out; empty if all were compared
     is_interrupted: bool = False  # whether Ctrl-C ended the search
 
@@ -88,20 +88,20 @@ class Tried:
     def verdicts(self) -> set[int]:
         """Returns the numbers of the pairs that differ with a verdict: the program answers its own secret one way, and each other secret another.
         Other differences of such a pair may follow from the answer. If the answer has a part of the secret, other secrets have several answers."""
-        own = {it.answers[0] for it in self.pairs if it.is_own}
-        others = {answer for it in self.pairs for answer in it.answers[it.is_own:]}
+        own_answers = {it.answers[0] for it in self.pairs if it.is_own}
+        other_answers = {answer for it in self.pairs for answer in it.answers[it.is_own:]}
         secrets = {secret.bytes for it in self.pairs for secret in it.secrets[it.is_own:]}
-        is_verdict = len(own) == len(others) == 1 and own != others and len(secrets) > 1
+        is_verdict = len(own_answers) == len(other_answers) == 1 and own_answers != other_answers and len(secrets) > 1
         return {it.number for it in self.pairs if it.is_own} if is_verdict else set()
 
     @property
-    def differing(self) -> dict[int, Compared]:
+    def differing(self) -> dict[int, ComparedPair]:
         """Returns the pairs that differ without a verdict, by number."""
         verdicts = self.verdicts
         return {it.number: it for it in self.pairs if it.channels and it.number not in verdicts}
 
 
-def compare_given(leak: Leak) -> Compared:
+def compare_given(leak: Leak) -> ComparedPair:
     """Compares the runs with the two secrets that the options give. Raises RvlookError if the secrets differ in length."""
     values = leak.options.values
     if len(values[0]) != len(values[1]):
@@ -111,29 +111,29 @@ def compare_given(leak: Leak) -> Compared:
     with Progress() as progress:
         progress.show("running with %s", values[0].hex())
         one, two = (leak.observe(it) for it in secrets)
-    found = leak.compared(one, two, secret)
-    return Compared(1, secrets, is_own=False, answers=(), channels=found.channels(), found=found, both=(one, two))
+    result = leak.compared(one, two, secret)
+    return ComparedPair(1, secrets, is_own=False, answers=(), channels=result.channels(), result=result, observations=(one, two))
 
 
-def compare_drawn(leak: Leak, heard: Callable[[Compared], None] = lambda it: None) -> Tried:
+def compare_drawn(leak: Leak, heard: Callable[[ComparedPair], None] = lambda it: None) -> TriedPairs:
     """Compares the run with runs that have drawn secrets. Calls `heard` with each pair."""
-    options, tried = leak.options, Tried()
-    first = leak.secret()
-    own = first.with_bytes(first.bytes_in(leak.run))
-    until = None if options.seconds is None else time.monotonic() + options.seconds
+    options, tried = leak.options, TriedPairs()
+    zeros = leak.secret()
+    own = zeros.with_bytes(zeros.bytes_in(leak.run))
+    end_time = None if options.seconds is None else time.monotonic() + options.seconds
     try:
         with Progress() as progress:
             base = leak.observe(own)
             count = options.tries or 0
             pairs = drawn_pairs(own.bytes, guesses_of(base, len(own.bytes)), options.seed, options.first, min(count, options.last or count))
-            tried.again = lambda it: it if it.found else try_pair(leak, own, base, pairs[it.number - pairs[0].number])
+            tried.again = lambda it: it if it.result else try_pair(leak, own, base, pairs[it.number - pairs[0].number])
             for pair, cut in results_of(partial(task, leak, own, base, pairs), len(pairs), options.jobs):
                 leak.cut = leak.cut or cut
                 with uninterrupted():
                     tried.pairs.append(pair)
                     heard(pair)
                 progress.bar(len(tried.pairs), len(pairs), "%d differ" % sum(bool(it.channels) for it in tried.pairs))
-                if until is not None and time.monotonic() > until and len(tried.pairs) < len(pairs):
+                if end_time is not None and time.monotonic() > end_time and len(tried.pairs) < len(pairs):
                     tried.cut = "--seconds ended leak after %d of %s" % (len(tried.pairs), counted(len(pairs), "pair"))
                     break
     except KeyboardInterrupt:
@@ -141,34 +141,33 @@ def compare_drawn(leak: Leak, heard: Callable[[Compared], None] = lambda it: Non
     return tried
 
 
-def task(leak: Leak, own: Secret, base: Observation, pairs: Sequence[Pair], number: int) -> tuple[Compared, str]:
-    """Compares a pair, by its index; returns the result, and why an observation ended too early. With several jobs leaves out the runs, which are
-    large."""
+def task(leak: Leak, own: Secret, base: Observation, pairs: Sequence[Pair], number: int) -> tuple[ComparedPair, str]:
+    """Compares a pair, by its index; returns the result, with several jobs without the large runs, and why an observation was cut."""
     pair = try_pair(leak, own, base, pairs[number])
-    return (pair if leak.options.jobs == 1 else pair._replace(found=None, both=())), leak.cut
+    return (pair if leak.options.jobs == 1 else pair._replace(result=None, observations=())), leak.cut
 
 
 def guesses_of(base: Observation, size: int) -> list[bytes]:
     """Returns values that the host may give for the secret: aligned bytes of the window that the enclave loads."""
-    found: dict[bytes, None] = {}
+    guesses: dict[bytes, None] = {}
     for activation in base.activations:
         loaded = {at for op in activation.operations if op.kind == "r" for at in range(op.address, op.address + op.width)}
         for offset in range(0, len(activation.before) - size + 1, min(size, WORD)):
             if loaded.issuperset(range(activation.enclave.window + offset, activation.enclave.window + offset + size)):
-                found[activation.before[offset:offset + size]] = None
-    return list(found)[:MOST_GUESSES]
+                guesses[activation.before[offset:offset + size]] = None
+    return list(guesses)[:MAX_GUESSES]
 
 
-def try_pair(leak: Leak, own: Secret, base: Observation, pair: Pair) -> Compared:
+def try_pair(leak: Leak, own: Secret, base: Observation, pair: Pair) -> ComparedPair:
     """Compares the runs with the two secrets of a pair."""
     one = own if pair.one is None else own.with_bytes(pair.one)
     two = own.with_bytes(pair.two)
-    both = (base if pair.one is None else leak.observe(one)), leak.observe(two)
-    found = leak.compared(*both, own)
-    channels = found.channels()
-    answers = [tuple((it.ended_by, it.answer) for it in observation.activations) for observation in both]
-    kept = (found, both) if channels else (None, ())
-    return Compared(pair.number, (one, two), pair.one is None, answers, channels, *kept)
+    observations = (base if pair.one is None else leak.observe(one)), leak.observe(two)
+    result = leak.compared(*observations, own)
+    channels = result.channels()
+    answers = [tuple((it.ended_by, it.answer) for it in observation.activations) for observation in observations]
+    details = (result, observations) if channels else (None, ())
+    return ComparedPair(pair.number, (one, two), pair.one is None, answers, channels, *details)
 
 
 def values_in(texts: Sequence[str]) -> list[bytes]:

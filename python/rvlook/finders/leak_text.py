@@ -4,7 +4,7 @@ from __future__ import annotations
 from typing import Mapping, Sequence
 
 from rvlook.finders.leak import CHANNELS, Difference, Observation
-from rvlook.finders.leak_search import Compared, Leak, Tried, compare_drawn, compare_given
+from rvlook.finders.leak_search import ComparedPair, Leak, TriedPairs, compare_drawn, compare_given
 from rvlook.finders.secrets import Secret
 from rvlook.output.findings import ReportedCases
 from rvlook.output.printer import Printer, Style, counted, hex8, run_object
@@ -14,7 +14,7 @@ EQUAL = {"pc": "every step continues at the same pc", "address": "every load and
          "operand": "every division has the same operands"}
 ONLY_VERDICTS = "no two secrets with the same answer were compared; use --tries 3 or more"
 FOR_ALL = "for all secrets: with the inputs of this run, no pc, address, operand of a division, window byte or answer depends on the secret"
-MOST_NUMBERS = 10  # numbers of pairs that are printed
+MAX_NUMBERS = 10  # numbers of pairs that are printed
 
 
 def show_leak(leak: Leak, printer: Printer, findings: ReportedCases) -> None:
@@ -27,13 +27,13 @@ def show_leak(leak: Leak, printer: Printer, findings: ReportedCases) -> None:
     if leak.cut:
         findings.cut_short(leak.cut)
     (pair_objects if printer.as_json else pair_text)(leak, printer, pair)
-    for what in leak.channels:
-        findings.add(what, text_of_channel(leak, pair, what))
+    for channel in leak.channels:
+        findings.add(channel, text_of_channel(leak, pair, channel))
 
 
-def text_of_channel(leak: Leak, pair: Compared, what: str) -> str:
+def text_of_channel(leak: Leak, pair: ComparedPair, channel: str) -> str:
     """Returns where the runs of a pair differ in a channel; empty if they do not."""
-    return "\n".join(heading_of(leak, it, pair.secrets[0]) for it in pair.comparison.all() if it.what == what)
+    return "\n".join(heading_of(leak, it, pair.secrets[0]) for it in pair.comparison.all() if it.channel == channel)
 
 
 def show_tries(leak: Leak, printer: Printer, findings: ReportedCases) -> None:
@@ -41,10 +41,11 @@ def show_tries(leak: Leak, printer: Printer, findings: ReportedCases) -> None:
     if printer.as_json:
         run_object(printer, leak.run, leak.symbols)
 
-    def pair_object(it: Compared) -> None:
+    def pair_object(it: ComparedPair) -> None:
         """Writes a pair as an object."""
-        first, shown = it.secrets[0], [one.bytes.hex() for one in it.secrets]
-        printer.object("pair", number=it.number, slot=first.slot, at=first.text(), bytes=shown, channels=it.channels)
+        first = it.secrets[0]
+        printer.object("pair", number=it.number, slot=first.slot, at=first.text(), bytes=[secret.bytes.hex() for secret in it.secrets],
+                       channels=it.channels)
 
     tried = compare_drawn(leak, pair_object if printer.as_json else lambda it: None)
     for text in (leak.cut, tried.cut):
@@ -55,7 +56,7 @@ def show_tries(leak: Leak, printer: Printer, findings: ReportedCases) -> None:
         raise KeyboardInterrupt
 
 
-def finish(leak: Leak, printer: Printer, tried: Tried, findings: ReportedCases) -> None:
+def finish(leak: Leak, printer: Printer, tried: TriedPairs, findings: ReportedCases) -> None:
     """Prints the result of all pairs, and the first pair that differs. Notes what was found."""
     verdicts, differing = tried.verdicts, tried.differing
     for pair in tried.pairs:
@@ -84,12 +85,12 @@ def print_for_all(leak: Leak, printer: Printer, for_all: bool) -> None:
         printer.line(FOR_ALL + (", except what --public names" if leak.options.public else ""))
 
 
-def text_of_pair(pair: Compared) -> str:
+def text_of_pair(pair: ComparedPair) -> str:
     """Returns the secrets of a pair and the channels in which they differ."""
     return "%s and %s differ in %s" % (*(secret.bytes.hex() for secret in pair.secrets), ", ".join(pair.channels))
 
 
-def print_result(leak: Leak, printer: Printer, tried: Tried, differing: Mapping[int, Compared], verdicts: set[int]) -> None:
+def print_result(leak: Leak, printer: Printer, tried: TriedPairs, differing: Mapping[int, ComparedPair], verdicts: set[int]) -> None:
     """Prints the result of all pairs in words."""
     line = printer.line
     verdict = "%s differ with the answer: the program answers its own secret in one way, and each other secret in another" % \
@@ -108,7 +109,7 @@ def print_result(leak: Leak, printer: Printer, tried: Tried, differing: Mapping[
     is_picked = bool(same) and (min(differing) != number or bool(verdicts))
     line("pair %d of %d, the first that differs%s" % (number, len(tried.pairs), " with the same answer" if is_picked else ""))
     pair_text(leak, printer, tried.again(pair))
-    numbers = ", ".join(map(str, sorted(differing)[:MOST_NUMBERS])) + (", ..." if len(differing) > MOST_NUMBERS else "")
+    numbers = ", ".join(map(str, sorted(differing)[:MAX_NUMBERS])) + (", ..." if len(differing) > MAX_NUMBERS else "")
     channels = sorted({channel for it in differing.values() for channel in it.channels}, key=CHANNELS.index)
     line("%d of %s differ, in %s: %s" % (len(differing), counted(len(tried.pairs), "pair"), ", ".join(channels), numbers))
     if same and len(same) < len(differing):
@@ -122,33 +123,34 @@ def place_text(pc: int, symbols: Symbols) -> str:
     return "  ".join(part for part in ("%08x" % pc, symbols.name(pc), symbols.line(pc)) if part)
 
 
-def values_of(leak: Leak, difference: Difference, both: Sequence[Observation]) -> list[str]:
+def values_of(leak: Leak, difference: Difference, observations: Sequence[Observation]) -> list[str]:
     """Returns the two values of a difference in words."""
-    if difference.what == "pc":
-        return [one.run.reply(step)[len("ran 1 "):] for one, step in zip(both, difference.steps)]
-    if difference.what == "address":
+    if difference.channel == "pc":
+        return [it.run.reply(step)[len("ran 1 "):] for it, step in zip(observations, difference.steps)]
+    if difference.channel == "address":
         return ["%s %08x  %s" % (kind, at, leak.symbols.name(at) or "") for kind, at in difference.values]
-    if difference.what == "window":
+    if difference.channel == "window":
         return ["%08x is %s  %s" % (at, value.hex(), leak.symbols.name(at) or "") for at, value in difference.values]
-    if difference.what == "answer" and isinstance(difference.values[0], tuple):
-        return [" ".join([how, *("a%d=%08x" % it for it in enumerate(registers))]) for how, *registers in difference.values]
+    if difference.channel == "answer" and isinstance(difference.values[0], tuple):
+        return [" ".join([end, *("a%d=%08x" % it for it in enumerate(registers))]) for end, *registers in difference.values]
     return list(difference.values)
 
 
-def pair_text(leak: Leak, printer: Printer, pair: Compared) -> None:
+def pair_text(leak: Leak, printer: Printer, pair: ComparedPair) -> None:
     """Prints the comparison of one pair, channel by channel."""
-    secrets, both, comparison, first = pair.secrets, pair.both, pair.comparison, pair.secrets[0]
+    observations, comparison, (first, second) = pair.observations, pair.comparison, pair.secrets
+    last, activations = observations[0].last, observations[0].activations
     printer.line("%s, from step %d, with %s and with %s at %s  %s" % (
-        both[0].activations[0].world, first.step, secrets[0].bytes.hex(), secrets[1].bytes.hex(), first.text(), leak.symbols.name(first.at) or ""))
+        activations[0].world, first.step, first.bytes.hex(), second.bytes.hex(), first.text(), leak.symbols.name(first.at) or ""))
     found = comparison.all()
-    equal = {**EQUAL, "steps": "%d" % (both[0].last - first.step), "answer": "the same at " + counted(len(both[0].activations), "exit"),
+    equal = {**EQUAL, "steps": "%d" % (last - first.step), "answer": "the same at " + counted(len(activations), "exit"),
              "window": "the same at every exit"}
-    for what in leak.channels:
-        entries = [it for it in found if it.what == what]
+    for channel in leak.channels:
+        entries = [it for it in found if it.channel == channel]
         if not entries:
-            printer.line("  %-7s equal: %s" % (what, equal[what]))
+            printer.line("  %-7s equal: %s" % (channel, equal[channel]))
         for entry in entries:
-            printer.line("  %-7s %s" % (what, printer.styled(difference_text(leak, entry, first, both), Style.bad)))
+            printer.line("  %-7s %s" % (channel, printer.styled(difference_text(leak, entry, first, observations), Style.bad)))
     channels = comparison.channels()
     printer.line("the runs differ in " + ", ".join(channels) if channels else "no difference in 1 pair: " + ", ".join(leak.channels))
     print_for_all(leak, printer, not channels and is_for_all(leak))
@@ -156,7 +158,7 @@ def pair_text(leak: Leak, printer: Printer, pair: Compared) -> None:
 
 def heading_of(leak: Leak, difference: Difference, secret: Secret) -> str:
     """Returns where two runs differ."""
-    if difference.what == "steps":
+    if difference.channel == "steps":
         return "differ: %d and %d" % tuple(step - secret.step for step in difference.steps)
     step = "step %d" % difference.steps[0] if difference.steps[0] == difference.steps[1] else "steps %d and %d" % difference.steps
     times = ", %d times" % difference.count if difference.count > 1 else ""
@@ -164,20 +166,21 @@ def heading_of(leak: Leak, difference: Difference, secret: Secret) -> str:
     return "differs at %s%s%s" % (step, where, times)
 
 
-def difference_text(leak: Leak, difference: Difference, secret: Secret, both: Sequence[Observation]) -> str:
+def difference_text(leak: Leak, difference: Difference, secret: Secret, observations: Sequence[Observation]) -> str:
     """Returns where two runs differ, with both values."""
-    values = () if difference.what == "steps" else values_of(leak, difference, both)
+    values = () if difference.channel == "steps" else values_of(leak, difference, observations)
     return heading_of(leak, difference, secret) + "".join("\n          " + value.rstrip() for value in values)
 
 
-def pair_objects(leak: Leak, printer: Printer, pair: Compared) -> None:
+def pair_objects(leak: Leak, printer: Printer, pair: ComparedPair) -> None:
     """Writes the comparison of one pair as objects."""
-    secrets, both, comparison, first, symbols = pair.secrets, pair.both, pair.comparison, pair.secrets[0], leak.symbols
+    secrets, observations, comparison, first, symbols = pair.secrets, pair.observations, pair.comparison, pair.secrets[0], leak.symbols
     run_object(printer, leak.run, symbols)
     printer.object("secret", slot=first.slot, at=first.text(), step=first.step, bytes=[it.bytes.hex() for it in secrets])
     for it in comparison.all():
-        values = list(it.values) if it.what == "steps" else [value.rstrip() for value in values_of(leak, it, both)]
-        printer.object("difference", channel=it.what, step=list(it.steps), values=values, pc=hex8(it.pc), count=it.count,
+        values = list(it.values) if it.channel == "steps" else [value.rstrip() for value in values_of(leak, it, observations)]
+        printer.object("difference", channel=it.channel, step=list(it.steps), values=values, pc=hex8(it.pc), count=it.count,
                        symbol=it.pc and symbols.name(it.pc), source=it.pc and symbols.source(it.pc))
-    printer.object("leak", channels=comparison.channels(), steps=[it.last - first.step for it in both], exits=[len(it.activations) for it in both],
-                   compared=leak.channels, pairs=1, for_all=not comparison.channels() and is_for_all(leak))
+    printer.object("leak", channels=comparison.channels(), steps=[it.last - first.step for it in observations],
+                   exits=[len(it.activations) for it in observations], compared=leak.channels, pairs=1,
+                   for_all=not comparison.channels() and is_for_all(leak))

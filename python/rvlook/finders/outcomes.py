@@ -64,7 +64,7 @@ class Watched(NamedTuple):
         if look.kind in ("call", "timer"):
             return True
         if look.kind == "w":
-            return not self.addresses.isdisjoint(range(look.at, look.at + look.width))
+            return not self.addresses.isdisjoint(range(look.address, look.address + look.width))
         word = look.key[2]
         return word is not None and (hart, operands(word).writes) in self.registers
 
@@ -155,8 +155,7 @@ def condition_of(text: str, symbols: Symbols) -> Forbidden:
 
 
 def compared_with(name: str, value: str, symbols: Symbols) -> int | str:
-    """Parses the value of a comparison: a number, decimal or after 0x, a symbol's address, or the state of an enclave. Raises RvlookError if the
-    value is neither a number nor a symbol."""
+    """Parses the value of a comparison: a number, a symbol's address, or the state of an enclave. Raises RvlookError for other texts."""
     if re.fullmatch(r"e\d+", name) and name not in symbols.by_name:
         return value
     try:
@@ -169,8 +168,7 @@ def compared_with(name: str, value: str, symbols: Symbols) -> int | str:
 
 
 def outcomes_of(texts: Iterable[str] | None, conditions: Sequence[Forbidden], run: Run, path: str | None) -> list[Observed]:
-    """Returns what distinguishes final states, with the parts that --forbid compares. Returns an empty list if all shared memory does. `path` is
-    the file of --symbols."""
+    """Returns the values that distinguish final states, with those of --forbid; none for all shared memory. `path` is that of --symbols."""
     named = list(texts or ()) + [part[0] for it in conditions for part in it.parts]
     members = variables_of(path, run.setup.image).fixed if any("." in it for it in named) else ()
     return [outcome_of(it, run.setup.symbols, run.setup.harts, members) for it in dict.fromkeys(named)]

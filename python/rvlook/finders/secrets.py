@@ -19,12 +19,12 @@ from rvlook.protocol.symbols import Symbols
 
 REGISTER_AT = re.compile(r"(\w+)@(.+)\Z")
 COUNT = re.compile(r"[0-9]{1,8}\Z")  # a number of bytes
-CORNERS = (b"\0", b"\xff", b"\x7f", b"\x80", b"\x01", b"\x55", b"\xaa")  # of each byte
+CORNER_BYTES = (b"\0", b"\xff", b"\x7f", b"\x80", b"\x01", b"\x55", b"\xaa")  # of each byte
 WORD = 4
 IN_IMAGE = "image:"  # begins the place of a secret that is written at reset
-NEAR = 3  # every so many pairs one has values that agree in a prefix
+NEAR_INTERVAL = 3  # each pair with a number divisible by this has values that agree in a prefix
 Bytes = bytes  # a member of Secret has that name
-LEAST = 4  # bytes of a reported copy; the whole secret if that is shorter
+LEAST = 4  # the fewest bytes of a reported copy, unless the whole secret is shorter
 
 
 class Secret(NamedTuple):
@@ -39,7 +39,8 @@ class Secret(NamedTuple):
     def lines(self) -> list[str]:
         """Returns the commands that set the secret."""
         if self.register:
-            return ["hart %d" % self.hart] * bool(self.hart) + ["setreg %d %x" % (self.register, int.from_bytes(self.bytes, "little"))]
+            choice = ["hart %d" % self.hart] if self.hart else []
+            return choice + ["setreg %d %x" % (self.register, int.from_bytes(self.bytes, "little"))]
         return poke_commands(self.at, self.bytes)
 
     def with_bytes(self, value: Bytes) -> Secret:
@@ -61,15 +62,14 @@ class Secret(NamedTuple):
 
 def created(run: Run, slot: int) -> Event:
     """Returns the event at which the enclave of a slot is created. Raises Unfinished if the run creates no enclave in the slot."""
-    found = next((it for it in events(run) if not isinstance(it, End) and it.cause == "create" and it.slot == slot), None)
-    if found is None:
+    event = next((it for it in events(run) if not isinstance(it, End) and it.cause == "create" and it.slot == slot), None)
+    if event is None:
         raise Unfinished("no enclave is created in slot %d" % slot)
-    return found
+    return event
 
 
 def place_and_size(text: str, symbols: Symbols) -> tuple[int, int | None]:
-    """Parses PLACE or PLACE:BYTES into an address and a number of bytes, which is None if unknown. Raises RvlookError if the place is neither an
-    address nor a symbol."""
+    """Parses PLACE or PLACE:BYTES: an address, and a size or None. Raises RvlookError if the place is neither an address nor a symbol."""
     name, _, count = text.partition(":")
     at = symbols.address(name)
     if at is None or count and not COUNT.match(count):
@@ -106,11 +106,12 @@ def secret_of(text: str, symbols: Symbols, run: Run, slot: int, size: int | None
 def register_secret(match: re.Match[str], symbols: Symbols, run: Run, slot: int) -> Secret:
     """Returns the secret in a register when the enclave first reaches an address. Raises Unfinished if the enclave never reaches the address."""
     pc, _ = place_and_size(match[2], symbols)
-    with closing(Activations(run).all()) as every:
-        for activation in every:
-            found = next((step for step, it in zip(activation.steps, activation.pcs) if it & -4 == pc), None) if activation.slot == slot else None
-            if found is not None:
-                return Secret(slot, 0, found - 1, bytes(WORD), names.NUMBER_OF[match[1]], activation.hart)
+    with closing(Activations(run).all()) as activations:
+        for activation in activations:
+            steps = (step for step, it in zip(activation.steps, activation.pcs) if it & -4 == pc and activation.slot == slot)
+            first = next(steps, None)
+            if first is not None:
+                return Secret(slot, 0, first - 1, bytes(WORD), names.NUMBER_OF[match[1]], activation.hart)
     raise Unfinished("the enclave in slot %d never reaches %08x" % (slot, pc))
 
 
@@ -118,30 +119,30 @@ class Pair(NamedTuple):
     """Two secrets to compare."""
     number: int  # from 1
     one: Optional[Bytes]  # None: the secret of the program itself
-    two: Bytes  # drawn
+    two: Bytes  # a drawn secret
 
 
 def drawn_pairs(own: bytes, guesses: Sequence[bytes], seed: int, first: int, last: int) -> list[Pair]:
     """Returns the pairs with numbers `first` to `last` of an endless list. Every third pair has two values that agree in prefixes of different length
     with the secret itself or with a guess of the host, and equal neither. The other pairs compare the secret with the values of `drawn`."""
     values, rng = iter(drawn(len(own), seed, last)), random.Random(seed)
-    found = []
+    pairs = []
     for number in range(1, last + 1):
-        turn = number // NEAR - 1
-        if number % NEAR == 0:
+        turn = number // NEAR_INTERVAL - 1
+        if number % NEAR_INTERVAL == 0:
             near = guesses[turn // 2 % len(guesses)] if turn % 2 and guesses else own
-            found.append(Pair(number, *near_pair(near, turn, rng)))
+            pairs.append(Pair(number, *near_pair(near, turn, rng)))
         else:
             value = next(values)
-            found.append(Pair(number, None, value if value != own else bytes(it ^ 0xA5 for it in own)))
-    return found[max(0, first - 1):]
+            pairs.append(Pair(number, one=None, two=value if value != own else bytes(it ^ 0xA5 for it in own)))
+    return pairs[max(0, first - 1):]
 
 
 def near_pair(value: bytes, turn: int, rng: random.Random) -> tuple[bytes, bytes]:
     """Returns two values that differ from a value in one byte each: in the first and the last byte, and later in random ones."""
     last = len(value) - 1
-    places = (0, last) if turn < 4 else sorted(rng.sample(range(last + 1), min(2, last + 1)))
-    changed = [value[:at] + bytes([value[at] ^ rng.randrange(1, 256)]) + value[at + 1:] for at in places]
+    indices = (0, last) if turn < 4 else sorted(rng.sample(range(last + 1), min(2, last + 1)))
+    changed = [value[:index] + bytes([value[index] ^ rng.randrange(1, 256)]) + value[index + 1:] for index in indices]
     if changed[0] == changed[-1]:
         changed[-1] = value[:-1] + bytes([changed[0][-1] ^ 0xFF])
     return changed[0], changed[-1]
@@ -150,7 +151,7 @@ def near_pair(value: bytes, turn: int, rng: random.Random) -> tuple[bytes, bytes
 def drawn(size: int, seed: int, count: int) -> list[bytes]:
     """Returns the first values of an endless list: corner values, then single bits and random values in turn."""
     rng = random.Random(seed)
-    values = [it * size for it in CORNERS] + [bytes([1]) + bytes(size - 1), bytes(size - 1) + b"\x80"]
+    values = [it * size for it in CORNER_BYTES] + [bytes([1]) + bytes(size - 1), bytes(size - 1) + b"\x80"]
     bits = [1 << n for n in range(8 * size)]
     rng.shuffle(bits)
     for number in range(count - len(values)):
@@ -161,14 +162,13 @@ def drawn(size: int, seed: int, count: int) -> list[bytes]:
 
 class Copy(NamedTuple):
     """Bytes that equal a part of the secret."""
-    at: int  # their index in the data
+    at: int  # index of the first byte in the data
     size: int  # number of bytes
     offset: int  # of the part in the secret
 
 
 def copies_in(data: bytes, secret: bytes) -> list[Copy]:
-    """Returns the copies of parts of the secret in data, by index. Leaves out parts whose bytes are all equal, such as zeros, and parts that a
-    longer copy covers."""
+    """Returns the copies of parts of the secret in data, by index, without parts of equal bytes and parts that a longer copy covers."""
     least = min(LEAST, len(secret))
     found: list[Copy] = []
     ends: dict[int, int] = {}  # of the last copy at each distance between the bytes and the secret
@@ -211,9 +211,9 @@ def extended(data: bytes, secret: bytes, at: int, offset: int, size: int) -> Cop
 
 def not_covered(copies: Iterable[Copy]) -> list[Copy]:
     """Returns the copies that no longer copy covers. If copies are at the same bytes, returns the one with the lowest offset."""
-    kept, end = [], -1
+    remaining, end = [], -1
     for copy in sorted(copies, key=lambda it: (it.at, -it.size, it.offset)):
         if copy.at + copy.size > end:
-            kept.append(copy)
+            remaining.append(copy)
             end = copy.at + copy.size
-    return kept
+    return remaining

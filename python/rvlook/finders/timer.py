@@ -20,11 +20,11 @@ from rvlook.protocol.run import End, Run
 from rvlook.protocol.stretch import Stretch
 from rvlook.protocol.timeline import Timeline
 
-MOST_STEPS = 200  # of the enclave in one exchange
-PATIENCE = 1000000  # steps in which the host must enter the enclave
+MAX_STEPS_PER_EXCHANGE = 200  # of the enclave in one exchange
+MAX_HOST_STEPS = 1000000  # steps in which the host must enter the enclave
 TIMER = names.TIMER.encode()
-ANSWER = ["reg 10", "reg 11"]
-ENDED = ("Exited", "Stopped")  # states after which steps of the host are not compared
+READ_ANSWER = ["reg 10", "reg 11"]
+ENDED_STATES = ("Exited", "Stopped")  # states after which steps of the host are not compared
 
 
 class TimerOptions(NamedTuple):
@@ -34,7 +34,7 @@ class TimerOptions(NamedTuple):
     jobs: int = 1  # number of processes
 
 
-class Inside(NamedTuple):
+class EnclaveStep(NamedTuple):
     """A step of the enclave."""
     pc: bytes  # 8 hexadecimal digits
     reply: bytes  # of the bench to the step
@@ -42,7 +42,7 @@ class Inside(NamedTuple):
     answer: tuple[bytes, ...] = ()  # a0 and a1 of the host, as replies, if the enclave leaves; else empty
 
 
-class Last(NamedTuple):
+class ComparisonEnd(NamedTuple):
     """The end of the comparison in the run without interrupts."""
     step: int  # the last step of the enclave, or of the run if the enclave does not end
     enclave: Enclave  # its entry in the enclave table
@@ -72,7 +72,7 @@ class InterruptedRun:
         return bool(self.difference or self.not_resumed)
 
 
-def last_of(run: Run, slot: int) -> Last:
+def comparison_end(run: Run, slot: int) -> ComparisonEnd:
     """Returns the last step of the enclave after the script. Raises Unfinished if no enclave is in the slot."""
     found, end = None, None
     for event in events(run):
@@ -80,14 +80,14 @@ def last_of(run: Run, slot: int) -> Last:
             end = event
         elif event.slot == slot and not (found and found.enclave.state == "Exited"):
             enclave = next((it for it in event.enclaves if it.slot == slot), None)
-            found = Last(event.step, enclave) if enclave else found
+            found = ComparisonEnd(event.step, enclave) if enclave else found
     if found is None:
         raise Unfinished("no enclave in slot %d" % slot)
     assert end is not None
-    return found if found.enclave.state in ENDED else Last(end.steps, found.enclave, end.why == "limit")
+    return found if found.enclave.state in ENDED_STATES else ComparisonEnd(end.steps, found.enclave, end.why == "limit")
 
 
-def inside_steps(run: Run, slot: int, last: Last, reader: Timeline) -> Iterator[Inside]:
+def enclave_steps(run: Run, slot: int, last: ComparisonEnd, reader: Timeline) -> Iterator[EnclaveStep]:
     """Yields the steps of the enclave after the script, without a timer. `reader` is a replay that reads the results of the host."""
     own, entered = b"e%d" % slot, True
     for item in run.stretches():
@@ -97,8 +97,8 @@ def inside_steps(run: Run, slot: int, last: Last, reader: Timeline) -> Iterator[
                 if was != own:
                     entered = True
                 elif run.length < step <= last.step:
-                    answer = reader.bench.replies_to([*reader.lines_to(step), *ANSWER])[-len(ANSWER):] if now != own else ()
-                    yield Inside(pc, line, entered, tuple(answer))
+                    answer = reader.bench.replies_to([*reader.lines_to(step), *READ_ANSWER])[-len(READ_ANSWER):] if now != own else ()
+                    yield EnclaveStep(pc, line, entered, tuple(answer))
                     entered = False
 
 
@@ -106,13 +106,13 @@ def inside_steps(run: Run, slot: int, last: Last, reader: Timeline) -> Iterator[
 def commands_for(pc: bytes, is_entered: bool, is_stopped: bool, is_left: bool) -> tuple[bytes, int]:
     """Returns the commands for one step of the enclave, and their number. The host runs until the enclave is at pc before it, if it is entered, and
     after each stop. The last command does the step, or reads the result after it."""
-    enter = [b"break %s\n" % pc, b"run %d\n" % PATIENCE, b"clear %s\n" % pc]
+    enter = [b"break %s\n" % pc, b"run %d\n" % MAX_HOST_STEPS, b"clear %s\n" % pc]
     commands = [*(enter if is_entered else []), *([b"timer on\n", b"step 1\n", *enter] if is_stopped else []), b"step 1\n"]
-    commands += [b"%s\n" % it.encode() for it in ANSWER if is_left]
+    commands += [b"%s\n" % it.encode() for it in READ_ANSWER if is_left]
     return b"".join(commands), len(commands)
 
 
-def interrupted(replay: Timeline, steps: Iterator[tuple[int, Inside]], every: int, progress: Progress | None) -> InterruptedRun:
+def interrupted(replay: Timeline, steps: Iterator[tuple[int, EnclaveStep]], every: int, progress: Progress | None) -> InterruptedRun:
     """Runs numbered steps with a timer interrupt before every one that is due. After the first difference the steps are only counted."""
     outcome = InterruptedRun()
     for batch in batches_of(steps):
@@ -125,11 +125,10 @@ def interrupted(replay: Timeline, steps: Iterator[tuple[int, Inside]], every: in
 
 
 class TimerParts(NamedTuple):
-    """The run with interrupts, in `jobs` parts with the same number of steps. Another process does each part. It first repeats the earlier parts
-    without a comparison."""
+    """The run with interrupts, in `jobs` parts of equal length, one for each process, which first repeats the earlier parts uncompared."""
     run: Run  # without interrupts
     options: TimerOptions  # slot, distance of interrupts, and jobs
-    last: Last  # where the comparison ends
+    last: ComparisonEnd  # where the comparison ends
     progress: Progress  # shows the finished parts
 
     @property
@@ -144,7 +143,7 @@ class TimerParts(NamedTuple):
         size = 0 if is_whole else -(-self.steps // jobs)
         with self.run.replay() as reader, self.run.replay() as replay:
             replay.go_before(self.run.length + 1)
-            steps = enumerate(inside_steps(self.run, self.options.slot, self.last, reader))
+            steps = enumerate(enclave_steps(self.run, self.options.slot, self.last, reader))
             for batch in batches_of(itertools.islice(steps, number * size)):
                 replies_to(replay, commands_of(batch, every))
             own = steps if is_whole else itertools.islice(steps, size)
@@ -167,15 +166,15 @@ class TimerParts(NamedTuple):
         return whole
 
 
-def batches_of(steps: Iterator[tuple[int, Inside]]) -> Iterator[list[tuple[int, Inside]]]:
+def batches_of(steps: Iterator[tuple[int, EnclaveStep]]) -> Iterator[list[tuple[int, EnclaveStep]]]:
     """Yields the steps for one exchange each. The first batches are small: after a difference each step may run the host to its limit."""
     count = 1
     while batch := list(itertools.islice(steps, count)):
         yield batch
-        count = min(2 * count, MOST_STEPS)
+        count = min(2 * count, MAX_STEPS_PER_EXCHANGE)
 
 
-def commands_of(batch: Sequence[tuple[int, Inside]], every: int) -> list[tuple[bytes, int]]:
+def commands_of(batch: Sequence[tuple[int, EnclaveStep]], every: int) -> list[tuple[bytes, int]]:
     """Returns the commands for each of some steps, and their number."""
     return [commands_for(it.pc, it.is_entered, number % every == 0, bool(it.answer)) for number, it in batch]
 
@@ -185,7 +184,7 @@ def replies_to(replay: Timeline, commands: Sequence[tuple[bytes, int]]) -> list[
     return replay.bench.block(b"".join([text for text, _ in commands]), sum(count for _, count in commands)).splitlines()
 
 
-def compare(replay: Timeline, batch: Sequence[tuple[int, Inside]], every: int, outcome: InterruptedRun) -> None:
+def compare(replay: Timeline, batch: Sequence[tuple[int, EnclaveStep]], every: int, outcome: InterruptedRun) -> None:
     """Compares some steps of the enclave, up to the first difference."""
     commands = commands_of(batch, every)
     replies, end = replies_to(replay, commands), 0
@@ -200,12 +199,12 @@ def compare(replay: Timeline, batch: Sequence[tuple[int, Inside]], every: int, o
             return
 
 
-def difference_at(number: int, step: Inside, expected: bytes, actual: bytes) -> TimerDifference:
+def difference_at(number: int, step: EnclaveStep, expected: bytes, actual: bytes) -> TimerDifference:
     """Returns a difference in one step of the enclave."""
     return TimerDifference(number, step.pc.decode(), expected.decode(), actual.decode())
 
 
-def not_entered(number: int, step: Inside, lines: Sequence[bytes]) -> TimerDifference | None:
+def not_entered(number: int, step: EnclaveStep, lines: Sequence[bytes]) -> TimerDifference | None:
     """Returns the first time that the host did not enter the enclave before a step, or None. The reply to each of its runs is the third one before
     the end, or before that of a timer interrupt."""
     for reply in lines[-3::-5][::-1]:
@@ -214,7 +213,7 @@ def not_entered(number: int, step: Inside, lines: Sequence[bytes]) -> TimerDiffe
     return None
 
 
-def compare_step(number: int, step: Inside, is_stopped: bool, lines: Sequence[bytes], answer: tuple[bytes, ...]) -> TimerDifference | None:
+def compare_step(number: int, step: EnclaveStep, is_stopped: bool, lines: Sequence[bytes], answer: tuple[bytes, ...]) -> TimerDifference | None:
     """Returns the difference in one step of the enclave, or None."""
     if is_stopped and b" trap=%s:" % TIMER not in lines[-5]:
         return difference_at(number, step, b"a timer interrupt", lines[-5])
@@ -237,10 +236,9 @@ def finish_of(bench: Bench, enclave: Enclave) -> list[str]:
     return ["a0=%08x" % values[10], "a1=%08x" % values[11]] + [reply[0] for reply in bench.ask(*reads)]
 
 
-def find_timer(run: Run, options: TimerOptions) -> tuple[InterruptedRun, Last]:
-    """Runs an enclave with and without timer interrupts; returns the result, and the last step of the enclave. Raises Unfinished if the enclave
-    executes no step after the script."""
-    last = last_of(run, options.slot)
+def find_timer(run: Run, options: TimerOptions) -> tuple[InterruptedRun, ComparisonEnd]:
+    """Compares the runs; returns the result and the end of the comparison. Raises Unfinished if the enclave does no step after the script."""
+    last = comparison_end(run, options.slot)
     with run.replay() as quiet, Progress() as progress:
         quiet.go(last.step)
         outcome = TimerParts(run, options, last, progress).whole()
@@ -253,8 +251,7 @@ def find_timer(run: Run, options: TimerOptions) -> tuple[InterruptedRun, Last]:
 
 
 def show_timer(run: Run, printer: Printer, options: TimerOptions, findings: ReportedCases) -> None:
-    """Runs an enclave with and without timer interrupts, and reports whether the results are equal. Raises Unfinished if the host does not
-    resume the enclave."""
+    """Compares the results of an enclave with and without timer interrupts. Raises Unfinished if the host does not resume the enclave."""
     slot, (outcome, last) = options.slot, find_timer(run, options)
     (timer_object if printer.as_json else timer_text)(run, printer, options, outcome)
     if outcome.not_resumed:

@@ -22,7 +22,7 @@ Marks = Tuple[Tuple[int, ...], Optional[bool], bool]  # instructions, whether it
 
 class MarkedBytes(NamedTuple):
     """Adjacent bytes of the window that an activation treated alike."""
-    what: str  # reads, rereads, receives, writes or remains
+    kind: str  # reads, rereads, receives, writes or remains
     first: int  # offset in the window
     size: int  # number of bytes
     pcs: tuple[int, ...]  # the instructions; for `remains` the instruction and the number of its activation
@@ -33,7 +33,7 @@ class MarkedBytes(NamedTuple):
     @property
     def is_finding(self) -> bool:
         """Returns whether the range counts as a finding."""
-        return self.what == "rereads" or bool(self.is_secret) and not self.is_public
+        return self.kind == "rereads" or bool(self.is_secret) and not self.is_public
 
 
 class SecretCopy(NamedTuple):
@@ -66,7 +66,7 @@ class Byte:
     """A byte of the window in one activation, with the instructions that accessed it."""
     read_at: Optional[int] = None  # the last load before a store of the enclave; None if there is none
     input_at: Optional[int] = None  # the first such load
-    again: dict[tuple[int, int], bool] = field(default_factory=dict)  # pairs of successive loads (a double fetch)
+    repeated_loads: dict[tuple[int, int], bool] = field(default_factory=dict)  # pairs of successive loads (a double fetch)
     stored_at: Optional[int] = None  # the last store; None if there is none
     values: bytearray = field(default_factory=bytearray)  # all stored values
 
@@ -75,35 +75,35 @@ def bytes_of(activation: Activation) -> dict[int, Byte]:
     """Returns what the activation did with each byte of its window, by offset."""
     found: dict[int, Byte] = defaultdict(Byte)
     base, end = activation.enclave.window, activation.enclave.window + activation.enclave.window_size
-    known: set[tuple[int, int]] = set()  # loads that change nothing, by instruction and address
+    repeated: set[tuple[int, int]] = set()  # loads that change nothing, by instruction and address
     for _, pc, kind, address, width, values, done in activation.operations:
-        if not done or address >= end or address + width <= base or (pc, address) in known or kind not in "rw":
+        if not done or address >= end or address + width <= base or (pc, address) in repeated or kind not in "rw":
             continue
-        several = [found[at - base] for at in range(address, address + width)]
+        accessed = [found[at - base] for at in range(address, address + width)]
         if kind == "w":
-            for byte, value in zip(several, values):
+            for byte, value in zip(accessed, values):
                 byte.stored_at = pc
                 byte.values.append(value)
-        if kind == "w" or any([read(byte, pc) for byte in several]):
-            known.clear()
+        if kind == "w" or any([note_load(byte, pc) for byte in accessed]):
+            repeated.clear()
         else:
-            known.add((pc, address))
+            repeated.add((pc, address))
     return found
 
 
-def read(byte: Byte, pc: int) -> bool:
+def note_load(byte: Byte, pc: int) -> bool:
     """Records a load of a byte that the host may have written: the enclave has not stored to it in this activation. Returns whether that is new."""
-    if byte.stored_at is not None or byte.read_at == pc and (pc, pc) in byte.again:
+    if byte.stored_at is not None or byte.read_at == pc and (pc, pc) in byte.repeated_loads:
         return False
     if byte.input_at is None:
         byte.input_at = pc
     elif byte.read_at is not None:
-        byte.again[byte.read_at, pc] = True
+        byte.repeated_loads[byte.read_at, pc] = True
     byte.read_at = pc
     return True
 
 
-def ranges(what: str, marks: Mapping[int, Marks]) -> list[MarkedBytes]:
+def ranges(kind: str, marks: Mapping[int, Marks]) -> list[MarkedBytes]:
     """Joins adjacent bytes with equal marks. `marks` has the marks by offset."""
     found: list[MarkedBytes] = []
     for at in sorted(marks):
@@ -111,11 +111,11 @@ def ranges(what: str, marks: Mapping[int, Marks]) -> list[MarkedBytes]:
         if last and last.first + last.size == at and last[3:6] == marks[at]:
             found[-1] = last._replace(size=last.size + 1)
         else:
-            found.append(MarkedBytes(what, at, 1, *marks[at]))
+            found.append(MarkedBytes(kind, at, 1, *marks[at]))
     return found
 
 
-class Kept(NamedTuple):
+class LeftByte(NamedTuple):
     """A byte that an activation left in the window."""
     value: int  # of the byte
     pc: int  # the instruction that stored it
@@ -126,12 +126,11 @@ class Leftovers:
     """The data that the activations of each enclave left in its window."""
 
     def __init__(self) -> None:
-        self.kept: dict[str, dict[int, Kept]] = defaultdict(dict)  # by world and by offset
+        self.kept: dict[str, dict[int, LeftByte]] = defaultdict(dict)  # by world and by offset
         self.stored: dict[int, tuple[int, int, str]] = {}  # the value, the instruction and the world that stored each byte of any window last
 
     def received(self, activation: Activation, found: Mapping[int, Byte]) -> dict[int, tuple[int, str]]:
-        """Returns the bytes that the activation loaded and another enclave had stored, with the instruction and the world that stored them. Then
-        takes the stores of the activation."""
+        """Returns the loaded bytes that another enclave stored, with instruction and world of the store. Then notes the activation's stores."""
         base, marks = activation.enclave.window, {}
         for at, byte in found.items():
             value, pc, world = self.stored.get(base + at, (0, 0, activation.world))
@@ -142,7 +141,7 @@ class Leftovers:
                 self.stored[base + at] = byte.values[-1], byte.stored_at, activation.world
         return marks
 
-    def take(self, activation: Activation, found: Mapping[int, Byte]) -> dict[int, Kept]:
+    def take(self, activation: Activation, found: Mapping[int, Byte]) -> dict[int, LeftByte]:
         """Updates the data after an activation; returns the bytes that remain from an earlier activation."""
         kept, after = self.kept[activation.world], activation.after
         for at in [it for it in kept if it >= len(activation.before) or activation.before[it] != kept[it].value]:
@@ -150,17 +149,16 @@ class Leftovers:
         remaining = {at: it for at, it in kept.items() if at < len(after) and after[at] == it.value and it.activation != activation.number}
         for at, byte in found.items():
             if byte.stored_at is not None:
-                kept[at] = Kept(byte.values[-1], byte.stored_at, activation.number)
+                kept[at] = LeftByte(byte.values[-1], byte.stored_at, activation.number)
                 remaining.pop(at, None)
         return remaining
 
 
 def reread(found: Mapping[int, Byte], symbols: Symbols) -> Iterator[MarkedBytes]:
-    """Yields the bytes that were loaded again: one range for adjacent bytes that the same two source lines load, or the same two instructions
-    without source lines."""
+    """Yields the bytes that were loaded again, as ranges that the same two source lines load, or the same two instructions."""
     groups: dict[tuple[object, object], dict[int, tuple[int, int]]] = defaultdict(dict)
     for at, byte in found.items():
-        for first, second in byte.again:
+        for first, second in byte.repeated_loads:
             groups[symbols.source(first) or first, symbols.source(second) or second].setdefault(at, (first, second))
     for pairs in groups.values():
         marks: dict[int, Marks] = {}
@@ -192,8 +190,7 @@ def view_of(activation: Activation, leftovers: Leftovers, other: Activation | No
 
 
 def copies_of(activation: Activation, other: Activation | None, secret: Secret, writers: Mapping[int, int], public: Public) -> Iterator[SecretCopy]:
-    """Yields the copies of parts of the secret in the window at the end of the activation. `writers` has the instruction that stored each
-    byte."""
+    """Yields the copies of parts of the secret in the window at the end. `writers` has the instruction that stored each byte."""
     base = activation.enclave.window
     short = [] if other is None else short_copies_in(activation.after, other.after, secret.bytes)
     for copy in sorted([*copies_in(activation.after, secret.bytes), *short]):
@@ -222,8 +219,7 @@ class WindowSearch:
         self.reader = FieldReader(run, variables.parameters, self.context.fields)  # reads the parameters of the enclave
 
     def views(self, heard: Callable[[int], None] = lambda step: None) -> Iterator[tuple[Activation, ActivationView]]:
-        """Yields each activation with its findings. Calls `heard` with the last step of each activation. Raises Unfinished if no activation is
-        found."""
+        """Yields each activation with its findings, and calls `heard` with its last step. Raises Unfinished if there is no activation."""
         others = with_complement(self.run, self.secret) if self.secret else iter(())
         leftovers, slot, number = Leftovers(), self.options.slot, 0
         for activation in Activations(self.run).all():
@@ -241,5 +237,5 @@ class WindowSearch:
 def with_complement(run: Run, secret: Secret) -> Iterator[Activation]:
     """Yields the activations of the run with the complement of the secret."""
     other = secret.with_bytes(bytes(it ^ 0xFF for it in secret.bytes))
-    every = Activations(run.with_lines(other.step, other.lines()), secret.step).all()
-    return (it for it in every if it.slot == secret.slot)
+    activations = Activations(run.with_lines(other.step, other.lines()), secret.step).all()
+    return (it for it in activations if it.slot == secret.slot)

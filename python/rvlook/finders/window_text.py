@@ -58,13 +58,13 @@ def found_text(activation: Activation, found: MarkedBytes, context: WindowContex
     """Returns a range as a line."""
     symbols = context.symbols
     base = activation.enclave.window + found.first
-    parts = ["  %-11s %08x-%08x %6d" % (found.what, base, base + found.size - 1, found.size), context.fields.name(base) or ""]
-    if found.what == "remains":
+    parts = ["  %-11s %08x-%08x %6d" % (found.kind, base, base + found.size - 1, found.size), context.fields.name(base) or ""]
+    if found.kind == "remains":
         pc, number = found.pcs
         parts.append("%s, in activation %d" % (places_text([pc], symbols), number))
-    elif found.what == "receives":
+    elif found.kind == "receives":
         parts.append("%s of %s" % (places_text(found.pcs, symbols), found.world))
-    elif found.what == "rereads":
+    elif found.kind == "rereads":
         parts.append("%s and %s; %s" % (*map(symbols.place, found.pcs), between_text(activation, base)))
     else:
         parts.append(places_text(found.pcs, symbols))
@@ -84,10 +84,11 @@ def copy_text(activation: Activation, it: SecretCopy, context: WindowContext, se
     """Returns a copy of a part of the secret as a line."""
     assert secret is not None
     copy, base = it.copy, activation.enclave.window + it.copy.at
-    places = "byte %d" % copy.offset if copy.size == 1 else "bytes %d to %d" % (copy.offset, copy.offset + copy.size - 1)
-    what = "all %d bytes of the secret" % copy.size if copy.size == len(secret.bytes) else "%s of the %d-byte secret" % (places, len(secret.bytes))
-    parts = ["  %-11s %08x-%08x %6d" % ("copy", base, base + copy.size - 1, copy.size), context.fields.name(base) or "", what, secret_text(it)]
-    return "  ".join(part for part in parts if part)
+    offsets = "byte %d" % copy.offset if copy.size == 1 else "bytes %d to %d" % (copy.offset, copy.offset + copy.size - 1)
+    is_whole = copy.size == len(secret.bytes)
+    part = "all %d bytes of the secret" % copy.size if is_whole else "%s of the %d-byte secret" % (offsets, len(secret.bytes))
+    texts = ["  %-11s %08x-%08x %6d" % ("copy", base, base + copy.size - 1, copy.size), context.fields.name(base) or "", part, secret_text(it)]
+    return "  ".join(text for text in texts if text)
 
 
 def rows_of(activation: Activation) -> Iterator[tuple[int, bytes]]:
@@ -135,12 +136,12 @@ def activation_objects(printer: Printer, context: WindowContext, activation: Act
                    last=activation.last, ended_by=activation.ended_by,
                    answer=[hex8(it) for it in activation.answer], window=hex8(activation.enclave.window), size=activation.enclave.window_size)
     for marked in view.found:
-        base, pcs = activation.enclave.window + marked.first, marked.pcs[:1] if marked.what == "remains" else marked.pcs
-        printer.object("window", world=activation.world, activation=activation.number, what=marked.what, first=hex8(base),
+        base, pcs = activation.enclave.window + marked.first, marked.pcs[:1] if marked.kind == "remains" else marked.pcs
+        printer.object("window", world=activation.world, activation=activation.number, what=marked.kind, first=hex8(base),
                        last=hex8(base + marked.size - 1), symbol=symbols.name(base), field=context.fields.known(base), stored_by=marked.world or None,
                        pcs=[hex8(pc) for pc in pcs], sources=[symbols.source(pc) for pc in pcs],
-                       secret=marked.is_secret, public=marked.is_public, of=marked.pcs[1] if marked.what == "remains" else None,
-                       between=between_text(activation, base) if marked.what == "rereads" else None)
+                       secret=marked.is_secret, public=marked.is_public, of=marked.pcs[1] if marked.kind == "remains" else None,
+                       between=between_text(activation, base) if marked.kind == "rereads" else None)
     for at, row in rows_of(activation):
         printer.object("dump", world=activation.world, activation=activation.number, at=hex8(at), bytes=row.hex())
     for found in view.copies:

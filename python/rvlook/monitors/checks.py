@@ -18,8 +18,8 @@ A0, A7 = 10, 17  # numbers of registers
 
 
 @dataclass
-class Left:
-    """A world that was left."""
+class LeftWorld:
+    """A world that was left, with the marks in its registers."""
     state: HartState  # before the marks
     registers: dict[int, int]  # the marks, by number
     csrs: dict[str, int]  # the marks of S-mode registers, by name
@@ -61,61 +61,61 @@ def missing_access(ownership: Ownership, world: str, pc: int, rights: tuple[Righ
     """Access to all that is the world's own or shared with it, except for live ranges of enclaves inside."""
     for part in ownership.open_to(world):
         for right in rights:
-            lacking = set(part.may) - set(right.may) - {"-"}
+            missing = set(part.may) - set(right.may) - {"-"}
             first, end = max(part.first, right.first), min(part.end, right.end)
-            if lacking and first < end and not is_covered(first, end, [one for one in live if one.owner != world]):
+            if missing and first < end and not is_covered(first, end, [it for it in live if it.owner != world]):
                 return "%s at %08x may access only %s %08x-%08x, of which it has %s" % (world, pc, right.may, first, end - 1, part.may)
     return ""
 
 
 def is_covered(first: int, end: int, parts: list[OwnedRange]) -> bool:
     """Returns whether all bytes of a range are in one of the parts."""
-    at = first
-    while at < end:
-        at_next = max((it.end for it in parts if it.has(at)), default=at)
-        if at_next == at:
+    covered_end = first
+    while covered_end < end:
+        next_end = max((it.end for it in parts if it.has(covered_end)), default=covered_end)
+        if next_end == covered_end:
             return False
-        at = at_next
+        covered_end = next_end
     return True
 
 
 # ---- registers
 
-def visible_mark(ownership: Ownership, was: str, left: Left, world: str, state: HartState) -> str:
+def visible_mark(ownership: Ownership, left_name: str, left: LeftWorld, world: str, state: HartState) -> str:
     """No other world sees a marked register of the world that was left, apart from those that hand values over at a call."""
     names = {value: abi_name(number) for number, value in left.registers.items()}
     names.update({value: name for name, value in left.csrs.items() if name in MARKED_CSRS})
-    shown = [(abi_name(number), value) for number, value in enumerate(state.registers) if not (left.is_call and number in ownership.hands)]
-    shown += [(name, state.csrs[name]) for name in SUPERVISOR]
-    found = next(((name, value) for name, value in shown if value in names), None)
+    visible = [(abi_name(number), value) for number, value in enumerate(state.registers) if not (left.is_call and number in ownership.hands)]
+    visible += [(name, state.csrs[name]) for name in SUPERVISOR]
+    found = next(((name, value) for name, value in visible if value in names), None)
     if found:
-        return "%s at %08x has in %s what %s had in %s, %08x" % (world, state.pc, found[0], was, names[found[1]], found[1])
+        return "%s at %08x has in %s what %s had in %s, %08x" % (world, state.pc, found[0], left_name, names[found[1]], found[1])
     return ""
 
 
-def leftover(was: str, left: Left, world: str, state: HartState) -> str:
+def leftover(left_name: str, left: LeftWorld, world: str, state: HartState) -> str:
     """A world that is entered for the first time has neither stvec nor sstatus of the world that was left."""
     stvec = left.state.csrs["stvec"]
     if stvec and state.csrs["stvec"] == stvec:
-        return "%s is entered at %08x with stvec of %s, %08x" % (world, state.pc, was, stvec)
-    kept = state.csrs["sstatus"] & left.csrs.get("sstatus", 0)
-    return "%s is entered at %08x with bits of sstatus of %s, %08x" % (world, state.pc, was, kept) if kept else ""
+        return "%s is entered at %08x with stvec of %s, %08x" % (world, state.pc, left_name, stvec)
+    common_bits = state.csrs["sstatus"] & left.csrs.get("sstatus", 0)
+    return "%s is entered at %08x with bits of sstatus of %s, %08x" % (world, state.pc, left_name, common_bits) if common_bits else ""
 
 
-def changed_context(ownership: Ownership, world: str, left: Left, state: HartState) -> str:
+def changed_context(ownership: Ownership, world: str, left: LeftWorld, state: HartState) -> str:
     """A world that continues has its registers, pc and mode, apart from the registers that hand values over at a call."""
     before = left.state
     pc = before.pc + 4 if left.is_call else before.pc
     if (state.pc, state.mode) != (pc & 0xFFFFFFFF, before.mode):
         return "%s continues at %08x in %s, not at %08x in %s" % (world, state.pc, state.mode, pc, before.mode)
     for number in range(1, 32):
-        wanted = left.registers.get(number, before.registers[number])
-        if state.registers[number] != wanted and not (left.is_call and number in ownership.hands):
-            return "%s continues at %08x with %s %08x, not %08x" % (world, state.pc, abi_name(number), state.registers[number], wanted)
+        expected = left.registers.get(number, before.registers[number])
+        if state.registers[number] != expected and not (left.is_call and number in ownership.hands):
+            return "%s continues at %08x with %s %08x, not %08x" % (world, state.pc, abi_name(number), state.registers[number], expected)
     for name in SUPERVISOR:
-        wanted = left.csrs.get(name, before.csrs[name])
-        if state.csrs[name] != wanted:
-            return "%s continues at %08x with %s %08x, not %08x" % (world, state.pc, name, state.csrs[name], wanted)
+        expected = left.csrs.get(name, before.csrs[name])
+        if state.csrs[name] != expected:
+            return "%s continues at %08x with %s %08x, not %08x" % (world, state.pc, name, state.csrs[name], expected)
     return ""
 
 
@@ -129,14 +129,14 @@ def redirected_status(status: int, mode: str) -> int:
     return status & MXR | (SPIE if status & SIE else 0) | (SPP if mode == "S" else 0)
 
 
-def wrong_redirect(world: str, left: Left, stay: StayInM, tval: int) -> str:
+def wrong_redirect(world: str, left: LeftWorld, stay: StayInM, tval: int) -> str:
     """A redirected exception changes what the privileged specification says (Privileged 20211203, section 4.1.1), and nothing else."""
     before, after = left.state, stay.exit
     if after.mode != "S":
         return "an exception of %s at %08x is redirected to %s, not to S" % (world, before.pc, after.mode)
-    wanted = {"sepc": before.pc, "scause": int(stay.cause, 16), "stval": tval, "sscratch": left.csrs["sscratch"], "stvec": before.csrs["stvec"],
-              "sstatus": redirected_status(left.csrs["sstatus"], before.mode)}
-    for name, value in wanted.items():
+    expected = {"sepc": before.pc, "scause": int(stay.cause, 16), "stval": tval, "sscratch": left.csrs["sscratch"], "stvec": before.csrs["stvec"],
+                "sstatus": redirected_status(left.csrs["sstatus"], before.mode)}
+    for name, value in expected.items():
         if after.csrs[name] != value:
             return "an exception of %s at %08x is redirected with %s %08x, not %08x" % (world, before.pc, name, after.csrs[name], value)
     for number in range(1, 32):
@@ -146,7 +146,7 @@ def wrong_redirect(world: str, left: Left, stay: StayInM, tval: int) -> str:
     return ""
 
 
-def wrong_emulation(world: str, left: Left, stay: StayInM) -> str:
+def wrong_emulation(world: str, left: LeftWorld, stay: StayInM) -> str:
     """An exception that M handles itself changes at most one register, the result of the instruction."""
     changed = [n for n in range(1, 32) if stay.exit.registers[n] != left.registers.get(n, left.state.registers[n])]
     if len(changed) > 1:
@@ -192,15 +192,15 @@ def zeroed_range(parts: list[OwnedRange], memory: MemoryAndRights) -> str:
     return ""
 
 
-def marks_in_memory(ownership: Ownership, was: str, left: Left, memory: bytes) -> str:
+def marks_in_memory(ownership: Ownership, left_name: str, left: LeftWorld, memory: bytes) -> str:
     """No mark of the world that was left is in memory that is not its own or the monitor's."""
     values = {struct.pack("<I", value): abi_name(number) for number, value in left.registers.items()}
     values.update({struct.pack("<I", value): name for name, value in left.csrs.items() if name in MARKED_CSRS})
     for data, name in values.items():
         at = memory.find(data)
         while at >= 0:
-            if ownership.owner_of(MONITOR_END + at) not in (was, MONITOR):
-                return "memory at %08x has what %s had in %s, %08x" % (MONITOR_END + at, was, name, struct.unpack("<I", data)[0])
+            if ownership.owner_of(MONITOR_END + at) not in (left_name, MONITOR):
+                return "memory at %08x has what %s had in %s, %08x" % (MONITOR_END + at, left_name, name, struct.unpack("<I", data)[0])
             at = memory.find(data, at + 1)
     return ""
 
@@ -211,8 +211,8 @@ def not_zeroed(part: OwnedRange, memory: bytes, rights: tuple[Right, ...]) -> st
     if any(data):
         at = part.first + next(n for n, it in enumerate(data) if it)
         return "%s may access %s of %s, which is not zeroed: byte %08x is %02x" % (HOST, part, part.owner, at, data[at - part.first])
-    shut = next((it for it in rights if it.may == "---" and part.overlaps(it)), None)
-    return "%s may access only a part of %s of %s" % (HOST, part, part.owner) if shut else ""
+    closed = next((it for it in rights if it.may == "---" and part.overlaps(it)), None)
+    return "%s may access only a part of %s of %s" % (HOST, part, part.owner) if closed else ""
 
 
 def closed_ranges(ownership: Ownership, rights: tuple[Right, ...]) -> list[OwnedRange]:

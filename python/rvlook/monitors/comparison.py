@@ -5,7 +5,7 @@ from enum import Enum
 from typing import NamedTuple
 
 from rvlook.monitors.rights import Right, closed_outside, rights_of, shape
-from rvlook.monitors.sides import BELOW, DECIDING, EXACT, REGISTERS, MonitorSetup, SideState
+from rvlook.monitors.sides import BELOW, DECIDING_BITS, EXACT_CSRS, REGISTER_LINES, MonitorSetup, SideState
 from rvlook.protocol.memory_map import RAM_BASE
 from rvlook.protocol.replies import bytes_of
 
@@ -63,16 +63,16 @@ def below_differences(own: bytes, reference: bytes) -> list[MonitorDifference]:
 def below_difference(number: int, own: str, reference: str) -> MonitorDifference:
     """Returns the difference of two replies, which have a number in the state."""
     values = own.partition("=")[2], reference.partition("=")[2]
-    if number == REGISTERS - 1:
+    if number == REGISTER_LINES - 1:
         return MonitorDifference(DifferenceKind.pc, "pc", *values)
-    if number < REGISTERS:
+    if number < REGISTER_LINES:
         return MonitorDifference(DifferenceKind.register, "x%d" % number, *values, number)
-    return MonitorDifference(DifferenceKind.csr, BELOW[number - REGISTERS], *values, number)
+    return MonitorDifference(DifferenceKind.csr, BELOW[number - REGISTER_LINES], *values, number)
 
 
 def above_differences(own: tuple[int, ...], reference: tuple[int, ...], is_exact: bool) -> list[MonitorDifference]:
     """Returns the differences of the deciding bits of mstatus, mie and mip, and of mepc, mcause and mtval if they are compared."""
-    names = (*DECIDING, *EXACT)[:len(DECIDING) + (len(EXACT) if is_exact else 0)]
+    names = (*DECIDING_BITS, *EXACT_CSRS)[:len(DECIDING_BITS) + (len(EXACT_CSRS) if is_exact else 0)]
     return [MonitorDifference(DifferenceKind.csr, name, "%08x" % one, "%08x" % other)
             for name, one, other in zip(names, own, reference) if one != other]
 

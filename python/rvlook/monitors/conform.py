@@ -9,17 +9,16 @@ from typing import Iterator, Sequence
 from rvlook.monitors.comparison import DifferenceKind, MonitorDifference
 from rvlook.monitors.directed import RandomScript, ReferenceState, corner_scripts, directed_scripts, large_scripts, long_scripts, refusal_scripts
 from rvlook.monitors.items import Item
-from rvlook.monitors.pair import BothSides, Played, ScriptCoverage, play
+from rvlook.monitors.pair import BothSides, PlayedScript, ScriptCoverage, play
 from rvlook.monitors.placement import Placement
 from rvlook.monitors.sides import MonitorSetup
 from rvlook.output.progress import Progress
 from rvlook.protocol.jobs import results_of
 
 DEEP_RAM = 0x400000  # bytes for the scripts with large blocks
-MOST_RUNS = 300
-MOST_SECONDS = 60  # after which a script is not shrunk further
+MAX_SHRINK_RUNS, MAX_SHRINK_SECONDS = 300, 60  # after which a script is not shrunk further
 # Kinds whose name is a part of what differs. The names of the others have addresses or causes in them.
-NAMED = (DifferenceKind.register, DifferenceKind.csr, DifferenceKind.entry)
+NAMED_KINDS = (DifferenceKind.register, DifferenceKind.csr, DifferenceKind.entry)
 
 
 @dataclass(frozen=True)
@@ -54,7 +53,7 @@ class ScriptPlan:
 class ConformOutcome:
     """The result of the scripts that were run."""
     coverage: ScriptCoverage = field(default_factory=ScriptCoverage)  # of the scripts
-    different: Played | None = None  # the first script with a difference; None if there is none
+    different: PlayedScript | None = None  # the first script with a difference; None if there is none
     task: Task | None = None  # of that script
     left: int = 0  # scripts that were not run, because of the time limit or Ctrl-C
     is_interrupted: bool = False  # whether Ctrl-C ended the comparison
@@ -66,19 +65,23 @@ def tasks_of(plan: ScriptPlan, ram: int, placement: Placement | None = None) -> 
     table += [Task(name, tuple(items)) for name, items in corner_scripts()]
     large = DEEP_RAM if plan.is_deep and not plan.has_ram else ram
     table += [Task(name, tuple(items), ram=large if large != ram else 0, is_long=True) for name, items in large_scripts(large)]
-    table += [Task(name, tuple(items), is_long=True) for name, items in long_scripts()] if plan.is_deep else []
-    drawn = [Task("random script %s-%d" % (plan.seed, n), (), "%s-%d" % (plan.seed, n), plan.count) for n in range(plan.tries)]
+    if plan.is_deep:
+        table += [Task(name, tuple(items), is_long=True) for name, items in long_scripts()]
+    seeds = ["%s-%d" % (plan.seed, n) for n in range(plan.tries)]
+    drawn = [Task("random script " + it, seed=it, count=plan.count) for it in seeds]
     if placement:
         table = [replace(it, items=tuple(map(placement.item, it.items))) for it in table]
     return [it for it in table + drawn if plan.only in it.name]
 
 
-def perform(setup: MonitorSetup, task: Task) -> Played:
+def perform(setup: MonitorSetup, task: Task) -> PlayedScript:
     """Runs one script on both monitors."""
-    return play_random(setup, task) if task.seed else play(task.setup(setup), task.name, list(task.items), not task.is_long)
+    if task.seed:
+        return play_random(setup, task)
+    return play(task.setup(setup), task.name, list(task.items), compares_memory=not task.is_long)
 
 
-def play_random(setup: MonitorSetup, task: Task) -> Played:
+def play_random(setup: MonitorSetup, task: Task) -> PlayedScript:
     """Runs a random script, which is made while it runs."""
     placement = setup.placement
     source = RandomScript(task.seed, placement.ram)
@@ -112,52 +115,52 @@ def compare(setup: MonitorSetup, plan: ScriptPlan) -> ConformOutcome:
     return outcome
 
 
-def all_played(setup: MonitorSetup, tasks: Sequence[Task], jobs: int) -> Iterator[Played]:
+def all_played(setup: MonitorSetup, tasks: Sequence[Task], jobs: int) -> Iterator[PlayedScript]:
     """Yields the results of scripts in their order. Other processes run them if there is more than one job."""
     return results_of(lambda number: perform(setup, tasks[number]), len(tasks), jobs)
 
 
 def signature(difference: MonitorDifference) -> tuple[DifferenceKind, str]:
-    """Returns what a shrunk script must still show."""
-    return difference.kind, difference.name if difference.kind in NAMED else ""
+    """Returns the part of a difference that a shrunk script must still show."""
+    return difference.kind, difference.name if difference.kind in NAMED_KINDS else ""
 
 
 class Shrinker:
     """Shrinks the script of one difference."""
 
-    def __init__(self, setup: MonitorSetup, played: Played) -> None:
+    def __init__(self, setup: MonitorSetup, played: PlayedScript) -> None:
         self.setup, self.played, self.runs, self.is_interrupted = setup, played, 0, False  # `played`: the shortest script so far
-        self.wanted, self.end = signature(played.differences[0]), float("inf")  # what a shorter script must show; when to stop (monotonic clock)
+        self.signature, self.end = signature(played.differences[0]), float("inf")  # a shorter script must show it; when to stop (monotonic clock)
 
     @property
     def is_over(self) -> bool:
         """Returns whether a limit is reached."""
-        return self.runs >= MOST_RUNS or time.monotonic() > self.end
+        return self.runs >= MAX_SHRINK_RUNS or time.monotonic() > self.end
 
     def is_shorter(self, items: list[Item]) -> bool:
         """Runs a part of the script. If it shows the same difference, keeps it without the items after the difference."""
         self.runs += 1
-        played = play(self.setup, self.played.name, items, self.wanted[0] is DifferenceKind.memory)
-        if not played.differences or signature(played.differences[0]) != self.wanted:
+        played = play(self.setup, self.played.name, items, self.signature[0] is DifferenceKind.memory)
+        if not played.differences or signature(played.differences[0]) != self.signature:
             return False
         self.played = played
         return True
 
     def leave_out(self, size: int) -> bool:
         """Leaves out each part of `size` items that is not needed; returns whether there was one."""
-        at, found = 0, False
-        while at < len(self.played.items) and not self.is_over:
+        start, is_found = 0, False
+        while start < len(self.played.items) and not self.is_over:
             items = self.played.items
-            if self.is_shorter(items[:at] + items[at + size:]):
-                found = True
+            if self.is_shorter(items[:start] + items[start + size:]):
+                is_found = True
             else:
-                at += size
-        return found
+                start += size
+        return is_found
 
     def shrink(self) -> Shrinker:
         """Leaves out halves, quarters, and then single items, until no item can be left out, or until Ctrl-C."""
         size = max(1, len(self.played.items) // 2)
-        self.end = time.monotonic() + MOST_SECONDS
+        self.end = time.monotonic() + MAX_SHRINK_SECONDS
         try:
             while not self.is_over:
                 found = self.leave_out(size)

@@ -13,7 +13,7 @@ from rvlook.monitors.comparison import DifferenceKind, MonitorDifference
 from rvlook.monitors.conform import ConformOutcome, ScriptPlan, Shrinker, compare
 from rvlook.monitors.writers import Divergence, WritingInstruction, divergence_of, writers_of
 from rvlook.monitors.joined import both, joined
-from rvlook.monitors.pair import Played
+from rvlook.monitors.pair import PlayedScript
 from rvlook.monitors.placement import placement_of
 from rvlook.monitors.sides import MonitorSetup, return_addresses, size_line
 from rvlook.output.files import replace_file
@@ -23,10 +23,10 @@ from rvlook.protocol.commands import no_symbol, resolved_script
 from rvlook.protocol.memory_map import MONITOR_END
 from rvlook.protocol.symbols import Symbols
 
-MOST_SHOWN = 6  # differences
-MOST_ITEMS = 40  # of a script that are shown
-MOST_LINES = 4  # source lines before a writer
-MOST_TRACED = 2  # differences whose writers are searched
+MAX_DIFFERENCES_SHOWN = 6  # differences
+MAX_ITEMS_SHOWN = 40  # of a script that are shown
+MAX_SOURCE_LINES = 4  # source lines before a writer
+MAX_DIFFERENCES_TRACED = 2  # differences whose writers are searched
 CAUSED_BY_A_BRANCH = (DifferenceKind.register, DifferenceKind.pc, DifferenceKind.mode, DifferenceKind.rights)
 LEAST_RAM = 0x30000  # bytes; the directed scripts use them
 
@@ -82,8 +82,7 @@ class Conformance:
 
 
 def find_conform(files: MonitorFiles, plan: ScriptPlan, heard: Callable[[ConformOutcome], None] = lambda it: None) -> Conformance:
-    """Compares the monitors, and shrinks the script of the first difference. Calls `heard` before it shrinks. Raises RvlookError if a file is
-    invalid, or if no script has the wanted name."""
+    """Compares the monitors, calls `heard`, and shrinks the first different script. Raises RvlookError for an invalid file or no script."""
     placement_of(files.memory, files.ram, LEAST_RAM)
     setup, symbols = files.setup()
     outcome = compare(setup, plan)
@@ -133,7 +132,7 @@ def show_counts(outcome: ConformOutcome, printer: Printer) -> None:
     result = "different" if outcome.different else "alike until Ctrl-C" if outcome.is_interrupted else "alike"
     printer.show("%s: %d scripts, %d steps below M, %d returns from M, %d steps in M" % (
         result, coverage.scripts, coverage.steps, coverage.returns, coverage.spent), "conform", scripts=coverage.scripts, steps=coverage.steps,
-        returns=coverage.returns, steps_in_m=coverage.spent, most_steps_in_m=coverage.most[0], alike=outcome.different is None)
+        returns=coverage.returns, steps_in_m=coverage.spent, most_steps_in_m=coverage.longest_stay[0], alike=outcome.different is None)
 
 
 class DifferenceReport:
@@ -150,26 +149,26 @@ class DifferenceReport:
             self.printer.line("script '%s': different after %d items; shrunk to %d items in %d runs" % (
                 found.name, len(found.items), len(played.items), shrunk.runs))
         self.show_items(played)
-        for number, difference in enumerate(played.differences[:MOST_SHOWN]):
-            writers = writers_of(self.setup, played, difference) if number < MOST_TRACED else []
+        for number, difference in enumerate(played.differences[:MAX_DIFFERENCES_SHOWN]):
+            writers = writers_of(self.setup, played, difference) if number < MAX_DIFFERENCES_TRACED else []
             if self.printer.as_json:
                 self.difference_object(found.name, difference, writers)
             else:
-                self.difference_text(difference, writers, number < MOST_TRACED)
-        if len(played.differences) > MOST_SHOWN and not self.printer.as_json:
-            self.printer.line("  and %d more differences" % (len(played.differences) - MOST_SHOWN))
+                self.difference_text(difference, writers, number < MAX_DIFFERENCES_TRACED)
+        if len(played.differences) > MAX_DIFFERENCES_SHOWN and not self.printer.as_json:
+            self.printer.line("  and %d more differences" % (len(played.differences) - MAX_DIFFERENCES_SHOWN))
         if played.differences[0].kind in CAUSED_BY_A_BRANCH:
             self.show_divergence(divergence_of(self.setup, played))
 
-    def show_items(self, played: Played) -> None:
+    def show_items(self, played: PlayedScript) -> None:
         """Shows the items of a script; as text only the first and the last ones of a long script."""
-        left_out = len(played.steps) - MOST_ITEMS
+        left_out = len(played.steps) - MAX_ITEMS_SHOWN
         for number, step in enumerate(played.steps):
             if self.printer.as_json:
                 self.printer.object("item", world=step.world, text=step.item.text, result=step.result)
-            elif left_out <= 0 or number < MOST_ITEMS // 2 or number >= MOST_ITEMS // 2 + left_out:
+            elif left_out <= 0 or number < MAX_ITEMS_SHOWN // 2 or number >= MAX_ITEMS_SHOWN // 2 + left_out:
                 self.printer.line("  %-5s %-50s %s" % (step.world, step.item.text, step.result))
-            elif number == MOST_ITEMS // 2:
+            elif number == MAX_ITEMS_SHOWN // 2:
                 self.printer.line("  ... %d items" % left_out)
 
     def difference_object(self, script: str, difference: MonitorDifference, writers: list[WritingInstruction]) -> None:
@@ -185,9 +184,10 @@ class DifferenceReport:
         self.printer.line("    own monitor        %s" % difference.own)
         self.printer.line("    monitor of rvbench %s" % difference.reference)
         for number, writer in enumerate(writers):
-            what = "trapped at" if difference.kind is DifferenceKind.fault else "last written in M by"
-            what = "from %08x, last stored by" % (writer.address or 0) if number else what
-            self.printer.line("    %s %s at %s" % (what, writer.text, writer_place(writer, self.symbols)))
+            action = "trapped at" if difference.kind is DifferenceKind.fault else "last written in M by"
+            if number:
+                action = "from %08x, last stored by" % (writer.address or 0)
+            self.printer.line("    %s %s at %s" % (action, writer.text, writer_place(writer, self.symbols)))
         if writers:
             self.printer.line("      executed before it: %s" % (", ".join(lines_before(writers[-1], self.symbols)) or "no source lines are known"))
         if is_traced and not writers and difference.kind not in (DifferenceKind.fault, DifferenceKind.trap):
@@ -213,7 +213,7 @@ def source_of(writer: WritingInstruction, symbols: Symbols) -> str | None:
 def lines_before(writer: WritingInstruction, symbols: Symbols) -> list[str]:
     """Returns the source lines that were executed before an instruction, each once, the last one first."""
     lines = (it for it in map(symbols.line, writer.path) if it and it != symbols.line(writer.pc))
-    return list(dict.fromkeys(lines))[:MOST_LINES]
+    return list(dict.fromkeys(lines))[:MAX_SOURCE_LINES]
 
 
 def writer_place(writer: WritingInstruction, symbols: Symbols) -> str:

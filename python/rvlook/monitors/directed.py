@@ -26,32 +26,32 @@ FAULTS = (("illegal instruction", 0), ("ebreak", EBREAK), ("mret", MRET), ("csrr
           ("csrw pmpcfg0", csrw(CSRS["pmpcfg0"], 7)), ("csrw mie", csrw(CSRS["mie"], 7)), ("csrr mscratch", csrr(7, CSRS["mscratch"])),
           ("load from 0", load(7, 0)), ("store to 0", store(7, 0)), ("jump to 2", jump(0, 2)), ("jump to 0", jump(0)))
 HOST_SIZE = 16 * PAGE  # bytes that the host has before the first large block
-CORNERS = (0, 1, 0x7F, 0x80, 0x7FFF, 0x8000, 0x7FFFFFFF, 0x80000000, 0x80000001, 0xFFFF0000, MASK, RAM_BASE + PAGE, HOST, FIRST)
+CORNER_VALUES = (0, 1, 0x7F, 0x80, 0x7FFF, 0x8000, 0x7FFFFFFF, 0x80000000, 0x80000001, 0xFFFF0000, MASK, RAM_BASE + PAGE, HOST, FIRST)
 MANY_CREATES, MANY_CALLS = 260, 1030  # more than eight bits count, and more than ten
-GOOD = {"a0": FIRST, "a1": PAGE, "a2": WINDOW, "a3": PAGE, "a4": FIRST}
+VALID_CREATE = {"a0": FIRST, "a1": PAGE, "a2": WINDOW, "a3": PAGE, "a4": FIRST}
 ODD_SIZE = 0x1800
-SLOTS = (1, 12, 13, 14, 16, 32, 64, 0x80000000, MASK, 0x100, 0x10000000)
-AROUND = (-33, -32, -31, -30, -16, -2, -1, 0, 1, 31)  # bytes around a boundary, for the 32 bytes of a measurement
-KINDS = {"call": 50, "access": 16, "csr": 8, "registers": 5, "sret": 4, "fault": 6, "timer": 6, "jump": 5}  # and their weights
+INVALID_SLOTS = (1, 12, 13, 14, 16, 32, 64, 0x80000000, MASK, 0x100, 0x10000000)
+BOUNDARY_OFFSETS = (-33, -32, -31, -30, -16, -2, -1, 0, 1, 31)  # bytes around a boundary, for the 32 bytes of a measurement
+ITEM_WEIGHTS = {"call": 50, "access": 16, "csr": 8, "registers": 5, "sret": 4, "fault": 6, "timer": 6, "jump": 5}  # by kind of item
 CSRS_SET = ("sscratch", "sepc", "scause", "stval", "sstatus", "sie", "sip", "satp", "scounteren")
 STATES = {"run": ("Fresh",), "resume": ("Stopped",)}
 ANY_STATE = ("Fresh", "Stopped", "Exited")
-CALLS = ("create", "create", "run", "run", "resume", "resume", "resume", "destroy", "measure", "odd")
-MOST_LIVE = 13
+RANDOM_CALLS = ("create", "create", "run", "run", "resume", "resume", "resume", "destroy", "measure", "odd")
+MAX_ENCLAVES = 13
 
 
 def host() -> list[Item]:
     """Returns items that give the host values of its own."""
-    return inside(HOST, "host")
+    return set_up(HOST, "host")
 
 
-def inside(base: int, name: str) -> list[Item]:
+def set_up(base: int, name: str) -> list[Item]:
     """Returns items that give the host, or an enclave that was just entered, values of its own, and a handler in its memory from `base` on."""
     return [*set_supervisor(name, base + HANDLER), set_registers(name)]
 
 
-def made() -> Item:
-    """Returns the create of slot 0 that most scripts use."""
+def create0() -> Item:
+    """Returns the create, into slot 0, that most scripts use."""
     return create(FIRST, PAGE, WINDOW, PAGE)
 
 
@@ -59,7 +59,7 @@ def directed_scripts(ram: int) -> Iterator[tuple[str, list[Item]]]:
     """Yields the name and the items of each script, for a RAM of this many bytes."""
     end = RAM_BASE + ram
     yield "reset", [nop(), nop()]
-    yield "three creates", [*host(), poke(FIRST, bytes(range(256)) * 16), made(), create(SECOND, PAGE),
+    yield "three creates", [*host(), poke(FIRST, bytes(range(256)) * 16), create0(), create(SECOND, PAGE),
                             create(THIRD, PAGE, WINDOW, PAGE, THIRD + 0xFFC)]
     for scripts in (life_scripts, user_scripts, measured_scripts, slot_scripts, window_scripts, interrupt_scripts, exception_scripts, access_scripts):
         yield from scripts()
@@ -68,41 +68,41 @@ def directed_scripts(ram: int) -> Iterator[tuple[str, list[Item]]]:
 
 def life_scripts() -> Iterator[tuple[str, list[Item]]]:
     """Yields scripts that take enclaves through their states."""
-    yield "run, stop, resume", [*host(), made(), set_registers("1"), run(0), set_registers("2"), stop(0x1234), set_registers("3"), resume(0), nop(),
-                                stop(7)]
-    yield "run, exit", [*host(), made(), set_registers("1"), run(0), *inside(FIRST, "2"), leave(0x4321), nop(), resume(0), run(0)]
-    yield "S-mode registers", [*host(), made(), run(0), *inside(FIRST, "e0"), stop(1), *set_supervisor("9", HOST_HANDLER), set_registers("9"),
+    yield "run, stop, resume", [*host(), create0(), set_registers("1"), run(0), set_registers("2"), stop(0x1234), set_registers("3"), resume(0),
+                                nop(), stop(7)]
+    yield "run, exit", [*host(), create0(), set_registers("1"), run(0), *set_up(FIRST, "2"), leave(0x4321), nop(), resume(0), run(0)]
+    yield "S-mode registers", [*host(), create0(), run(0), *set_up(FIRST, "e0"), stop(1), *set_supervisor("9", HOST_HANDLER), set_registers("9"),
                                resume(0), *map(get_csr, SUPERVISOR_CSRS), stop(2), resume(0), leave(3)]
     yield "two enclaves in turns", [
-        *host(), create(FIRST, PAGE, WINDOW, PAGE), create(SECOND, PAGE, WINDOW, PAGE), run(0), *inside(FIRST, "a"), stop(1), run(1),
-        *inside(SECOND, "b"), stop(2), set_registers("h2"), resume(0), nop(), timer(is_on=True), nop(), resume(1), nop(), stop(3), resume(0), stop(4),
+        *host(), create(FIRST, PAGE, WINDOW, PAGE), create(SECOND, PAGE, WINDOW, PAGE), run(0), *set_up(FIRST, "a"), stop(1), run(1),
+        *set_up(SECOND, "b"), stop(2), set_registers("h2"), resume(0), nop(), timer(is_on=True), nop(), resume(1), nop(), stop(3), resume(0), stop(4),
         resume(1), leave(5), resume(0), leave(6), destroy(1), destroy(0)]
-    yield "destroy zeroes the region", [*host(), poke(FIRST, b"\x5a" * PAGE), made(), destroy(0), load_at(FIRST), load_at(FIRST + PAGE - 4)]
+    yield "destroy zeroes the region", [*host(), poke(FIRST, b"\x5a" * PAGE), create0(), destroy(0), load_at(FIRST), load_at(FIRST + PAGE - 4)]
     yield "destroy of a stopped enclave, and another in its slot", [
-        *host(), made(), run(0), *inside(FIRST, "x"), store_at(FIRST + 0x500), stop(1), destroy(0), create(SECOND, PAGE), run(0), nop(), stop(2),
+        *host(), create0(), run(0), *set_up(FIRST, "x"), store_at(FIRST + 0x500), stop(1), destroy(0), create(SECOND, PAGE), run(0), nop(), stop(2),
         resume(0), nop(), leave(1), destroy(0), create(FIRST, 2 * PAGE), run(0), stop(9)]
-    yield "exit, destroy, create again", [*host(), made(), run(0), *inside(FIRST, "x"), leave(2), destroy(0), made(), run(0), stop(1), resume(0),
-                                          leave(0)]
+    yield "exit, destroy, create again", [*host(), create0(), run(0), *set_up(FIRST, "x"), leave(2), destroy(0), create0(), run(0), stop(1),
+                                          resume(0), leave(0)]
 
 
 def user_scripts() -> Iterator[tuple[str, list[Item]]]:
     """Yields scripts with U, of an enclave and of the host."""
     to_user = [set_csr("sepc", FIRST + 0x100), set_csr("sstatus", 0), sret()]
-    yield "an application in U", [*host(), made(), run(0), *inside(FIRST, "u"), *to_user, nop(), timer(is_on=True), nop(), set_registers("4"),
+    yield "an application in U", [*host(), create0(), run(0), *set_up(FIRST, "u"), *to_user, nop(), timer(is_on=True), nop(), set_registers("4"),
                                   resume(0), nop(), ecall_from_user(6), stop(5), resume(0), timer(is_on=True), nop(), resume(0), leave(1)]
     faults = [it for name, word in FAULTS for it in (*to_user, instruction(name, word), nop())]
-    yield "exceptions of an application", [*host(), made(), run(0), *inside(FIRST, "u"), *faults, stop(1)]
+    yield "exceptions of an application", [*host(), create0(), run(0), *set_up(FIRST, "u"), *faults, stop(1)]
     to_host_user = [set_csr("sepc", HOST + 0x400), set_csr("sstatus", 0), sret()]
     host_faults = [it for name, word in FAULTS for it in (*to_host_user, instruction(name, word), nop())]
-    yield "exceptions of a process of the host", [*host(), made(), *host_faults, *to_host_user, nop(), ecall_from_user(1), nop()]
-    yield "calls from U", [*host(), made(), *(it for number in range(9) for it in (*to_host_user, ecall_from_user(number))), run(0),
-                           *inside(FIRST, "u"), *(it for number in range(9) for it in (*to_user, ecall_from_user(number))), stop(1)]
+    yield "exceptions of a process of the host", [*host(), create0(), *host_faults, *to_host_user, nop(), ecall_from_user(1), nop()]
+    yield "calls from U", [*host(), create0(), *(it for number in range(9) for it in (*to_host_user, ecall_from_user(number))), run(0),
+                           *set_up(FIRST, "u"), *(it for number in range(9) for it in (*to_user, ecall_from_user(number))), stop(1)]
 
 
 def measured_scripts() -> Iterator[tuple[str, list[Item]]]:
     """Yields scripts whose measurements differ in one byte of the region, or in one number."""
     for at in (0, 1, 0x7FF, 0xFFE, 0xFFF):
-        yield "measured byte %x" % at, [*host(), poke(FIRST + at, b"\x01"), made(), measure(WINDOW), run(0), measure(WINDOW + 64)]
+        yield "measured byte %x" % at, [*host(), poke(FIRST + at, b"\x01"), create0(), measure(WINDOW), run(0), measure(WINDOW + 64)]
     for numbers in ((FIRST, PAGE, WINDOW, PAGE, FIRST + 4), (FIRST, PAGE, WINDOW, 2 * PAGE, FIRST), (FIRST, 2 * PAGE, WINDOW, PAGE, FIRST),
                     (FIRST, PAGE, 0, 0, FIRST), (FIRST, PAGE, OTHER_WINDOW, PAGE, FIRST), (FIRST, PAGE, 0x80, 0, FIRST)):
         yield "measured numbers %x %x %x %x %x" % numbers, [
@@ -114,10 +114,10 @@ def slot_scripts() -> Iterator[tuple[str, list[Item]]]:
     """Yields scripts with thirteen enclaves."""
     full = [create(0x80014000 + n * PAGE, PAGE, WINDOW, PAGE) for n in range(13)]
     yield "thirteen enclaves, some of them run", [
-        *host(), *full[:12], run(6), *inside(0x8001A000, "s"), stop(1), run(2), leave(2), run(8), timer(is_on=True), nop(), full[12], run(6),
+        *host(), *full[:12], run(6), *set_up(0x8001A000, "s"), stop(1), run(2), leave(2), run(8), timer(is_on=True), nop(), full[12], run(6),
         resume(6), nop(), stop(3), run(2), resume(8), leave(1), destroy(2), full[2]]
     yield "thirteen enclaves", [
-        *host(), *full, run(12), *inside(0x80020000, "t"), stop(1), run(3), stop(2), destroy(12), destroy(5), destroy(2),
+        *host(), *full, run(12), *set_up(0x80020000, "t"), stop(1), run(3), stop(2), destroy(12), destroy(5), destroy(2),
         create(0x80016000, PAGE), create(0x80019000, PAGE), create(0x80020000, PAGE), resume(3), leave(1)]
 
 
@@ -138,27 +138,27 @@ def interrupt_scripts() -> Iterator[tuple[str, list[Item]]]:
     """Yields scripts that raise the timer line before each step of an enclave, and while the host runs."""
     body = [set_registers("i"), nop(), set_csr("sscratch", 77), nop(), stop(9)]
     for at in range(len(body) + 1):
-        yield "timer before step %d" % at, [*host(), made(), run(0), *body[:at], timer(is_on=True), nop(), set_registers("h"), resume(0),
+        yield "timer before step %d" % at, [*host(), create0(), run(0), *body[:at], timer(is_on=True), nop(), set_registers("h"), resume(0),
                                             *body[at:], resume(0), nop(), leave(1)]
-    yield "timer while the host runs", [*host(), made(), timer(is_on=True), nop(), nop(), run(0), nop(), resume(0), nop(), stop(1),
+    yield "timer while the host runs", [*host(), create0(), timer(is_on=True), nop(), nop(), run(0), nop(), resume(0), nop(), stop(1),
                                         timer(is_on=True), nop(), resume(0), nop(), timer(is_on=True), stop(3), nop()]
-    yield "timer lowered again", [*host(), made(), run(0), timer(is_on=True), timer(is_on=False), nop(), stop(1)]
-    yield "calls while the line is high", [*host(), timer(is_on=True), made(), measure(WINDOW), destroy(0), made(), run(0), nop(), nop()]
-    yield "timer after exit", [*host(), made(), create(SECOND, PAGE), run(0), leave(1), timer(is_on=True), nop(), run(1), nop(), nop(), resume(1),
+    yield "timer lowered again", [*host(), create0(), run(0), timer(is_on=True), timer(is_on=False), nop(), stop(1)]
+    yield "calls while the line is high", [*host(), timer(is_on=True), create0(), measure(WINDOW), destroy(0), create0(), run(0), nop(), nop()]
+    yield "timer after exit", [*host(), create0(), create(SECOND, PAGE), run(0), leave(1), timer(is_on=True), nop(), run(1), nop(), nop(), resume(1),
                                leave(1)]
 
 
 def exception_scripts() -> Iterator[tuple[str, list[Item]]]:
     """Yields scripts with each exception, which goes to S of the same world."""
     for status in (0, 2, 0x100, 0x122, 0x80000):
-        own = [it for name, word in FAULTS for it in (set_csr("sstatus", status), instruction(name, word), nop(), sret(), nop(),
-                                                      instruction(name, word), nop())]
-        yield "exceptions of the host, sstatus %x" % status, [*host(), *own]
-        yield "exceptions of an enclave, sstatus %x" % status, [*host(), made(), run(0), *inside(FIRST, "f"), *own, timer(is_on=True), nop(), nop()]
-    yield "stvec with mode bits", [*host(), set_csr("stvec", HOST_HANDLER | 1), instruction("illegal instruction", 0), nop(),
-                                   call(1, 0, a0=0)]
+        faults = [it for name, word in FAULTS for it in (set_csr("sstatus", status), instruction(name, word), nop(), sret(), nop(),
+                                                         instruction(name, word), nop())]
+        yield "exceptions of the host, sstatus %x" % status, [*host(), *faults]
+        yield "exceptions of an enclave, sstatus %x" % status, [*host(), create0(), run(0), *set_up(FIRST, "f"), *faults, timer(is_on=True),
+                                                                nop(), nop()]
+    yield "stvec with mode bits", [*host(), set_csr("stvec", HOST_HANDLER | 1), instruction("illegal instruction", 0), nop(), call(1, 0, a0=0)]
     for at in (WINDOW, FIRST, SECOND, RAM_BASE, 0x90000000):
-        yield "jump to %x" % at, [*host(), made(), create(SECOND, PAGE), run(0), *inside(FIRST, "j"), jump_to(at), nop(), nop(),
+        yield "jump to %x" % at, [*host(), create0(), create(SECOND, PAGE), run(0), *set_up(FIRST, "j"), jump_to(at), nop(), nop(),
                                   timer(is_on=True), nop()]
 
 
@@ -167,10 +167,10 @@ def access_scripts() -> Iterator[tuple[str, list[Item]]]:
     places = (RAM_BASE, HOST - 4, HOST, WINDOW - 4, WINDOW, WINDOW + PAGE - 4, WINDOW + PAGE, FIRST - 4, FIRST, FIRST + PAGE - 4, FIRST + PAGE,
               FIRST + PAGE - 2, WINDOW + PAGE - 2, WINDOW - 2, FIRST - 2)
     accesses = [it for at in places for it in (load_at(at), store_at(at))]
-    yield "accesses of the host", [*host(), made(), *accesses]
-    yield "accesses of an enclave", [*host(), made(), run(0), *inside(FIRST, "t"), *accesses, stop(1)]
-    yield "accesses of the host after a stop", [*host(), made(), run(0), *inside(FIRST, "t"), stop(1), *accesses]
-    yield "accesses of the host after destroy", [*host(), made(), destroy(0), *accesses]
+    yield "accesses of the host", [*host(), create0(), *accesses]
+    yield "accesses of an enclave", [*host(), create0(), run(0), *set_up(FIRST, "t"), *accesses, stop(1)]
+    yield "accesses of the host after a stop", [*host(), create0(), run(0), *set_up(FIRST, "t"), stop(1), *accesses]
+    yield "accesses of the host after destroy", [*host(), create0(), destroy(0), *accesses]
 
 
 def size_scripts(end: int) -> Iterator[tuple[str, list[Item]]]:
@@ -211,7 +211,7 @@ def large_region_scripts(base: int, size: int, end: int) -> Iterator[tuple[str, 
     ends = accesses(base, size)
     yield "block: region of %x bytes" % size, [
         *host(), poke(base + size // 2, b"\x55" * 16), poke(base + size - 16, b"\x77" * 16), poke(base, b"\x66" * 16),
-        create(base, size, WINDOW, PAGE), measure(WINDOW), *ends, run(0), *inside(base, "l"), *ends, measure(base + size - 32),
+        create(base, size, WINDOW, PAGE), measure(WINDOW), *ends, run(0), *set_up(base, "l"), *ends, measure(base + size - 32),
         measure(base + size - 31), stop(0), measure(WINDOW + 64), *ends, resume(0), leave(0), destroy(0), *ends]
     yield "block: region of %x bytes, entry at its end" % size, [
         *host(), create(base, size, WINDOW, PAGE, base + size - 4), measure(WINDOW), run(0), stop(0), create(base, size, 0, 0, base + size)]
@@ -219,12 +219,13 @@ def large_region_scripts(base: int, size: int, end: int) -> Iterator[tuple[str, 
         *host(), poke(base + size - 1, b"\x01"), create(base, size), measure(WINDOW), destroy(0)]
     yield "block: regions of %x bytes at other bases" % size, [
         *host(), *(it for at in misaligned(base, size, end) for it in (create(at, size), run(0), stop(0), destroy(0)))]
-    odd, far = [it for it in (size + PAGE, size * 3 // 2, size - PAGE, size + 4) if it > PAGE], -(-base // (2 * size)) * 2 * size
+    odd_sizes = [it for it in (size + PAGE, size * 3 // 2, size - PAGE, size + 4) if it > PAGE]
+    far_base = -(-base // (2 * size)) * 2 * size
     yield "block: regions of %x bytes that are no power of two" % size, [
-        *host(), *(it for at in odd for it in (create(far, at), create(FIRST, PAGE, far, at), run(0), stop(0), destroy(0)))]
-    over = [at for at in (base, base + size // 2, base + size - PAGE) if size > PAGE]
+        *host(), *(it for odd in odd_sizes for it in (create(far_base, odd), create(FIRST, PAGE, far_base, odd), run(0), stop(0), destroy(0)))]
+    inner_bases = [at for at in (base, base + size // 2, base + size - PAGE) if size > PAGE]
     yield "block: a region of %x bytes over a small one" % size, [
-        *host(), *(it for at in over for it in (create(at, PAGE), create(base, size), create(FIRST, PAGE, base, size), destroy(0)))]
+        *host(), *(it for at in inner_bases for it in (create(at, PAGE), create(base, size), create(FIRST, PAGE, base, size), destroy(0)))]
     beside = [at for at in (base, base + PAGE, base + size // 2, base + size - PAGE, base - PAGE, base + size) if at + PAGE <= end]
     yield "block: beside a region of %x bytes" % size, [
         *host(), create(base, size), *(it for at in beside for it in (create(at, PAGE), run(1), stop(0), destroy(1))),
@@ -235,7 +236,7 @@ def large_window_scripts(base: int, size: int, end: int) -> Iterator[tuple[str, 
     """Yields the scripts with a window of a size."""
     ends = accesses(base, size)
     yield "block: window of %x bytes" % size, [
-        *host(), create(FIRST, PAGE, base, size), run(0), *inside(FIRST, "w"), *ends, measure(base + size - 32), measure(base + size - 31), stop(0),
+        *host(), create(FIRST, PAGE, base, size), run(0), *set_up(FIRST, "w"), *ends, measure(base + size - 32), measure(base + size - 31), stop(0),
         *ends, destroy(0)]
     yield "block: windows of %x bytes at other bases" % size, [
         *host(), *(it for at in misaligned(base, size, end) for it in (create(FIRST, PAGE, at, size), run(0), stop(0), destroy(0)))]
@@ -250,22 +251,22 @@ def blocks_apart(size: int) -> list[Item]:
 
 def corner_scripts() -> Iterator[tuple[str, list[Item]]]:
     """Yields scripts with the same value in all registers at an interrupt, a call and an exception."""
-    turns = [it for value in CORNERS for it in (set_all(value), timer(is_on=True), nop(), set_all(value ^ MASK), resume(0))]
-    yield "corner values at interrupts", [*host(), made(), run(0), *inside(FIRST, "c"), *turns, leave(1)]
-    stops = [it for value in CORNERS for it in (set_all(value), stop(value), set_all(value ^ MASK), resume(0))]
-    yield "corner values at stops", [*host(), made(), run(0), *inside(FIRST, "c"), *stops, leave(MASK)]
-    faults = [it for value in CORNERS for it in (set_all(value), instruction("illegal instruction", 0), set_all(value), call(0, a0=value))]
-    yield "corner values at exceptions", [*host(), *faults, made(), run(0), *inside(FIRST, "c"), *faults, stop(0)]
+    turns = [it for value in CORNER_VALUES for it in (set_all(value), timer(is_on=True), nop(), set_all(value ^ MASK), resume(0))]
+    yield "corner values at interrupts", [*host(), create0(), run(0), *set_up(FIRST, "c"), *turns, leave(1)]
+    stops = [it for value in CORNER_VALUES for it in (set_all(value), stop(value), set_all(value ^ MASK), resume(0))]
+    yield "corner values at stops", [*host(), create0(), run(0), *set_up(FIRST, "c"), *stops, leave(MASK)]
+    faults = [it for value in CORNER_VALUES for it in (set_all(value), instruction("illegal instruction", 0), set_all(value), call(0, a0=value))]
+    yield "corner values at exceptions", [*host(), *faults, create0(), run(0), *set_up(FIRST, "c"), *faults, stop(0)]
 
 
 def long_scripts() -> Iterator[tuple[str, list[Item]]]:
     """Yields scripts with many calls."""
     creates = [it for _ in range(MANY_CREATES) for it in (create(SECOND, PAGE, 0, 0), measure(WINDOW, 1), load_at(WINDOW + 28), destroy(1))]
-    yield "many creates", [*host(), made(), *creates, run(0), stop(1)]
+    yield "many creates", [*host(), create0(), *creates, run(0), stop(1)]
     calls = [call(8, a0=n) for n in range(MANY_CALLS)]
-    yield "many calls", [*host(), made(), run(0), *inside(FIRST, "n"), stop(1), *calls, resume(0), stop(2), resume(0), leave(1)]
+    yield "many calls", [*host(), create0(), run(0), *set_up(FIRST, "n"), stop(1), *calls, resume(0), stop(2), resume(0), leave(1)]
     switches = [it for n in range(MANY_CREATES) for it in (stop(n), resume(0))]
-    yield "many switches", [*host(), made(), run(0), *inside(FIRST, "n"), *switches, leave(1)]
+    yield "many switches", [*host(), create0(), run(0), *set_up(FIRST, "n"), *switches, leave(1)]
 
 
 def refusal_scripts(ram: int) -> Iterator[tuple[str, list[Item]]]:
@@ -280,7 +281,7 @@ def refusal_scripts(ram: int) -> Iterator[tuple[str, list[Item]]]:
 
 def bad_create(at: int, *refusals: str) -> Item:
     """Returns a create in a region at an address that has several errors at once."""
-    arguments = {**GOOD, "a0": at, "a4": at}
+    arguments = {**VALID_CREATE, "a0": at, "a4": at}
     if "Overlap" in refusals:
         arguments.update(a2=at, a3=PAGE)
     if "BadWindow" in refusals:
@@ -302,39 +303,39 @@ def create_refusals(end: int) -> Iterator[tuple[str, list[Item]]]:
     late = [bad_create(end - PAGE, name) for name in names]
     yield "create, each refusal before NoSlot", [*host(), *full, *late]
     yield "create, NoSlot", [*host(), *full, create(end - PAGE, PAGE), destroy(7), create(end - PAGE, PAGE), create(end - 2 * PAGE, PAGE)]
-    yield "create, window of size 0", [*host(), call(1, **{**GOOD, "a2": 0xDEADBEEF, "a3": 0}), run(0), stop(1)]
+    yield "create, window of size 0", [*host(), call(1, **{**VALID_CREATE, "a2": 0xDEADBEEF, "a3": 0}), run(0), stop(1)]
 
 
 def number_scripts() -> Iterator[tuple[str, list[Item]]]:
     """Yields scripts with other values of a7 and a6, and with calls of the other world."""
-    yield "a7", [*host(), *(call(1, key, **GOOD) for key in (0, KEY - 1, KEY | 0x80000000)), call(1, 8, **GOOD)]
-    yield "a6", [*host(), *(call(number, **GOOD) for number in (0, 8, 9, 0x101, 0x80000001, MASK, 0x10001))]
+    yield "a7", [*host(), *(call(1, key, **VALID_CREATE) for key in (0, KEY - 1, KEY | 0x80000000)), call(1, 8, **VALID_CREATE)]
+    yield "a6", [*host(), *(call(number, **VALID_CREATE) for number in (0, 8, 9, 0x101, 0x80000001, MASK, 0x10001))]
     yield "a7 of a call with a bad slot", [*host(), *(call(number, 0, a0=13, a1=0) for number in (2, 3, 4, 5))]
     yield "calls of the other world", [
-        *host(), call(6, a0=1), call(7, a0=1), made(), call(6, a0=0), call(7, a0=0), run(0),
-        *(call(number, **GOOD) for number in (0, 1, 2, 3, 4, 8, MASK)), create(SECOND, PAGE), destroy(0), call(6, 0, a0=1), leave(0)]
+        *host(), call(6, a0=1), call(7, a0=1), create0(), call(6, a0=0), call(7, a0=0), run(0),
+        *(call(number, **VALID_CREATE) for number in (0, 1, 2, 3, 4, 8, MASK)), create(SECOND, PAGE), destroy(0), call(6, 0, a0=1), leave(0)]
 
 
 def state_scripts() -> Iterator[tuple[str, list[Item]]]:
     """Yields scripts with each call of a slot in each state, and with other slots."""
     states: tuple[tuple[str, list[Item]], ...] = (
-        ("that does not exist", []), ("that is Fresh", [made()]), ("that is Stopped", [made(), run(0), stop(1)]),
-        ("that is Exited", [made(), run(0), leave(1)]), ("that was interrupted", [made(), run(0), timer(is_on=True), nop()]))
+        ("that does not exist", []), ("that is Fresh", [create0()]), ("that is Stopped", [create0(), run(0), stop(1)]),
+        ("that is Exited", [create0(), run(0), leave(1)]), ("that was interrupted", [create0(), run(0), timer(is_on=True), nop()]))
     for name, before in states:
         items = [it for ask in (run(0), resume(0), destroy(0), measure(WINDOW)) for it in (*before, ask, nop(), leave(9), destroy(0))]
         yield "each call of an enclave " + name, [*host(), *items]
     for number in (2, 3, 4):
-        yield "slots of call %d" % number, [*host(), made(), run(0), stop(1), *(call(number, a0=slot) for slot in SLOTS)]
-    yield "slots of measure", [*host(), made(), run(0), stop(1), *(measure(WINDOW, slot) for slot in SLOTS)]
-    yield "NoEnclave before BadAddress", [*host(), measure(0, 0), measure(0, 13), made(), measure(0, 1), measure(0, 0)]
+        yield "slots of call %d" % number, [*host(), create0(), run(0), stop(1), *(call(number, a0=slot) for slot in INVALID_SLOTS)]
+    yield "slots of measure", [*host(), create0(), run(0), stop(1), *(measure(WINDOW, slot) for slot in INVALID_SLOTS)]
+    yield "NoEnclave before BadAddress", [*host(), measure(0, 0), measure(0, 13), create0(), measure(0, 1), measure(0, 0)]
 
 
 def measure_scripts(end: int) -> Iterator[tuple[str, list[Item]]]:
     """Yields scripts that store the 32 bytes of a measurement around each boundary."""
     places = (FIRST, FIRST + PAGE, end, MONITOR_END, 1 << 32, 0, WINDOW, WINDOW + PAGE)
-    addresses = [at + n & MASK for at in places for n in AROUND]
-    yield "measure by the host", [*host(), made(), *(measure(at) for at in addresses)]
-    yield "measure by the enclave", [*host(), made(), run(0), *inside(FIRST, "m"), *(measure(at, 0xFFFF) for at in addresses), leave(0)]
+    addresses = [at + n & MASK for at in places for n in BOUNDARY_OFFSETS]
+    yield "measure by the host", [*host(), create0(), *(measure(at) for at in addresses)]
+    yield "measure by the enclave", [*host(), create0(), run(0), *set_up(FIRST, "m"), *(measure(at, 0xFFFF) for at in addresses), leave(0)]
     yield "measure into another window", [
         *host(), create(FIRST, PAGE, WINDOW, PAGE), create(SECOND, PAGE, OTHER_WINDOW, PAGE), measure(WINDOW, 1), measure(OTHER_WINDOW, 0),
         measure(SECOND - 32, 1), measure(SECOND + PAGE, 0), run(1), measure(OTHER_WINDOW), measure(WINDOW), measure(OTHER_WINDOW + PAGE - 32),
@@ -383,10 +384,10 @@ class RandomScript:
         if state.world != "host" and (not MONITOR_END <= state.pc < self.end or draw.random() < .06):
             return [timer(is_on=True), nop()]
         if state.mode == "U":
-            return self.user(state)
-        return self.makers[draw.choices(list(KINDS), list(KINDS.values()))[0]](state)
+            return self.user_items(state)
+        return self.makers[draw.choices(list(ITEM_WEIGHTS), list(ITEM_WEIGHTS.values()))[0]](state)
 
-    def user(self, state: ReferenceState) -> list[Item]:
+    def user_items(self, state: ReferenceState) -> list[Item]:
         """Returns items for U."""
         draw = self.draw
         kind = draw.randrange(5)
@@ -394,17 +395,18 @@ class RandomScript:
             return [nop()] if kind else [ecall_from_user(draw.randrange(8))]
         return (self.access, self.fault, self.timer)[kind - 2](state)
 
-    def own(self, state: ReferenceState) -> Enclave | None:
+    def running_enclave(self, state: ReferenceState) -> Enclave | None:
         """Returns the enclave that runs, or None."""
         return next((it for it in state.table if it.world == state.world), None)
 
-    def place(self, state: ReferenceState) -> int:
+    def boundary(self, state: ReferenceState) -> int:
         """Returns a boundary of a range."""
-        places = [RAM_BASE, MONITOR_END, self.end]
+        boundaries = [RAM_BASE, MONITOR_END, self.end]
         for enclave in state.table:
-            places += [enclave.base, enclave.base + enclave.size]
-            places += [enclave.window, enclave.window + enclave.window_size] if enclave.window_size else []
-        return self.draw.choice(places)
+            boundaries += [enclave.base, enclave.base + enclave.size]
+            if enclave.window_size:
+                boundaries += [enclave.window, enclave.window + enclave.window_size]
+        return self.draw.choice(boundaries)
 
     def block_base(self, size: int) -> int:
         """Returns a base in RAM for a block of a size."""
@@ -414,37 +416,37 @@ class RandomScript:
         """Returns a call of the world that runs."""
         draw = self.draw
         if state.world != "host":
-            return [draw.choice((stop(draw.getrandbits(32)), stop(draw.getrandbits(32)), leave(draw.getrandbits(32)), self.measured(state, 0),
+            return [draw.choice((stop(draw.getrandbits(32)), stop(draw.getrandbits(32)), leave(draw.getrandbits(32)), self.random_measure(state, 0),
                                  call(draw.choice((0, 1, 2, 3, 4, 8)), a0=draw.randrange(3))))]
-        if self.fills_table and len(state.table) < MOST_LIVE and draw.random() < .6:
+        if self.fills_table and len(state.table) < MAX_ENCLAVES and draw.random() < .6:
             return [create(self.block_base(PAGE), PAGE)]
-        kind = draw.choice(CALLS)
-        return self.created(state) if kind == "create" else self.slot_call(state, kind)
+        kind = draw.choice(RANDOM_CALLS)
+        return self.random_create(state) if kind == "create" else self.slot_call(state, kind)
 
     def slot_call(self, state: ReferenceState, kind: str) -> list[Item]:
         """Returns a call of the host that names a slot."""
         draw = self.draw
-        wanted = [it.slot for it in state.table if it.state in STATES.get(kind, ANY_STATE)]
-        slot = draw.choice(wanted) if wanted and draw.random() < .8 else draw.choice((0, 1, 2, 3, 12, 13, MASK, draw.getrandbits(32)))
+        slots = [it.slot for it in state.table if it.state in STATES.get(kind, ANY_STATE)]
+        slot = draw.choice(slots) if slots and draw.random() < .8 else draw.choice((0, 1, 2, 3, 12, 13, MASK, draw.getrandbits(32)))
         if kind == "measure":
-            return [self.measured(state, slot)]
+            return [self.random_measure(state, slot)]
         if kind == "odd":
             return [call(draw.choice((0, 6, 7, 8, MASK)), draw.choice((KEY, KEY, 0)), a0=slot)]
         if kind == "run":
             fresh = next((it for it in state.table if it.slot == slot and it.state == "Fresh"), None)
-            return [run(slot), *(inside(fresh.base, str(draw.random())) if fresh else ())]
+            return [run(slot), *(set_up(fresh.base, str(draw.random())) if fresh else ())]
         return [resume(slot) if kind == "resume" else destroy(slot)]
 
-    def created(self, state: ReferenceState) -> list[Item]:
+    def random_create(self, state: ReferenceState) -> list[Item]:
         """Returns a create, which is often valid."""
         draw = self.draw
         size, width = draw.choice((PAGE, PAGE, PAGE, 2 * PAGE, 4 * PAGE)), draw.choice((0, PAGE, PAGE, 2 * PAGE))
         base, window = self.block_base(size), self.block_base(width) if width else draw.getrandbits(32)
         entry = base + draw.choice((0, 0, 0, 4, size - 4))
         if draw.random() < .12:
-            base = draw.choice((self.place(state), 0, self.end - size, 0xFFFFF000, base + 4))
+            base = draw.choice((self.boundary(state), 0, self.end - size, 0xFFFFF000, base + 4))
         if draw.random() < .12:
-            window = self.place(state)
+            window = self.boundary(state)
         if draw.random() < .06:
             size, entry = draw.choice((0, 0x1800, 0x40000, 0x80000000)), draw.choice((base, 0))
         if draw.random() < .06:
@@ -453,14 +455,14 @@ class RandomScript:
         data = bytes(draw.getrandbits(8) for _ in range(16))
         return [*((poke(base, data),) if has_bytes else ()), create(base, size, window, width, entry)]
 
-    def measured(self, state: ReferenceState, slot: int) -> Item:
+    def random_measure(self, state: ReferenceState, slot: int) -> Item:
         """Returns a measure near a boundary."""
-        return measure(self.place(state) + self.draw.choice((-32, -31, -16, -1, 0, 1, 64, self.draw.randrange(0x800))), slot)
+        return measure(self.boundary(state) + self.draw.choice((-32, -31, -16, -1, 0, 1, 64, self.draw.randrange(0x800))), slot)
 
     def access(self, state: ReferenceState) -> list[Item]:
         """Returns a load or a store near a boundary."""
         draw = self.draw
-        at, width, register = self.place(state) + draw.randrange(-6, 6), draw.randrange(3), draw.randrange(8, 16)
+        at, width, register = self.boundary(state) + draw.randrange(-6, 6), draw.randrange(3), draw.randrange(8, 16)
         return [load_at(at, register, width) if draw.random() < .5 else store_at(at, register, width)]
 
     def csr(self, _: ReferenceState) -> list[Item]:
@@ -473,8 +475,8 @@ class RandomScript:
 
     def sret(self, state: ReferenceState) -> list[Item]:
         """Returns an sret into the code of the world that runs."""
-        own = self.own(state)
-        return [set_csr("sepc", own.base + own.size // 2 if own else HOST + 0x400), sret()]
+        enclave = self.running_enclave(state)
+        return [set_csr("sepc", enclave.base + enclave.size // 2 if enclave else HOST + 0x400), sret()]
 
     def fault(self, _: ReferenceState) -> list[Item]:
         """Returns an instruction that traps."""
@@ -486,5 +488,5 @@ class RandomScript:
 
     def jump(self, state: ReferenceState) -> list[Item]:
         """Returns a jump in the code of the world that runs."""
-        own = self.own(state)
-        return [jump_to(own.base + 4 * self.draw.randrange(64) if own else HOST + 4 * self.draw.randrange(256))]
+        enclave = self.running_enclave(state)
+        return [jump_to(enclave.base + 4 * self.draw.randrange(64) if enclave else HOST + 4 * self.draw.randrange(256))]

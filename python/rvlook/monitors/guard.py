@@ -10,8 +10,8 @@ from dataclasses import dataclass, field
 from typing import Callable, NamedTuple
 
 from rvlook.monitors import checks
-from rvlook.monitors.checks import A0, A7, Left, MemoryAndRights
-from rvlook.monitors.guarded import SWITCHED, Guarded, HartState, NewVector, StayInM
+from rvlook.monitors.checks import A0, A7, LeftWorld, MemoryAndRights
+from rvlook.monitors.guarded import SWITCHED_STATUS, Guarded, HartState, NewVector, StayInM
 from rvlook.monitors.ownership import HOST, MONITOR, OwnedRange, Ownership
 from rvlook.monitors.rights import Right, rights_of
 from rvlook.monitors.sides import MonitorSetup, word_at
@@ -23,8 +23,8 @@ from rvlook.protocol.names import CSRS, ECALL_FROM_S
 from rvlook.protocol.replies import value_of
 from rvlook.protocol.symbols import Symbols
 
-MOST_INTERVAL = 24  # steps of an enclave before the timer is raised
-FILL = 0x40000001  # bits that every mark has, so that it is not a small number
+MAX_TIMER_INTERVAL = 24  # the timer is raised after fewer steps of an enclave
+MARK_BITS = 0x40000001  # bits that every mark has, so that it is not a small number
 
 
 class Violation(NamedTuple):
@@ -33,7 +33,7 @@ class Violation(NamedTuple):
     text: str  # what was found
     step: int  # below M, after which it was found
     pc: int  # of the world that had trapped, or of the host before the first trap
-    inside: int = 0  # pc of M if M itself fails, else 0
+    pc_in_m: int = 0  # pc of M if M itself fails, else 0
 
 
 @dataclass
@@ -57,11 +57,11 @@ class Guard:
         # what the author declares; `ownership` has the ranges that exist at the present step
         self.declared = getattr(self, "declared", self.ownership)
         self.live: set[OwnedRange] = set()  # the live ranges
-        self.left: dict[str, Left] = {}  # the enclaves and the host, as each was left
+        self.left_worlds: dict[str, LeftWorld] = {}  # the enclaves and the host, as each was left
         self.loaded: dict[OwnedRange, int] = {}  # ranges that are not live and that M loaded, and pc of the trap
         self.exposed: dict[OwnedRange, int] = {}  # of these the ranges to which the host may store after it, and pc of the host
         # the world that was left last
-        self.last = Left(HartState(registers=(), csrs={}, pc=0, mode="S", entries=b"", here=0), registers={}, csrs={}, is_call=False)
+        self.last_left = LeftWorld(HartState(registers=(), csrs={}, pc=0, mode="S", entries=b"", pc_in_m=0), registers={}, csrs={}, is_call=False)
 
     def run(self) -> Violation | None:
         """Runs up to the first violation, the limit, or the end of the host; returns the violation. Starts again if M uses a new trap vector."""
@@ -80,8 +80,8 @@ class Guard:
         with Guarded(self.setup, self.vectors, self.ownership.is_monitor) as machine:
             self.log, self.vectors = machine.log, machine.vectors
             stay = machine.begin()
-            self.last = Left(stay.exit, registers={}, csrs={}, is_call=False)
-            self.arrive(machine, stay, b"", 0)
+            self.last_left = LeftWorld(stay.exit, registers={}, csrs={}, is_call=False)
+            self.arrive(machine, stay, memory=b"", tval=0)
             while not self.violation and self.loop is None:
                 machine.leave()
                 cause = self.next_trap(machine)
@@ -92,31 +92,31 @@ class Guard:
 
     def next_trap(self, machine: Guarded) -> str | None:
         """Runs to the next trap. Raises the timer before a random step of an enclave, and sometimes of the host."""
-        left = self.limit - machine.steps
+        steps_left = self.limit - machine.steps
         is_raised = self.timers and (self.world != HOST or self.draw.random() < .2)
         if is_raised:
-            cause = machine.to_trap(min(left, self.draw.randrange(MOST_INTERVAL)))
+            cause = machine.to_trap(min(steps_left, self.draw.randrange(MAX_TIMER_INTERVAL)))
             if cause is not None:
                 return cause
             machine.do("timer on")
         return machine.to_trap(self.limit - machine.steps)
 
     def trap(self, machine: Guarded, cause: str) -> None:
-        """Marks the world that trapped, runs M, and checks the checks."""
+        """Marks the world that trapped, runs M, and makes the checks."""
         entry = machine.state()
         if machine.loop.is_closed(cause, entry, machine.steps):
             self.loop = entry.pc
             return
         self.calls += cause == ECALL_FROM_S and self.world == HOST
         tval = value_of(machine.do("csr %x" % CSRS["mtval"])[0])
-        left = self.marks(entry, cause)
+        left = self.set_marks(entry, cause)
         before, rights = machine.memory(), rights_of(entry.entries, self.setup.ram)
         machine.set_state(left.registers, left.csrs)
         stay = machine.to_return(cause, entry, [it.first for it in self.ownership.private() if it not in self.live])
-        self.last = left
+        self.last_left = left
         self.counts["returns from M"] += 1
         if stay.fault:
-            self.check(stay.fault, "trap in M", machine, stay.inside)
+            self.check(stay.fault, "trap in M", machine, stay.fault_pc)
             return
         memory = MemoryAndRights(before, machine.memory(), rights)
         self.check(checks.changed_bytes(self.ownership, self.world, memory), "integrity", machine)
@@ -124,45 +124,46 @@ class Guard:
         self.arrive(machine, stay, memory.after, tval)
         self.check(checks.zeroed_range(sorted(live & self.live, key=lambda it: it.first), memory), "integrity", machine)
 
-    def marks(self, entry: HartState, cause: str) -> Left:
+    def set_marks(self, entry: HartState, cause: str) -> LeftWorld:
         """Returns the state of the world that trapped, and its marks. The arguments of a call are not marked."""
         is_call = cause == ECALL_FROM_S
         registers = {n: self.mark() for n in range(1, 32) if not (is_call and A0 <= n <= A7)}
-        csrs = {name: self.mark() & ~(3 if name == "sepc" else 0) for name in checks.MARKED_CSRS}
-        csrs["sstatus"] = SWITCHED if cause in checks.SWITCHING else self.draw.getrandbits(32) & SWITCHED
-        return Left(entry, registers, csrs, is_call)
+        csrs = {name: self.mark() for name in checks.MARKED_CSRS}
+        csrs["sepc"] &= ~3
+        csrs["sstatus"] = SWITCHED_STATUS if cause in checks.SWITCHING else self.draw.getrandbits(32) & SWITCHED_STATUS
+        return LeftWorld(entry, registers, csrs, is_call)
 
     def mark(self) -> int:
         """Returns a value that occurs nowhere else."""
-        return self.draw.getrandbits(32) | FILL
+        return self.draw.getrandbits(32) | MARK_BITS
 
     # ---- checks
 
-    def check(self, text: str, name: str, machine: Guarded, inside: int = 0) -> None:
+    def check(self, text: str, name: str, machine: Guarded, pc_in_m: int = 0) -> None:
         """Notes the violation that a check returned, unless there is one already."""
         if text and not self.violation:
-            self.violation = Violation(name, text, machine.steps, self.last.state.pc, inside)
+            self.violation = Violation(name, text, machine.steps, self.last_left.state.pc, pc_in_m)
 
     def arrive(self, machine: Guarded, stay: StayInM, memory: bytes, tval: int) -> None:
         """Makes the checks of a return from M, and gives the world that continues its values in place of the marks."""
         self.ownership = self.declared.now(lambda at: word_at(machine.bench, at), self.calls)
-        was, owner = self.world, self.ownership.owner_of(stay.exit.pc)
+        left_name, owner = self.world, self.ownership.owner_of(stay.exit.pc)
         self.handled.update(stay.handled)
         if stay.fault:
-            self.check(stay.fault, "trap in M", machine, stay.inside)
+            self.check(stay.fault, "trap in M", machine, stay.fault_pc)
             return
-        self.world = was if owner is None or owner == MONITOR else owner
-        if stay.cause and self.world == was:
-            self.same_world(machine, stay, tval)
+        self.world = left_name if owner is None or owner == MONITOR else owner
+        if stay.cause and self.world == left_name:
+            self.check_same_world(machine, stay, tval)
         elif stay.cause:
             self.counts["switches"] += 1
-            self.other_world(machine, was, stay.exit)
-            self.check(checks.marks_in_memory(self.ownership, was, self.last, memory), "memory", machine)
+            self.check_switch(machine, left_name, stay.exit)
+            self.check(checks.marks_in_memory(self.ownership, left_name, self.last_left, memory), "memory", machine)
         self.check_access(machine, stay, memory)
 
-    def same_world(self, machine: Guarded, stay: StayInM, tval: int) -> None:
+    def check_same_world(self, machine: Guarded, stay: StayInM, tval: int) -> None:
         """Checks a trap after which the same world continues."""
-        left, world = self.last, self.world
+        left, world = self.last_left, self.world
         if stay.cause not in checks.SWITCHING and checks.is_redirect(stay):
             self.check(checks.wrong_redirect(world, left, stay, tval), "redirect", machine)
             csrs = {"sscratch": left.state.csrs["sscratch"], "sstatus": checks.redirected_status(left.state.csrs["sstatus"], left.state.mode)}
@@ -174,25 +175,25 @@ class Guard:
             self.check(checks.wrong_emulation(world, left, stay), "context", machine)
         machine.set_state(self.restored(left, stay.exit, left.is_call), {name: left.state.csrs[name] for name in left.csrs})
 
-    def restored(self, left: Left, state: HartState, is_call: bool) -> dict[int, int]:
+    def restored(self, left: LeftWorld, state: HartState, is_call: bool) -> dict[int, int]:
         """Returns the registers before the marks, for the registers that still have their marks."""
         return {n: left.state.registers[n] for n, mark in left.registers.items()
                 if state.registers[n] == mark and not (is_call and n in self.ownership.hands)}
 
-    def other_world(self, machine: Guarded, was: str, state: HartState) -> None:
+    def check_switch(self, machine: Guarded, left_name: str, state: HartState) -> None:
         """Checks a switch to another world, which continues or is entered for the first time."""
-        left, back = self.last, self.left.pop(self.world, None)
-        self.left[was] = left
-        self.activity[was]["left"] += 1
+        left, continued = self.last_left, self.left_worlds.pop(self.world, None)
+        self.left_worlds[left_name] = left
+        self.activity[left_name]["left"] += 1
         self.activity[self.world]["entered"] += 1
-        self.activity[self.world]["continued"] += back is not None
-        self.check(checks.visible_mark(self.ownership, was, left, self.world, state), "registers", machine)
-        if back is None:
-            self.check(checks.leftover(was, left, self.world, state), "registers", machine)
+        self.activity[self.world]["continued"] += continued is not None
+        self.check(checks.visible_mark(self.ownership, left_name, left, self.world, state), "registers", machine)
+        if continued is None:
+            self.check(checks.leftover(left_name, left, self.world, state), "registers", machine)
             return
         self.counts["worlds that continue"] += 1
-        self.check(checks.changed_context(self.ownership, self.world, back, state), "context", machine)
-        machine.set_state(self.restored(back, state, back.is_call), {name: back.state.csrs[name] for name in back.csrs})
+        self.check(checks.changed_context(self.ownership, self.world, continued, state), "context", machine)
+        machine.set_state(self.restored(continued, state, continued.is_call), {name: continued.state.csrs[name] for name in continued.csrs})
 
     def check_access(self, machine: Guarded, stay: StayInM, memory: bytes) -> None:
         """Checks the access rights of the world that continues, and which ranges are live from now on."""
@@ -200,7 +201,7 @@ class Guard:
         rights = rights_of(state.entries, self.setup.ram)
         private, closed = self.ownership.private(), checks.closed_ranges(self.ownership, rights)
         for part in [it for it in self.live if it.is_timed and it not in private]:
-            self.give_back(machine, part, memory, ())
+            self.give_back(machine, part, memory, rights=())
         for part in private:
             self.activity.setdefault(part.owner, Counter())
             if part.is_timed:
@@ -219,7 +220,7 @@ class Guard:
         """Checks a range that the host gets back, or that ends."""
         self.check(checks.not_zeroed(part, memory, rights), "zeros", machine)
         self.live.discard(part)
-        self.left.pop(part.owner, None)
+        self.left_worlds.pop(part.owner, None)
         self.activity[part.owner]["given_back"] += 1
         self.counts["ranges given back"] += 1
 
@@ -231,12 +232,11 @@ class Guard:
             self.exposed.setdefault(part, stay.exit.pc)
 
     def exposed_text(self, part: OwnedRange, stay: StayInM) -> str:
-        """Returns that the host could store to a range after M had loaded it and before it became live. Returns an empty text if it could not, or if
-        M loads it again."""
-        at, pc = self.exposed.pop(part, None), self.loaded.pop(part, 0)
-        if at is None or part in self.live or part.first in stay.loaded:
+        """Returns a text if the host could store to a range after M had loaded it and before it became live, and M does not load it again."""
+        store_pc, trap_pc = self.exposed.pop(part, None), self.loaded.pop(part, 0)
+        if store_pc is None or part in self.live or part.first in stay.loaded:
             return ""
-        return "host at %08x could store to %s of %s, which M had loaded at the trap at %08x" % (at, part, part.owner, pc)
+        return "host at %08x could store to %s of %s, which M had loaded at the trap at %08x" % (store_pc, part, part.owner, trap_pc)
 
 
 class GuardPlan(NamedTuple):

@@ -17,7 +17,7 @@ from rvlook.protocol.symbols import Symbols
 
 COUNTS = {"steps": "steps below M", "returns": "returns from M", "switches": "switches", "continued": "worlds that continue",
           "given_back": "ranges given back"}
-MOST_FUNCTIONS = 40  # that are shown
+MAX_FUNCTIONS_SHOWN = 40  # that are shown
 
 
 def show_guard(plan: GuardPlan, printer: Printer, findings: ReportedCases) -> None:
@@ -69,16 +69,16 @@ def rest_of(results: GuardResults, plan: GuardPlan) -> list[str]:
     enclaves = enclaves_of(activity, ownership)
     if not any(it.counts["returns from M"] for it in results.guards):
         found.append("no world trapped, so that M never ran after its boot")
-    idle = [it for it in enclaves if not activity[it]["entered"]]
-    kept = [it for it in enclaves if activity[it]["entered"] and not activity[it]["left"]]
-    ended = [it for it in enclaves if activity[it]["left"] and not activity[it]["continued"] and not ownership.runs_once(it)]
-    if ended:
+    never_entered = [it for it in enclaves if not activity[it]["entered"]]
+    never_left = [it for it in enclaves if activity[it]["entered"] and not activity[it]["left"]]
+    never_continued = [it for it in enclaves if activity[it]["left"] and not activity[it]["continued"] and not ownership.runs_once(it)]
+    if never_continued:
         found.append("after they were left, these enclaves never continued: %s; let the host continue them, or add 'once OWNER' to RANGES"
-                     % ", ".join(ended))
-    if kept:
-        found.append("these enclaves were entered and never left: %s; use more --steps, or let them call the monitor" % ", ".join(kept))
-    if idle:
-        found.append("these enclaves never ran: %s; let the host enter them, or remove them from RANGES" % ", ".join(idle))
+                     % ", ".join(never_continued))
+    if never_left:
+        found.append("these enclaves were entered and never left: %s; use more --steps, or let them call the monitor" % ", ".join(never_left))
+    if never_entered:
+        found.append("these enclaves never ran: %s; let the host enter them, or remove them from RANGES" % ", ".join(never_entered))
     return found
 
 
@@ -114,12 +114,12 @@ def report(printer: Printer, symbols: Symbols, violation: Violation) -> None:
     """Shows a violation."""
     if printer.as_json:
         printer.object("violation", check=violation.check, text=violation.text, step=violation.step, pc=hex8(violation.pc),
-                       symbol=symbols.name(violation.pc), line=symbols.line(violation.pc), pc_in_m=hex8(violation.inside or None))
+                       symbol=symbols.name(violation.pc), line=symbols.line(violation.pc), pc_in_m=hex8(violation.pc_in_m or None))
         return
     printer.line("violation of %s after %d steps below M" % (violation.check, violation.step))
     printer.line("  " + violation.text)
-    if violation.inside:
-        printer.line("  M was at %s" % place_text("%08x" % violation.inside, symbols))
+    if violation.pc_in_m:
+        printer.line("  M was at %s" % place_text("%08x" % violation.pc_in_m, symbols))
     if violation.step:
         printer.line("  the trap was at %s" % place_text("%08x" % violation.pc, symbols))
     else:
@@ -136,10 +136,10 @@ def show_unexecuted(printer: Printer, symbols: Symbols, code: MonitorBlocks, fou
     total = code.instructions
     printer.line("code of M:   %d of %d instructions executed%s" % (total - missing, total, "; not executed:" if found else ""))
     lines = list(lines_of(symbols, code, found))
-    for line in lines[:MOST_FUNCTIONS]:
+    for line in lines[:MAX_FUNCTIONS_SHOWN]:
         printer.line("  " + line)
-    if len(lines) > MOST_FUNCTIONS:
-        printer.line("  and parts of %d more functions; --json lists all" % (len(lines) - MOST_FUNCTIONS))
+    if len(lines) > MAX_FUNCTIONS_SHOWN:
+        printer.line("  and parts of %d more functions; --json lists all" % (len(lines) - MAX_FUNCTIONS_SHOWN))
 
 
 def joined(ranges: Iterable[tuple[int, int]]) -> list[tuple[int, int]]:

@@ -8,25 +8,26 @@ from typing import Callable, Iterable, NamedTuple, Sequence
 from rvlook.errors import Unfinished
 from rvlook.monitors.encodings import BACK, csrw, is_store
 from rvlook.monitors.ownership import OwnedRange
-from rvlook.monitors.sides import ENTRIES, MOST_RETURNS, MOST_STEPS, REGISTERS, MonitorBench, MonitorSetup, memory_lines, trap_text, word_at
+from rvlook.monitors.sides import (MAX_MRET_BREAKPOINTS, MAX_STEPS_IN_M, PMP_LINES, REGISTER_LINES, MonitorBench, MonitorSetup, memory_lines,
+                                   trap_text, word_at)
 from rvlook.protocol.memory_map import MONITOR_END, RAM_BASE
 from rvlook.protocol.names import CSRS, TIMER
 from rvlook.protocol.replies import ROW, Ran, RanTrap, poke_commands, register_values, step_of, value_of
 
-MOST_NESTED = 3  # traps in M, each in the handler of the one before
-MOST_REPEATED = 64  # equal traps in a row
+MAX_NESTED_TRAPS = 3  # traps in M, each in the handler of the one before
+MAX_EQUAL_TRAPS = 64  # equal traps in a row
 WORD = 4
 SUPERVISOR = ("sscratch", "sepc", "scause", "stval", "stvec", "sstatus")
 STATE_CSRS = (*SUPERVISOR, "mepc", "mstatus", "mtvec")
 STATE = "".join(["regs\n", *("csr %x\n" % CSRS[name] for name in STATE_CSRS), "pmp\n"]).encode()
-STATE_LINES = REGISTERS + len(STATE_CSRS) + ENTRIES
+STATE_LINES = REGISTER_LINES + len(STATE_CSRS) + PMP_LINES
 MPP_SHIFT, MPP_M = 11, 3  # of MPP in mstatus, and its value for M
 MODES = "US?M"
-SWITCHED = 0x80122  # SIE, SPIE, SPP and MXR
+SWITCHED_STATUS = 0x80122  # the bits SIE, SPIE, SPP and MXR of sstatus
 T0 = 5
-CHUNK = 1000000  # steps of one `run` in M
-MOST_WATCHED = 32  # watchpoints of the bench
-MOST_STOPS = 10000  # of the bench in M before M returns: at traps, at each mret, and at watchpoints
+STEPS_PER_RUN = 1000000  # steps of one `run` in M
+MAX_WATCHPOINTS = 32  # that the bench can have
+MAX_STOPS_IN_M = 10000  # of the bench in M before M returns: at traps, at each mret, and at watchpoints
 TIMER_VECTOR = 28  # bytes from the base of mtvec, if it is vectored
 WITHOUT_EFFECT = ("break ", "clear ", "watch ", "unwatch ", "csr ")  # commands that do not change the state of the hart
 
@@ -44,12 +45,12 @@ def vector_of_first_trap(setup: MonitorSetup, log: Sequence[str], steps: int) ->
     low, high = 0, steps  # there is no trap within `low` steps, and one within `high`
     while high - low > 1:
         middle = (low + high) // 2
-        ran = after(setup, log, middle)
+        ran = reply_after(setup, log, middle)
         low, high = (low, middle) if ran.trap else (middle, high)
-    return int(after(setup, log, high).pc, 16)
+    return int(reply_after(setup, log, high).pc, 16)
 
 
-def after(setup: MonitorSetup, log: Sequence[str], steps: int) -> Ran:
+def reply_after(setup: MonitorSetup, log: Sequence[str], steps: int) -> Ran:
     """Returns the reply of `run` for a number of steps after a run with this log."""
     with setup.own.bench() as bench:
         bench.replies_to(log)
@@ -72,9 +73,9 @@ class TrapsInM:
     def enter(self, state: HartState, trap: RanTrap) -> str:
         """Notes a trap; returns why it is a violation, or an empty text."""
         self.pending.append((state.pc, "trap in M at %08x, %s" % (state.pc, trap_text(trap))))
-        if not self.is_code(state.here):
-            return "%s, whose vector %08x is not in memory of the monitor" % (self.text, state.here)
-        return "%s, in the handler of a trap in M" % self.text if len(self.pending) > MOST_NESTED else ""
+        if not self.is_code(state.pc_in_m):
+            return "%s, whose vector %08x is not in memory of the monitor" % (self.text, state.pc_in_m)
+        return "%s, in the handler of a trap in M" % self.text if len(self.pending) > MAX_NESTED_TRAPS else ""
 
     def leave(self, state: HartState) -> str:
         """Notes an mret that continues M; returns why it is a violation, or an empty text."""
@@ -101,7 +102,7 @@ class TrapLoop:
         key = (cause, entry.pc, entry.mode, entry.entries)
         self.count = self.count + 1 if key == self.last and steps - self.steps <= 1 else 0
         self.last, self.steps = key, steps
-        return self.count >= MOST_REPEATED
+        return self.count >= MAX_EQUAL_TRAPS
 
 
 class HartState(NamedTuple):
@@ -111,7 +112,7 @@ class HartState(NamedTuple):
     pc: int  # mepc
     mode: str  # MPP
     entries: bytes  # the replies of `pmp`
-    here: int  # pc of M
+    pc_in_m: int  # pc of M
 
 
 class StayInM(NamedTuple):
@@ -121,14 +122,15 @@ class StayInM(NamedTuple):
     exit: HartState  # state at the return
     spent: int  # steps in M
     fault: str = ""  # why M did not return as it should; empty if it did
-    inside: int = 0  # pc of M at the fault; 0 without a fault
+    fault_pc: int = 0  # pc of M at the fault; 0 without a fault
     handled: tuple[int, ...] = ()  # pc of each trap in M from which M returned
     loaded: frozenset[int] = frozenset()  # the watched bytes that M loaded
 
 
 def entries_of(mtvec: int) -> list[int]:
     """Returns the addresses at which traps enter M, for a value of mtvec."""
-    return [mtvec & ~3] + ([(mtvec & ~3) + TIMER_VECTOR] if mtvec & 1 else [])
+    base, is_vectored = mtvec & ~3, mtvec & 1
+    return [base, base + TIMER_VECTOR] if is_vectored else [base]
 
 
 class Guarded(MonitorBench):
@@ -161,20 +163,20 @@ class Guarded(MonitorBench):
     def state(self) -> HartState:
         """Returns the state in M now."""
         replies = self.bench.block(STATE, STATE_LINES).splitlines()
-        values = register_values(replies[:-ENTRIES])
-        csrs = dict(zip(STATE_CSRS, values[REGISTERS:]))
-        csrs["sstatus"] &= SWITCHED
-        return HartState(tuple(values[:32]), csrs, csrs["mepc"], MODES[csrs["mstatus"] >> MPP_SHIFT & 3], b"\n".join(replies[-ENTRIES:]),
-                         values[REGISTERS - 1])
+        values = register_values(replies[:-PMP_LINES])
+        csrs = dict(zip(STATE_CSRS, values[REGISTER_LINES:]))
+        csrs["sstatus"] &= SWITCHED_STATUS
+        return HartState(tuple(values[:32]), csrs, csrs["mepc"], MODES[csrs["mstatus"] >> MPP_SHIFT & 3], b"\n".join(replies[-PMP_LINES:]),
+                         values[REGISTER_LINES - 1])
 
     def to_return(self, cause: str, entry: HartState, watched: Sequence[int] = ()) -> StayInM:
         """Runs M up to its mret to S or U, which is the next instruction then. Traps in M may come before, from which M must return. Notes which
         of the watched bytes M loads. Raises NewVector if M traps to an address that has no breakpoint."""
-        watched = watched[:MOST_WATCHED - len(self.setup.lowered)]
+        watched = watched[:MAX_WATCHPOINTS - len(self.setup.lowered)]
         self.do(*("watch %x" % it for it in watched))
-        found = self.to_mret(cause, entry)
+        stay = self.to_mret(cause, entry)
         self.do(*("unwatch %x" % it for it in watched))
-        return found
+        return stay
 
     def to_mret(self, cause: str, entry: HartState) -> StayInM:
         """Runs M up to its mret to S or U, with the watchpoints that are set."""
@@ -182,22 +184,23 @@ class Guarded(MonitorBench):
         loaded: set[int] = set()
         while True:
             stops += 1
-            ran = step_of(self.do("run %d" % CHUNK)[0].decode())
+            ran = step_of(self.do("run %d" % STEPS_PER_RUN)[0].decode())
             spent += ran.steps
             if ran.why.startswith("watch:"):
                 self.note_access(int(ran.why[len("watch:"):], 16), word_at(self.bench, int(ran.pc, 16) - 4), loaded)
             state = self.state()
             fault, is_end = self.after_part(ran, state, traps)
-            if not fault and (spent > MOST_STEPS or stops > MOST_STOPS):
-                fault = "%sM does not return within %d steps" % (traps.text and traps.text + "; ", spent)
+            if not fault and (spent > MAX_STEPS_IN_M or stops > MAX_STOPS_IN_M):
+                fault = "%sM does not return within %d steps" % (traps.text + "; " if traps.text else "", spent)
             if fault or is_end:
-                inside = traps.pending[-1][0] if traps.pending else state.here
-                return StayInM(cause, entry, state, spent, fault, inside if fault else 0, tuple(traps.handled), frozenset(loaded))
+                fault_pc = traps.pending[-1][0] if traps.pending else state.pc_in_m
+                return StayInM(cause, entry, state, spent, fault, fault_pc if fault else 0, tuple(traps.handled), frozenset(loaded))
 
     def note_access(self, address: int, word: int, loaded: set[int]) -> None:
         """Clears the timer line at a store to its register, and notes a load of another watched byte."""
         if address not in self.setup.lowered:
-            loaded.update([] if is_store(word) else [address])
+            if not is_store(word):
+                loaded.add(address)
         elif is_store(word):
             self.do("timer off")
 
@@ -206,14 +209,14 @@ class Guarded(MonitorBench):
         NewVector if M has trapped to an address that has no breakpoint."""
         if ran.mode != "M":
             return "M is left by another instruction than mret", False
-        if ran.trap and state.here not in self.vectors:
+        if ran.trap and state.pc_in_m not in self.vectors:
             raise NewVector(vector_of_first_trap(self.setup, self.log[:-1], ran.steps))
         if ran.trap:
             return traps.enter(state, ran.trap), False
-        if state.here not in self.setup.returns:
+        if state.pc_in_m not in self.setup.returns:
             return "", False
-        is_end = state.csrs["mstatus"] >> MPP_SHIFT & 3 != MPP_M
-        return traps.end(state) if is_end else traps.leave(state), is_end
+        leaves_m = state.csrs["mstatus"] >> MPP_SHIFT & 3 != MPP_M
+        return traps.end(state) if leaves_m else traps.leave(state), leaves_m
 
     def leave(self) -> None:
         """Does the mret, and stops the bench where the next trap enters M."""
@@ -229,7 +232,7 @@ class Guarded(MonitorBench):
         self.vectors.update(vectors)
         if any(it.startswith(b"error") for it in self.do(*("break %x" % it for it in vectors))):
             raise Unfinished("the monitor has %d mret instructions and %d trap vectors, which are more than %d" % (
-                len(self.setup.returns), len(self.vectors), MOST_RETURNS + 1))
+                len(self.setup.returns), len(self.vectors), MAX_MRET_BREAKPOINTS + 1))
 
     def to_trap(self, limit: int) -> str | None:
         """Runs S and U until a trap; returns its cause, or None after `limit` steps without one."""
@@ -247,13 +250,13 @@ class Guarded(MonitorBench):
         """Sets registers, and S-mode registers by instructions that M executes at its pc, whose bytes are put back."""
         if csrs:
             state = self.state()
-            pc, last = state.here, state.registers[T0]
+            pc, old_t0 = state.pc_in_m, state.registers[T0]
             words = [word_at(self.bench, pc), word_at(self.bench, pc + 4)]
             lines = []
             for name, value in csrs.items():
                 lines += ["setreg %d %x" % (T0, value), *poke_commands(pc, struct.pack("<I", csrw(CSRS[name], T0))), "step 1"]
                 lines += [*poke_commands(pc + 4, struct.pack("<I", BACK)), "step 1"]
-            self.do(*lines, *poke_commands(pc, struct.pack("<II", *words)), "setreg %d %x" % (T0, last))
+            self.do(*lines, *poke_commands(pc, struct.pack("<II", *words)), "setreg %d %x" % (T0, old_t0))
         self.do(*("setreg %d %x" % it for it in registers.items() if it[0]))
 
     def memory(self) -> bytes:
@@ -268,11 +271,11 @@ class Guarded(MonitorBench):
 
     def rows_outside(self, hidden: Sequence[OwnedRange]) -> bytes:
         """Returns the replies of `mem` for the rows of 64 bytes after the range of the monitor that are not whole rows of some ranges."""
-        found, at, end = [], MONITOR_END, RAM_BASE + self.setup.ram
+        shown, start, end = [], MONITOR_END, RAM_BASE + self.setup.ram
         for hidden_range in sorted(hidden, key=lambda it: it.first):
-            first, after = max(at, -(-hidden_range.first // ROW) * ROW), min(hidden_range.end & -ROW, end)
+            first, after = max(start, -(-hidden_range.first // ROW) * ROW), min(hidden_range.end & -ROW, end)
             if first < after:
-                found.append((at, first))
-                at = after
-        found.append((at, end))
-        return b"".join(self.bench.block(memory_lines(*it), (it[1] - it[0]) // ROW) for it in found if it[0] < it[1])
+                shown.append((start, first))
+                start = after
+        shown.append((start, end))
+        return b"".join(self.bench.block(memory_lines(first, end), (end - first) // ROW) for first, end in shown if first < end)

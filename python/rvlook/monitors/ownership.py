@@ -102,8 +102,8 @@ class Ownership:
 
     def owner_of(self, at: int) -> str | None:
         """Returns who owns a byte, or None. The smallest range that has the byte decides."""
-        own = [it for it in self.ranges if it.owner != SHARED and it.has(at)]
-        return min(own, key=lambda it: it.end - it.first).owner if own else None
+        owned = [it for it in self.ranges if it.owner != SHARED and it.has(at)]
+        return min(owned, key=lambda it: it.end - it.first).owner if owned else None
 
     def is_monitor(self, at: int) -> bool:
         """Returns whether the monitor owns a byte."""

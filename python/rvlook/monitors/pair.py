@@ -8,7 +8,7 @@ from typing import Iterator, NamedTuple
 
 from rvlook.monitors.comparison import MonitorDifference, differences, memory_difference
 from rvlook.monitors.items import Item
-from rvlook.monitors.sides import DECIDING, MonitorSetup, Side, SideState, Stay
+from rvlook.monitors.sides import DECIDING_BITS, MonitorSetup, Side, SideState, Stay
 from rvlook.protocol.bench import Closing
 from rvlook.protocol.names import ECALL_FROM_S, NUMBERED, STATUSES, TIMER, Call
 from rvlook.protocol.replies import Enclave
@@ -43,7 +43,7 @@ class ScriptCoverage:
     steps: int = 0  # below M
     returns: int = 0  # from M
     spent: int = 0  # steps in M
-    most: tuple[int, str] = (0, "")  # steps of the longest stay in M, and its item
+    longest_stay: tuple[int, str] = (0, "")  # steps of the longest stay in M, and its item
     calls: Counter[tuple[str, str, str]] = field(default_factory=Counter)  # side, call, result
     switches: Counter[str] = field(default_factory=Counter)  # by name, see SWITCHES
     redirected: Counter[tuple[str, str, int]] = field(default_factory=Counter)  # side, mode, cause
@@ -52,7 +52,7 @@ class ScriptCoverage:
         """Adds the counts of more scripts."""
         self.scripts, self.steps = self.scripts + other.scripts, self.steps + other.steps
         self.returns, self.spent = self.returns + other.returns, self.spent + other.spent
-        self.most = max(self.most, other.most)
+        self.longest_stay = max(self.longest_stay, other.longest_stay)
         self.calls.update(other.calls)
         self.switches.update(other.switches)
         self.redirected.update(other.redirected)
@@ -80,7 +80,7 @@ class PairStep(NamedTuple):
 
 
 @dataclass
-class Played:
+class PlayedScript:
     """A script that was run."""
     name: str  # of the script
     steps: list[PairStep] = field(default_factory=list)  # up to the first difference
@@ -100,11 +100,11 @@ class BothSides(Closing):
     """Both sides. `compares_memory` selects whether memory is compared after each trap."""
 
     def __init__(self, setup: MonitorSetup, name: str, compares_memory: bool = True) -> None:
-        self.setup, self.compares_memory, self.played = setup, compares_memory, Played(name)  # `played`: the script so far
+        self.setup, self.compares_memory, self.played = setup, compares_memory, PlayedScript(name)  # `played`: the script so far
         self.own, self.reference = Side(setup, is_own=True), Side(setup, is_own=False)  # the two monitors
         self.world, self.has_trapped = "host", False  # the world that runs; whether a trap has occurred
         self.table: list[Enclave] = []  # of the enclaves, as the reference has it
-        self.left: dict[str, str] = {}  # how each enclave that is Stopped was left
+        self.left_by: dict[str, str] = {}  # how each enclave that is Stopped was left
         try:
             self.compare(self.own.begin(), self.reference.begin(), has_trap=True)
         except BaseException:
@@ -139,7 +139,7 @@ class BothSides(Closing):
         """Notes the differences after a step."""
         self.has_trapped = self.has_trapped or reference.trap != "-"
         if not self.has_trapped:  # the values of mepc, mcause and mtval after reset are not specified
-            own = own._replace(above=own.above[:len(DECIDING)] + reference.above[len(DECIDING):])
+            own = own._replace(above=own.above[:len(DECIDING_BITS)] + reference.above[len(DECIDING_BITS):])
         self.played.differences = differences(own, reference, self.setup)
         if has_trap and not own.fault and self.compares_memory:
             self.compare_memory()
@@ -149,20 +149,20 @@ class BothSides(Closing):
         if self.is_alike:
             self.played.differences = memory_difference(self.own.memory(), self.reference.memory())
 
-    def result_of(self, item: Item, world: str, seen: SideState) -> str:
-        """Returns what a step did, in words."""
-        if seen.cause == ECALL_FROM_S and item.call_number is not None:
-            return self.world if self.world != world else STATUSES.get(seen.registers[A0], DONE)
+    def result_of(self, item: Item, world: str, state: SideState) -> str:
+        """Returns the result of a step in words."""
+        if state.cause == ECALL_FROM_S and item.call_number is not None:
+            return self.world if self.world != world else STATUSES.get(state.registers[A0], DONE)
         after = ", then %s" % self.world if self.world != world else ""
-        return "" if seen.trap == "-" else "trap %s%s" % (seen.trap, after)
+        return "" if state.trap == "-" else "trap %s%s" % (state.trap, after)
 
-    def count(self, item: Item, world: str, mode: str, seen: tuple[SideState, SideState]) -> None:
+    def count(self, item: Item, world: str, mode: str, states: tuple[SideState, SideState]) -> None:
         """Counts what a trap covers."""
-        own, reference = seen
+        own, reference = states
         coverage, side = self.played.coverage, HOST if world == "host" else ENCLAVE
         coverage.returns += 1
         coverage.spent += own.spent
-        coverage.most = max(coverage.most, (own.spent, item.text))
+        coverage.longest_stay = max(coverage.longest_stay, (own.spent, item.text))
         if reference.cause == ECALL_FROM_S:
             self.count_call(item, side, reference)
         elif reference.cause != TIMER:
@@ -172,38 +172,38 @@ class BothSides(Closing):
         if reference.cause in (ECALL_FROM_S, TIMER):
             self.table = self.reference.enclaves()
 
-    def count_call(self, item: Item, side: str, seen: SideState) -> None:
+    def count_call(self, item: Item, side: str, state: SideState) -> None:
         """Counts the result of a call, and the state of an enclave that was destroyed."""
         number = item.call_number
         name = NUMBERED[number].name if number in NUMBERED and number is not None else OTHER
         is_switch = self.world == "host" if side == ENCLAVE else self.world != "host"
-        status = DONE if is_switch else STATUSES.get(seen.registers[A0], DONE)
+        status = DONE if is_switch else STATUSES.get(state.registers[A0], DONE)
         self.played.coverage.calls[side, name, status] += 1
         if (name, status) == ("destroy", DONE):
             slot = dict(item.registers)[A0]
-            gone = next(it for it in self.table if it.slot == slot)
-            self.played.coverage.switches["destroy of %s" % gone.state] += 1
-            self.left.pop(gone.world, None)
+            destroyed = next(it for it in self.table if it.slot == slot)
+            self.played.coverage.switches["destroy of %s" % destroyed.state] += 1
+            self.left_by.pop(destroyed.world, None)
 
     def count_switch(self, item: Item, world: str, timer: str) -> None:
         """Counts a switch between the host and an enclave."""
         if world != "host":
             kind = timer or NUMBERED[item.call_number or 0].name
-            self.left[world] = kind
+            self.left_by[world] = kind
         else:
-            kind = "resume after " + self.left[self.world] if self.world in self.left else "run"
+            kind = "resume after " + self.left_by[self.world] if self.world in self.left_by else "run"
         if kind == "exit":
-            del self.left[world]
+            del self.left_by[world]
         self.played.coverage.switches[kind] += 1
 
-    def end(self) -> Played:
+    def end(self) -> PlayedScript:
         """Compares all memory at the end of a script; returns the script as it was run."""
         self.compare_memory()
         self.played.coverage.scripts += 1
         return self.played
 
 
-def play(setup: MonitorSetup, name: str, items: list[Item], compares_memory: bool = True) -> Played:
+def play(setup: MonitorSetup, name: str, items: list[Item], compares_memory: bool = True) -> PlayedScript:
     """Runs a script on both monitors up to the first difference."""
     with BothSides(setup, name, compares_memory) as pair:
         for item in items:

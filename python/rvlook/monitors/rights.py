@@ -24,13 +24,12 @@ class Right(NamedTuple):
 
 @lru_cache(maxsize=4096)
 def rights_of(lines: bytes, ram: int) -> tuple[Right, ...]:
-    """Returns the access rights under the replies of `pmp`. Adjacent ranges of two entries stay apart, because an access across their boundary is
-    refused, unless nothing is permitted in either."""
+    """Returns the rights under the replies of `pmp`, apart for each entry that permits an access: one across their boundary is refused."""
     entries = [entry_of(line.decode()) for line in lines.splitlines()]
     covered = [entry_range(entries, index) for index in range(len(entries))]
-    cuts = boundaries(entries, ram)
+    ends = boundaries(entries, ram)
     found: list[Right] = []
-    for first, end in zip(cuts, cuts[1:]):
+    for first, end in zip(ends, ends[1:]):
         index = next((n for n, it in enumerate(covered) if it and it.first <= first < it.end), None)
         cfg = 0 if index is None else entries[index].cfg
         may = "".join(letter if cfg & bit else "-" for letter, bit in BITS)

@@ -21,19 +21,19 @@ from rvlook.protocol.names import CSRS, TIMER
 from rvlook.protocol.replies import ROW, Enclave, RanTrap, bytes_of, enclave_of, memory_commands, poke_commands, register_values, step_of
 from rvlook.protocol.run import Setup, error_of
 
-MOST_RETURNS = 31  # breakpoints for `mret` instructions; the bench has 32
-MOST_STEPS = 60000000  # in M, in one trap, with a small RAM
-MOST_PER_BYTE = 100  # more of them for each byte of RAM: a measurement and its checks
-STAY = "run 1000000"  # to the next `mret`
-REGISTERS = 33  # lines of `regs`
-ENTRIES = 16  # lines of `pmp`
+MAX_MRET_BREAKPOINTS = 31  # breakpoints at `mret` instructions; the bench has 32
+MAX_STEPS_IN_M = 60000000  # in M, in one trap, with a small RAM
+MAX_STEPS_PER_BYTE = 100  # further steps in M for each byte of RAM: a measurement and its checks
+RUN_TO_MRET = "run 1000000"  # stops at the breakpoint of the next `mret`
+REGISTER_LINES = 33  # lines of `regs`
+PMP_LINES = 16  # lines of `pmp`
 BELOW = ("sstatus", "sie", "stvec", "scounteren", "sscratch", "sepc", "scause", "stval", "sip", "satp")
-DECIDING = {"mstatus": ~0x1888 & MASK, "mie": 0x80, "mip": 0x80}  # the bits that affect S and U: of mstatus all but MIE, MPIE and MPP
-EXACT = ("mepc", "mcause", "mtval")
-CSR_LIST = (*BELOW, *DECIDING, *EXACT)
-CUT = REGISTERS + len(BELOW)
+DECIDING_BITS = {"mstatus": ~0x1888 & MASK, "mie": 0x80, "mip": 0x80}  # the bits that affect S and U: of mstatus all but MIE, MPIE and MPP
+EXACT_CSRS = ("mepc", "mcause", "mtval")
+CSR_LIST = (*BELOW, *DECIDING_BITS, *EXACT_CSRS)
+VISIBLE_LINES = REGISTER_LINES + len(BELOW)
 STATE = "".join(["regs\n", *("csr %x\n" % CSRS[name] for name in CSR_LIST), "pmp\n"]).encode()
-STATE_LINES = REGISTERS + len(CSR_LIST) + ENTRIES
+STATE_LINES = REGISTER_LINES + len(CSR_LIST) + PMP_LINES
 
 
 def size_line(ram: int) -> str:
@@ -73,34 +73,35 @@ class MonitorSetup(NamedTuple):
 
 
 def return_addresses(image: Image) -> tuple[int, ...]:
-    """Returns the addresses of the words `mret` in the segments of an ELF file. Raises RvlookError if the file is not a 32-bit ELF file, or has no
-    or too many mret instructions."""
+    """Returns the addresses of `mret` in the segments of a file. Raises RvlookError for no 32-bit ELF file, and for no or too many mret."""
     data = image.data or b""
     if not image.is_elf_32:
         raise RvlookError("'%s' is not a 32-bit ELF file, which a monitor must be" % image.name)
-    found = [at for it in image.segments() for at in words_in(data[it.offset:it.offset + it.in_file], it.address, MRET)]
-    if not 0 < len(found) <= MOST_RETURNS:
-        raise RvlookError("'%s' has %d mret instructions; a monitor must have 1 to %d" % (image.name, len(found), MOST_RETURNS))
-    return tuple(sorted(found))
+    addresses = [at for it in image.segments() for at in addresses_of_word(data[it.offset:it.offset + it.in_file], it.address, MRET)]
+    if not 0 < len(addresses) <= MAX_MRET_BREAKPOINTS:
+        raise RvlookError("'%s' has %d mret instructions; a monitor must have 1 to %d" % (image.name, len(addresses), MAX_MRET_BREAKPOINTS))
+    return tuple(sorted(addresses))
 
 
-def words_in(data: bytes, address: int, word: int) -> list[int]:
+def addresses_of_word(data: bytes, address: int, word: int) -> list[int]:
     """Returns the addresses, multiples of 4, at which the bytes of a segment have a word."""
-    pattern, found, at = struct.pack("<I", word), [], data.find(struct.pack("<I", word))
-    while at >= 0:
-        found += [address + at] if (address + at) % 4 == 0 else []
-        at = data.find(pattern, at + 1)
-    return found
+    pattern, addresses = struct.pack("<I", word), []
+    offset = data.find(pattern)
+    while offset >= 0:
+        if (address + offset) % 4 == 0:
+            addresses.append(address + offset)
+        offset = data.find(pattern, offset + 1)
+    return addresses
 
 
 class SideState(NamedTuple):
     """The state after a step, as S and U can observe it."""
     pc: int  # after the step
     mode: str  # after the step
-    trap: str  # cause and value, or a hyphen
+    trap: str  # cause and value of the trap of the step, or a hyphen
     world: str  # after the step
     below: bytes  # the replies of x0 to x31, pc and the S-mode registers
-    above: tuple[int, ...]  # the values of DECIDING and EXACT
+    above: tuple[int, ...]  # the values of DECIDING_BITS and EXACT_CSRS
     entries: bytes  # the replies of `pmp`
     spent: int = 0  # steps in M
     fault: str = ""  # why M did not return; empty if it did
@@ -118,8 +119,8 @@ class SideState(NamedTuple):
 
 class Stay(NamedTuple):
     """One stay of the author's side in M."""
-    line: int  # lines of the log before it
-    steps: int  # in M
+    line: int  # number of lines of the log before the stay
+    steps: int  # number of steps in M
 
 
 class MonitorBench(Closing):
@@ -198,9 +199,9 @@ class Side(MonitorBench):
         """Does the steps in M up to the return. If M does not return, the fault of the state says why."""
         first, spent, fault = len(self.log), 0, ""
         while self.mode == "M" and not fault:
-            ran, last = (step_of(it.decode()) for it in self.do(STAY, "step 1"))
+            ran, last = (step_of(it.decode()) for it in self.do(RUN_TO_MRET, "step 1"))
             spent += ran.steps + 1
-            fault = self.fault_of(ran.mode, ran.trap or last.trap, spent, MOST_STEPS + MOST_PER_BYTE * self.setup.ram)
+            fault = self.fault_of(ran.mode, ran.trap or last.trap, spent, MAX_STEPS_IN_M + MAX_STEPS_PER_BYTE * self.setup.ram)
             if ran.why.startswith("watch") and is_store(word_at(self.bench, int(ran.pc, 16) - 4)):
                 self.do("timer off")
             self.pc, self.mode = int(last.pc, 16), last.mode
@@ -208,22 +209,22 @@ class Side(MonitorBench):
         return self.observation(trap, world, spent, fault)
 
     @staticmethod
-    def fault_of(mode: str, trap: RanTrap | None, spent: int, most: int) -> str:
+    def fault_of(mode: str, trap: RanTrap | None, spent: int, max_steps: int) -> str:
         """Returns why M does not return as it should; empty if it does."""
         if mode != "M":
             return "M is left by another instruction than mret"
         if trap:
             return "trap in M, %s" % trap_text(trap)
-        return "M does not return within %d steps" % spent if spent > most else ""
+        return "M does not return within %d steps" % spent if spent > max_steps else ""
 
     def observation(self, trap: str, world: str, spent: int = 0, fault: str = "") -> SideState:
         """Returns the state now, and takes over its pc."""
         replies = self.bench.block(STATE, STATE_LINES).splitlines()
-        values = register_values(replies[CUT:-ENTRIES])
-        above = tuple(value & DECIDING.get(name, MASK) for name, value in zip(CSR_LIST[len(BELOW):], values))
-        self.pc = int(replies[REGISTERS - 1][3:], 16)
-        return SideState(pc=self.pc, mode=self.mode, trap=trap, world=world, below=b"\n".join(replies[:CUT]), above=above,
-                         entries=b"\n".join(replies[-ENTRIES:]), spent=spent, fault=fault)
+        values = register_values(replies[VISIBLE_LINES:-PMP_LINES])
+        above = tuple(value & DECIDING_BITS.get(name, MASK) for name, value in zip(CSR_LIST[len(BELOW):], values))
+        self.pc = int(replies[REGISTER_LINES - 1][3:], 16)
+        return SideState(pc=self.pc, mode=self.mode, trap=trap, world=world, below=b"\n".join(replies[:VISIBLE_LINES]), above=above,
+                         entries=b"\n".join(replies[-PMP_LINES:]), spent=spent, fault=fault)
 
     def memory(self) -> bytes:
         """Returns the replies of `mem` for all bytes of host and enclaves."""

@@ -42,7 +42,7 @@ class Track:
     def __post_init__(self) -> None:
         self.ownership = self.declared
 
-    def next(self, secret: str = "") -> StayInM | None:
+    def next_return(self, secret: str = "") -> StayInM | None:
         """Goes to the next return from M; returns None at the limit, the end of the host, a loop of traps, and a fault in M. If the world `secret`
         traps, its registers are inverted before M runs."""
         self.inverted = []
@@ -79,10 +79,10 @@ class Track:
 
     def note_closed(self, stay: StayInM) -> None:
         """Notes which ranges are live and closed to the world that continues."""
-        shut = closed_ranges(self.ownership, rights_of(stay.exit.entries, self.machine.setup.ram))
+        closed = closed_ranges(self.ownership, rights_of(stay.exit.entries, self.machine.setup.ram))
         self.live = {it for it in self.ownership.private()
-                     if it.is_timed or self.world == it.owner or (it in shut if self.world == HOST else it in self.live)}
-        self.closed = [it for it in shut if it in self.live and it.owner != self.world]
+                     if it.is_timed or self.world == it.owner or (it in closed if self.world == HOST else it in self.live)}
+        self.closed = [it for it in closed if it in self.live and it.owner != self.world]
 
 
 class TwinSecret(NamedTuple):
@@ -94,14 +94,14 @@ class TwinSecret(NamedTuple):
 
     @property
     def text(self) -> str:
-        """Returns what it is, in words."""
+        """Returns the secret in words."""
         return "private state of %s" % self.name if self.world else self.name
 
 
 class TwinResult(NamedTuple):
     """The result of a pair of runs."""
-    secret: TwinSecret  # what was inverted
-    difference: str = ""  # what differs; empty if nothing does
+    secret: TwinSecret  # the inverted state
+    difference: str = ""  # the first difference in words; empty if there is none
     step: int = 0  # below M, at the difference
     pc: int = 0  # of the trap before the difference
     changes: int = 0  # how often the secret was inverted
@@ -110,22 +110,23 @@ class TwinResult(NamedTuple):
 
 
 def secrets_of(setup: MonitorSetup, ownership: Ownership, limit: int, vectors: set[int]) -> list[TwinSecret]:
-    """Returns what differs in each pair of runs. Unused pages of the monitor are in no segment, and all zeros after the boot and at the end."""
+    """Returns the secret of each pair of runs. Unused pages of the monitor are in no segment, and all zeros after the boot and at the end."""
     entered: dict[str, None] = {}
     closed: dict[str, None] = {}
     with Guarded(setup, vectors, ownership.is_monitor) as machine:
         track = Track(machine, ownership, limit)
-        stay = track.next()
+        stay = track.next_return()
         unused = list(zero_pages(machine, unloaded_pages(setup, ownership)))
         while stay:
             entered[track.world] = None
             closed.update({it.owner: None for it in track.closed})
-            stay = track.next()
+            stay = track.next_return()
         unused = list(zero_pages(machine, unused))
-    found = [TwinSecret(it, frozenset({it}), it) for it in entered if it in closed]
+    secrets = [TwinSecret(it, frozenset({it}), it) for it in entered if it in closed]
     others = frozenset(closed.keys() - entered.keys())
-    found += [TwinSecret(OTHERS, others)] if others else []
-    return found + [TwinSecret(name, ranges=tuple(ranges)) for name, ranges in ((UNUSED, unused), (SECRETS, ownership.secrets)) if ranges]
+    if others:
+        secrets.append(TwinSecret(OTHERS, others))
+    return secrets + [TwinSecret(name, ranges=tuple(ranges)) for name, ranges in ((UNUSED, unused), (SECRETS, ownership.secrets)) if ranges]
 
 
 def unloaded_pages(setup: MonitorSetup, ownership: Ownership) -> Iterator[OwnedRange]:
@@ -159,20 +160,19 @@ class TwinRuns:
         """Does both runs up to the first difference."""
         with self.machine() as one, self.machine() as other:
             tracks = Track(one, self.ownership, self.limit), Track(other, self.ownership, self.limit)
-            stays = tracks[0].next(), tracks[1].next()
+            stays = tracks[0].next_return(), tracks[1].next_return()
             if stays[0]:
                 self.invert(tracks, self.secret.ranges)
             while stays[0] and stays[1]:
                 found = self.at_return(tracks, stays[0], stays[1])
                 if found:
                     return found
-                stays = tracks[0].next(), tracks[1].next(self.secret.world)
+                stays = tracks[0].next_return(), tracks[1].next_return(self.secret.world)
             is_different = stays[0] is not stays[1] and tracks[0].world not in self.secret.owners
             return self.result("only one of two runs has another return from M" if is_different else "", one.steps)
 
     def at_return(self, tracks: tuple[Track, Track], one: StayInM, other: StayInM) -> TwinResult | None:
-        """Compares the runs at a return from M to a world that must not know the secret; returns the difference. An owner of the secret gets the
-        state of the first run instead."""
+        """Returns the difference of the runs at a return from M. An owner of the secret gets the state of the first run instead."""
         steps = tracks[0].machine.steps
         self.inverted += [it for it in tracks[1].inverted if it not in self.inverted]
         self.changes += bool(tracks[1].inverted)
@@ -216,12 +216,12 @@ def state_difference(one: StayInM, other: StayInM) -> str:
     """Returns the first difference of two returns as text, or an empty text: the steps in M, the registers, and the access rights."""
     if one.spent != other.spent:
         return "M takes %d or %d steps for a trap at %08x" % (one.spent, other.spent, one.entry.pc)
-    mine, its = one.exit, other.exit
-    values = (*mine.registers, *mine.csrs.values()), (*its.registers, *its.csrs.values())
-    for name, left, right in zip((*ABI, *STATE_CSRS), *values):
-        if left != right:
-            return "%s at %08x is %08x or %08x" % (name, mine.pc, left, right)
-    return "the PMP entries at %08x differ" % mine.pc if mine.entries != its.entries else ""
+    first, second = one.exit, other.exit
+    values = (*first.registers, *first.csrs.values()), (*second.registers, *second.csrs.values())
+    for name, value, other_value in zip((*ABI, *STATE_CSRS), *values):
+        if value != other_value:
+            return "%s at %08x is %08x or %08x" % (name, first.pc, value, other_value)
+    return "the PMP entries at %08x differ" % first.pc if first.entries != second.entries else ""
 
 
 def memory_difference(tracks: tuple[Track, Track], inverted: list[OwnedRange]) -> str:
@@ -231,8 +231,8 @@ def memory_difference(tracks: tuple[Track, Track], inverted: list[OwnedRange]) -
     if left == right:
         return ""
     one, other = (without(it.machine.memory(), hidden) for it in tracks)
-    at = next((n for n in range(len(one)) if one[n] != other[n]), None)
-    return "" if at is None else "memory at %08x is %02x or %02x" % (MONITOR_END + at, one[at], other[at])
+    offset = next((n for n in range(len(one)) if one[n] != other[n]), None)
+    return "" if offset is None else "memory at %08x is %02x or %02x" % (MONITOR_END + offset, one[offset], other[offset])
 
 
 def without(memory: bytes, hidden: list[OwnedRange]) -> bytes:

@@ -18,8 +18,8 @@ from rvlook.protocol.symbols import Symbols
 
 BREAKPOINTS = 32
 EXECUTABLE = 1  # a flag of a segment
-AT_ENTRY = 24  # the offset of the first instruction's address in the header of an ELF file
-MOST_STEPS = 1000000  # of one `run`
+ENTRY_OFFSET = 24  # the offset of the first instruction's address in the header of an ELF file
+MAX_STEPS_PER_RUN = 1000000  # of one `run`
 
 
 class Block(NamedTuple):
@@ -58,7 +58,7 @@ def code_of(setup: MonitorSetup, ownership: Ownership, symbols: Symbols, vectors
     vectors. Data in an executable segment is therefore left out."""
     words = {address: word for first, data in segments_of(setup, ownership) for address, word in words_of(first, data)}
     functions = {it.address: it.address + it.size for it in symbols.ordered if it.is_function and it.size and it.address in words}
-    start = struct.unpack_from("<I", setup.image.data or b"", AT_ENTRY)[0]
+    start = struct.unpack_from("<I", setup.image.data or b"", ENTRY_OFFSET)[0]
     roots = {start, *vectors, *functions}
     reached = reachable(words, roots) | {at for first, end in functions.items() for at in range(first, end, 4) if at in words}
     return MonitorBlocks(blocks_of(sorted(reached), leaders_of(words, reached) | roots), functions)
@@ -171,7 +171,7 @@ class BlockReplay:
         """Does the steps of a `run`. The instruction at pc is executed first, whether there is a breakpoint or not."""
         while steps > 0:
             self.note(self.pc)
-            ran = step_of(self.bench.one("run %d" % min(steps, MOST_STEPS)))
+            ran = step_of(self.bench.one("run %d" % min(steps, MAX_STEPS_PER_RUN)))
             steps -= ran.steps
             self.pc = int(ran.pc, 16)
             if not ran.steps:
@@ -203,8 +203,7 @@ def unexecuted_in(setup: MonitorSetup, logs: Sequence[Sequence[str]], blocks: Se
 
 
 def unexecuted(setup: MonitorSetup, code: MonitorBlocks, logs: Sequence[Sequence[str]], progress: Progress) -> list[Block]:
-    """Returns the blocks of the monitor's code that none of the runs executed. The entries of functions are searched first: if the entry of a
-    function was not executed, none of its blocks was."""
+    """Returns the blocks that no run executed. Function entries are searched first: without its entry no block of a function is executed."""
     never = {it.first for it in unexecuted_in(setup, logs, [code.blocks[it] for it in code.ordered], progress)}
     found = [it for it in code.blocks.values() if code.entry_of(it.first) in never]
     rest = [it for it in code.blocks.values() if it.first not in code.functions and code.entry_of(it.first) not in never]

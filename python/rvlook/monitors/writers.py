@@ -11,24 +11,24 @@ from typing import Callable, Iterator, NamedTuple
 from rvlook.monitors.comparison import DifferenceKind, MonitorDifference
 from rvlook.monitors.encodings import immediate_of, is_load, is_store, written_csr, written_register
 from rvlook.monitors.items import MASK, Item
-from rvlook.monitors.pair import Played, play
+from rvlook.monitors.pair import PlayedScript, play
 from rvlook.monitors.sides import MonitorSetup, Stay, word_at
 from rvlook.protocol.bench import Closing
 from rvlook.protocol.names import CSRS, Call, with_abi_names
 from rvlook.protocol.replies import step_of
 from rvlook.protocol.timeline import MOST_STEPS
 
-CHUNK = 16384  # single steps in one exchange
-PATH = 64  # instructions before a writer that are kept
-MOST_STAYS = 20  # that are searched, from the last one back
+STEPS_PER_EXCHANGE = 16384  # single steps in one exchange
+MAX_PATH = 64  # instructions before a writer that are kept
+MAX_STAYS = 20  # that are searched, from the last one back
 ALSO_WRITTEN_BY = {"sstatus": ("sstatus", "mstatus"), "mstatus": ("mstatus", "sstatus"), "sie": ("sie", "mie"), "sip": ("sip", "mip")}
-MOST_SEARCHED = 1 << 18  # steps of a stay, its last ones, that are searched for a writer
-MOST_FAULTY = 1000000  # steps of a stay that is searched for a trap in M
+MAX_STEPS_SEARCHED = 1 << 18  # steps of a stay, its last ones, that are searched for a writer
+MAX_STEPS_TO_FAULT = 1000000  # steps of a stay that is searched for a trap in M
 Test = Callable[[int], bool]
 ARGUMENTS = range(10, 15)  # a0 to a4
 BASE, ENTRY = 10, 14  # of create
-MOST_SECONDS = 20  # for all similar calls
-MOST_COMPARED = 1 << 18  # steps in M of each path
+MAX_SECONDS = 20  # for all similar calls
+MAX_STEPS_COMPARED = 1 << 18  # steps in M of each path
 CHANGES: tuple[Callable[[int], int], ...] = (  # of one argument, the smallest ones first
     lambda it: it + 4, lambda it: it - 4, lambda it: it + 1, lambda it: it - 1, lambda it: it + 2, lambda it: it + 0x1000, lambda it: it - 0x1000,
     lambda it: it * 2, lambda it: it // 2, lambda it: it ^ 0x1800, lambda it: 0, lambda it: MASK, lambda it: it + 0x10000,
@@ -46,7 +46,7 @@ class WritingInstruction(NamedTuple):
 class StayReplay(Closing):
     """The author's side of a script, brought to the begin of one of its stays in M."""
 
-    def __init__(self, setup: MonitorSetup, played: Played, stay: Stay) -> None:
+    def __init__(self, setup: MonitorSetup, played: PlayedScript, stay: Stay) -> None:
         self.bench, self.stay = setup.own.bench(), stay  # at the beginning of `stay`
         self.bench.replies_to(played.own_log[:stay.line])
 
@@ -60,21 +60,21 @@ class StayReplay(Closing):
 
     def step(self, count: int) -> Iterator[int]:
         """Does instructions; yields the address of the one after each."""
-        for done in range(0, count, CHUNK):
-            part = min(CHUNK, count - done)
+        for done in range(0, count, STEPS_PER_EXCHANGE):
+            part = min(STEPS_PER_EXCHANGE, count - done)
             yield from (int(step_of(it.decode()).pc, 16) for it in self.bench.block(b"step 1\n" * part, part).splitlines())
 
     def last_match(self, test: Test) -> int | None:
         """Returns the number of the last instruction of the stay that a test accepts, or None. Searches only the last steps of a long stay."""
-        first = max(0, self.stay.steps - MOST_SEARCHED)
+        first = max(0, self.stay.steps - MAX_STEPS_SEARCHED)
         addresses = self.addresses(first)
         accepted = {at for at in set(addresses) if test(word_at(self.bench, at))}
         return next((first + n for n in range(len(addresses) - 1, -1, -1) if addresses[n] in accepted), None)
 
     def first_trap(self) -> int | None:
         """Returns the number of the first instruction of the stay that traps, or None."""
-        for done in range(0, min(self.stay.steps, MOST_FAULTY), CHUNK):
-            for number, reply in enumerate(self.bench.block(b"step 1\n" * CHUNK, CHUNK).splitlines(), done):
+        for done in range(0, min(self.stay.steps, MAX_STEPS_TO_FAULT), STEPS_PER_EXCHANGE):
+            for number, reply in enumerate(self.bench.block(b"step 1\n" * STEPS_PER_EXCHANGE, STEPS_PER_EXCHANGE).splitlines(), done):
                 if not reply.endswith(b"trap=-"):
                     return number
         return None
@@ -97,14 +97,13 @@ class StayReplay(Closing):
         return int(self.bench.ask("regs")[0][32][3:], 16)
 
 
-def last_stays(played: Played) -> list[Stay]:
+def last_stays(played: PlayedScript) -> list[Stay]:
     """Returns the stays in M that are searched, the last one first."""
-    return played.stays[::-1][:MOST_STAYS]
+    return played.stays[::-1][:MAX_STAYS]
 
 
-def writers_of(setup: MonitorSetup, played: Played, difference: MonitorDifference) -> list[WritingInstruction]:
-    """Returns the last instruction in M that wrote what differs. If that is a load, the second one is the last store to its address. Returns
-    nothing if no instruction in M wrote it."""
+def writers_of(setup: MonitorSetup, played: PlayedScript, difference: MonitorDifference) -> list[WritingInstruction]:
+    """Returns the last instruction in M that wrote a different value, if any; for a load, then also the last store to its address."""
     if difference.kind is DifferenceKind.fault:
         return trap_of(setup, played)
     if difference.kind is DifferenceKind.trap:
@@ -115,7 +114,7 @@ def writers_of(setup: MonitorSetup, played: Played, difference: MonitorDifferenc
     return list(chain_of(setup, played, test_of(difference)))
 
 
-def trap_of(setup: MonitorSetup, played: Played) -> list[WritingInstruction]:
+def trap_of(setup: MonitorSetup, played: PlayedScript) -> list[WritingInstruction]:
     """Returns the instruction of the last stay that traps in M, if there is one."""
     stay = played.stays[-1]
     with StayReplay(setup, played, stay) as replay:
@@ -144,7 +143,7 @@ def written_csrs(difference: MonitorDifference) -> set[int]:
     return {CSRS["pmpcfg%d" % (difference.place // 4)], CSRS["pmpaddr%d" % difference.place]}
 
 
-def chain_of(setup: MonitorSetup, played: Played, test: Test) -> Iterator[WritingInstruction]:
+def chain_of(setup: MonitorSetup, played: PlayedScript, test: Test) -> Iterator[WritingInstruction]:
     """Yields the last instruction that a test accepts, and the last store to the address that it loads."""
     for index, stay in enumerate(last_stays(played)):
         with StayReplay(setup, played, stay) as replay:
@@ -155,14 +154,15 @@ def chain_of(setup: MonitorSetup, played: Played, test: Test) -> Iterator[Writin
         yield writer
         if writer.address is not None:
             stored = last_store(setup, played, writer.address, index, number)
-            yield from [stored] if stored else []
+            if stored:
+                yield stored
         return
 
 
-def writer_at(setup: MonitorSetup, played: Played, stay: Stay, number: int) -> WritingInstruction:
+def writer_at(setup: MonitorSetup, played: PlayedScript, stay: Stay, number: int) -> WritingInstruction:
     """Returns the instruction of a stay that has a number, with the address that it loads if it is a load."""
     with StayReplay(setup, played, stay) as replay:
-        first = max(0, number - PATH)
+        first = max(0, number - MAX_PATH)
         path = [replay.go(first), *replay.step(number - first)]
         word = word_at(replay.bench, path[-1])
         address = replay.bench.register(word >> 15 & 31) + immediate_of(word) & MASK if is_load(word) else None
@@ -171,9 +171,8 @@ def writer_at(setup: MonitorSetup, played: Played, stay: Stay, number: int) -> W
         return WritingInstruction(path[-1], text, address, tuple(path[-2::-1]))
 
 
-def last_store(setup: MonitorSetup, played: Played, address: int, skipped: int = 0, before: int | None = None) -> WritingInstruction | None:
-    """Returns the last instruction in M that stores to a byte, or None. Skips the last `skipped` stays, and of the next one all instructions from
-    the number `before` on."""
+def last_store(setup: MonitorSetup, played: PlayedScript, address: int, skipped: int = 0, before: int | None = None) -> WritingInstruction | None:
+    """Returns the last store to a byte in M, or None. Skips the last `skipped` stays, and then all instructions from number `before` on."""
     for stay in last_stays(played)[skipped:]:
         with StayReplay(setup, played, stay) as replay:
             number = replay.last_store(address, stay.steps if before is None else before)
@@ -206,10 +205,9 @@ def similar_calls(item: Item) -> Iterator[Item]:
                 yield item._replace(registers=tuple(changed.items()), text=text)
 
 
-def divergence_of(setup: MonitorSetup, played: Played) -> Divergence | None:
-    """Returns where the last call of a script leaves the path of a similar call. The similar call has the result of the reference on both monitors.
-    Returns None if there is no such call."""
-    last, end = played.steps[-1] if played.steps else None, time.monotonic() + MOST_SECONDS
+def divergence_of(setup: MonitorSetup, played: PlayedScript) -> Divergence | None:
+    """Returns where the last call leaves the path of a similar one with the result of the reference on both monitors, or None."""
+    last, end = played.steps[-1] if played.steps else None, time.monotonic() + MAX_SECONDS
     if last is None or last.item.call_number is None or not played.stays:
         return None
     for item in similar_calls(last.item):
@@ -221,13 +219,15 @@ def divergence_of(setup: MonitorSetup, played: Played) -> Divergence | None:
     return None
 
 
-def first_difference(setup: MonitorSetup, played: Played, other: Played) -> Divergence | None:
+def first_difference(setup: MonitorSetup, played: PlayedScript, other: PlayedScript) -> Divergence | None:
     """Returns where the paths of the last stays in M of two scripts differ first."""
     paths = []
     for side in (played, other):
-        stay = side.stays[-1]._replace(steps=min(side.stays[-1].steps, MOST_COMPARED))
+        stay = side.stays[-1]._replace(steps=min(side.stays[-1].steps, MAX_STEPS_COMPARED))
         with StayReplay(setup, side, stay) as replay:
             paths.append(replay.addresses())
     one, two = paths
-    at = next((number for number, pair in enumerate(zip(one, two)) if pair[0] != pair[1]), 0)
-    return Divergence(one[at - 1], one[at], two[at], other.steps[-1].item.text, other.steps[-1].result) if at else None
+    index = next((number for number, (pc, other_pc) in enumerate(zip(one, two)) if pc != other_pc), 0)
+    if not index:
+        return None
+    return Divergence(one[index - 1], one[index], two[index], other.steps[-1].item.text, other.steps[-1].result)

@@ -23,14 +23,14 @@ from rvlook.errors import BenchEnded, RvlookError, Unfinished
 # The script that finds or builds the program, if this package is in a clone of the repository.
 FINDER = os.path.join(os.path.dirname(os.path.abspath(__file__)), "..", "..", "..", "tools", "program")
 # The program of an installation by ./install, which has this package in lib/rvbench/python.
-BESIDE = os.path.join(os.path.dirname(os.path.abspath(__file__)), "..", "..", "..", "rvbench")
-PIPE = 1 << 20
+INSTALLED = os.path.join(os.path.dirname(os.path.abspath(__file__)), "..", "..", "..", "rvbench")
+PIPE_SIZE = 1 << 20
 SET_PIPE_SIZE = 1031  # F_SETPIPE_SZ of Linux
-MANY = 20  # lines of reply that are worth a pause, so that they are read together
-LINE, PAUSE = 2e-6, 0.001  # seconds in which the program writes a line, and the longest pause
+MIN_LINES_TO_PAUSE = 20  # lines of reply that are worth a pause, so that they are read together
+SECONDS_PER_LINE, MAX_PAUSE = 2e-6, 0.001  # seconds in which the program writes a line, and the longest pause
 COUNTS = {"regs": 33, "pmp": 16}  # lines of reply; one for every other command
 MARK = "reg 0"  # sent after `enclaves`, whose reply may have no line
-MARKED = b"x0=00000000"
+MARK_REPLY = b"x0=00000000"
 Own = TypeVar("Own", bound="Closing")
 
 
@@ -48,7 +48,7 @@ def installed_program() -> str | None:
     repository, or if there is no program."""
     if os.path.exists(FINDER):
         return None
-    return BESIDE if os.path.isfile(BESIDE) and os.access(BESIDE, os.X_OK) else shutil.which("rvbench")
+    return INSTALLED if os.path.isfile(INSTALLED) and os.access(INSTALLED, os.X_OK) else shutil.which("rvbench")
 
 
 def built_program() -> str:
@@ -76,10 +76,10 @@ def is_enclaves(command: str) -> bool:
 
 
 def widen(*pipes: IO[bytes]) -> None:
-    """Makes pipes longer, where the system can: fewer exchanges then."""
+    """Makes pipes larger if the system can, for fewer exchanges."""
     for pipe in pipes:
         try:
-            fcntl.fcntl(pipe.fileno(), SET_PIPE_SIZE, PIPE)
+            fcntl.fcntl(pipe.fileno(), SET_PIPE_SIZE, PIPE_SIZE)
         except OSError:
             pass
 
@@ -103,15 +103,14 @@ class Bench(Closing):
     def __init__(self, arguments: Sequence[str], image: bytes, harts: int = 1) -> None:
         path = program_path()
         try:
-            self.process = subprocess.Popen([path, *arguments], stdin=subprocess.PIPE, stdout=subprocess.PIPE, bufsize=0,
-                                            start_new_session=True)
+            self.process = subprocess.Popen([path, *arguments], stdin=subprocess.PIPE, stdout=subprocess.PIPE, bufsize=0, start_new_session=True)
         except OSError as error:
             raise Unfinished("cannot run '%s': %s" % (path, error.strerror)) from None
         assert self.process.stdin and self.process.stdout
         self.stdin, self.stdout = self.process.stdin, self.process.stdout  # its pipes
         os.set_blocking(self.stdin.fileno(), False)
         widen(self.stdin, self.stdout)
-        self.harts = harts  # their number
+        self.harts = harts  # number of harts
         self.pending = memoryview(b"")  # input that is not written yet
         self.parts: list[bytes] = []  # what was read and not yet taken
         self.lines: list[bytes] = []  # complete lines that were read, the next one last
@@ -138,7 +137,7 @@ class Bench(Closing):
         readable, writable, _ = select.select([reading], [writing] if self.pending else [], [])
         if writable:
             try:
-                self.pending = self.pending[os.write(writing, self.pending[:PIPE]):]
+                self.pending = self.pending[os.write(writing, self.pending[:PIPE_SIZE]):]
             except BlockingIOError:
                 pass
             except BrokenPipeError:
@@ -165,8 +164,8 @@ class Bench(Closing):
             part = self.transfer()
             self.parts.append(part)
             found += part.count(b"\n")
-            if count - found > MANY and not self.pending:
-                time.sleep(min(PAUSE, (count - found) * LINE))
+            if count - found > MIN_LINES_TO_PAUSE and not self.pending:
+                time.sleep(min(MAX_PAUSE, (count - found) * SECONDS_PER_LINE))
         block, self.parts = b"".join(self.parts), []
         return block
 
@@ -191,7 +190,7 @@ class Bench(Closing):
         if not has_reply(command):
             return []
         if is_enclaves(command):
-            return list(iter(self.line, MARKED))
+            return list(iter(self.line, MARK_REPLY))
         first = self.line()
         if first.startswith(b"error "):
             return [first]
@@ -215,7 +214,7 @@ class Bench(Closing):
         """Sends commands now whose replies `read_replies` will read."""
         self.queue(*commands)
         try:
-            self.pending = self.pending[os.write(self.stdin.fileno(), self.pending[:PIPE]):]
+            self.pending = self.pending[os.write(self.stdin.fileno(), self.pending[:PIPE_SIZE]):]
         except (BlockingIOError, BrokenPipeError):
             pass
 

@@ -93,8 +93,7 @@ def is_form(token: str, form: Form) -> bool:
 
 
 def rewritten(token: str, form: Form, symbols: Symbols | None = None) -> str | None:
-    """Returns a word in the syntax of a form if its meaning is clear, else None. It may be an ABI name, the name of a control and status
-    register, a symbol, or a number in the other base."""
+    """Returns a word (an ABI name, CSR, symbol, or number in the other base) in the syntax of a form, or None if its meaning is not clear."""
     if form is Form.address and symbols and token.split("+")[0].split("@")[0] in symbols.addresses_by_name:
         at = symbols.address(token)
         return None if at is None else "%x" % at
@@ -131,10 +130,10 @@ def written(name: str, operands: Sequence[str], symbols: Symbols | None = None) 
 
 def input_error(reply: str) -> tuple[str, str | None]:
     """Returns the meaning of an error of the whole input, and what to write instead, or None; `reply` begins with `rvbench: `."""
-    what = reply[len("rvbench: "):]
-    if what.startswith("image "):
-        return IMAGE_ERRORS[int(what.split()[1])]
-    return INPUT_ERRORS.get(what, ("rvbench has exited", None))
+    error = reply[len("rvbench: "):]
+    if error.startswith("image "):
+        return IMAGE_ERRORS[int(error.split()[1])]
+    return INPUT_ERRORS.get(error, ("rvbench has exited", None))
 
 
 def line_error(reply: str, tokens: Sequence[str]) -> tuple[str, str | None]:
@@ -143,9 +142,10 @@ def line_error(reply: str, tokens: Sequence[str]) -> tuple[str, str | None]:
         return command_error(tokens)
     if reply == "error operand":
         return operand_error(tokens)
+    contrary = "unwatch" if tokens and tokens[0] == "watch" else "clear"
     meanings = {
         "error line": ("a line must have at most 120 bytes, each a tab or printable ASCII", "a shorter line in ASCII"),
-        "error full": ("32 addresses are set, which is the limit", "'%s' to remove one first" % ("unwatch" if tokens[:1] == ["watch"] else "clear")),
+        "error full": ("32 addresses are set, which is the limit", "'%s' to remove one first" % contrary),
         "error csr": ("no such control and status register", None),
         "error outside": ("the access is outside RAM", "an address from 80000000, or a larger --ram"),
         "error hart": ("no such hart", "--harts 2 with --monitor"),
@@ -154,7 +154,7 @@ def line_error(reply: str, tokens: Sequence[str]) -> tuple[str, str | None]:
 
 
 def command_error(tokens: Sequence[str]) -> tuple[str, str | None]:
-    """Returns what is wrong with an unknown command, and what to write instead, or None."""
+    """Returns the error of an unknown command, and what to write instead, or None."""
     token = tokens[0]
     if token == "--":
         return "a second -- is valid only for `rvbench twin`", None
@@ -168,7 +168,7 @@ def command_error(tokens: Sequence[str]) -> tuple[str, str | None]:
 
 
 def operand_error(tokens: Sequence[str]) -> tuple[str, str | None]:
-    """Returns what is wrong with the operands of a command, and what to write instead, or None."""
+    """Returns the error of the operands of a command, and what to write instead, or None."""
     name, operands = tokens[0], tokens[1:]
     command = COMMANDS[name]
     comment = next((index for index, token in enumerate(operands) if token.startswith("#")), None)
@@ -184,15 +184,14 @@ def operand_error(tokens: Sequence[str]) -> tuple[str, str | None]:
     return "invalid operands of %s" % name, name + " " + command.letters
 
 
-def count_text(name: str, wanted: int, given: int) -> str:
+def count_text(name: str, expected: int, given: int) -> str:
     """Returns the message for a wrong number of operands."""
-    operands = {0: "no operands", 1: "1 operand"}.get(wanted, "%d operands" % wanted)
+    operands = {0: "no operands", 1: "1 operand"}.get(expected, "%d operands" % expected)
     return "%s takes %s, but %d %s given" % (name, operands, given, "was" if given == 1 else "were")
 
 
 def resolved(line: str, symbols: Symbols) -> str:
-    """Returns a line in the syntax of the bench. Raises SymbolError for an ambiguous name. Returns what is not valid unchanged, as the bench
-    refuses it."""
+    """Returns a line in the syntax of the bench, an invalid line unchanged. Raises SymbolError for an ambiguous name."""
     tokens = tokens_of(line)
     if is_malformed(line) or not tokens or tokens[0] not in COMMANDS:
         return line
@@ -219,7 +218,7 @@ def error_text(line: ScriptLine, reply: str, symbols: Symbols) -> str:
 
 
 def meaning(reply: str, tokens: Sequence[str], symbols: Symbols) -> str:
-    """Returns what an error of a line means."""
+    """Returns the meaning of an error of a line."""
     unknown = reply == "error operand" and unknown_name(tokens, symbols)
     return unknown or line_error(reply, tokens)[0]
 

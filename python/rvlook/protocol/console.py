@@ -12,7 +12,7 @@ from rvlook.protocol.symbols import Symbols
 PLACES = {"host_console": "host", "window_console": "enclave"}  # the symbol of each console, and who writes to it
 WRITTEN, ENDED, STATUS, TEXT = 0, 4, 8, 16  # offsets in bytes
 SIZE = 256  # bytes of the ring
-MEM = 64  # the most bytes of a `mem`
+MAX_MEM = 64  # bytes of a `mem`
 Ask = Callable[..., Sequence[Sequence[str]]]  # sends commands; returns the lines of each reply
 
 
@@ -43,7 +43,7 @@ class Console:
 
     def queries(self) -> list[str]:
         """Returns the commands that read the console."""
-        ring = ["mem %x %d" % (self.address + TEXT + at, MEM) for at in range(0, SIZE, MEM)]
+        ring = ["mem %x %d" % (self.address + TEXT + at, MAX_MEM) for at in range(0, SIZE, MAX_MEM)]
         return ["mem %x %d" % (self.address, TEXT), *ring]
 
     def read(self, ask: Ask) -> list[str]:
@@ -53,13 +53,14 @@ class Console:
             return []
         written = word(data, WRITTEN)
         lost = written - self.written - SIZE
-        fresh = bytes(data[TEXT + at % SIZE] for at in range(self.written + max(0, lost), written))
+        new_characters = bytes(data[TEXT + number % SIZE] for number in range(self.written + max(0, lost), written))
         if written < self.written:
             self.pending = ""
         self.written = written
         if word(data, ENDED):
             self.status = word(data, STATUS) & 0xFF
-        return ["[%d characters lost]" % lost] * (lost > 0) + self.take(fresh)
+        notes = ["[%d characters lost]" % lost] if lost > 0 else []
+        return notes + self.take(new_characters)
 
     def store(self, address: int, value: str) -> list[str]:
         """Follows a store of these hexadecimal digits; returns the lines that it ends."""
@@ -74,7 +75,7 @@ class Console:
 
 
 def consoles_of(symbols: Symbols) -> list[Console]:
-    """Returns the consoles that the program has."""
+    """Returns the consoles whose symbols the program has."""
     return [Console(writer, address) for name, writer in PLACES.items() for address in [symbols.address(name)] if address is not None]
 
 

@@ -13,7 +13,7 @@ from rvlook.errors import Unfinished
 from rvlook.protocol.bench import program_path
 
 Result = TypeVar("Result")
-AHEAD = 16  # tasks per process that are sent before their results are needed
+TASKS_AHEAD = 16  # tasks per process that are sent before their results are needed
 TASKS: list[Callable[[int], object]] = []  # the task of the processes, which inherit it
 
 
@@ -30,7 +30,7 @@ def results_of(task: Callable[[int], Result], count: int, jobs: int) -> Iterator
     pool = futures.ProcessPoolExecutor(min(jobs, count), processes.get_context("fork"), ignore_interrupts)
     waiting: deque[Any] = deque()
     try:
-        waiting.extend(pool.submit(do_number, it) for it in islice(numbers, AHEAD * jobs))
+        waiting.extend(pool.submit(do_number, it) for it in islice(numbers, TASKS_AHEAD * jobs))
         while waiting:
             result = waiting.popleft().result()
             waiting.extend(pool.submit(do_number, it) for it in islice(numbers, 1))
@@ -61,11 +61,11 @@ def uninterrupted() -> Iterator[None]:
     if not callable(handler) or threading.current_thread() is not threading.main_thread():
         yield
         return
-    came: list[Any] = []
-    signal.signal(signal.SIGINT, lambda *them: came.append(them))
+    interrupts: list[Any] = []
+    signal.signal(signal.SIGINT, lambda *arguments: interrupts.append(arguments))
     try:
         yield
     finally:
         signal.signal(signal.SIGINT, handler)
-    if came:
-        handler(*came[0])
+    if interrupts:
+        handler(*interrupts[0])

@@ -5,10 +5,10 @@ from difflib import get_close_matches
 from heapq import nlargest
 from typing import Iterable
 
-LEAST = 0.6  # similarity by difflib, from 0 to 1
-MOST_COMPARED = 100  # names that difflib compares, which takes some 50 microseconds each
-MOST_PAIRS = 12  # pairs of characters that are looked for in each of many names
-LONGEST_NAME = 120  # characters of an unknown name; a longer one has no suggestion
+MIN_SIMILARITY = 0.6  # similarity by difflib, from 0 to 1
+MAX_COMPARED = 100  # names that difflib compares, which takes some 50 microseconds each
+MAX_PAIRS = 12  # pairs of characters that are looked for in each of many names
+MAX_NAME_LENGTH = 120  # characters of an unknown name; a longer one has no suggestion
 
 
 def meant(name: str, known: Iterable[str], otherwise: str = "") -> str:
@@ -18,15 +18,14 @@ def meant(name: str, known: Iterable[str], otherwise: str = "") -> str:
 
 
 def nearest(name: str, known: Iterable[str]) -> str | None:
-    """Returns the known name that is most similar to an unknown one, or None. Among many names, only those that share the most pairs
-    of characters with it are compared."""
-    if not name or len(name) > LONGEST_NAME:
+    """Returns the known name most similar to an unknown one, or None. Of many names, only those with the most common pairs are compared."""
+    if not name or len(name) > MAX_NAME_LENGTH:
         return None
-    longest = len(name) * (2 / LEAST - 1)  # no longer name is similar enough
+    longest = len(name) * (2 / MIN_SIMILARITY - 1)  # no longer name is similar enough
     near = [it for it in known if len(it) <= longest]
-    if len(near) > MOST_COMPARED:
-        every = max(1, (len(name) - 1) // MOST_PAIRS)
-        pairs = {name[at:at + 2] for at in range(0, len(name) - 1, every)} or {name}
-        near = nlargest(MOST_COMPARED, near, key=lambda it: sum(pair in it for pair in pairs))
-    found = get_close_matches(name, near, 1, LEAST)
+    if len(near) > MAX_COMPARED:
+        distance = max(1, (len(name) - 1) // MAX_PAIRS)
+        pairs = {name[start:start + 2] for start in range(0, len(name) - 1, distance)} or {name}
+        near = nlargest(MAX_COMPARED, near, key=lambda it: sum(pair in it for pair in pairs))
+    found = get_close_matches(name, near, n=1, cutoff=MIN_SIMILARITY)
     return found[0] if found else None

@@ -19,11 +19,11 @@ from rvlook.protocol.stretch import Stretch
 from rvlook.protocol.symbols import Symbols
 from rvlook.protocol.timeline import Line, ScheduledSteps, Timeline, steps_within
 
-CHUNK = 16384  # single steps in one exchange
-MOST_KEPT = 2000000  # steps of a run whose replies are kept, some 60 bytes each
+STEPS_PER_EXCHANGE = 16384  # single steps in one exchange
+MAX_CACHED_STEPS = 2000000  # a longer run is not cached; the reply to a step has some 60 bytes
 EQUAL = 3  # equal replies (pc, mode, world and trap) after which a hart counts as halted
-SINGLE = b"step 1\n"
-OUTSIDE = "rvbench: image 9"
+SINGLE_STEP = b"step 1\n"
+OUTSIDE = "rvbench: image 9"  # the error for a segment that is not in RAM
 
 
 @dataclass(frozen=True)
@@ -86,8 +86,8 @@ class Run:
         self.plan: list[Line | ScheduledSteps] = []  # what the script does, and the steps by a schedule after it
         self.errors: list[tuple[ScriptLine, str]] = []  # lines that rvbench rejected, with its replies
         self.mode, self.world = ("S", "host") if setup.monitor else ("M", "bare")  # at reset, as `world` and `pc`
-        self.kept: list[Line | Stretch | End] = []  # what `stretches` has yielded
-        self.is_known = False  # whether `kept` has the whole run
+        self.cached: list[Line | Stretch | End] = []  # the items that `stretches` has yielded
+        self.is_cached = False  # whether `cached` has the whole run
         self.ended: str | None = None  # why the run ended, if the plan has its steps after the script
         with setup.bench() as bench:
             self.pc = bench.ask("regs")[0][32][3:]  # at reset, eight hexadecimal digits
@@ -108,11 +108,12 @@ class Run:
             self.errors.append((given, replies[0]))
         if ran:
             self.add_steps(str(self.hart), ran.steps)
-        elif tokens[:1] == ["sched"] and not is_refused:
+        elif tokens and tokens[0] == "sched" and not is_refused:
             self.add_steps(tokens[1], len(tokens[1]))
             self.plan.append(Line("hart %d" % self.hart, self.hart, hidden=True))
         else:
-            self.hart = int(tokens[1]) if tokens[:1] == ["hart"] and not is_refused else self.hart
+            if tokens and tokens[0] == "hart" and not is_refused:
+                self.hart = int(tokens[1])
             self.plan.append(Line(given.text, self.hart, tuple(replies), given=given.given))
 
     def add_steps(self, turns: str, count: int) -> None:
@@ -123,15 +124,16 @@ class Run:
 
     def add_turns(self, bench: Bench) -> None:
         """Adds the steps after the script by the schedule, to the limit or until every hart has halted."""
-        left, kept, equal = self.setup.limit, [b""] * self.setup.harts, [0] * self.setup.harts
+        left = self.setup.limit
+        last_replies, equal = [b""] * self.setup.harts, [0] * self.setup.harts  # `equal`: equal replies in succession
         for hart, turn in turns_of(self.setup.schedule):
             count = min(turn, left)
             if not count or min(equal) >= EQUAL:
                 break
-            replies = bench.block(b"hart %d\n" % hart + SINGLE * count, 1 + count).splitlines()[1:]
+            replies = bench.block(b"hart %d\n" % hart + SINGLE_STEP * count, 1 + count).splitlines()[1:]
             repeated = equal_at_end(replies)
-            is_same = repeated == count and replies[0] == kept[hart]
-            kept[hart], equal[hart] = replies[-1], repeated + (equal[hart] if is_same else 0)
+            is_same = repeated == count and replies[0] == last_replies[hart]
+            last_replies[hart], equal[hart] = replies[-1], repeated + (equal[hart] if is_same else 0)
             self.hart = hart
             left -= count
         self.add_steps(self.setup.schedule, self.setup.limit - left)
@@ -140,7 +142,8 @@ class Run:
     def with_lines(self, step: int, lines: Sequence[str]) -> Run:
         """Returns the run with more lines after a step; the lines of the script stay at their steps."""
         other = copy.copy(self)
-        other.plan, other.kept, other.is_known, position, is_missing = [], [], False, 0, True
+        other.plan, other.cached, other.is_cached = [], [], False
+        position, is_missing = 0, True
         for item in self.plan:
             count = item.count if isinstance(item, ScheduledSteps) else 0
             if isinstance(item, ScheduledSteps) and is_missing and position < step <= position + count:
@@ -151,31 +154,31 @@ class Run:
                 other.plan.append(item)
             position += count
         if is_missing:
-            other.plan += [ScheduledSteps(str(self.hart), step - position)] if step > position else []
+            if step > position:
+                other.plan.append(ScheduledSteps(str(self.hart), step - position))
             other.plan += hidden_lines(lines, self.hart)
             other.setup = replace(self.setup, limit=max(0, self.setup.limit - (step - position)))
         return other
 
     def stretches(self) -> Iterator[Line | Stretch | End]:
-        """Yields what the run does in single steps: Line for a line of the script, Stretch for steps, and End. A run that is not too long is run
-        once."""
-        if self.is_known:
-            yield from self.kept
+        """Yields the run: Line for a line of the script, Stretch for single steps, and End. A run that is not too long is run once."""
+        if self.is_cached:
+            yield from self.cached
             return
-        is_kept = self.length + self.setup.limit <= MOST_KEPT
-        kept = self.kept = []
+        is_short = self.length + self.setup.limit <= MAX_CACHED_STEPS
+        cached = self.cached = []
         locations: list[RanFields] = [(self.pc.encode(), self.mode.encode(), self.world.encode(), NO_TRAP)] * self.setup.harts
         for item in self.single_steps():
             if isinstance(item, Stretch):
                 item.before, locations[item.hart] = locations[item.hart], item.last
-            if is_kept:
-                kept.append(item)
+            if is_short:
+                cached.append(item)
             yield item
-        self.kept, self.is_known = kept, is_kept
+        self.cached, self.is_cached = cached, is_short
 
     def reply(self, step: int) -> str:
         """Returns the reply to a single step."""
-        for item in self.kept:
+        for item in self.cached:
             if isinstance(item, Stretch) and item.first <= step < item.first + item.count:
                 return item.data.splitlines()[step - item.first].decode()
         with self.replay() as replay:
@@ -204,9 +207,9 @@ class Run:
         pending, waiting, left = b"", 0, 0 if self.ended else self.setup.limit
         why = self.ended or "limit"
         while left > 0 and why == "limit":
-            count = min(left, CHUNK)
+            count = min(left, STEPS_PER_EXCHANGE)
             left -= count
-            data = pending + bench.block(SINGLE * count, count)
+            data = pending + bench.block(SINGLE_STEP * count, count)
             equal = equal_lines_at_end(data)
             if equal >= EQUAL:
                 why, later = "halted", equal - 1
@@ -255,17 +258,18 @@ def hidden_lines(lines: Iterable[str], hart: int) -> list[Line]:
     """Returns commands as lines that are not in the script. `hart` is the chosen hart before them."""
     found = []
     for line in lines:
-        hart = int(line[5:]) if line.startswith("hart ") else hart
+        if line.startswith("hart "):
+            hart = int(line[5:])
         found.append(Line(line, hart, hidden=True))
     return found
 
 
 def single_steps(bench: Bench, position: int, hart: int, steps: ScheduledSteps) -> Iterator[Stretch]:
     """Yields single steps, a stretch for each turn of a schedule. `hart` is the chosen one before them."""
-    for done in range(0, steps.count, CHUNK):
-        turns, texts = list(steps_within(steps, done, done + CHUNK).by_hart()), []
+    for done in range(0, steps.count, STEPS_PER_EXCHANGE):
+        turns, texts = list(steps_within(steps, done, done + STEPS_PER_EXCHANGE).by_hart()), []
         for next_hart, count in turns:
-            texts += [b"hart %d\n" % next_hart if next_hart != hart else b"", SINGLE * count]
+            texts += [b"hart %d\n" % next_hart if next_hart != hart else b"", SINGLE_STEP * count]
             hart = next_hart
         text = b"".join(texts)
         block = bench.block(text, text.count(b"\n"))

@@ -7,7 +7,7 @@ from typing import Iterator
 
 TURN = 32  # steps of a hart before the other one continues
 LONGEST = 64  # digits of a schedule, as in a `sched`
-MOST_IN_A_TURN = 16  # steps of a random turn
+MAX_RANDOM_TURN = 16  # steps of a random turn
 
 
 def alternating(turn: int) -> str:
@@ -20,7 +20,7 @@ def random_schedule(seed: int) -> str:
     draw, digits = random.Random(seed), ""
     hart = draw.randrange(2)
     while len(digits) < LONGEST:
-        digits += str(hart) * draw.randint(1, MOST_IN_A_TURN)
+        digits += str(hart) * draw.randint(1, MAX_RANDOM_TURN)
         hart = 1 - hart
     return digits[:LONGEST]
 

@@ -10,8 +10,8 @@ from typing import Any, Dict, Iterator, Mapping, Optional, Sequence
 
 from rvlook.protocol.replies import NO_TRAP, RanFields, fields_of
 
-SHARED = 16  # stretches whose columns are kept
-MODES = {b"U": 0, b"S": 1, b"M": 3}
+CACHED_STRETCHES = 16  # stretches whose columns are kept
+MODE_NUMBERS = {b"U": 0, b"S": 1, b"M": 3}
 
 
 @dataclass(eq=False)
@@ -70,13 +70,12 @@ class Stretch:
 @lru_cache(maxsize=65536)
 def pc_and_mode(pc: bytes, mode: bytes) -> int:
     """Returns a pc with the number of the mode in its lowest bits."""
-    return int(pc, 16) | MODES[mode]
+    return int(pc, 16) | MODE_NUMBERS[mode]
 
 
-@lru_cache(maxsize=SHARED)
+@lru_cache(maxsize=CACHED_STRETCHES)
 def parts_of(data: bytes, before: RanFields) -> Sequence[tuple[int, bytes, RanFields, Columns]]:
-    """Returns replies to single steps in parts, each in one world: the index of the first step, the replies, where the hart is before, and the steps
-    as columns."""
+    """Returns replies in parts, each in one world: index of the first step, replies, location of the hart before, and columns."""
     columns, begin = columns_of(data, before), 0
     ends = list(compress(range(1, len(columns.pcs)), map(ne, columns.worlds, columns.after)))
     if not ends:
@@ -88,7 +87,7 @@ def parts_of(data: bytes, before: RanFields) -> Sequence[tuple[int, bytes, RanFi
     return found
 
 
-@lru_cache(maxsize=SHARED)
+@lru_cache(maxsize=CACHED_STRETCHES)
 def columns_of(data: bytes, before: RanFields) -> Columns:
     """Returns replies to single steps as columns. Runs that differ in an input have most stretches in common, and most replies come many times."""
     lines = data.splitlines()

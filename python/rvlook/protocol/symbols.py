@@ -156,8 +156,7 @@ class Symbols:
             return None
 
     def address_of(self, name: str, first: int | None) -> int:
-        """Returns the address of a name: the only one, or the first from an address on. Raises SymbolError if there is no such address or more
-        than one."""
+        """Returns the address of a name: the only one, or the first from an address on. Raises SymbolError if there is none or more than one."""
         addresses = sorted(self.addresses_by_name[name])
         if first is not None:
             addresses = [it for it in addresses if it >= first][:1]

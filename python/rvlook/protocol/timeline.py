@@ -17,7 +17,7 @@ if TYPE_CHECKING:
 
 CHANGING = ("poke", "setreg", "timer")  # commands that change the state without a step
 CONTRARY = {"break": "clear", "watch": "unwatch", "clear": "break", "unwatch": "watch"}
-TURNS = 64  # digits of a sched, at most
+MAX_DIGITS = 64  # digits of a sched, at most
 MOST_STEPS = 1000000  # of one command
 
 
@@ -52,7 +52,7 @@ class ScheduledSteps:
         """Returns the commands that do the steps, after `chosen`."""
         if self.chosen:
             return ["step %d" % count for _, count in self.by_hart()]
-        digits = self.turns * (TURNS // len(self.turns))
+        digits = self.turns * (MAX_DIGITS // len(self.turns))
         full, rest = divmod(self.count, len(digits))
         return ["sched " + digits] * full + (["sched " + digits[:rest]] if rest else [])
 
@@ -101,17 +101,17 @@ def rotated(turns: str, count: int) -> str:
 
 
 def actions_between(past: Iterable[Action], first: int, end: int) -> Iterator[Action]:
-    """Yields what was done after step `first`, up to step `end`, with the commands right after that."""
-    at = 0
+    """Yields the actions after step `first`, up to step `end`, with the commands right after that."""
+    position = 0
     for action in past:
         if isinstance(action, Line):
-            if first < at <= end:
+            if first < position <= end:
                 yield action
             continue
-        found = steps_within(action, max(0, first - at), end - at)
-        if found.count:
-            yield found
-        at += action.count
+        steps = steps_within(action, max(0, first - position), end - position)
+        if steps.count:
+            yield steps
+        position += action.count
 
 
 def steps_within(steps: ScheduledSteps, first: int, end: int) -> ScheduledSteps:
@@ -120,7 +120,7 @@ def steps_within(steps: ScheduledSteps, first: int, end: int) -> ScheduledSteps:
 
 
 def commands_of(past: Iterable[Action], chosen: int, hart: int) -> Iterator[str]:
-    """Yields the commands that repeat what was done; hart `chosen` is chosen before, and `hart` after them."""
+    """Yields the commands that repeat actions; hart `chosen` is chosen before, and `hart` after them."""
     choice = ["hart %d" % chosen]
     for action in past:
         if action.chosen and action.chosen != choice:
@@ -174,7 +174,8 @@ class Timeline(Closing):
         past = list(past)
         lines = list(commands_of(past, self.hart, self.hart if hart is None else hart))
         for line in lines:
-            self.hart = int(line[5:]) if line.startswith("hart ") else self.hart
+            if line.startswith("hart "):
+                self.hart = int(line[5:])
             self.unread_commands.append((line, self.hart))
         for action in past:
             self.add(action)
@@ -209,13 +210,13 @@ class Timeline(Closing):
         return self.do_all([line])[0]
 
     def do_all(self, lines: Sequence[str], turns: str | None = None) -> list[list[str]]:
-        """Runs commands in one exchange, and records those that change something; returns the reply to each. `turns` is the schedule from the
-        first step on, if there is one."""
+        """Runs commands in one exchange, and records changes; returns the replies. `turns`: the schedule from the first step on, or none."""
         replies = self.ask(*lines)
         for line, reply in zip(lines, replies):
             if reply and not reply[0].startswith("error "):
                 name = tokens_of(line)[0]
-                self.hart = int(tokens_of(line)[1]) if name == "hart" else self.hart
+                if name == "hart":
+                    self.hart = int(tokens_of(line)[1])
                 self.take(line, self.hart, reply)
                 self.keep(name, line, reply, turns)
         return replies
@@ -239,7 +240,7 @@ class Timeline(Closing):
         self.choose(hart)
         return step_of(self.do_all(["run %d" % min(count, MOST_STEPS)], turns)[0][0])
 
-    # what is kept
+    # the record of actions
 
     def take(self, line: str, hart: int, replies: Sequence[str]) -> None:
         """Updates mode and world of the harts after a command."""
@@ -257,7 +258,7 @@ class Timeline(Closing):
         self.modes[hart], self.worlds[hart] = mode, world
 
     def keep(self, name: str, line: str, replies: Sequence[str], turns: str | None = None) -> None:
-        """Records what was done."""
+        """Records a command as an action, or as a breakpoint or watchpoint."""
         if name in ("step", "run"):
             self.add(ScheduledSteps(turns or str(self.hart), step_of(replies[0]).steps))
         elif name == "sched":
@@ -270,7 +271,7 @@ class Timeline(Closing):
             self.stops.pop("%s %x" % (CONTRARY[name], int(line.split()[1], 16)), None)
 
     def add(self, action: Action) -> None:
-        """Appends to what was done; joins steps that continue the schedule."""
+        """Appends an action to the past; joins steps that continue the schedule."""
         self.changes += 1
         self.spend(action)
         last = self.past[-1] if self.past else None
@@ -282,7 +283,7 @@ class Timeline(Closing):
         self.past.append(action)
 
     def spend(self, action: Action) -> None:
-        """Removes what is done now from the future; drops the future if it differs."""
+        """Removes a done action from the future; drops the future if it differs."""
         if isinstance(action, Line):
             if not self.future or self.future.popleft() != action:
                 self.future.clear()
@@ -354,15 +355,15 @@ class Timeline(Closing):
 
     def redo(self) -> bool:
         """Repeats the commands of the future at this step; returns whether there were any."""
-        found = False
+        is_found = False
         while self.future:
             head = self.future[0]
             if not isinstance(head, Line):
                 break
-            found = True
+            is_found = True
             self.choose(head.hart)
             self.do(head.text)
-        return found
+        return is_found
 
     # the way back
 
@@ -394,11 +395,11 @@ class Timeline(Closing):
 
     def step_before(self, hart: int) -> int | None:
         """Returns the step before the last one of a hart, or None if the hart did no step."""
-        at = self.position
+        position = self.position
         for action in reversed(self.past):
             if isinstance(action, ScheduledSteps):
                 for back in range(1, min(len(action.turns), action.count) + 1):
                     if int(action.turns[(action.count - back) % len(action.turns)]) == hart:
-                        return at - back
-                at -= action.count
+                        return position - back
+                position -= action.count
         return None

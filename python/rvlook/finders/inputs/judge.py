@@ -7,22 +7,24 @@ from enum import Enum
 from typing import Iterator, Optional, Sequence, Tuple
 
 from rvlook.finders.inputs.code import ENDS_BLOCK, Code, Kind
+from rvlook.finders.inputs.contexts import MONITOR_CALL
 from rvlook.finders.inputs.objects import ObjectPlace, Objects
-from rvlook.finders.inputs.trace import LEFT, Trace
+from rvlook.finders.inputs.trace import NO_PC, Trace
 from rvlook.finders.inputs.tracer import Tracer
 from rvlook.protocol.names import MARKS
 
-MEASURE, DIGEST = 5, 32  # the number of the monitor call `measure`, and the bytes that it stores
-NO_FAULTS = (3, 8, 9)  # causes: ebreak and ecall
-STRIDE = 64  # bytes between two accesses of a loop
-DISTINCT = 3  # addresses of an access, of which the host chooses one
+MEASURE, DIGEST_SIZE = 5, 32  # the number of the monitor call `measure`, and the bytes that it stores
+CALL_CAUSES = (3, 8, 9)  # causes of traps that are no faults: ebreak and ecall
+MAX_STRIDE = 64  # bytes between two accesses of a loop
+MAX_STEPS_BACK = 400  # steps in which the access of the last round of a loop is searched
+MIN_CHOSEN_ADDRESSES = 3  # an access with so many addresses is at an address that the host chooses
 FAULT = ObjectPlace("a fault")
 JUMPS = (Kind.BRANCH, Kind.CALL, Kind.RETURN)  # whose findings do not depend on the changes of a trace
 Key = Tuple[int, int]  # a call context and a pc
-Way = Tuple[int, int, int]  # a pc, a call context, and an address
+StepKey = Tuple[int, int, int]  # a pc, a call context, and an address
 
 
-class What(Enum):
+class FindingKind(Enum):
     """The kind of a finding, with its name in the report."""
     LOAD = "load"  # from an object that the instruction usually does not reach
     STORE = "store"  # to such an object
@@ -38,7 +40,7 @@ class What(Enum):
 @dataclass
 class InputFinding:
     """A finding in a trace."""
-    what: What  # its kind
+    kind: FindingKind  # its kind
     trace: Trace  # has the changes that lead to it
     index: int  # of the step in the trace
     pc: int  # of the step
@@ -47,9 +49,9 @@ class InputFinding:
     usual: tuple[str, ...] = ()  # names of the objects that the instruction reaches in other runs
     is_walk: bool = False  # whether the access moves over the end of a usual object
     note: str = ""  # a further text for the report
-    is_sure: bool = True  # false: only a finding if the access reaches more addresses
+    is_sure: bool = True  # false: a finding only if the access reaches more addresses
     context: int = 0  # the call context of the step
-    after: tuple[Key, ...] = ()  # accesses before it in the trace that were no sure finding then
+    after: tuple[Key, ...] = ()  # accesses before it in the trace that were no sure findings then
 
     @property
     def cost(self) -> tuple[int, int]:
@@ -61,12 +63,12 @@ class InputFinding:
 class Seen:
     """The results of the traces so far."""
     pairs: set[tuple[int, int]] = field(default_factory=set)  # pcs before and after the end of a block
-    objects: dict[Key, set[ObjectPlace]] = field(default_factory=dict)  # that each access reaches in the run itself
-    first: dict[Key, set[ObjectPlace]] = field(default_factory=dict)  # that each other access reached when it was first seen
+    usual_objects: dict[Key, set[ObjectPlace]] = field(default_factory=dict)  # that each access reaches in the run itself
+    first_objects: dict[Key, set[ObjectPlace]] = field(default_factory=dict)  # that each other access reached when it was first seen
     addresses: dict[Key, set[int]] = field(default_factory=lambda: defaultdict(set))  # of each access
-    reached: set[tuple[Key, ObjectPlace]] = field(default_factory=set)  # by accesses, in any trace
-    targets: dict[Key, set[int]] = field(default_factory=lambda: defaultdict(set))  # of jumps, in the run itself
-    traps: set[tuple[int, int]] = field(default_factory=set)  # pc and cause, in the run itself
+    reached_objects: set[tuple[Key, ObjectPlace]] = field(default_factory=set)  # by accesses, in any trace
+    usual_targets: dict[Key, set[int]] = field(default_factory=lambda: defaultdict(set))  # of jumps, in the run itself
+    usual_traps: set[tuple[int, int]] = field(default_factory=set)  # pc and cause, in the run itself
     pcs: set[int] = field(default_factory=set)  # of all steps
 
 
@@ -76,8 +78,8 @@ class TraceJudge:
     def __init__(self, tracer: Tracer, objects: Objects, base: Trace) -> None:
         self.tracer, self.objects, self.base, self.seen = tracer, objects, base, Seen()  # `base` is the trace of the run itself
         self.findings: dict[tuple[object, ...], InputFinding] = {}  # the best one for each access, object and kind
-        self.usual: set[Way] = set()  # steps without a trap that are no finding
-        self.version = 0  # of the contexts then
+        self.usual_steps: set[StepKey] = set()  # steps without a trap that are no finding
+        self.version = 0  # of the contexts when `usual_steps` was last cleared
         for index in range(len(base)):
             self.learn(base, index)
 
@@ -86,85 +88,83 @@ class TraceJudge:
         pc, code, key = trace.pcs[index], self.code(trace, index), (trace.contexts[index], trace.pcs[index])
         self.seen.pcs.add(pc)
         if index in trace.traps:
-            self.seen.traps.add((pc, trace.traps[index][0]))
+            self.seen.usual_traps.add((pc, trace.traps[index][0]))
         if self.is_access(trace, index):
             for at in self.places(trace, index):
-                self.seen.objects.setdefault(key, set()).add(at)
-                self.seen.reached.add((key, at))
+                self.seen.usual_objects.setdefault(key, set()).add(at)
+                self.seen.reached_objects.add((key, at))
             self.seen.addresses[key].add(trace.addresses[index])
         if code.kind in ENDS_BLOCK:
             self.seen.pairs.add((pc, trace.following(index)))
-            self.seen.targets[key].add(trace.following(index))
+            self.seen.usual_targets[key].add(trace.following(index))
 
     def take(self, trace: Trace) -> bool:
-        """Takes a trace. Returns whether the search should go on from it: it reached something new, and no finding makes its further steps
-        meaningless."""
-        is_new, found = False, None
-        unsure: list[Key] = []
+        """Takes a trace. Returns whether to go on from it: it reached something new, and no finding makes later steps meaningless."""
+        is_new, sure_finding = False, None
+        unsure_accesses: list[Key] = []
         for index in self.unusual(trace):
             pc = trace.pcs[index]
-            is_new = self.covers(trace, index) or is_new
-            if found and found.pc != pc:  # a consequence
+            is_new = self.reaches_new(trace, index) or is_new
+            if sure_finding and sure_finding.pc != pc:  # a consequence
                 continue
-            other = self.judged(trace, index)
-            if other:
-                other.after = tuple(it for it in unsure if it[1] != pc)
-                self.add(other)
-                if other.is_sure or other.what is not What.LOAD:
-                    found = other
+            finding = self.finding_of(trace, index)
+            if finding:
+                finding.after = tuple(it for it in unsure_accesses if it[1] != pc)
+                self.add(finding)
+                if finding.is_sure or finding.kind is not FindingKind.LOAD:
+                    sure_finding = finding
                 else:
-                    unsure.append((other.context, pc))
-                if other.place is FAULT or other.what in (What.CALL, What.RETURN):
+                    unsure_accesses.append((finding.context, pc))
+                if finding.place is FAULT or finding.kind in (FindingKind.CALL, FindingKind.RETURN):
                     return False
             elif self.code(trace, index).kind in JUMPS and index not in trace.traps:
-                self.usual.add(self.way_of(trace, index))
-        if found or trace.end == "waits":
+                self.usual_steps.add(self.step_key(trace, index))
+        if sure_finding or trace.end == "waits":
             return False
         if trace.end == "stuck":
             pc = trace.pcs[-1]
             place = ObjectPlace(self.objects.symbols.function(pc) or "")
-            self.add(InputFinding(What.STUCK, trace, len(trace) - 1, pc, place, after=tuple(unsure)))
+            self.add(InputFinding(FindingKind.STUCK, trace, len(trace) - 1, pc, place, after=tuple(unsure_accesses)))
             return False
         return is_new
 
     def unusual(self, trace: Trace) -> Iterator[int]:
-        """Yields the indices of the steps that differ from those of the parent. Leaves out plain steps, and steps that equal an earlier step
-        without a finding."""
+        """Yields the indices of the steps that differ from the parent's, without plain steps, and without repeated steps that are no finding."""
         if self.version != self.tracer.contexts.version:
             self.version = self.tracer.contexts.version
-            self.usual.clear()
+            self.usual_steps.clear()
         for indices, part in trace.differences():
             pcs, begin = part.pcs if part else [trace.pcs[it] for it in indices], 0
-            found: list[int] = []
-            for n in self.not_plain(trace, indices, pcs, part):
-                if indices[n] in trace.traps or self.way_of(trace, indices[n]) not in self.usual:
+            unusual: list[int] = []
+            for n in self.indices_to_judge(trace, indices, pcs, part):
+                if indices[n] in trace.traps or self.step_key(trace, indices[n]) not in self.usual_steps:
                     self.seen.pcs.update(pcs[begin:n])
                     begin = n
-                    found.append(n)
+                    unusual.append(n)
                     yield indices[n]
             self.seen.pcs.update(pcs[begin:])
             if part:
-                part.unusual = self.version, found
+                part.unusual = self.version, unusual
 
-    def not_plain(self, trace: Trace, indices: Sequence[int], pcs: Sequence[int], part: Trace | None) -> Sequence[int]:
-        """Returns which of these steps of a trace may be unusual: those of a part only if they were before, and did so."""
+    def indices_to_judge(self, trace: Trace, indices: Sequence[int], pcs: Sequence[int], part: Trace | None) -> Sequence[int]:
+        """Returns which of these steps of a trace may be unusual. Of a part that was judged before, these are its unusual steps of then."""
         if part and part.unusual and part.unusual[0] == self.version:
             return part.unusual[1]
         plain = self.tracer.plain
         return [n for n, pc in enumerate(pcs) if pc not in plain or indices[n] in trace.traps]
 
-    def way_of(self, trace: Trace, index: int) -> Way:
+    def step_key(self, trace: Trace, index: int) -> StepKey:
         """Returns the pc and the context of a step, and its address or the pc after it. For some kinds these decide whether the step is a finding."""
         pc = trace.pcs[index]
         return pc, trace.contexts[index], trace.following(index) if self.tracer.code[pc].kind in JUMPS else trace.addresses[index]
 
-    def add(self, found: InputFinding) -> None:
+    def add(self, finding: InputFinding) -> None:
         """Adds a finding, or replaces one that needs more changes or is not sure."""
-        context = found.context if found.what in (What.LOAD, What.STORE) else 0
-        key = (found.what, 0 if found.what is What.STUCK else found.pc, context, found.place)
+        context = finding.context if finding.kind in (FindingKind.LOAD, FindingKind.STORE) else 0
+        key = (finding.kind, 0 if finding.kind is FindingKind.STUCK else finding.pc, context, finding.place)
         old = self.findings.get(key)
-        if old is None or (not found.is_sure, found.cost) < (not old.is_sure, old.cost):
-            self.findings[key] = found
+        if old is None or (not finding.is_sure, finding.cost) < (not old.is_sure, old.cost):
+            self.findings[key] = finding
 
     def code(self, trace: Trace, index: int) -> Code:
         """Returns the instruction of a step."""
@@ -175,18 +175,18 @@ class TraceJudge:
         code = self.code(trace, index)
         if code.kind is Kind.ECALL:
             trap = trace.traps.get(index)
-            return trace.values[index] == MEASURE and trap is not None and trap[0] == 9
+            return trace.values[index] == MEASURE and trap is not None and trap[0] == MONITOR_CALL
         return code.is_access
 
     def places(self, trace: Trace, index: int) -> list[ObjectPlace]:
         """Returns the objects that an access reaches: at its first and at its last byte."""
-        width = DIGEST if self.code(trace, index).kind is Kind.ECALL else self.code(trace, index).width
+        width = DIGEST_SIZE if self.code(trace, index).kind is Kind.ECALL else self.code(trace, index).width
         address, context, pc = trace.addresses[index], trace.contexts[index], trace.pcs[index]
-        found = self.objects.at(address, context, pc)
-        last = self.objects.at(address + width - 1, context, pc) if width > 1 else found
-        return [found] if found == last else [found, last]
+        first = self.objects.object_at(address, context, pc)
+        last = self.objects.object_at(address + width - 1, context, pc) if width > 1 else first
+        return [first] if first == last else [first, last]
 
-    def covers(self, trace: Trace, index: int) -> bool:
+    def reaches_new(self, trace: Trace, index: int) -> bool:
         """Returns whether a step reaches a pair of pcs, or an object by an instruction, that no step before it did."""
         pc, code, is_new = trace.pcs[index], self.code(trace, index), False
         self.seen.pcs.add(pc)
@@ -197,89 +197,88 @@ class TraceJudge:
         if self.is_access(trace, index) and index not in trace.traps:
             key = trace.contexts[index], pc
             for place in self.places(trace, index):
-                is_new = is_new or (key, place) not in self.seen.reached
-                self.seen.reached.add((key, place))
+                is_new = is_new or (key, place) not in self.seen.reached_objects
+                self.seen.reached_objects.add((key, place))
         return is_new
 
-    # ---- what is a finding
+    # ---- findings of steps
 
-    def judged(self, trace: Trace, index: int) -> InputFinding | None:
+    def finding_of(self, trace: Trace, index: int) -> InputFinding | None:
         """Returns the finding of a step, or None."""
         code, pc = self.code(trace, index), trace.pcs[index]
         key, trap = (trace.contexts[index], pc), trace.traps.get(index)
-        if code.is_access and not code.is_sp_relative and (trap is None or trap[0] not in NO_FAULTS or code.kind is Kind.ECALL):
-            found = self.access(trace, index, key) if self.is_access(trace, index) else None
+        if code.is_access and not code.is_sp_relative and (trap is None or trap[0] not in CALL_CAUSES or code.kind is Kind.ECALL):
+            found = self.access_finding(trace, index, key) if self.is_access(trace, index) else None
             if found:
                 return found
         if code.kind in (Kind.INDIRECT, Kind.RETURN):
-            return self.jump(trace, index, key)
-        if trap and trap[0] not in NO_FAULTS and (pc, trap[0]) not in self.seen.traps:
+            return self.jump_finding(trace, index, key)
+        if trap and trap[0] not in CALL_CAUSES and (pc, trap[0]) not in self.seen.usual_traps:
             note = "a %s" % MARKS["%08x" % trap[1]] if "%08x" % trap[1] in MARKS else "cause %d" % trap[0]
-            return InputFinding(What.FAULT, trace, index, pc, FAULT, trap[1], note=note, context=key[0])
+            return InputFinding(FindingKind.FAULT, trace, index, pc, FAULT, trap[1], note=note, context=key[0])
         return None
 
-    def access(self, trace: Trace, index: int, key: Key) -> InputFinding | None:
+    def access_finding(self, trace: Trace, index: int, key: Key) -> InputFinding | None:
         """Returns the finding of an access that reaches an object which it usually does not reach, or that traps."""
-        what = What.LOAD if self.code(trace, index).kind is Kind.LOAD else What.STORE
-        address, trap = trace.addresses[index], trace.traps.get(index)
-        if trap and trap[0] != 9:
-            if (key[1], trap[0]) in self.seen.traps:
+        kind = FindingKind.LOAD if self.code(trace, index).kind is Kind.LOAD else FindingKind.STORE
+        (context, pc), address, trap = key, trace.addresses[index], trace.traps.get(index)
+        if trap and trap[0] != MONITOR_CALL:
+            if (pc, trap[0]) in self.seen.usual_traps:
                 return None
-            usual = self.seen.objects.get(key) or self.seen.first.get(key) or set()
-            return InputFinding(what, trace, index, key[1], FAULT, address, names(usual), note="cause %d" % trap[0], context=key[0])
+            usual = self.seen.usual_objects.get(key) or self.seen.first_objects.get(key) or set()
+            return InputFinding(kind, trace, index, pc, FAULT, address, names(usual), note="cause %d" % trap[0], context=context)
         places = self.places(trace, index)
-        usual = self.seen.objects.get(key) or self.seen.first.setdefault(key, set(places))
+        usual = self.seen.usual_objects.get(key) or self.seen.first_objects.setdefault(key, set(places))
         self.seen.addresses[key].add(address)
-        other = next((it for it in places if it not in usual), None)
-        if other is None:
-            self.usual.add((key[1], key[0], address))
+        unusual = next((it for it in places if it not in usual), None)
+        if unusual is None:
+            self.usual_steps.add((pc, context, address))
             return None
         previous = self.previous(trace, index, key)
-        is_walk = previous is not None and abs(address - trace.addresses[previous]) <= STRIDE
-        if is_walk and self.is_inner(other, usual):
+        is_walk = previous is not None and abs(address - trace.addresses[previous]) <= MAX_STRIDE
+        if is_walk and self.is_inner(unusual, usual):
             return None
-        is_sure = is_walk or len(self.seen.addresses[key]) >= DISTINCT or len(places) > 1
-        return InputFinding(what, trace, index, key[1], other, address, names(usual), is_walk, is_sure=is_sure, context=key[0])
+        is_sure = is_walk or len(self.seen.addresses[key]) >= MIN_CHOSEN_ADDRESSES or len(places) > 1
+        return InputFinding(kind, trace, index, pc, unusual, address, names(usual), is_walk, is_sure=is_sure, context=context)
 
     @staticmethod
     def is_inner(place: ObjectPlace, usual: set[ObjectPlace]) -> bool:
-        """Returns whether an object is a member of a variable that has a usual object too, and no array ends between the two. The access may reach
-        it."""
+        """Returns whether an object is a member of a variable with a usual object, and no array ends between them: it may be accessed."""
         return any(it.variable and it.variable == place.variable and not it.is_array for it in usual)
 
     def previous(self, trace: Trace, index: int, key: Key) -> Optional[int]:
         """Returns the index of the last step before `index` with this pc and call context, or None."""
-        for at in range(index - 1, max(-1, index - 400), -1):
-            if trace.pcs[at] == key[1] and trace.contexts[at] == key[0]:
-                return at
+        for earlier in range(index - 1, max(-1, index - MAX_STEPS_BACK), -1):
+            if (trace.contexts[earlier], trace.pcs[earlier]) == key:
+                return earlier
         return None
 
-    def jump(self, trace: Trace, index: int, key: Key) -> InputFinding | None:
+    def jump_finding(self, trace: Trace, index: int, key: Key) -> InputFinding | None:
         """Returns the finding of a jump to an address in a register: one that the host chooses, or a return to another address."""
-        target, is_return = trace.following(index), self.code(trace, index).kind is Kind.RETURN
-        if target == LEFT or target in self.seen.targets[key]:
+        (context, pc), target, is_return = key, trace.following(index), self.code(trace, index).kind is Kind.RETURN
+        if target == NO_PC or target in self.seen.usual_targets[key]:
             return None
         if is_return:
-            is_found = not self.tracer.contexts.is_return_address(key[0], target)
+            is_found = not self.tracer.contexts.is_return_address(context, target)
         else:
-            chosen, function = {int.from_bytes(it.value, "little") for it in trace.changes}, self.objects.symbols.function
-            is_table = not self.code(trace, index).link and function(target) == function(key[1])  # of a switch
-            is_found = not self.objects.is_function(target) and not is_table or target in chosen
+            host_values, function = {int.from_bytes(it.value, "little") for it in trace.changes}, self.objects.symbols.function
+            is_table = not self.code(trace, index).link and function(target) == function(pc)  # of a switch
+            is_found = not self.objects.is_function(target) and not is_table or target in host_values
         if not is_found:
             return None
-        return InputFinding(What.RETURN if is_return else What.CALL, trace, index, key[1], self.objects.at(target, key[0], key[1]), target,
-                            tuple(sorted({self.objects.at(it, *key).name for it in self.seen.targets[key] if it != LEFT})), context=key[0])
+        kind, usual = FindingKind.RETURN if is_return else FindingKind.CALL, {it for it in self.seen.usual_targets[key] if it != NO_PC}
+        return InputFinding(kind, trace, index, pc, self.objects.object_at(target, context, pc), target,
+                            names({self.objects.object_at(it, context, pc) for it in usual}), context=context)
 
-    def sure(self) -> Iterator[InputFinding]:
-        """Yields the findings that are sure now. An access that is not a walk is sure if it has at least DISTINCT addresses. Leaves out findings
-        that follow from another one."""
+    def sure_findings(self) -> Iterator[InputFinding]:
+        """Yields the findings that are sure now: also an access whose address the host chooses. Leaves out findings that follow from another."""
         for finding in self.findings.values():
             if (finding.is_sure or self.is_chosen((finding.context, finding.pc))) and not any(map(self.is_chosen, finding.after)):
                 yield finding
 
     def is_chosen(self, key: Key) -> bool:
         """Returns whether an access has so many addresses that the host chooses them."""
-        return len(self.seen.addresses[key]) >= DISTINCT
+        return len(self.seen.addresses[key]) >= MIN_CHOSEN_ADDRESSES
 
 
 def names(places: set[ObjectPlace]) -> tuple[str, ...]:

@@ -9,13 +9,13 @@ from rvlook.image.variables import Member, Variables
 from rvlook.protocol.replies import Enclave
 from rvlook.protocol.symbols import Symbol, Symbols
 
-ENDS = ("_stack_top", "_stack_bottom", "region_base", "region_size")  # symbols of a linker script, which name no object
+LINKER_SUFFIXES = ("_stack_top", "_stack_bottom", "region_base", "region_size")  # of symbols of a linker script, which name no object
 
 
 class ObjectPlace(NamedTuple):
     """An object in memory."""
     name: str  # in the report
-    variable: str = ""  # whose member it is, or which it is; empty for no variable
+    variable: str = ""  # the variable that it is, or whose member it is; empty for no variable
     is_array: bool = False  # whether it is an array
 
 
@@ -31,19 +31,19 @@ class Objects:
         self.fixed = [it for it in variables.fixed if enclave.has(it.at)]  # variables at fixed addresses, down to their members
         self.starts = [it.at for it in self.fixed]  # the addresses of `fixed`
         self.locals, self.parameters = variables.locals, variables.parameters  # of functions
-        own = [it for it in symbols.ordered if enclave.has(it.address) and not it.name.endswith(ENDS)]
-        self.own, self.own_starts = own, [it.address for it in own]  # the symbols in the region, and their addresses
+        region_symbols = [it for it in symbols.ordered if enclave.has(it.address) and not it.name.endswith(LINKER_SUFFIXES)]
+        self.own, self.own_starts = region_symbols, [it.address for it in region_symbols]  # the symbols in the region, and their addresses
         bottoms = [it.address for it in symbols.ordered if it.name.endswith("_stack_bottom") and enclave.has(it.address)]
         # the lowest address of the stacks
-        self.stack = min(bottoms, default=max((it.address + max(4, it.size) for it in own), default=enclave.base + enclave.size))
+        self.stack = min(bottoms, default=max((it.address + max(4, it.size) for it in region_symbols), default=enclave.base + enclave.size))
 
-    def at(self, address: int, context: int, pc: int) -> ObjectPlace:
+    def object_at(self, address: int, context: int, pc: int) -> ObjectPlace:
         """Returns the object at an address, for an instruction in a call context."""
         if self.enclave.shares(address):
             return WINDOW
         if not self.enclave.has(address):
             return OUTSIDE
-        return self.fixed_at(address) if address < self.stack else self.stacked_at(address, context, pc)
+        return self.fixed_at(address) if address < self.stack else self.stack_object_at(address, context, pc)
 
     def fixed_at(self, address: int) -> ObjectPlace:
         """Returns the variable, its member, or the symbol at an address below the stacks."""
@@ -60,31 +60,31 @@ class Objects:
         symbol = self.own[index] if index >= 0 else None
         return symbol if symbol and (not symbol.size or address < symbol.address + symbol.size) else None
 
-    def stacked_at(self, address: int, context: int, pc: int) -> ObjectPlace:
+    def stack_object_at(self, address: int, context: int, pc: int) -> ObjectPlace:
         """Returns the local variable at an address, the saved registers, or the rest of a frame."""
         frames, is_below = self.contexts.frames, True
         for frame_context in self.contexts.chain(context):
             sp, caller = frames.get(frame_context), frames.get(self.contexts.parents[frame_context])
             if sp is not None and address >= sp and not (caller is not None and sp < caller <= address):
-                return self.in_frame(address, frame_context, sp, pc)
+                return self.frame_object_at(address, frame_context, sp, pc)
             is_below = is_below and (sp is None or address < sp)
             pc = self.contexts.calls[frame_context]
         return UNUSED if is_below and context else ObjectPlace("the stack")
 
-    def in_frame(self, address: int, context: int, sp: int, pc: int) -> ObjectPlace:
+    def frame_object_at(self, address: int, context: int, sp: int, pc: int) -> ObjectPlace:
         """Returns the object at an address in the frame of a context, whose function has the instruction."""
         function = self.symbols.function(pc) or "%08x" % pc
         caller = self.contexts.frames.get(self.contexts.parents[context], sp)
         for local in self.locals:
-            at = (sp if local.is_sp else caller) + local.member.at
-            if local.first <= pc < local.end and at <= address < at + local.member.size:
+            start = (sp if local.is_sp else caller) + local.member.at
+            if local.first <= pc < local.end and start <= address < start + local.member.size:
                 name = "%s in %s" % (local.member.name, function)
                 return ObjectPlace(name, name.partition(".")[0], bool(local.member.element))
         if address in self.contexts.saved.get(context, ()):
             return ObjectPlace("the saved registers of " + function)
         return ObjectPlace("the frame of " + function, "the frame of " + function)
 
-    def beginnings(self, executed: set[int]) -> list[int]:
+    def object_starts(self, executed: set[int]) -> list[int]:
         """Returns the addresses at which objects begin. Leaves out functions that were executed."""
         fixed = [it.at for it in self.fixed]
         return list(dict.fromkeys(fixed + [it.address for it in self.own if it.address not in executed and it.address < self.stack]))

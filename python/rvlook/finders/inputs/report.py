@@ -8,7 +8,7 @@ from typing import Callable, Iterator, NamedTuple, Optional, Sequence
 from rvlook.access.failures import Failure, FailureReport, expectation_of, failures_of
 from rvlook.errors import Unfinished
 from rvlook.finders.inputs.code import Kind
-from rvlook.finders.inputs.judge import FAULT, InputFinding, What
+from rvlook.finders.inputs.judge import FAULT, InputFinding, FindingKind
 from rvlook.finders.inputs.search import InputSearch
 from rvlook.finders.inputs.secret_rules import SecretRules, replayed_states
 from rvlook.finders.inputs.trace import Change, Changes, Trace
@@ -30,10 +30,10 @@ from rvlook.protocol.timeline import Timeline
 
 Group = Sequence[InputFinding]  # of one instruction and kind; the first one has the fewest changes, and is replayed
 Models = Callable[[InputSearch, Trace], Iterator[Child]]
-SECONDS, INTERRUPT = "--seconds", "Ctrl-C"  # the names of what ends a search early
-GRACE = 2.0  # seconds after the limit in which the findings are completed, and again in which they are replayed
-MOST_SHOWN = 4  # names in a list
-LONGEST = 16  # bytes of a value that is printed whole
+TIME_LIMIT_OPTION, INTERRUPT = "--seconds", "Ctrl-C"  # the names of what ends a search early
+GRACE_SECONDS = 2.0  # seconds after the limit in which the findings are completed, and again in which they are replayed
+MAX_NAMES = 4  # names in a list
+MAX_PRINTED_BYTES = 16  # bytes of a value that is printed whole
 
 
 def replay_of(search: InputSearch, finding: InputFinding) -> Timeline:
@@ -51,7 +51,7 @@ def lines_after(search: InputSearch, replay: Timeline, finding: InputFinding) ->
     trace, index = finding.trace, finding.index
     commands = replay.lines_to(trace.steps[index] - 1) + ["dis %x" % trace.pcs[index]]
     commands += ["reg %d" % it for it in search.tracer.code[trace.pcs[index]].probes] + ["step 1"]
-    if finding.what is What.SECRET and finding.address:
+    if finding.kind is FindingKind.SECRET and finding.address:
         commands.append("mem %x %d" % (finding.address, min(ROW, len(search.rules.secret.bytes) if search.rules else ROW)))
     return commands
 
@@ -81,8 +81,7 @@ def texts_of(search: InputSearch, finding: InputFinding, heading: str) -> tuple[
 
 
 def write_scripts(folder: str, search: InputSearch, findings: Sequence[InputFinding], headings: Sequence[str]) -> None:
-    """Writes two files for each finding: `finding_N` replays the finding, `finding_N.input` ends after its last change. Raises Unfinished if a
-    file cannot be written."""
+    """Writes `finding_N`, which replays a finding, and `finding_N.input`, up to its last change. Raises Unfinished if a file cannot be written."""
     write_files(folder, ((name % number, text) for number, (finding, heading) in enumerate(zip(findings, headings), 1)
                          for name, text in zip(("finding_%d", "finding_%d.input"), texts_of(search, finding, heading))))
 
@@ -127,7 +126,7 @@ class Inputs:
                     self.states.append(state)
                 search.go(self.options.runs, progress)
         except OutOfTime:
-            self.cut = SECONDS
+            self.cut = TIME_LIMIT_OPTION
         except KeyboardInterrupt:
             self.cut = INTERRUPT
 
@@ -143,14 +142,14 @@ class Inputs:
         """Returns the findings of the search. Findings about the secret come last."""
         search = self.search
         assert search is not None
-        found = [*search.judge.sure(), *self.states]
+        found = [*search.judge.sure_findings(), *self.states]
         if search.rules:
-            found += search.rules.found
+            found += search.rules.findings
             try:
-                with self.limit.until(1.0, GRACE):
-                    found += search.rules.unchecked()
+                with self.limit.until(1.0, GRACE_SECONDS):
+                    found += search.rules.unchecked_outputs()
             except OutOfTime:
-                self.cut = SECONDS
+                self.cut = TIME_LIMIT_OPTION
         return found
 
     @property
@@ -162,8 +161,7 @@ class Inputs:
 
 def find_inputs(run: Run, variables: Variables, options: InputsOptions, heard: Callable[[Sequence[Failure]], None] = lambda it: None,
                 models: Optional[Models] = None) -> Inputs:
-    """Searches the inputs of an enclave, and replays the findings. Calls `heard` with the failures of the run itself before the search. `models`
-    proposes inputs."""
+    """Searches inputs, proposed by `models` too, and replays the findings. Calls `heard` first, with the failures of the run itself."""
     found = Inputs(options, TimeLimit(options.seconds), models, failures_in(run, options.slot))
     heard(found.failures)
     found.work(run, run.setup.symbols, variables)
@@ -175,8 +173,7 @@ def find_inputs(run: Run, variables: Variables, options: InputsOptions, heard: C
 
 
 def show_inputs(run: Run, variables: Variables, printer: Printer, options: InputsOptions, findings: ReportedCases, models: Models) -> None:
-    """Searches the inputs of an enclave, and prints the findings and the coverage. After Ctrl-C it prints what it has found, and raises
-    KeyboardInterrupt."""
+    """Searches the inputs of an enclave, and prints the findings and the coverage, also after Ctrl-C, before it raises KeyboardInterrupt."""
     symbols = run.setup.symbols
     if printer.as_json:
         run_object(printer, run, symbols)
@@ -209,7 +206,7 @@ def replay_all(limit: TimeLimit, search: InputSearch, groups: Sequence[Group]) -
     """Replays each finding, and reads the values that its changes replace. Returns why some were left out, if the time ended before that."""
     done = 0
     try:
-        with limit.until(1.0, 2 * GRACE):
+        with limit.until(1.0, 2 * GRACE_SECONDS):
             for done, group in enumerate(groups, 1):
                 group[0].trace.changes = with_old_values(search.run, group[0].trace.changes)
                 check_replay(search, group[0])
@@ -230,11 +227,11 @@ def groups_of(search: InputSearch, findings: Sequence[InputFinding]) -> list[Gro
     found: dict[tuple[object, ...], list[InputFinding]] = {}
     for finding in findings:
         where = search.symbols.line(finding.pc) or finding.pc
-        key = (finding.what, finding.note if finding.what in (What.SECRET, What.CHECK, What.REPLAY) else where)
-        found.setdefault(key if finding.what is not What.STUCK else (finding.what, finding.place), []).append(finding)
-    order = list(What)
+        key = (finding.kind, finding.note if finding.kind in (FindingKind.SECRET, FindingKind.CHECK, FindingKind.REPLAY) else where)
+        found.setdefault(key if finding.kind is not FindingKind.STUCK else (finding.kind, finding.place), []).append(finding)
+    order = list(FindingKind)
     groups = [sorted(it, key=priority) for it in found.values()]
-    return sorted(groups, key=lambda it: (order.index(it[0].what), it[0].pc, it[0].trace.steps[it[0].index]))
+    return sorted(groups, key=lambda it: (order.index(it[0].kind), it[0].pc, it[0].trace.steps[it[0].index]))
 
 
 def priority(finding: InputFinding) -> tuple[object, ...]:
@@ -246,26 +243,26 @@ def heading_of(search: InputSearch, group: Group) -> str:
     """Returns a finding in one line."""
     finding = group[0]
     where = search.symbols.line(finding.pc) or search.symbols.name(finding.pc) or "%08x" % finding.pc
-    return "%s, at %s" % (TEXTS[finding.what](finding), where)
+    return "%s, at %s" % (TEXTS[finding.kind](finding), where)
 
 
 def access_text(finding: InputFinding) -> str:
     """Returns what an access does."""
-    usual = " or ".join(finding.usual[:MOST_SHOWN]) or "nothing"
+    usual = " or ".join(finding.usual[:MAX_NAMES]) or "nothing"
     if finding.place is FAULT:
-        return "%s traps at an address that the host chooses" % finding.what.value
+        return "%s traps at an address that the host chooses" % finding.kind.value
     if finding.is_walk:
-        return "%s moves over the end of %s into %s" % (finding.what.value, usual, finding.place.name)
-    return "%s reaches %s, where the run reaches %s" % (finding.what.value, finding.place.name, usual)
+        return "%s moves over the end of %s into %s" % (finding.kind.value, usual, finding.place.name)
+    return "%s reaches %s, where the run reaches %s" % (finding.kind.value, finding.place.name, usual)
 
 
 TEXTS = {
-    What.LOAD: access_text, What.STORE: access_text,
-    What.CALL: lambda it: "call to %s, an address that the host chooses" % it.place.name,
-    What.RETURN: lambda it: "return to %08x, not to its caller" % it.address,
-    What.FAULT: lambda it: "the enclave traps: %s" % it.note,
-    What.STUCK: lambda it: "the enclave does not return",
-    What.SECRET: lambda it: it.note, What.CHECK: lambda it: it.note, What.REPLAY: lambda it: it.note}
+    FindingKind.LOAD: access_text, FindingKind.STORE: access_text,
+    FindingKind.CALL: lambda it: "call to %s, an address that the host chooses" % it.place.name,
+    FindingKind.RETURN: lambda it: "return to %08x, not to its caller" % it.address,
+    FindingKind.FAULT: lambda it: "the enclave traps: %s" % it.note,
+    FindingKind.STUCK: lambda it: "the enclave does not return",
+    FindingKind.SECRET: lambda it: it.note, FindingKind.CHECK: lambda it: it.note, FindingKind.REPLAY: lambda it: it.note}
 
 
 def details_of(search: InputSearch, group: Group) -> list[str]:
@@ -276,8 +273,8 @@ def details_of(search: InputSearch, group: Group) -> list[str]:
     caller = search.tracer.contexts.calls[finding.context] if finding.context else 0
     if caller:
         lines.append("  called from %08x  %s" % (caller, search.symbols.line(caller) or search.symbols.name(caller) or ""))
-    if finding.what in (What.LOAD, What.STORE):
-        for other in group[:MOST_SHOWN]:
+    if finding.kind in (FindingKind.LOAD, FindingKind.STORE):
+        for other in group[:MAX_NAMES]:
             lines.append("  %08x  %s" % (other.address, other.place.name if other.place is not FAULT else "traps, " + other.note))
     changes = ["  input  " + change_text(change) for change in finding.trace.changes]
     return [line.rstrip() for line in lines] + (changes or ["  input  none: the run itself"])
@@ -285,7 +282,8 @@ def details_of(search: InputSearch, group: Group) -> list[str]:
 
 def change_text(change: Change) -> str:
     """Returns a change in words."""
-    value = change.value.hex() if len(change.value) <= LONGEST else "%s... (%d bytes)" % (change.value[:LONGEST].hex(), len(change.value))
+    is_short = len(change.value) <= MAX_PRINTED_BYTES
+    value = change.value.hex() if is_short else "%s... (%d bytes)" % (change.value[:MAX_PRINTED_BYTES].hex(), len(change.value))
     if len(change.value) in (1, 2, 4) and len(change.old) == 2 * len(change.value):
         new, old = (int.from_bytes(data, "little") for data in (change.value, bytes.fromhex(change.old)))
         return "%s = 0x%x instead of 0x%x, after step %d%s" % (change.name, new, old, change.step, place_of(change))
@@ -293,8 +291,7 @@ def change_text(change: Change) -> str:
 
 
 def with_old_values(run: Run, changes: Changes) -> Changes:
-    """Returns changes with the values that each of them replaces. A replaced value is that of a run with only the earlier changes, at the step of
-    the change."""
+    """Returns changes with the values that they replace: those of a run with only the earlier changes, at the step of each change."""
     found: list[Change] = []
     for change in changes:
         with run.replay() as replay:
@@ -317,8 +314,7 @@ def place_of(change: Change) -> str:
 
 
 def coverage_of(search: InputSearch) -> dict[str, int]:
-    """Counts what the search covered: inputs, runs with another value, branches that were executed and that went both ways, source lines, and
-    instructions."""
+    """Counts what was covered: inputs, runs with another value, executed branches and those that went both ways, source lines, instructions."""
     branches: dict[int, set[int]] = {}
     for pc, following in search.judge.seen.pairs:
         if search.tracer.code[pc].kind is Kind.BRANCH:
@@ -362,12 +358,12 @@ def inputs_text(search: InputSearch) -> list[str]:
     for own in search.inputs.values():
         where = "activation %d" % (own.visit + 1) if own.register else search.symbols.line(own.pc) or search.symbols.name(own.pc) or "%08x" % own.pc
         name = "a%d" % (own.register - 10) if own.register else search.values.name(own.at)
-        rows.setdefault(("again" if own.is_again else "", where), []).append(name)
+        rows.setdefault(("again" if own.is_loaded_again else "", where), []).append(name)
     found = []
     for (again, place), named in rows.items():
         several = list(dict.fromkeys(named))
-        more = ", ..." if len(several) > MOST_SHOWN else ""
-        found.append("input%s  %s  %s" % (" again" if again else "", ", ".join(several[:MOST_SHOWN]) + more, place))
+        more = ", ..." if len(several) > MAX_NAMES else ""
+        found.append("input%s  %s  %s" % (" again" if again else "", ", ".join(several[:MAX_NAMES]) + more, place))
     return found
 
 
@@ -375,7 +371,7 @@ def write_objects(search: InputSearch, groups: Sequence[Group], printer: Printer
     """Writes the findings and the coverage as objects."""
     for number, group in enumerate(groups, 1):
         finding = group[0]
-        printer.object("finding", number=number, what=finding.what.value, text=heading_of(search, group),
+        printer.object("finding", number=number, what=finding.kind.value, text=heading_of(search, group),
                        step=finding.trace.steps[finding.index], pc=hex8(finding.pc), symbol=search.symbols.name(finding.pc),
                        source=search.symbols.source(finding.pc),
                        reached=[{"address": hex8(other.address), "name": other.place.name} for other in group], usual=list(finding.usual),

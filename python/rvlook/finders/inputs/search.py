@@ -26,15 +26,15 @@ from rvlook.protocol.jobs import results_of
 from rvlook.protocol.run import Run
 from rvlook.protocol.symbols import Symbols
 
-MOST_CHANGES = 4  # of one run
-SHARE = 16  # runs from one trace before those of the next
-AHEAD = 2  # runs that are started before the one that is traced is complete
+MAX_CHANGES_PER_RUN = 4  # of one run
+BATCH_RUNS = 16  # runs from one trace before the runs from the next trace
+RUNS_AHEAD = 2  # runs that are started before the one that is traced is complete
 
 
 class TracerKnowledge(NamedTuple):
     """The knowledge of a tracer before some runs."""
     pcs: frozenset[int]  # of decoded instructions
-    contexts: int  # their number
+    contexts: int  # the number of call contexts
     frames: Mapping[int, int]  # sp of each context
 
 
@@ -47,12 +47,12 @@ class News(NamedTuple):
 
 
 def known_to(tracer: Tracer) -> TracerKnowledge:
-    """Returns what a tracer knows."""
+    """Returns the present knowledge of a tracer."""
     return TracerKnowledge(frozenset(tracer.code), len(tracer.contexts.parents), dict(tracer.contexts.frames))
 
 
 def news_since(tracer: Tracer, known: TracerKnowledge) -> News:
-    """Returns the knowledge that a tracer has gained."""
+    """Returns the knowledge that a tracer has gained since an earlier time."""
     contexts = tracer.contexts
     return News({pc: code for pc, code in tracer.code.items() if pc not in known.pcs},
                 list(zip(contexts.parents, contexts.calls, contexts.traps))[known.contexts:], new_frames(contexts, known), contexts.saved)
@@ -88,16 +88,16 @@ def has_taken_over(tracer: Tracer, known: TracerKnowledge, trace: Trace, news: N
     for caller, pc, is_trap in news.contexts:
         numbers.append(contexts.called(numbers[caller], pc, is_trap))
     frames = {numbers[it]: sp for it, sp in news.frames.items()}
-    visited = {numbers[it] for it in {*trace.contexts, trace.context}}
-    used = {*frames, *visited, *(contexts.parents[it] for it in visited)}
+    visited_contexts = {numbers[it] for it in {*trace.contexts, trace.context}}
+    used_contexts = {*frames, *visited_contexts, *(contexts.parents[it] for it in visited_contexts)}
     if any(it in known.frames for it in frames) or any(tracer.code.get(pc, code) != code for pc, code in news.code.items()) or \
-            any(it in used and frames.get(it) != sp for it, sp in new_frames(contexts, known).items()):
+            any(it in used_contexts and frames.get(it) != sp for it, sp in new_frames(contexts, known).items()):
         return False
     for pc, code in news.code.items():
         tracer.learn(pc, code)
     contexts.frames.update(frames)
-    for context, places in news.saved.items():
-        contexts.saved.setdefault(numbers[context], set()).update(places)
+    for context, saved_addresses in news.saved.items():
+        contexts.saved.setdefault(numbers[context], set()).update(saved_addresses)
     contexts.version += 1
     trace.contexts, trace.context = array("I", [numbers[it] for it in trace.contexts]), numbers[trace.context]
     tracer.runs += 1
@@ -132,17 +132,18 @@ class InputSearch:
         self.base_details: Details  # of the trace of the run itself
         self.root: Optional[Parent] = None  # the run itself, until all its values were tried
         self.parents: deque[Parent] = deque()  # the other traces from which the search goes on
-        self.tried: set[tuple[object, ...]] = set()  # the changes of all runs so far
+        self.tried_changes: set[tuple[object, ...]] = set()  # the changes of all runs so far
         self.inputs: dict[tuple[object, ...], Input] = {}  # by visit, address, width, kind and register
-        self.kept, self.jobs = 0, 1  # traces from which the search goes on, and processes
-        self.is_exhausted = False  # whether all values were tried
+        self.continued_traces, self.is_exhausted = 0, False  # number of traces from which the search went on; whether all values were tried
+        self.jobs = 1  # processes that trace the runs
 
     def start(self, secret_at: int | None, has_entry: bool) -> None:
         """Prepares the search: the objects that values point to, the secret first, and the runs from the run itself."""
         self.values.has_entry = has_entry
-        targets = self.objects.beginnings(set(self.base.pcs))
+        targets = self.objects.object_starts(set(self.base.pcs))
         base = self.objects.enclave.base
-        self.values.targets = list(dict.fromkeys([*([secret_at] if secret_at is not None else []), *targets[:3], base, *targets[3:]]))
+        secret_first = [] if secret_at is None else [secret_at]
+        self.values.target_addresses = list(dict.fromkeys([*secret_first, *targets[:3], base, *targets[3:]]))
         self.go_on_from(self.base)
 
     def go_on_from(self, trace: Trace) -> None:
@@ -150,20 +151,21 @@ class InputSearch:
         details = self.reader.read(trace)
         inputs = self.values.inputs(trace, details)
         for input_ in inputs:
-            self.inputs.setdefault((input_.visit, input_.at, input_.width, input_.is_again, input_.register), input_)
-        own = self.values.children(trace, details, inputs)
+            self.inputs.setdefault((input_.visit, input_.at, input_.width, input_.is_loaded_again, input_.register), input_)
+        children = self.values.children(trace, details, inputs)
         orders = reordered(trace, self.requests(trace, details), self.values.name) if trace is self.base else iter(())
-        parent = Parent(trace, details, inputs, chain(islice(own, SHARE), self.models(self, trace), islice(own, SHARE), orders, own))
+        runs = chain(islice(children, BATCH_RUNS), self.models(self, trace), islice(children, BATCH_RUNS), orders, children)
+        parent = Parent(trace, details, inputs, runs)
         if trace is self.base:
             self.root, self.base_details = parent, details
         else:
             self.parents.appendleft(parent)
-        self.kept += 1
+        self.continued_traces += 1
 
     def requests(self, trace: Trace, details: Details) -> list[HostRequest]:
         """Returns what each activation of a trace loads from the window. A byte that is loaded twice counts as it was first."""
         loads = [reversed(list(self.values.loads(trace, details, it))) for it in trace.visits]
-        contents = [{at + n: value for _, at, data in several for n, value in enumerate(data)} for several in loads]
+        contents = [{at + n: value for _, at, data in loads_of_visit for n, value in enumerate(data)} for loads_of_visit in loads]
         return [HostRequest(trace.steps[it.first] - 1, it.first, content) for it, content in zip(trace.visits, contents)]
 
     def go(self, runs: int, progress: Progress) -> None:
@@ -180,48 +182,49 @@ class InputSearch:
         parent: Parent | None = None
         while self.root or self.parents:
             parent = self.next_parent(parent)
-            several = self.share(parent, runs)
-            is_parallel = self.jobs > 1 and len(several) > 1
-            for trace in traces_of(self.tracer, parent.trace, several, self.jobs) if is_parallel else self.traced(parent.trace, several, started):
+            batch = self.next_batch(parent, runs)
+            is_parallel = self.jobs > 1 and len(batch) > 1
+            for trace in traces_of(self.tracer, parent.trace, batch, self.jobs) if is_parallel else self.traced(parent.trace, batch, started):
                 self.take(trace)
-                progress.show("%d of %d runs, %d reached something new, %d findings", self.tracer.runs, runs, self.kept, len(self.judge.findings))
+                progress.show("%d of %d runs, %d reached something new, %d findings", self.tracer.runs, runs, self.continued_traces,
+                              len(self.judge.findings))
             if parent is self.root:
-                self.root = parent if len(several) == SHARE else None
-            elif len(several) == SHARE:
+                self.root = parent if len(batch) == BATCH_RUNS else None
+            elif len(batch) == BATCH_RUNS:
                 self.parents.append(parent)
             if self.tracer.runs >= runs:
                 return
         self.is_exhausted = True
 
     def traced(self, parent: Trace, children: Sequence[Child], started: deque[Started]) -> Iterator[Trace]:
-        """Yields the traces of runs. Starts each run before the AHEAD runs before it are complete."""
-        for child in [*children, *[None] * AHEAD]:
+        """Yields the traces of runs. Starts each run before the RUNS_AHEAD runs before it are complete."""
+        for child in [*children, *[None] * RUNS_AHEAD]:
             if child is not None:
                 started.append(self.tracer.start(parent, child.index, child.changes))
-            if started and (child is None or len(started) > AHEAD):
+            if started and (child is None or len(started) > RUNS_AHEAD):
                 yield self.tracer.finish(started.popleft())
 
     def next_parent(self, last: Parent | None) -> Parent:
-        """Returns the trace of the next runs: every second time the run itself."""
+        """Returns the trace whose inputs the next runs change: every second time the run itself."""
         is_turn_of_root = last is not self.root or not self.parents
         return self.root if self.root and is_turn_of_root else self.parents.popleft()
 
-    def share(self, parent: Parent, runs: int) -> list[Child]:
-        """Returns the next runs from a trace that were not tried before: SHARE of them, unless fewer are left."""
-        found: list[Child] = []
+    def next_batch(self, parent: Parent, runs: int) -> list[Child]:
+        """Returns the next runs from a trace that were not tried before: BATCH_RUNS of them, unless fewer are left."""
+        batch: list[Child] = []
         for child in parent.children if self.tracer.runs < runs else ():
             key = tuple((it.step, it.at, it.register, it.value) for it in child.changes)
-            if key not in self.tried:
-                self.tried.add(key)
-                found.append(child)
-            if len(found) == min(SHARE, runs - self.tracer.runs):
+            if key not in self.tried_changes:
+                self.tried_changes.add(key)
+                batch.append(child)
+            if len(batch) == min(BATCH_RUNS, runs - self.tracer.runs):
                 break
-        return found
+        return batch
 
     def take(self, trace: Trace) -> None:
         """Takes the trace of a run, and goes on from it if it reached something new."""
         is_new = self.judge.take(trace)
         if self.rules:
             self.rules.take(trace)
-        if is_new and len(trace.changes) < MOST_CHANGES and len(trace):
+        if is_new and len(trace.changes) < MAX_CHANGES_PER_RUN and len(trace):
             self.go_on_from(trace)

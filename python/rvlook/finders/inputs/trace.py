@@ -13,8 +13,8 @@ from rvlook.finders.inputs.code import ENDS_BLOCK, Code, Kind
 from rvlook.protocol.replies import Enclave, poke_commands
 
 ROOT = 0  # the context outside every call
-LEFT = -1  # in place of a pc: the enclave does not run
-RESULT = b"reg 10\nreg 11\n"  # of the host, after an activation
+NO_PC = -1  # in place of a pc: the enclave does not run
+READ_RESULT = b"reg 10\nreg 11\n"  # reads a0 and a1 of the host, after an activation
 
 
 class Change(NamedTuple):
@@ -56,17 +56,17 @@ class Trace:
     addresses: array[int] = field(default_factory=lambda: array("I"))  # of each load and store; a1 of a call of the monitor
     values: array[int] = field(default_factory=lambda: array("I"))  # stored to the window; a6 of a call of the monitor
     contexts: array[int] = field(default_factory=lambda: array("I"))  # the number of the call context
-    traps: dict[int, tuple[int, int]] = field(default_factory=dict)  # the cause and the value of each trap, by index
+    traps: dict[int, tuple[int, int]] = field(default_factory=dict)  # the cause and the value of each trap, by index of the step
     visits: list[TraceVisit] = field(default_factory=list)  # the activations
     end: str = ""  # how the trace ends, see above; empty while it is not known
-    changed: list[int] = field(default_factory=list)  # the indices whose access differs from that of the parent
-    new: list[tuple[int, int]] = field(default_factory=list)  # ranges of indices of steps that the parent does not have
-    next_pc: int = 0  # after the last step
-    context: int = ROOT  # after the last step
-    total: int = 0  # steps of the run, also those of the host
+    changed_indices: list[int] = field(default_factory=list)  # the indices whose access differs from that of the parent
+    new_ranges: list[tuple[int, int]] = field(default_factory=list)  # ranges of indices of steps that the parent does not have
+    next_pc: int = 0  # the pc after the last step
+    context: int = ROOT  # the call context after the last step
+    total: int = 0  # number of steps of the run, also of steps of the host
     probes: Optional[Probes] = None  # made when another run first follows this trace
     parts: list[tuple[int, Trace]] = field(default_factory=list)  # steps that other traces have too, with the index of the first
-    unusual: Optional[tuple[int, list[int]]] = None  # of such steps: the indices that were unusual, after the version of the judge then
+    unusual: Optional[tuple[int, list[int]]] = None  # if it is a part: the version of the judge then, and the indices that were unusual
 
     def __len__(self) -> int:
         return len(self.pcs)
@@ -84,16 +84,16 @@ class Trace:
 
     def since(self, begin: int) -> Trace:
         """Returns the steps from an index on as a trace without changes."""
-        found = Trace()
-        found.append(self, begin, len(self), 0)
-        return found
+        trace = Trace()
+        trace.append(self, begin, len(self), 0)
+        return trace
 
     def cut(self, count: int) -> None:
         """Removes all steps but the first ones."""
-        kept = self.prefix(count, self.changes)
-        self.steps, self.pcs, self.addresses, self.values, self.contexts = kept.steps, kept.pcs, kept.addresses, kept.values, kept.contexts
-        self.traps, self.visits, self.context = kept.traps, kept.visits, kept.context
-        self.changed = [it for it in self.changed if it < count]
+        first = self.prefix(count, self.changes)
+        self.steps, self.pcs, self.addresses, self.values, self.contexts = first.steps, first.pcs, first.addresses, first.values, first.contexts
+        self.traps, self.visits, self.context = first.traps, first.visits, first.context
+        self.changed_indices = [it for it in self.changed_indices if it < count]
         self.parts = [(at, part) for at, part in self.parts if at + len(part) <= count]
 
     def append(self, parent: Trace, first: int, end: int, later: int) -> None:
@@ -117,12 +117,12 @@ class Trace:
     def differences(self) -> Iterator[tuple[Sequence[int], Optional[Trace]]]:
         """Yields the indices of the steps that differ from the steps of the parent, or that come right before such steps, in order. The steps of a
         part are a group of their own, with the part."""
-        single, begin = set(self.changed), 0  # `single`: indices of steps in no part
-        for first, end in self.new:
-            single.update(range(max(0, first - 1), end))
+        single_indices, begin = set(self.changed_indices), 0  # `single_indices`: of steps in no part
+        for first, end in self.new_ranges:
+            single_indices.update(range(max(0, first - 1), end))
         for at, part in self.parts:
-            single.difference_update(range(at, at + len(part)))
-        indices = [it for it in sorted(single) if it < len(self.pcs)]
+            single_indices.difference_update(range(at, at + len(part)))
+        indices = [it for it in sorted(single_indices) if it < len(self.pcs)]
         for at, part in self.parts:
             end = bisect_left(indices, at)
             yield indices[begin:end], None
@@ -135,42 +135,37 @@ class Trace:
         return max(n for n, it in enumerate(self.visits) if it.first <= index)
 
     def following(self, index: int) -> int:
-        """Returns the pc after a step of the enclave, or LEFT if the enclave leaves with it."""
+        """Returns the pc after a step of the enclave, or NO_PC if the enclave leaves with it."""
         for it in self.visits:
             if it.last == index:
-                return LEFT
+                return NO_PC
         return self.pcs[index + 1] if index + 1 < len(self.pcs) else self.next_pc
-
-    @property
-    def shown(self) -> list[tuple[str, int, int]]:
-        """Returns how each activation ended, with a0 and a1 of the host."""
-        return [(it.ended_by, *it.answer) for it in self.visits]
 
 
 def runs_of(content: Mapping[int, int]) -> Iterator[tuple[int, bytes]]:
     """Yields the address and the bytes of each range without gaps."""
-    places = sorted(content)
+    addresses = sorted(content)
     start = 0
-    for n in range(1, len(places) + 1):
-        if n == len(places) or places[n] != places[n - 1] + 1:
-            yield places[start], bytes(content[at] for at in places[start:n])
+    for n in range(1, len(addresses) + 1):
+        if n == len(addresses) or addresses[n] != addresses[n - 1] + 1:
+            yield addresses[start], bytes(content[it] for it in addresses[start:n])
             start = n
 
 
 class TraceProbe(NamedTuple):
     """Commands of a trace, and where they are sent."""
-    at: int  # index of a step of the trace
-    position: int  # steps of the run before the commands
+    step_index: int  # index of a step of the trace
+    position: int  # number of steps of the run before the commands
     question: bytes = b""  # commands that read registers; empty: only the pc is compared
-    is_end: bool = False  # whether the commands come after the step, not before it
+    is_after: bool = False  # whether the commands come after the step, not before it
 
 
 @dataclass
 class ProbeComparison:
     """The result of a comparison with a parent, by indices of the parent."""
     end: Optional[int] = None  # the first step that may differ; None if all steps are the same
-    changed: dict[int, list[int]] = field(default_factory=dict)  # the registers of each access that differs
-    answers: dict[int, tuple[int, int]] = field(default_factory=dict)  # a0 and a1 after each activation whose results differ
+    changed_accesses: dict[int, list[int]] = field(default_factory=dict)  # the registers of each access that differs
+    changed_answers: dict[int, tuple[int, int]] = field(default_factory=dict)  # a0 and a1 after each activation whose results differ
 
 
 class Probes:
@@ -178,14 +173,15 @@ class Probes:
 
     def __init__(self, probes: Sequence[TraceProbe]) -> None:
         self.probes = probes  # in the order of the run
-        self.indices = [it.at for it in probes]  # of their steps
+        self.indices = [it.step_index for it in probes]  # of their steps
         self.texts = [b""] * len(probes)  # the commands of each probe
-        self.lines, self.owners = [0], []  # `lines`: number of replies before each probe; `owners`: the probe of each reply
+        self.replies_before = [0]  # number of replies before those to each probe
+        self.probe_of_reply: list[int] = []  # the number of the probe of each reply
         for number, probe in enumerate(probes):
             count = probe.position - probes[number - 1].position if number else 0
             self.texts[number] = (b"step %d\n" % count if count else b"reg 0\n") + probe.question
-            self.owners += [number] * (1 + probe.question.count(b"\n"))
-            self.lines.append(len(self.owners))
+            self.probe_of_reply += [number] * (1 + probe.question.count(b"\n"))
+            self.replies_before.append(len(self.probe_of_reply))
         self.expected: list[bytes] = []  # the replies of the trace
 
     def text_from(self, first: int, position: int) -> tuple[bytes, int]:
@@ -195,51 +191,51 @@ class Probes:
         probe = self.probes[first]
         count = probe.position - position
         head = (b"step %d\n" % count if count else b"reg 0\n") + probe.question
-        return head + b"".join(self.texts[first + 1:]), len(self.owners) - self.lines[first]
+        return head + b"".join(self.texts[first + 1:]), len(self.probe_of_reply) - self.replies_before[first]
 
     def compare(self, first: int, replies: Sequence[bytes]) -> ProbeComparison:
         """Compares the replies to the probes from number `first` on with the replies of the trace."""
-        found = ProbeComparison()
-        start = self.lines[first]
+        comparison = ProbeComparison()
+        start = self.replies_before[first]
         expected = self.expected[start:]
         if first >= len(self.probes) or replies == expected:
-            return found
+            return comparison
         for number in compress(count(), map(ne, replies, expected)):
-            if not number and same_place(replies[number], expected[number]):
+            if not number and is_same_pc(replies[number], expected[number]):
                 continue
-            owner = self.owners[start + number]
-            probe, offset = self.probes[owner], start + number - self.lines[owner]
+            owner = self.probe_of_reply[start + number]
+            probe, offset = self.probes[owner], start + number - self.replies_before[owner]
             if not offset:
                 before = self.probes[owner - 1] if owner > first else None
-                found.end = probe.at if before is None else before.at + before.is_end
-                return found
-            place = number - offset + 1
-            values = [int(value[-8:], 16) for value in replies[place:place + probe.question.count(b"\n")]]
-            if probe.is_end:
-                found.answers[probe.at] = values[0], values[1]
+                comparison.end = probe.step_index if before is None else before.step_index + before.is_after
+                return comparison
+            first_value = number - offset + 1
+            values = [int(value[-8:], 16) for value in replies[first_value:first_value + probe.question.count(b"\n")]]
+            if probe.is_after:
+                comparison.changed_answers[probe.step_index] = values[0], values[1]
             else:
-                found.changed[probe.at] = values
-        return found
+                comparison.changed_accesses[probe.step_index] = values
+        return comparison
 
 
-def same_place(reply: bytes, line: bytes) -> bool:
+def is_same_pc(reply: bytes, expected: bytes) -> bool:
     """Returns whether a first reply, after another number of steps, is at the expected pc. A reply to `reg` has no pc: no step was done."""
-    at, other = reply.find(b" pc="), line.find(b" pc=")
-    return at < 0 or other < 0 or reply[at:at + 25] == line[other:other + 25]
+    start, expected_start = reply.find(b" pc="), expected.find(b" pc=")
+    return start < 0 or expected_start < 0 or reply[start:start + 25] == expected[expected_start:expected_start + 25]
 
 
 def each_probe(trace: Trace, code: Mapping[int, Code], enclave: Enclave) -> Iterator[TraceProbe]:
     """Yields the probes of a trace: before each access whose address may change, after each branch, and at the end of each activation."""
-    ends, was = {it.last for it in trace.visits}, Kind.BRANCH
-    for at, pc in enumerate(trace.pcs):
+    last_steps, previous_kind = {it.last for it in trace.visits}, Kind.BRANCH
+    for index, pc in enumerate(trace.pcs):
         instruction = code[pc]
-        question = question_of(instruction, enclave.shares(trace.addresses[at]))
-        if question or was in ENDS_BLOCK or at in trace.traps or at - 1 in trace.traps:
-            yield TraceProbe(at, trace.steps[at] - 1, question)
-        was = instruction.kind
-        if at in ends:
-            yield TraceProbe(at, trace.steps[at], RESULT, is_end=True)
-            was = Kind.BRANCH
+        question = question_of(instruction, enclave.shares(trace.addresses[index]))
+        if question or previous_kind in ENDS_BLOCK or index in trace.traps or index - 1 in trace.traps:
+            yield TraceProbe(index, trace.steps[index] - 1, question)
+        previous_kind = instruction.kind
+        if index in last_steps:
+            yield TraceProbe(index, trace.steps[index], READ_RESULT, is_after=True)
+            previous_kind = Kind.BRANCH
 
 
 def question_of(code: Code, is_window: bool) -> bytes:

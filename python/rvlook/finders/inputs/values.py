@@ -19,17 +19,18 @@ from rvlook.finders.inputs.trace import Change, Changes, Trace, TraceVisit, runs
 from rvlook.finders.inputs.tracer import Tracer, advances
 from rvlook.protocol.memory_map import RAM_BASE
 
-SOURCES_BACK, DEEPEST = 64, 4  # steps that are searched, and instructions that are followed, back to where a register comes from
+MAX_SOURCE_STEPS, MAX_SOURCE_DEPTH = 64, 4  # steps that are searched, and instructions that are followed, back to where a register comes from
 WORD = 4  # bytes
-AHEAD = 400  # steps after a load in which branches and accesses are considered
-MOST_VALUES, MOST_ACCESSES, MOST_OBJECTS = 64, 6, 6  # of an input; whose addresses an input may move; objects that values point to
-MOST_WORDS = 4  # of the words of a buffer
-MOST_CONSTANTS = 12
-PER_PART = 3
+STEPS_AHEAD = 400  # steps after a load in which branches and accesses are considered
+MAX_VALUES, MAX_MOVED_ACCESSES, MAX_TARGET_OBJECTS = 64, 6, 6  # for each input: values, accesses that it may move, objects that values point to
+MAX_FIRST_WORDS = 4  # words at the start of a buffer that are inputs
+MAX_CONSTANTS = 12  # of instructions after a load
+NEAR = 1 << 12  # the distance of operands that an input may make equal is smaller
+VALUES_PER_PART = 3  # values of other inputs for each value of a part of a buffer
 IMMEDIATE = re.compile(r"(?:lui|addi|xori|slti|sltiu) x(\d+), (?:x(\d+), )?(-?(?:0x)?[0-9a-f]+)\Z")
 FILLS = ((0x41, 20), (0x41, 40), (0x41, 512), (0xFF, 512), (0x00, 512))  # values, and the most bytes that are filled with them
-MASK = 0xFFFFFFFF
-MOST_ORDERS = 48  # runs with requests in another order
+WORD_MASK = 0xFFFFFFFF
+MAX_ORDERS = 48  # runs with requests in another order
 Content = Mapping[int, int]  # bytes by address
 
 
@@ -45,13 +46,13 @@ class DetailReader:
 
     def __init__(self, tracer: Tracer, objects: Objects, fields: WindowFields) -> None:
         self.tracer, self.objects, self.fields = tracer, objects, fields  # `fields`: names of the fields of the window
-        self.functions: dict[int, list[tuple[int, object]]] = {}  # by address: number and members of each parameter
+        self.parameters_of: dict[int, list[tuple[int, object]]] = {}  # by address: number and members of each parameter
         for parameter in objects.parameters:
-            self.functions.setdefault(parameter.function, []).append((parameter.number, parameter.members))
+            self.parameters_of.setdefault(parameter.function, []).append((parameter.number, parameter.members))
 
     def read(self, trace: Trace) -> Details:
         """Returns the details of a trace. Adds the fields of the window that its calls show."""
-        questions = list(self.questions(trace))
+        questions = list(self.detail_questions(trace))
         with self.tracer.with_changes(trace.changes).replay() as replay:
             text, count = [], 0
             steps = advances(replay, [trace.steps[index] - 1 for index, _ in questions], has_next=True)
@@ -59,40 +60,40 @@ class DetailReader:
                 text += [step, lines]
                 count += step.count(b"\n") + lines.count(b"\n")
             replies = [it for it in replay.bench.block(b"".join(text), count).split(b"\n") if it[:1] in (b"x", b"8") or it[8:9] == b":"]
-        return self.details(trace, questions, replies)
+        return self.decoded_details(trace, questions, replies)
 
-    def questions(self, trace: Trace) -> Iterator[tuple[int, bytes]]:
+    def detail_questions(self, trace: Trace) -> Iterator[tuple[int, bytes]]:
         """Yields the steps that need more, with the commands to read it."""
         for index in range(len(trace)):
             code, pc = self.tracer.code[trace.pcs[index]], trace.pcs[index]
-            if pc in self.functions:
-                yield index, b"".join(b"reg %d\n" % (A0 + number) for number, _ in self.functions[pc])
+            if pc in self.parameters_of:
+                yield index, b"".join(b"reg %d\n" % (A0 + number) for number, _ in self.parameters_of[pc])
             if code.kind is Kind.BRANCH:
                 yield index, b"reg %d\nreg %d\n" % code.sources
             elif code.kind is Kind.LOAD and self.objects.enclave.shares(trace.addresses[index]) and index not in trace.traps:
                 yield index, b"mem %x %d\n" % (trace.addresses[index], code.width)
 
-    def details(self, trace: Trace, questions: list[tuple[int, bytes]], replies: list[bytes]) -> Details:
+    def decoded_details(self, trace: Trace, questions: list[tuple[int, bytes]], replies: list[bytes]) -> Details:
         """Decodes the replies."""
-        found, values = Details(), iter(replies)
+        details, values = Details(), iter(replies)
         for index, lines in questions:
             if lines.startswith(b"mem"):
-                found.loaded[index] = bytes.fromhex(next(values).split(b":")[1].decode())
+                details.loaded[index] = bytes.fromhex(next(values).split(b":")[1].decode())
                 continue
             numbers = [int(next(values)[-8:], 16) for _ in range(lines.count(b"\n"))]
             if self.tracer.code[trace.pcs[index]].kind is Kind.BRANCH and lines == b"reg %d\nreg %d\n" % self.tracer.code[trace.pcs[index]].sources:
-                found.operands[index] = numbers[0], numbers[1]
+                details.operands[index] = numbers[0], numbers[1]
             else:
-                for (_, members), at in zip(self.functions[trace.pcs[index]], numbers):
-                    if self.objects.enclave.shares(at):
-                        self.fields.add(at, members)  # type: ignore[arg-type]
-        return found
+                for (_, members), pointer in zip(self.parameters_of[trace.pcs[index]], numbers):
+                    if self.objects.enclave.shares(pointer):
+                        self.fields.add(pointer, members)  # type: ignore[arg-type]
+        return details
 
     def is_private(self, trace: Trace, index: int, register: int, depth: int = 0) -> bool:
         """Returns whether the value of a register before a step comes from memory of the region, so that the host does not know it."""
-        if not register or depth > DEEPEST:
+        if not register or depth > MAX_SOURCE_DEPTH:
             return False
-        for at in range(index - 1, max(-1, index - SOURCES_BACK), -1):
+        for at in range(index - 1, max(-1, index - MAX_SOURCE_STEPS), -1):
             code: Code = self.tracer.code[trace.pcs[at]]
             if code.writes != register:
                 continue
@@ -111,11 +112,11 @@ class Input:
     step: int  # number of the step of the run after which they are changed
     at: int  # address; 0 for a register
     value: bytes  # without a change
-    is_again: bool = False  # whether the enclave has loaded them before
+    is_loaded_again: bool = False  # whether the enclave has loaded them before
     register: int = 0  # its number; 0 for memory
     pc: int = 0  # of the load
-    is_first: bool = False  # of those that the instruction loads in the activation
-    is_part: bool = False  # of a buffer
+    is_first: bool = False  # whether it is the first that the instruction loads in the activation
+    is_part: bool = False  # whether it is a part of a buffer
 
     @property
     def width(self) -> int:
@@ -141,87 +142,90 @@ class Values:
     def __init__(self, tracer: Tracer, objects: Objects, fields: WindowFields, reader: DetailReader, seed: int) -> None:
         # `rng` draws the random values
         self.tracer, self.objects, self.fields, self.reader, self.rng = tracer, objects, fields, reader, random.Random(seed)
-        self.targets: list[int] = []  # addresses of objects, which values point to
+        self.target_addresses: list[int] = []  # addresses of objects, which values point to
         self.has_entry = False  # whether the registers at the entry are inputs
 
     # ---- inputs
 
     def inputs(self, trace: Trace, details: Details) -> list[Input]:
         """Returns the inputs of a trace, in the order of their steps."""
-        found = [it for number, visit in enumerate(trace.visits) for it in self.of_visit(trace, details, number, visit)]
+        found = [it for number, visit in enumerate(trace.visits) for it in self.visit_inputs(trace, details, number, visit)]
         return sorted(found, key=lambda it: (it.index, it.at, it.width, it.register))
 
     def loads(self, trace: Trace, details: Details, visit: TraceVisit) -> Iterator[tuple[int, int, bytes]]:
-        """Yields the index, the address and the bytes of each load of an activation from the window. Leaves out loads of bytes that the activation
-        has stored."""
-        own: set[int] = set()
-        for index in range(visit.first, (len(trace) - 1 if visit.last is None else visit.last) + 1):
+        """Yields index, address and bytes of each load of an activation from the window, without bytes that the activation has stored."""
+        stored_addresses: set[int] = set()
+        last = len(trace) - 1 if visit.last is None else visit.last
+        for index in range(visit.first, last + 1):
             at, code = trace.addresses[index], self.tracer.code[trace.pcs[index]]
             if not code.is_access or code.kind is Kind.ECALL or not self.objects.enclave.shares(at):
                 continue
             places = range(at, at + code.width)
             if code.kind is Kind.STORE:
-                own.update(places)
-            elif own.isdisjoint(places) and index in details.loaded:
+                stored_addresses.update(places)
+            elif stored_addresses.isdisjoint(places) and index in details.loaded:
                 yield index, at, details.loaded[index]
 
-    def of_visit(self, trace: Trace, details: Details, number: int, visit: TraceVisit) -> Iterator[Input]:
+    def visit_inputs(self, trace: Trace, details: Details, number: int, visit: TraceVisit) -> Iterator[Input]:
         """Yields the inputs of one activation."""
-        first: dict[int, int] = {}  # the index of the first load of each byte
+        first_loads: dict[int, int] = {}  # the index of the first load of each byte
         groups: dict[tuple[int, bool], list[Input]] = defaultdict(list)
         content: dict[int, int] = {}
         entry = trace.steps[visit.first] - 1
         for index, at, data in self.loads(trace, details, visit):
-            is_again = any(place in first for place in range(at, at + len(data)))
-            for place, value in enumerate(data, at):
-                first.setdefault(place, index)
-                content.setdefault(place, value)
-            start = index if is_again else min(first[place] for place in range(at, at + len(data)))
+            is_again = any(byte_address in first_loads for byte_address in range(at, at + len(data)))
+            for byte_address, value in enumerate(data, at):
+                first_loads.setdefault(byte_address, index)
+                content.setdefault(byte_address, value)
+            start = index if is_again else min(first_loads[byte_address] for byte_address in range(at, at + len(data)))
             groups[trace.pcs[index], is_again].append(
-                Input(number, index, start, trace.steps[index] - 1 if is_again else entry, at, data, is_again, 0, trace.pcs[index]))
-        for (_, is_again), several in groups.items():
-            is_part = len({it.at for it in several}) > 1
-            yield from (replace(it, is_first=n == 0, is_part=is_part) for n, it in enumerate(chosen(several)))
-        for word in words_of(content, first, number, entry):
+                Input(number, index, start, trace.steps[index] - 1 if is_again else entry, at, data, is_again, register=0, pc=trace.pcs[index]))
+        for inputs in groups.values():
+            is_part = len({it.at for it in inputs}) > 1
+            yield from (replace(it, is_first=n == 0, is_part=is_part) for n, it in enumerate(sample_of(inputs)))
+        for word in word_inputs(content, first_loads, number, entry):
             yield replace(word, pc=trace.pcs[word.index], is_part=True)
-        yield from self.registers(trace, number, visit)
+        yield from self.register_inputs(trace, number, visit)
 
-    def registers(self, trace: Trace, number: int, visit: TraceVisit) -> Iterator[Input]:
+    def register_inputs(self, trace: Trace, number: int, visit: TraceVisit) -> Iterator[Input]:
         """With --entry, yields a0 after the resume of a stop, and a0 to a3 at the entry. The monitor sets them, so no host can choose them."""
         if not self.has_entry:
             return
         entry, before = trace.steps[visit.first] - 1, trace.visits[number - 1].ended_by if number else ""
         if before == "stop":
-            yield Input(number, visit.first, visit.first, entry, 0, bytes(WORD), is_again=False, register=A0)
+            yield Input(number, visit.first, visit.first, entry, 0, bytes(WORD), is_loaded_again=False, register=A0)
         elif before != "timer":
-            own = self.objects.enclave
-            for register, value in enumerate((own.base, own.size, own.window, own.window_size), A0):
-                yield Input(number, visit.first, visit.first, entry, 0, value.to_bytes(WORD, "little"), is_again=False, register=register)
+            enclave = self.objects.enclave
+            for register, value in enumerate((enclave.base, enclave.size, enclave.window, enclave.window_size), A0):
+                yield Input(number, visit.first, visit.first, entry, 0, value.to_bytes(WORD, "little"), is_loaded_again=False, register=register)
 
     # ---- values
 
     def children(self, trace: Trace, details: Details, inputs: list[Input]) -> Iterator[Child]:
         """Yields the trace with one more input changed. Inputs that an earlier activation loads in the same way come last."""
-        known: set[tuple[int, bytes, bool]] = set()
-        parts: tuple[list[Input], list[Input]] = ([], [])
-        for own in inputs:
-            key = own.pc + own.at, own.value, own.is_again
-            parts[key in known].append(own)
-            known.add(key)
-        for part in parts:
-            yield from self.round_robin(trace, details, part)
+        known_keys: set[tuple[int, bytes, bool]] = set()
+        new_inputs: list[Input] = []
+        repeated_inputs: list[Input] = []
+        for input_ in inputs:
+            key = input_.pc + input_.at, input_.value, input_.is_loaded_again
+            (repeated_inputs if key in known_keys else new_inputs).append(input_)
+            known_keys.add(key)
+        yield from self.round_robin(trace, details, new_inputs)
+        yield from self.round_robin(trace, details, repeated_inputs)
 
     def round_robin(self, trace: Trace, details: Details, inputs: list[Input]) -> Iterator[Child]:
-        """Yields the first value of each input, then the second of each, and so on. From the third value on, other inputs get PER_PART values for
-        each value of a part of a buffer: branches and addresses depend on other inputs more often."""
-        every = [(it, list(self.values(trace, details, it))) for it in inputs]
-        for turn in range(PER_PART * max((len(values) for _, values in every), default=0)):
-            for own, values in every:
-                number, is_turn = (1 + turn // PER_PART, turn % PER_PART == 0) if own.is_part and turn > 1 else (turn, True)
+        """Yields the first value of each input, then the second of each, and so on. From the third value on, other inputs get VALUES_PER_PART values
+        for each value of a part of a buffer: branches and addresses depend on other inputs more often."""
+        values_of_inputs = [(it, list(self.values(trace, details, it))) for it in inputs]
+        for turn in range(VALUES_PER_PART * max((len(values) for _, values in values_of_inputs), default=0)):
+            for input_, values in values_of_inputs:
+                number, is_turn = turn, True
+                if input_.is_part and turn > 1:
+                    number, is_turn = 1 + turn // VALUES_PER_PART, turn % VALUES_PER_PART == 0
                 if number < len(values) and is_turn:
-                    yield self.child(trace, own, values[number])
-                if turn == 1 and own.is_first:
-                    yield from self.fills(trace, own)
+                    yield self.child(trace, input_, values[number])
+                if turn == 1 and input_.is_first:
+                    yield from self.filled_children(trace, input_)
 
     def child(self, trace: Trace, input_: Input, value: bytes) -> Child:
         """Returns a trace with one more input changed."""
@@ -233,85 +237,87 @@ class Values:
         """Returns the name of a field of the window, a symbol or the address."""
         return self.fields.name(address) or "%08x" % address
 
-    def fills(self, trace: Trace, input_: Input) -> Iterator[Child]:
+    def filled_children(self, trace: Trace, input_: Input) -> Iterator[Child]:
         """Yields the trace with the bytes from an input on filled."""
-        for value, most in FILLS:
-            count = min(most, self.objects.enclave.window + self.objects.enclave.window_size - input_.at)
-            name = self.name(input_.at)
-            change = Change(input_.step, input_.at, bytes([value]) * count, 0, "%s and the following bytes" % name, input_.value.hex())
-            yield Child(with_change(trace.changes, change), input_.start if input_.is_again else min(input_.start, trace.visits[input_.visit].first))
+        for value, max_count in FILLS:
+            count = min(max_count, self.objects.enclave.window + self.objects.enclave.window_size - input_.at)
+            name = "%s and the following bytes" % self.name(input_.at)
+            change = Change(input_.step, input_.at, bytes([value]) * count, 0, name, input_.value.hex())
+            start = input_.start if input_.is_loaded_again else min(input_.start, trace.visits[input_.visit].first)
+            yield Child(with_change(trace.changes, change), start)
 
     def values(self, trace: Trace, details: Details, input_: Input) -> Iterator[bytes]:
-        """Yields the values to try for an input, without its own."""
-        most, own = (1 << 8 * input_.width) - 1, input_.number
-        wrapping = [own + (1 << 30)] if input_.width == WORD else []  # a product with a size of 4 or more wraps around to the same value
-        compared = list(self.compared(trace, details, input_))
-        wanted = [most, 0, *compared[:1], own + 0x100, *wrapping, *compared[1:], *self.constants(trace, input_), own + 1, own - 1, 1]
-        wanted += [most >> 1, (most >> 1) + 1]
+        """Yields the values to try for an input, without its present value."""
+        max_value, number = (1 << 8 * input_.width) - 1, input_.number
+        wrapping = [number + (1 << 30)] if input_.width == WORD else []  # a product with a size of 4 or more wraps around to the same value
+        compared = list(self.branch_values(trace, details, input_))
+        candidates = [max_value, 0, *compared[:1], number + 0x100, *wrapping, *compared[1:], *self.constants(trace, input_)]
+        candidates += [number + 1, number - 1, 1, max_value >> 1, (max_value >> 1) + 1]
         if input_.width == WORD:
             enclave = self.objects.enclave
-            wanted += [*self.targets[:MOST_OBJECTS], *self.relative(trace, input_), own + 0x10000, own + (1 << 31), 0xFF, 0x100]
-            wanted += [enclave.window + enclave.window_size - WORD, enclave.base, RAM_BASE + self.rng.getrandbits(16)]
-        wanted += [self.rng.getrandbits(8 * input_.width), 2, 3, 4]
-        found = list(dict.fromkeys(value & most for value in wanted if value & most != own))
-        return iter([value.to_bytes(input_.width, "little") for value in found[:MOST_VALUES]])
+            candidates += [*self.target_addresses[:MAX_TARGET_OBJECTS], *self.moving_values(trace, input_), number + 0x10000, number + (1 << 31)]
+            candidates += [0xFF, 0x100, enclave.window + enclave.window_size - WORD, enclave.base, RAM_BASE + self.rng.getrandbits(16)]
+        candidates += [self.rng.getrandbits(8 * input_.width), 2, 3, 4]
+        found = list(dict.fromkeys(value & max_value for value in candidates if value & max_value != number))
+        return iter([value.to_bytes(input_.width, "little") for value in found[:MAX_VALUES]])
 
-    def compared(self, trace: Trace, details: Details, input_: Input) -> Iterator[int]:
+    def branch_values(self, trace: Trace, details: Details, input_: Input) -> Iterator[int]:
         """Yields values at which branches after the load go another way. If one operand is the input, it becomes the other operand. If an operand
         is near the other one, the input moves it there."""
-        own = input_.number
-        for index in range(input_.start, min(len(trace), input_.start + AHEAD)):
+        number = input_.number
+        for index in range(input_.start, min(len(trace), input_.start + STEPS_AHEAD)):
             pair = details.operands.get(index)
-            if pair is None or pair[0] == pair[1] and own not in pair:
+            if pair is None or pair[0] == pair[1] and number not in pair:
                 continue
             sources = self.tracer.code[trace.pcs[index]].sources
             if any(self.reader.is_private(trace, index, register) for register in sources):
                 continue
-            apart = pair[1] - pair[0]
-            if own in pair:
-                yield from (pair[own == pair[0]] + n for n in (0, 1, -1))
-            elif abs(apart) < 1 << 12:
-                yield from (own + sign * apart + n for sign in (1, -1) for n in (0, 1, -1))
+            distance = pair[1] - pair[0]
+            if number in pair:
+                other = pair[1] if number == pair[0] else pair[0]
+                yield from (other + n for n in (0, 1, -1))
+            elif abs(distance) < NEAR:
+                yield from (number + sign * distance + n for sign in (1, -1) for n in (0, 1, -1))
 
     def constants(self, trace: Trace, input_: Input) -> list[int]:
         """Returns the constants of the instructions after the load, without addresses."""
-        known, found = {0: 0}, []
-        for index in range(input_.start, min(len(trace), input_.start + AHEAD // 2)):
+        known_registers, found = {0: 0}, []
+        for index in range(input_.start, min(len(trace), input_.start + STEPS_AHEAD // 2)):
             code = self.tracer.code[trace.pcs[index]]
             match = IMMEDIATE.match(code.text)
-            base = known.get(int(match[2] or 0)) if match else None
+            base = known_registers.get(int(match[2] or 0)) if match else None
             if match and base is not None:
                 value = int(match[3], 0) << 12 if code.text.startswith("lui") else base + int(match[3], 0)
-                known[int(match[1])] = value & MASK
-                found.append(value & MASK)
+                known_registers[int(match[1])] = value & WORD_MASK
+                found.append(value & WORD_MASK)
             elif code.writes:
-                known.pop(code.writes, None)
+                known_registers.pop(code.writes, None)
             if match and not code.text.startswith(("lui", "addi")):
-                found.append(int(match[3], 0) & MASK)
-        return list(dict.fromkeys(value for value in found if value < RAM_BASE))[:MOST_CONSTANTS]
+                found.append(int(match[3], 0) & WORD_MASK)
+        return list(dict.fromkeys(value for value in found if value < RAM_BASE))[:MAX_CONSTANTS]
 
-    def relative(self, trace: Trace, input_: Input) -> Iterator[int]:
+    def moving_values(self, trace: Trace, input_: Input) -> Iterator[int]:
         """Yields values that move an access after the load to an object, if its address moves with the input, by bytes or by words."""
         accesses: dict[int, int] = {}
-        for index in range(input_.start, min(len(trace), input_.start + AHEAD)):
+        for index in range(input_.start, min(len(trace), input_.start + STEPS_AHEAD)):
             code = self.tracer.code[trace.pcs[index]]
             if code.kind in (Kind.LOAD, Kind.STORE) and not code.is_sp_relative:
                 accesses.setdefault(trace.pcs[index], trace.addresses[index])
-        for address in list(accesses.values())[:MOST_ACCESSES]:
-            for target in self.targets[:2]:
+        for address in list(accesses.values())[:MAX_MOVED_ACCESSES]:
+            for target in self.target_addresses[:2]:
                 yield input_.number + target - address
                 yield input_.number + ((target - address) >> 2)
 
 
-def chosen(several: list[Input]) -> Iterable[Input]:
+def sample_of(inputs: list[Input]) -> Iterable[Input]:
     """Returns the first two loads of an instruction, the middle one and the last one."""
-    return [several[n] for n in sorted({0, min(1, len(several) - 1), len(several) // 2, len(several) - 1})]
+    return [inputs[n] for n in sorted({0, min(1, len(inputs) - 1), len(inputs) // 2, len(inputs) - 1})]
 
 
-def words_of(content: dict[int, int], first: dict[int, int], visit: int, entry: int) -> Iterator[Input]:
+def word_inputs(content: dict[int, int], first_loads: dict[int, int], visit: int, entry: int) -> Iterator[Input]:
     """Yields aligned words all of whose bytes are loaded one by one: the first ones of each buffer, and the last."""
     starts = [at for at in sorted(content) if at % WORD == 0 and all(at + n in content for n in range(WORD))
-              and len({first[at + n] for n in range(WORD)}) == WORD]
+              and len({first_loads[at + n] for n in range(WORD)}) == WORD]
     buffers: list[list[int]] = []
     for at in starts:
         if buffers and buffers[-1][-1] + WORD == at:
@@ -319,8 +325,8 @@ def words_of(content: dict[int, int], first: dict[int, int], visit: int, entry: 
         else:
             buffers.append([at])
     for buffer in buffers:
-        for at in dict.fromkeys(buffer[:MOST_WORDS] + buffer[-1:]):
-            start = min(first[at + n] for n in range(WORD))
+        for at in dict.fromkeys(buffer[:MAX_FIRST_WORDS] + buffer[-1:]):
+            start = min(first_loads[at + n] for n in range(WORD))
             yield Input(visit, start, start, entry, at, bytes(content[at + n] for n in range(WORD)))
 
 
@@ -345,7 +351,7 @@ def reordered(trace: Trace, requests: Sequence[HostRequest], name: Callable[[int
     both = [(one, other) for pair in pairs for one, other in (pair, pair[::-1])]
     orders = chain((((one, other.content), (other, one.content)) for one, other in pairs), (((one, other.content),) for one, other in both),
                    (((one, part),) for one, other in both for part in halves(one, other)))
-    return (with_requests(trace, it, name) for it in islice(orders, MOST_ORDERS))
+    return (with_requests(trace, it, name) for it in islice(orders, MAX_ORDERS))
 
 
 def halves(one: HostRequest, other: HostRequest) -> Iterator[Content]:
@@ -356,10 +362,10 @@ def halves(one: HostRequest, other: HostRequest) -> Iterator[Content]:
             yield {at: value for at, value in other.content.items() if at // WORD in part}
 
 
-def with_requests(trace: Trace, given: Sequence[tuple[HostRequest, Content]], name: Callable[[int], str]) -> Child:
+def with_requests(trace: Trace, new_contents: Sequence[tuple[HostRequest, Content]], name: Callable[[int], str]) -> Child:
     """Returns a trace in which activations get other bytes."""
     changes = trace.changes
-    for request, content in given:
+    for request, content in new_contents:
         for at, data in runs_of(content):
-            changes = with_change(changes, Change(request.step, at, data, 0, name(at)))
-    return Child(changes, min(request.first for request, _ in given))
+            changes = with_change(changes, Change(request.step, at, data, register=0, name=name(at)))
+    return Child(changes, min(request.first for request, _ in new_contents))

@@ -25,7 +25,7 @@ class HartEnd(NamedTuple):
     pc: Optional[int]  # None unless the hart ended or halts
 
 
-class Found(NamedTuple):
+class OutcomeState(NamedTuple):
     """A state with a set of values, and the schedule that leads to it."""
     vertex: Vertex  # of the component
     state: CachedState  # the state, at the vertex or after it
@@ -59,7 +59,7 @@ class FinalStates:
 
     def __init__(self, search: ScheduleSearch, outcome: Sequence[Observed]) -> None:
         self.search, self.machine, self.outcome, self.orders = search, search.machine, outcome, 0  # `orders`: number of schedules
-        self.found: dict[tuple[tuple[HartEnd, ...], tuple[Value, ...]], FinalState] = {}  # by their reports
+        self.by_report: dict[tuple[tuple[HartEnd, ...], tuple[Value, ...]], FinalState] = {}  # by their reports
         self.are_hidden = self.is_cut = False  # values may be missing; the time limit was reached
         try:
             with search.limit.until(1 + GRACE, SLACK):
@@ -69,7 +69,7 @@ class FinalStates:
                         self.add(end)
         except OutOfTime:
             self.is_cut = True
-        self.ends = sorted(self.found.values(), key=lambda it: (it.node.cost, it.steps))  # the simplest first
+        self.ends = sorted(self.by_report.values(), key=lambda it: (it.node.cost, it.steps))  # the simplest first
         self.renumber()
 
     def renumber(self) -> None:
@@ -86,11 +86,11 @@ class FinalStates:
     def add(self, end: FinalState) -> None:
         """Adds a final state. Joins final states with equal reports, and keeps the simplest schedule."""
         key = end.harts, end.values
-        old = self.found.setdefault(key, end)
+        old = self.by_report.setdefault(key, end)
         if old is not end:
             best = min(old, end, key=lambda it: (it.node.cost, it.steps))
             best.orders = old.orders + end.orders
-            self.found[key] = best
+            self.by_report[key] = best
 
     def of_graph(self, graph: Graph) -> Iterator[FinalState]:
         """Yields the final states of one round of the search."""
@@ -101,22 +101,22 @@ class FinalStates:
         paths = paths_of(graph, parts, component_of)
         for index, vertices in enumerate(parts):
             part = Component(self.search, graph, vertices, component_of)
-            harts = part.ended()
+            harts = part.hart_ends()
             if harts:
                 self.orders += paths[index]
                 yield from self.of_component(part, harts, paths[index])
 
     def of_component(self, part: Component, harts: Sequence[str], orders: int) -> Iterator[FinalState]:
         """Yields the final states of a component: one for each set of values, or one if the values are not known."""
-        over = tuple(part.over(hart) if how == ENDED else HartEnd(how, None) for hart, how in enumerate(harts))
+        hart_ends = tuple(part.hart_end(hart) if how == ENDED else HartEnd(how, None) for hart, how in enumerate(harts))
         vertex = part.vertices[0]
-        found = {(): Found(vertex, part.graph.nodes[vertex].point.state)}  # type: dict[tuple[Value, ...], Found]
+        found = {(): OutcomeState(vertex, part.graph.nodes[vertex].point.state)}  # type: dict[tuple[Value, ...], OutcomeState]
         if NOT_SEARCHED not in harts and (UNFINISHED not in harts or ENDED in harts):
             found, is_hidden = part.values(self.outcome)
             self.are_hidden = self.are_hidden or is_hidden
-        goes_on = [hart for hart, how in enumerate(harts) if how in (WAITS, RUNS_ON)]
+        endless_harts = [hart for hart, how in enumerate(harts) if how in (WAITS, RUNS_ON)]
         for values, (vertex, state, tail) in found.items():
-            yield FinalState(over, values, part.graph.nodes[vertex], part.round(vertex, state, goes_on, tail), orders, state, tail)
+            yield FinalState(hart_ends, values, part.graph.nodes[vertex], part.round(vertex, state, endless_harts, tail), orders, state, tail)
 
 
 class Component:
@@ -125,7 +125,7 @@ class Component:
     def __init__(self, search: ScheduleSearch, graph: Graph, vertices: Iterable[Vertex], component_of: Mapping[Vertex, int]) -> None:
         self.search, self.machine, self.graph = search, search.machine, graph  # the vertices and edges are those of `graph`
         self.vertices = sorted((it for it in vertices if it in graph.nodes), key=lambda it: graph.nodes[it].cost)  # by cost
-        self.all = set(vertices)  # also vertices that were not visited
+        self.all_vertices = set(vertices)  # also vertices that were not visited
         self.moves = moves_inside(graph, vertices, component_of) if self.vertices else {}  # of each hart, within the component
         self.state = graph.nodes[self.vertices[0]].point.state if self.vertices else search.machine.start  # of the first vertex
 
@@ -133,91 +133,89 @@ class Component:
         """Returns the endless loop of a hart that no other hart can affect, or None."""
         return self.graph.loops.get((self.state._replace(steps=()), hart))
 
-    def ended(self) -> tuple[str, ...] | None:
+    def hart_ends(self) -> tuple[str, ...] | None:
         """Returns how each hart ended in this component; None if a hart would continue to another component."""
         if not self.vertices:
             return None
-        is_still = not any(move.changes for moves in self.moves.values() for move in moves)
+        is_still = not any(move.has_changes for moves in self.moves.values() for move in moves)
         count = range(self.machine.count)
-        is_still = is_still and not any(loop and loop.changes for loop in map(self.loop, count))
-        is_given_up = any((self.state, hart) in self.graph.alone for hart in count)
-        harts = [self.how(hart, is_still, is_given_up) for hart in count]
-        known = tuple(it for it in harts if it is not None)
-        return known if len(known) == len(harts) else None
+        is_still = is_still and not any(loop and loop.has_changes for loop in map(self.loop, count))
+        is_given_up = any((self.state, hart) in self.graph.unended_alone for hart in count)
+        harts = [self.how_ended(hart, is_still, is_given_up) for hart in count]
+        ended = tuple(it for it in harts if it is not None)
+        return ended if len(ended) == len(harts) else None
 
-    def how(self, hart: int, is_still: bool, is_given_up: bool) -> str | None:
+    def how_ended(self, hart: int, is_still: bool, is_given_up: bool) -> str | None:
         """Returns how a hart ended in this component, or None if the hart would continue to another component."""
-        state, graph, going = self.state, self.graph, WAITS if is_still else RUNS_ON
+        state, graph, endless = self.state, self.graph, WAITS if is_still else RUNS_ON
         if hart in self.moves:
-            return going if any(move.dependent.look and move.dependent.look.kind for move in self.moves[hart]) else ENDED
-        if (state, hart) in graph.alone:
+            return endless if any(move.dependent.look and move.dependent.look.kind for move in self.moves[hart]) else ENDED
+        if (state, hart) in graph.unended_alone:
             return UNFINISHED
         if graph.moves.get((state, hart, False), self) is None:
-            if (state, hart) in graph.unended:
+            if (state, hart) in graph.unended_in_move:
                 return UNFINISHED
             loop = self.loop(hart)
-            return going if loop and loop.accesses else ENDED
+            return endless if loop and loop.has_accesses else ENDED
         return NOT_SEARCHED if is_given_up else None
 
-    def over(self, hart: int) -> HartEnd:
+    def hart_end(self, hart: int) -> HartEnd:
         """Returns how and where a hart ended. The hart HALTS if it was expected to end elsewhere."""
         machine, nodes = self.machine, self.graph.nodes
         pc = min(machine.pc(nodes[it].point.state, hart) for it in self.vertices)
         if hart in self.moves:
-            pc = min(pc, *(work.pc for work in self.alone(hart)))
+            pc = min(pc, *(work.pc for work in self.run_alone(hart)))
         return HartEnd(HALTS if machine.ends and not machine.limit and pc not in machine.ends else ENDED, pc)
 
-    def alone(self, hart: int) -> Iterator[Work]:
-        """Runs a hart alone from the first state of the component until the hart returns to this state; yields it after each step. Raises
-        RvlookError if the hart does not return."""
+    def run_alone(self, hart: int) -> Iterator[Work]:
+        """Runs a hart alone from the component's first state back to it; yields it after each step. Raises RvlookError without a return."""
         work, loop = Work(self.machine, self.state, hart), self.loop(hart)
         start = full_state(work)
-        most = loop.length if loop and hart not in self.moves else sum(move.steps for move in self.moves[hart])
-        for _ in do_steps(self.machine, work, most, lambda: self.graph.nodes[self.vertices[0]].schedule() + [Segment(hart, work.done)]):
+        max_steps = loop.length if loop and hart not in self.moves else sum(move.steps for move in self.moves[hart])
+        for _ in do_steps(self.machine, work, max_steps, lambda: self.graph.nodes[self.vertices[0]].schedule() + [Segment(hart, work.done)]):
             yield work
             if full_state(work) == start:
                 return
         raise RvlookError("hart %d does not return to its state in the endless loop at %08x" % (hart, work.pc))
 
-    def values(self, outcome: Sequence[Observed]) -> tuple[dict[tuple[Value, ...], Found], bool]:
-        """Returns the sets of values that hold again and again, each with a vertex, the state and the schedule from the vertex to it; and
-        whether some may be missing."""
+    def values(self, outcome: Sequence[Observed]) -> tuple[dict[tuple[Value, ...], OutcomeState], bool]:
+        """Returns the recurring sets of values, each with a vertex, a state and the schedule between them; and whether some may be missing."""
         machine = self.machine
-        found: dict[tuple[Value, ...], Found] = {}
+        found: dict[tuple[Value, ...], OutcomeState] = {}
         for vertex in self.vertices:
             state = self.graph.nodes[vertex].point.state
-            found.setdefault(values_in(machine, outcome, state), Found(vertex, state))
+            found.setdefault(values_in(machine, outcome, state), OutcomeState(vertex, state))
         if self.search.is_outcome_visible:
             return found, False
         loops = [it for it in range(machine.count) if it not in self.moves and self.loop(it) and len(self.values_alone(it, outcome)) > 1]
-        going = [*self.moves, *loops]
-        if len(going) == 1:
-            for values, state_alone in self.values_alone(going[0], outcome).items():
+        moving_harts = [*self.moves, *loops]
+        if len(moving_harts) == 1:
+            for values, state_alone in self.values_alone(moving_harts[0], outcome).items():
                 found.setdefault(values, state_alone)
-        return found, len(going) > 1 and any(self.search.is_hidden(hart) for hart in going)
+        return found, len(moving_harts) > 1 and any(self.search.is_hidden(hart) for hart in moving_harts)
 
-    def values_alone(self, hart: int, outcome: Sequence[Observed]) -> dict[tuple[Value, ...], Found]:
+    def values_alone(self, hart: int, outcome: Sequence[Observed]) -> dict[tuple[Value, ...], OutcomeState]:
         """Returns the sets of values while a hart runs alone, as `values` does."""
         watched, first = self.search.outcome, self.vertices[0]
-        found: dict[tuple[Value, ...], Found] = {values_in(self.machine, outcome, self.state): Found(first, self.state)}
+        found: dict[tuple[Value, ...], OutcomeState] = {values_in(self.machine, outcome, self.state): OutcomeState(first, self.state)}
         if not watched.registers and not watched.addresses:
             return found  # all of it is shared, so each value has a node
-        last: object = None
-        for work in self.alone(hart):
-            now = work.digest, work.table, [work.registers[number] for of, number in watched.registers if of == hart]
-            if now != last:
-                state, last = work.kept(), now
-                found.setdefault(values_in(self.machine, outcome, state), Found(first, state, (Segment(hart, work.done),)))
+        previous: object = None
+        for work in self.run_alone(hart):
+            present = work.digest, work.table, [work.registers[number] for owner, number in watched.registers if owner == hart]
+            if present != previous:
+                state, previous = work.cached_state(), present
+                found.setdefault(values_in(self.machine, outcome, state), OutcomeState(first, state, (Segment(hart, work.done),)))
         return found
 
     def round(self, vertex: Vertex, state: CachedState, harts: Sequence[int], tail: Sequence[Segment]) -> tuple[Segment, ...]:
         """Returns the schedule from a state back to it in which each of these harts moves."""
         moving = [it for it in harts if it in self.moves]
         if len(moving) == 1 and tail:
-            return (Segment(moving[0], sum(1 for _ in self.alone(moving[0]))),)
+            return (Segment(moving[0], sum(1 for _ in self.run_alone(moving[0]))),)
         if not moving and tail:
-            return (Segment(tail[0].hart, sum(1 for _ in self.alone(tail[0].hart))),)
-        return tuple(schedule_of((hart, move, False) for hart, move in round_of(self.graph, vertex, moving, self.all)))
+            return (Segment(tail[0].hart, sum(1 for _ in self.run_alone(tail[0].hart))),)
+        return tuple(schedule_of((hart, move, False) for hart, move in round_of(self.graph, vertex, moving, self.all_vertices)))
 
 
 def values_in(machine: RaceMachine, outcome: Sequence[Observed], state: CachedState) -> tuple[Value, ...]:
@@ -259,11 +257,11 @@ def with_preemptions(graph: Graph, bound: int) -> Graph:
     waiting: list[Vertex] = [start]
     while waiting:
         vertex = waiting.pop()
-        index, came = vertex
+        index, preemptions = vertex
         if index in graph.nodes and vertex not in new.nodes:
             new.nodes[vertex] = graph.nodes[index]
-            new.edges[vertex] = [it._replace(target=(it.target, came + it.preemptions)) for it in graph.edges.get(index, ())
-                                 if came + it.preemptions <= bound]
+            new.edges[vertex] = [it._replace(target=(it.target, preemptions + it.preemptions)) for it in graph.edges.get(index, ())
+                                 if preemptions + it.preemptions <= bound]
             waiting += [it.target for it in new.edges[vertex]]
     return new
 

@@ -9,8 +9,8 @@ from rvlook.finders.races.machine import CachedState, Look, RaceMachine, Schedul
 
 class Loop(NamedTuple):
     """An endless loop of a hart that no other hart can affect."""
-    accesses: bool  # whether the hart loads or stores in it
-    changes: bool  # whether memory changes
+    has_accesses: bool  # whether the hart loads or stores in the loop
+    has_changes: bool  # whether memory changes in the loop
     length: int  # steps of one round
 
 
@@ -18,16 +18,16 @@ class LoopDetector:
     """Detects that a hart returns to an earlier state. Compares with single states at ever larger distances (Brent's algorithm)."""
 
     def __init__(self) -> None:
-        self.marked, self.count, self.next = 0, 0, 1  # calls of `length`: at the mark, so far, and at the next mark
-        self.mark: tuple[int, int, int, tuple[int, ...]] | None = None  # the state to compare with; None before the first
+        self.count_at_mark, self.count, self.next_mark = 0, 0, 1  # calls of `length`: at the mark, so far, and at the next mark
+        self.marked_state: tuple[int, int, int, tuple[int, ...]] | None = None  # the state to compare with; None before the first
 
     def length(self, work: Work) -> int:
         """Returns the number of steps of the loop, or 0 while no loop is detected. Must be called before each step."""
-        if self.mark and work.pc == self.mark[0] and state_of(work) == self.mark:
-            return self.count + 1 - self.marked
+        if self.marked_state and work.pc == self.marked_state[0] and state_of(work) == self.marked_state:
+            return self.count + 1 - self.count_at_mark
         self.count += 1
-        if self.count == self.next:
-            self.mark, self.marked, self.next = state_of(work), self.count, 2 * self.next
+        if self.count == self.next_mark:
+            self.marked_state, self.count_at_mark, self.next_mark = state_of(work), self.count, 2 * self.next_mark
         return 0
 
 
@@ -45,29 +45,29 @@ def do_steps(machine: RaceMachine, work: Work, count: int, schedule: Schedule) -
 
 
 def loop_of(machine: RaceMachine, work: Work, length: int, schedule: Schedule) -> tuple[Loop, tuple[int, int, int, tuple[int, ...]]]:
-    """Goes through a loop twice; returns what the hart does in it, and the state that represents the loop. This is the least by pc,
-    registers and the bytes that the loop itself stores, so that it does not depend on what other harts store meanwhile."""
-    digest, accesses, changes = work.digest, False, False
+    """Goes through a loop twice; returns the loop, and the state that represents it. This is the least state by pc, registers and the bytes that the
+    loop itself stores, so that it does not depend on stores of other harts."""
+    digest, has_accesses, has_changes = work.digest, False, False
     stored: set[int] = set()
     for look in do_steps(machine, work, length, schedule):
-        accesses, changes = accesses or bool(look.kind), changes or work.digest != digest
+        has_accesses, has_changes = has_accesses or bool(look.kind), has_changes or work.digest != digest
         if look.kind == "w":
-            stored.update(range(look.at, look.at + look.width))
-    rest = work.digest
-    for at in stored.intersection(work.memory):
-        rest ^= digest_of(at, work.memory[at])
+            stored.update(range(look.address, look.address + look.width))
+    other_digest = work.digest  # of the bytes that the loop does not store
+    for address in stored.intersection(work.memory):
+        other_digest ^= digest_of(address, work.memory[address])
     states = []
     for _ in do_steps(machine, work, length, schedule):
-        states.append((work.pc, tuple(work.registers), work.digest ^ rest, work.context))
-    pc, registers, own, context = min(states)
-    return Loop(accesses, changes, length), (pc, context, own ^ rest, registers)
+        states.append((work.pc, tuple(work.registers), work.digest ^ other_digest, work.context))
+    pc, registers, loop_digest, context = min(states)
+    return Loop(has_accesses, has_changes, length), (pc, context, loop_digest ^ other_digest, registers)
 
 
 def first_arrival(machine: RaceMachine, state: CachedState, work: Work, wanted: tuple[int, int, int, tuple[int, ...]], first: int) -> Work:
     """Returns the hart where it first comes to the state `wanted` of its loop, after `first` steps or more. `work` has been there."""
-    again, most = Work(machine, state, work.hart), work.done
+    again, max_steps = Work(machine, state, work.hart), work.done
     while again.done < first or state_of(again) != wanted:
-        if again.done > most:
+        if again.done > max_steps:
             raise RvlookError("hart %d does not return to the loop detected at %08x" % (work.hart, work.pc))
         machine.step(again, machine.look(again), lambda: [])
     return again

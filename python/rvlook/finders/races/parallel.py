@@ -17,10 +17,10 @@ from rvlook.finders.races.machine import CachedState, Memory, Schedule, UnknownS
 from rvlook.finders.races.search import Agent, DependentStep, Heap, Move, MoveKey, ScheduleSearch, SearchNode, TouchedBytes
 from rvlook.protocol.jobs import results_of
 
-PAUSE = 0.1  # seconds that the search computes moves before it gives nodes to other processes
-LEAST = 0.00015  # seconds to compute a move on average, so that it is worth to send it
+FIRST_PAUSE = 0.1  # seconds that the search computes moves before it gives nodes to other processes
+MIN_SECONDS_PER_MOVE = 0.00015  # seconds to compute a move on average, so that it is worth to send it
 TASKS_PER_JOB = 4  # so that the processes end at about the same time
-MOST_MOVES = 20000  # of a task; its result is sent through a pipe
+MAX_MOVES_PER_TASK = 20000  # of a task; its result is sent through a pipe
 
 
 @dataclass(frozen=True, eq=False)
@@ -74,11 +74,11 @@ class MoveRecorder:
         self.machine.go_offline()
         search.new_move = self.new_move
         self.news = MoveNews(moves=[], memories=[], harts={}, written=self.machine.written)
-        while waiting and len(self.news.moves) < MOST_MOVES:
+        while waiting and len(self.news.moves) < MAX_MOVES_PER_TASK:
             node = waiting.pop()
-            if node.point in search.done:
+            if node.point in search.visited:
                 continue
-            search.done.add(node.point)
+            search.visited.add(node.point)
             try:
                 waiting.extend(it for it in search.next_nodes(node) if it.cost.level == level)
             except UnknownStep:
@@ -88,12 +88,12 @@ class MoveRecorder:
     def new_move(self, key: MoveKey, _schedule: object) -> Move | None:
         """Computes a move, and records it."""
         search, graph = self.search, self.search.graph
-        search.touches, graph.loops, graph.unended = TouchedBytes(), {}, set()
+        search.touches, graph.loops, graph.unended_in_move = TouchedBytes(), {}, set()
         move = search.compute_move(key, list)
         if move:
             move = move._replace(dependent=self.steps.setdefault(move.dependent, move.dependent))  # one object is sent once
         loop = next(((state, loop) for (state, _), loop in graph.loops.items()), None)
-        self.news.moves.append((key, AheadMove(move, self.all_touched(), loop, bool(graph.unended))))
+        self.news.moves.append((key, AheadMove(move, self.all_touched(), loop, bool(graph.unended_in_move))))
         for state in (key[0], *([move.state] if move else ())):
             self.note_state(key[0], state)
         return move
@@ -124,12 +124,12 @@ class MovesAhead:
         self.merged: set[Touched] = set()  # accesses that the search has recorded
         self.valid_for = (0, 0)  # the round, and the number of regions
         self.taken = self.computed = 0  # moves of other processes, since the start, and moves of this process, since the last exchange
-        self.seconds, self.pause = 0.0, PAUSE  # spent on the moves of this process since the last exchange; the least before the next exchange
+        self.seconds, self.pause = 0.0, FIRST_PAUSE  # spent on the moves of this process since the last exchange; the least before the next exchange
         search.prepare, search.new_move = self.prepare, self.new_move
 
     def prepare(self, heap: Heap) -> None:
         """Has the moves of the next level of waiting nodes computed, if the search has long computed moves since the last time."""
-        if not heap or self.seconds < max(self.pause, LEAST * self.computed):
+        if not heap or self.seconds < max(self.pause, MIN_SECONDS_PER_MOVE * self.computed):
             return
         level = heap[0][0].level
         tasks = self.tasks_of([node for cost, _, node in heap if cost.level == level])
@@ -141,7 +141,7 @@ class MovesAhead:
         """Divides nodes into tasks. Nodes in which the same hart moves on from the same states of the others often lead to the same nodes."""
         tasks: dict[int, list[SearchNode]] = defaultdict(list)
         for node in nodes:
-            harts, last = node.point.state.harts, node.point.last
+            harts, last = node.point.state.harts, node.point.last_hart
             others = tuple(it for hart, it in enumerate(harts) if hart != last) or harts
             tasks[hash((last, others)) % (TASKS_PER_JOB * self.jobs)].append(node)
         return list(tasks.values())
@@ -171,14 +171,14 @@ class MovesAhead:
                     del memory[at]
                 machine.memories[change.digest] = memory
 
-        def own(state: CachedState) -> CachedState:
+        def renumbered(state: CachedState) -> CachedState:
             return state._replace(harts=tuple(numbers.get(it, it) for it in state.harts))
 
         for (state, hart, is_timer), ahead in news.moves:
-            move = ahead.move and ahead.move._replace(state=own(ahead.move.state))
+            move = ahead.move and ahead.move._replace(state=renumbered(ahead.move.state))
             if not move or move.state.memory in machine.memories:
-                loop = ahead.loop and (own(ahead.loop[0]), ahead.loop[1])
-                self.moves[own(state), hart, is_timer] = ahead._replace(move=move, loop=loop)
+                loop = ahead.loop and (renumbered(ahead.loop[0]), ahead.loop[1])
+                self.moves[renumbered(state), hart, is_timer] = ahead._replace(move=move, loop=loop)
 
     def compute(self, key: MoveKey, schedule: Schedule) -> Move | None:
         """Computes a move in this process. Measures the time, if it does not run rvbench."""
@@ -191,19 +191,19 @@ class MovesAhead:
 
     def new_move(self, key: MoveKey, schedule: Schedule) -> Move | None:
         """Returns a move that another process has computed, and records what the search records for it. Computes the move if no process has."""
-        found = self.moves.pop(key, None)
-        if found is None or self.valid_for != (self.search.rounds, len(self.machine.regions)):
+        ahead = self.moves.pop(key, None)
+        if ahead is None or self.valid_for != (self.search.rounds, len(self.machine.regions)):
             return self.compute(key, schedule)
         self.taken += 1
         touches, graph = self.search.touches, self.search.graph
-        for touched in found.touched:
+        for touched in ahead.touched:
             if touched not in self.merged:
                 self.merged.add(touched)
                 touches.read[touched.agent] |= touched.read
                 touches.written[touched.agent] |= touched.written
                 touches.executed[touched.agent] |= touched.executed
-        if found.loop:
-            graph.loops[found.loop[0], key[1]] = found.loop[1]
-        if found.is_unended:
-            graph.unended.add(key[:2])
-        return found.move
+        if ahead.loop:
+            graph.loops[ahead.loop[0], key[1]] = ahead.loop[1]
+        if ahead.is_unended:
+            graph.unended_in_move.add(key[:2])
+        return ahead.move

@@ -33,10 +33,9 @@ class Replays:
         return [it.decode() for it in bench.replies_to(self.commands)]
 
     def check_all(self, ends: Sequence[FinalState], jobs: int) -> Iterator[int]:
-        """Replays final states in `jobs` processes; yields the index of each after its replay. Raises RvlookError if the bench comes to another
-        state."""
+        """Replays final states in `jobs` processes; yields the index of each. Raises RvlookError if the bench comes to another state."""
         if jobs > 1 and len(ends) > 1:
-            with self.machine.at_start() as bench:
+            with self.machine.bench_after_script() as bench:
                 self.rows = self.ram(bench)  # once, for all processes
 
         def check(index: int) -> int:
@@ -51,30 +50,31 @@ class Replays:
     def check(self, end: FinalState) -> None:
         """Replays a final state, and its round twice; raises RvlookError if the bench comes to another state."""
         machine = self.machine
-        with machine.at_start() as bench:
+        with machine.bench_after_script() as bench:
             self.rows = self.rows or self.ram(bench)
-            self.done(bench, end, commands_of(end.schedule(), machine.count))
+            self.run_and_compare(bench, end, commands_of(end.schedule(), machine.count))
             for _ in range(2 if end.round else 0):
-                self.done(bench, end, commands_of(end.round, machine.count))
+                self.run_and_compare(bench, end, commands_of(end.round, machine.count))
 
-    def done(self, bench: Bench, end: FinalState, commands: Sequence[str]) -> None:
+    def run_and_compare(self, bench: Bench, end: FinalState, commands: Sequence[str]) -> None:
         """Runs commands that lead to a final state, and compares the state after them."""
-        machine, state, chosen, reached = self.machine, end.state, 0, {}
+        machine, state, chosen_hart, reached = self.machine, end.state, 0, {}
         for command, lines in zip(commands, bench.ask(*commands)):
-            chosen = int(command[5:]) if command.startswith("hart ") else chosen
+            if command.startswith("hart "):
+                chosen_hart = int(command[5:])
             if command.startswith("step"):
                 ran = step_of(lines[0])
-                reached[chosen] = ran.mode, ran.world
+                reached[chosen_hart] = ran.mode, ran.world
         for hart in range(machine.count):
-            context, pc, kept = machine.harts[state.harts[hart]]
-            own = machine.contexts[context]
-            found = machine.registers_and_rest(bench.ask(*machine.setup.choice(hart), "regs", *machine.rest))
-            self.expect(end, found, ((*kept, pc), own.csrs))
-            self.expect(end, reached.get(hart, (own.mode, own.world)), (own.mode, own.world))
+            number, pc, registers = machine.harts[state.harts[hart]]
+            context = machine.contexts[number]
+            found = machine.registers_and_rest(bench.ask(*machine.setup.choice(hart), "regs", *machine.context_commands))
+            self.expect(end, found, ((*registers, pc), context.csrs))
+            self.expect(end, reached.get(hart, (context.mode, context.world)), (context.mode, context.world))
         self.expect(end, tuple(bench.ask("enclaves")[0]), machine.tables[state.table][0])
-        self.expect(end, self.ram(bench), self.wanted(machine.memories[state.memory]))
+        self.expect(end, self.ram(bench), self.expected_rows(machine.memories[state.memory]))
 
-    def wanted(self, memory: Memory) -> list[str]:
+    def expected_rows(self, memory: Memory) -> list[str]:
         """Returns the expected rows of RAM."""
         rows = list(self.rows)
         for row in {(at - RAM_BASE) // ROW for at in memory}:
@@ -83,9 +83,9 @@ class Replays:
         return rows
 
     @staticmethod
-    def expect(end: FinalState, found: object, wanted: object) -> None:
+    def expect(end: FinalState, found: object, expected: object) -> None:
         """Raises RvlookError if the bench shows something unexpected."""
-        if found != wanted:
+        if found != expected:
             raise RvlookError("the replay of final state %d on rvbench differs from the search: a dependency was missed" % end.number)
 
 
@@ -105,8 +105,8 @@ def comment(text: str) -> str:
 
 def input_of(setup: Setup, lines: Iterable[str], heading: str, *more: str) -> bytes:
     """Returns an input of the bench: the image, a heading and further comments, and the lines of a script."""
-    every = [*map(comment, (heading, *more)), *lines]
-    return setup.image.text + b"--\n" + "".join(map(ended, every)).encode("latin-1", "replace")
+    all_lines = [*map(comment, (heading, *more)), *lines]
+    return setup.image.text + b"--\n" + "".join(map(ended, all_lines)).encode("latin-1", "replace")
 
 
 def command_of(setup: Setup) -> str:

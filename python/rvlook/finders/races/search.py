@@ -12,38 +12,38 @@ from typing import Any, Callable, Iterable, Iterator, List, NamedTuple, Optional
 
 from rvlook.finders.outcomes import Watched
 from rvlook.finders.races.loop import Loop, LoopDetector, first_arrival, loop_of
-from rvlook.finders.races.machine import CachedState, Called, HartContext, Look, Outcome, RaceMachine, Schedule, Segment, Work
+from rvlook.finders.races.machine import CachedState, CallResult, HartContext, Look, StepResult, RaceMachine, Schedule, Segment, Work
 from rvlook.finders.races.time_limit import OutOfTime, TimeLimit
 from rvlook.protocol import names
 
-MOST_STATES = 500000  # states with the hart that stepped last; the search ends there, and is not whole
-MOST_ALONE = 10000  # moves of one hart in succession; then it is reported as not ended, and the search is not whole
+MAX_STATES = 500000  # states, each with the hart that stepped last; at this number the search ends incomplete
+MAX_MOVES_ALONE = 10000  # moves of one hart in succession; beyond it the hart is given up, and the search is incomplete
 SEARCH_SHARE = 0.85  # of the time limit; the rest is for the analysis of the graph and for the replays
 
 
 class DependentStep(NamedTuple):
     """The dependent step of a move. In a move of independent steps only, `pc` and `look` are None."""
-    before: int  # number of steps of the move before this one
+    steps_before: int  # number of steps of the move before this one
     pc: Optional[int]  # None if the move has no dependent step
     look: Optional[Look]  # its access; None if the move has no dependent step
     world: str  # in which the step begins
-    timed: bool  # whether the step took the timer interrupt
+    took_timer: bool  # whether the step took the timer interrupt
 
 
 class Move(NamedTuple):
     """A dependent step with the independent steps before and after it, or only independent steps."""
     state: CachedState  # after the move
-    steps: int  # number of all its steps
+    steps: int  # number of all steps of the move
     dependent: DependentStep  # has the pc None if all steps are independent
-    changes: bool  # whether memory or the enclave table changed
+    has_changes: bool  # whether memory or the enclave table changed
 
 
 class SearchPoint(NamedTuple):
     """A state of the search."""
     state: CachedState  # the state of the machine
-    last: Optional[int]  # the hart that moved last; None at the start
+    last_hart: Optional[int]  # the hart that moved last; None at the start
     timers: int  # timer interrupts so far
-    begun: bool  # whether a switch or an interrupt has occurred; always true if all orders are searched
+    has_switched: bool  # whether a switch or an interrupt has occurred; always true if all orders are searched
 
 
 Vertex = Tuple[Any, ...]  # a point, or a part of one
@@ -61,7 +61,7 @@ class Cost(NamedTuple):
 
     @property
     def level(self) -> tuple[int, int]:
-        """Returns what the bounds of a search limit."""
+        """Returns the numbers that the bounds of a search limit."""
         return self.preemptions, self.timers
 
 
@@ -80,14 +80,14 @@ class SearchNode(NamedTuple):
     parent: Optional[SearchNode] = None  # the node before; None at the start
     move: Optional[Move] = None  # from the parent; None at the start
     is_timer: bool = False  # whether the timer interrupt came before the move
-    alone: int = 0  # moves of the hart in succession
-    low: int = 0  # the first step of the run to which the next switch may be attributed
+    moves_alone: int = 0  # moves of the hart in succession
+    first_switch: int = 0  # the first step of the run to which the next switch may be attributed
 
     @property
     def hart(self) -> int:
         """Returns the hart of the last move. The start has no last move."""
-        assert self.point.last is not None
-        return self.point.last
+        assert self.point.last_hart is not None
+        return self.point.last_hart
 
     @property
     def last_move(self) -> Move:
@@ -97,11 +97,11 @@ class SearchNode(NamedTuple):
 
     def path(self) -> list[SearchNode]:
         """Returns the nodes on the path from the start, without the start."""
-        found, node = [], self
+        nodes, node = [], self
         while node.parent:
-            found.append(node)
+            nodes.append(node)
             node = node.parent
-        return found[::-1]
+        return nodes[::-1]
 
     def schedule(self) -> list[Segment]:
         """Returns the schedule that leads to the node."""
@@ -110,19 +110,19 @@ class SearchNode(NamedTuple):
 
 def schedule_of(moves: Iterable[tuple[int, Move, bool]]) -> list[Segment]:
     """Returns moves as a schedule. On the bare bench the timer interrupt is cleared after it was taken."""
-    joined: list[Segment] = []
-    clears = False
+    segments: list[Segment] = []
+    clears_timer = False
     for hart, move, is_timer in moves:
-        if clears:
-            joined.append(Segment(hart, 0, "off"))
+        if clears_timer:
+            segments.append(Segment(hart, 0, "off"))
         if is_timer:
-            joined.append(Segment(hart, 0, "on"))
-        if joined and joined[-1].hart == hart:
-            joined[-1] = joined[-1]._replace(steps=joined[-1].steps + move.steps)
+            segments.append(Segment(hart, 0, "on"))
+        if segments and segments[-1].hart == hart:
+            segments[-1] = segments[-1]._replace(steps=segments[-1].steps + move.steps)
         else:
-            joined.append(Segment(hart, move.steps))
-        clears = move.dependent.timed and move.dependent.world == "bare"
-    return joined + ([Segment(joined[-1].hart, 0, "off")] if clears else [])
+            segments.append(Segment(hart, move.steps))
+        clears_timer = move.dependent.took_timer and move.dependent.world == "bare"
+    return segments + ([Segment(segments[-1].hart, 0, "off")] if clears_timer else [])
 
 
 class TouchedBytes:
@@ -135,11 +135,11 @@ class TouchedBytes:
 
     def shared(self) -> set[int]:
         """Returns the bytes that two agents accessed, at least one of them by a store."""
-        found = set()
+        shared = set()
         for one, other in itertools.permutations(set(self.read) | set(self.written) | set(self.executed), 2):
-            found |= self.written[one] & (self.read[other] | self.written[other])
-            found |= {at for at in self.written[one] if at & -4 in self.executed[other]}
-        return found
+            shared |= self.written[one] & (self.read[other] | self.written[other])
+            shared |= {at for at in self.written[one] if at & -4 in self.executed[other]}
+        return shared
 
 
 @dataclass
@@ -150,8 +150,8 @@ class Graph:
     edges: dict[Vertex, list[Edge]] = field(default_factory=dict)  # the moves from each vertex
     moves: dict[MoveKey, Move | None] = field(default_factory=dict)  # None: the hart stops
     loops: dict[tuple[CachedState, int], Loop] = field(default_factory=dict)  # by state and hart: endless loops that no other hart can affect
-    unended: set[tuple[CachedState, int]] = field(default_factory=set)  # states in which a hart was given up within a move
-    alone: set[tuple[CachedState, int]] = field(default_factory=set)  # states in which a hart was given up after MOST_ALONE moves
+    unended_in_move: set[tuple[CachedState, int]] = field(default_factory=set)  # states in which a hart was given up within a move
+    unended_alone: set[tuple[CachedState, int]] = field(default_factory=set)  # states in which a hart was given up after MAX_MOVES_ALONE moves
 
 
 class SearchBounds(NamedTuple):
@@ -186,16 +186,16 @@ class ScheduleSearch:
         self.why_cut: str | None = None  # what ended the search early; None: nothing did
         self.whole: tuple[int, int] | None = None  # the last level, of preemptions and timers, of which all was searched
         self.graph = Graph()  # of this round
-        self.earlier: Graph | None = None  # of the round that came to that level
-        self.reduced: Graph | None = None  # of the round before `show_outcome`
+        self.earlier_graph: Graph | None = None  # of the round that came to that level
+        self.reduced_graph: Graph | None = None  # of the round before `show_outcome`
         self.reset()
 
     def reset(self) -> None:
         """Begins a new round."""
         self.cycles: dict[tuple[CachedState, int], int] = {}  # steps in which a hart returns to a state; 0: never
-        self.done: set[SearchPoint] = set()  # the points that were visited
+        self.visited: set[SearchPoint] = set()  # the points that were visited
         self.graph = Graph()
-        self.count, self.level, self.waiting = 0, (0, 0), 0  # transitions, the level of the current node, queued nodes
+        self.transitions, self.level, self.waiting = 0, (0, 0), 0  # number of transitions, level of the current node, number of queued nodes
 
     def run(self) -> ScheduleSearch:
         """Repeats the search until a round finds no new shared bytes, or until the time limit."""
@@ -214,11 +214,11 @@ class ScheduleSearch:
 
     def show_outcome(self) -> None:
         """Makes each step that may change the outcome dependent in the following rounds. Each value of the outcome then has a node."""
-        self.is_outcome_visible, self.reduced, self.whole, self.earlier = True, self.graph, None, None
+        self.is_outcome_visible, self.reduced_graph, self.whole, self.earlier_graph = True, self.graph, None, None
 
     def graphs(self) -> list[Graph]:
         """Returns the graphs whose final states are reported."""
-        return [it for it in (self.reduced, self.earlier, self.graph) if it]
+        return [it for it in (self.reduced_graph, self.earlier_graph, self.graph) if it]
 
     def is_hidden(self, hart: int) -> bool:
         """Returns whether independent steps of a hart may change the outcome."""
@@ -230,10 +230,10 @@ class ScheduleSearch:
 
     def is_whole(self) -> bool:
         """Returns whether all orders within the bounds were searched, and no hart was given up."""
-        return not self.why_cut and not any(it.alone or it.unended for it in self.graphs())
+        return not self.why_cut and not any(it.unended_alone or it.unended_in_move for it in self.graphs())
 
-    def grows(self) -> bool:
-        """Returns whether more bytes are shared, or are in a region, than this round was searched with."""
+    def has_grown(self) -> bool:
+        """Returns whether more bytes are shared, or more regions exist, than at the start of the round. Adds these bytes to the shared bytes."""
         regions, shared = len(self.machine.regions), self.touches.shared()
         if self.is_always_dependent or shared <= self.shared_bytes and regions == self.regions:
             return False
@@ -243,35 +243,35 @@ class ScheduleSearch:
     def search(self) -> bool:
         """Searches one round; returns False if more bytes turned out to be shared."""
         order, self.regions = itertools.count(), len(self.machine.regions)
-        start = SearchNode(SearchPoint(self.machine.start, last=None, timers=0, begun=not self.bounds.is_part))
+        start = SearchNode(SearchPoint(self.machine.start, last_hart=None, timers=0, has_switched=not self.bounds.is_part))
         heap: Heap = [(start.cost, next(order), start)]
         while heap:
             cost, _, node = heapq.heappop(heap)
-            if node.point in self.done:
+            if node.point in self.visited:
                 continue
             if cost.level > self.level:
-                if self.grows():
+                if self.has_grown():
                     return False
                 if self.whole is None or self.level >= self.whole:
-                    self.whole, self.earlier = self.level, self.graph
+                    self.whole, self.earlier_graph = self.level, self.graph
                 self.level = cost.level
-            self.done.add(node.point)
+            self.visited.add(node.point)
             self.graph.nodes.setdefault(self.vertex(node), node)
             self.waiting = len(heap)
             self.progress(self)
             self.prepare(heap)
-            if len(self.done) >= MOST_STATES:
-                self.why_cut = "the limit of %d states" % MOST_STATES
+            if len(self.visited) >= MAX_STATES:
+                self.why_cut = "the limit of %d states" % MAX_STATES
                 return True
             for following in self.next_nodes(node):
                 heapq.heappush(heap, (following.cost, next(order), following))
-        self.earlier = None
-        return not self.grows()
+        self.earlier_graph = None
+        return not self.has_grown()
 
     def vertex(self, node: SearchNode) -> Vertex:
         """Returns the vertex of a node in the graph of orders. The last hart does not matter if the preemptions are not bounded."""
         point = node.point
-        return point if self.bounds.preemptions is not None else (point.state, point.timers, point.begun)
+        return point if self.bounds.preemptions is not None else (point.state, point.timers, point.has_switched)
 
     def edges_of(self, node: SearchNode) -> list[Edge]:
         """Returns the list for the edges of a node; a discarded one if its vertex has edges already."""
@@ -280,41 +280,41 @@ class ScheduleSearch:
 
     def next_nodes(self, node: SearchNode) -> Iterator[SearchNode]:
         """Yields the nodes that follow, with their cost."""
-        state, last, timers, begun = node.point
-        if node.alone > MOST_ALONE:
-            self.graph.alone.add((state, node.hart))
+        state, last_hart, timers, has_switched = node.point
+        if node.moves_alone > MAX_MOVES_ALONE:
+            self.graph.unended_alone.add((state, node.hart))
             for hart in range(self.machine.count):
                 self.move(state, hart, node.schedule)  # so that it is known which harts have ended
             return
         cost, edges = node.cost, self.edges_of(node)
         harts = range(self.machine.count)
-        free = last is None or all(it == last for it in harts) or self.is_free(state, last, node.schedule)
+        is_free = last_hart is None or all(it == last_hart for it in harts) or self.is_free(state, last_hart, node.schedule)
         for hart in harts:
-            is_switch = last is not None and hart != last
-            preemptions = cost.preemptions + (is_switch and not free)
+            is_switch = last_hart is not None and hart != last_hart
+            preemptions = cost.preemptions + (is_switch and not is_free)
             if self.bounds.preemptions is not None and preemptions > self.bounds.preemptions:
                 continue
-            for is_timer in (False, True)[:1 + (timers < self.bounds.timers)]:
+            for is_timer in (False, True) if timers < self.bounds.timers else (False,):
                 move = self.move(state, hart, node.schedule, is_timer)
-                if move is None or not begun and (is_switch or is_timer) and not self.is_in_part(node, hart):
+                if move is None or not has_switched and (is_switch or is_timer) and not self.is_in_part(node, hart):
                     continue
-                self.count += 1
-                comes = is_switch or is_timer
-                new = SearchNode(SearchPoint(move.state, hart, timers + is_timer, begun or comes),
+                self.transitions += 1
+                is_break = is_switch or is_timer
+                new = SearchNode(SearchPoint(move.state, hart, timers + is_timer, has_switched or is_break),
                                  Cost(preemptions, cost.timers + is_timer, cost.switches + is_switch, cost.steps + move.steps),
-                                 node, move, is_timer, 1 if comes else node.alone + 1, cost.steps + move.dependent.before + 1)
+                                 node, move, is_timer, 1 if is_break else node.moves_alone + 1, cost.steps + move.dependent.steps_before + 1)
                 edges.append(Edge(self.vertex(new), hart, move, preemptions - cost.preemptions))
                 yield new
 
     def is_in_part(self, node: SearchNode, hart: int) -> bool:
         """Returns whether a first switch or timer interrupt after a node is equivalent to one at a step from `bounds.first` to `bounds.last`. It is
         equivalent to one before each of the independent steps around it, and in an endless loop to one in each later round."""
-        state, last = node.point.state, node.point.last
-        following = self.move(state, hart if last is None else last, node.schedule)
-        low, high = node.low, node.cost.steps + (following.dependent.before if following else 0)
+        state, last_hart = node.point.state, node.point.last_hart
+        following = self.move(state, hart if last_hart is None else last_hart, node.schedule)
+        low, high = node.first_switch, node.cost.steps + (following.dependent.steps_before if following else 0)
         is_late = following is None or high >= self.bounds.first
-        if not is_late and last is not None and self.is_in_loop(state, last, node.schedule):
-            length = self.cycles[state, last]
+        if not is_late and last_hart is not None and self.is_in_loop(state, last_hart, node.schedule):
+            length = self.cycles[state, last_hart]
             rounds = -((high - self.bounds.first) // length)  # up to `bounds.first`, rounded up
             low += rounds * length
             is_late = True
@@ -336,26 +336,25 @@ class ScheduleSearch:
         return self.timer_move(state, hart, schedule) if is_timer else self.hart_move(state, hart, schedule)
 
     def timer_move(self, state: CachedState, hart: int, schedule: Schedule) -> Move | None:
-        """Sets the timer interrupt pending; returns the move, or None. Under the monitor this matters only to enclaves, and stops one before its
-        next instruction."""
+        """Returns the move of a timer interrupt, or None. Under the monitor only an enclave is interrupted, before its next instruction."""
         work = Work(self.machine, state, hart)
-        world = work.own.world
-        if world == "host" or work.own.is_line_on or self.machine.is_over(work):
+        world = work.hart_context.world
+        if world == "host" or work.hart_context.is_timer_pending or self.machine.is_over(work):
             return None
         pc, before = work.pc, (work.digest, work.table)
-        work.raise_line()
+        work.set_timer_pending()
         look = self.machine.look(work)
-        done = self.machine.step(work, look, schedule)
-        self.log(hart, world, pc, look, done)
-        dependent = DependentStep(0, pc, look._replace(kind="timer"), world, is_taken(done))
-        return Move(self.kept(work, done), 1, dependent, (work.digest, work.table) != before)
+        result = self.machine.step(work, look, schedule)
+        self.record_access(hart, world, pc, look, result)
+        dependent = DependentStep(0, pc, look._replace(kind="timer"), world, is_taken(result))
+        return Move(self.state_after(work, result), 1, dependent, (work.digest, work.table) != before)
 
     @staticmethod
-    def kept(work: Work, done: Outcome | None) -> CachedState:
+    def state_after(work: Work, result: StepResult | None) -> CachedState:
         """Returns the state after a step. On the bare bench the timer interrupt is cleared after it was taken."""
-        if is_taken(done) and work.own.world == "bare":
-            work.raise_line(is_on=False)
-        return work.kept()
+        if is_taken(result) and work.hart_context.world == "bare":
+            work.set_timer_pending(is_pending=False)
+        return work.cached_state()
 
     def hart_move(self, state: CachedState, hart: int, schedule: Schedule) -> Move | None:
         """Returns a move: independent steps, one dependent step, and the independent steps after it; or None."""
@@ -365,7 +364,7 @@ class ScheduleSearch:
         def schedule_to_here() -> list[Segment]:
             return schedule() + ([Segment(hart, work.done)] if work.done else [])
 
-        done, changes, before, skipped = None, False, (work.digest, work.table), 0
+        result, has_changes, before, skipped = None, False, (work.digest, work.table), 0
         while not machine.is_over(work):
             look = machine.look(work)
             is_dependent = self.is_dependent(work, look)
@@ -377,31 +376,31 @@ class ScheduleSearch:
                 detector = LoopDetector()
                 continue
             if length:
-                work = self.looped(state, work, length, dependent.before + 1 if dependent else 0, schedule_to_here)
+                work = self.run_to_loop_state(state, work, length, dependent.steps_before + 1 if dependent else 0, schedule_to_here)
                 break
             if work.done - skipped > self.bounds.steps:
-                self.graph.unended.add((state, hart))
+                self.graph.unended_in_move.add((state, hart))
                 return None
-            world, pc = work.own.world, work.pc
-            done = machine.step(work, look, schedule_to_here)
-            changes = changes or (work.digest, work.table) != before
-            self.log(hart, world, pc, look, done)
+            world, pc = work.hart_context.world, work.pc
+            result = machine.step(work, look, schedule_to_here)
+            has_changes = has_changes or (work.digest, work.table) != before
+            self.record_access(hart, world, pc, look, result)
             if is_dependent:
-                dependent, detector = DependentStep(work.done - 1, pc, look, world, is_taken(done)), LoopDetector()
-                if dependent.timed and world == "bare":
+                dependent, detector = DependentStep(work.done - 1, pc, look, world, is_taken(result)), LoopDetector()
+                if dependent.took_timer and world == "bare":
                     break
-        found = self.kept(work, done if dependent and dependent.timed else None)
-        if not work.done or not dependent and found._replace(steps=()) == state._replace(steps=()):
+        state_after = self.state_after(work, result if dependent and dependent.took_timer else None)
+        if not work.done or not dependent and state_after._replace(steps=()) == state._replace(steps=()):
             return None
-        return Move(found, work.done, dependent or DependentStep(work.done, pc=None, look=None, world=work.own.world, timed=False), changes)
+        dependent = dependent or DependentStep(work.done, pc=None, look=None, world=work.hart_context.world, took_timer=False)
+        return Move(state_after, work.done, dependent, has_changes)
 
-    def looped(self, state: CachedState, work: Work, length: int, first: int, schedule: Schedule) -> Work:
-        """Runs a hart in an endless loop to the state that represents the loop, and records the loop. The search then treats all states of the loop
-        as one."""
-        loop, wanted = loop_of(self.machine, work, length, schedule)
-        found = first_arrival(self.machine, state, work, wanted, first)
-        self.graph.loops[found.kept()._replace(steps=()), work.hart] = loop
-        return found
+    def run_to_loop_state(self, state: CachedState, work: Work, length: int, first: int, schedule: Schedule) -> Work:
+        """Runs a hart in an endless loop to the state that represents all states of the loop, and records the loop."""
+        loop, loop_state = loop_of(self.machine, work, length, schedule)
+        arrived = first_arrival(self.machine, state, work, loop_state, first)
+        self.graph.loops[arrived.cached_state()._replace(steps=()), work.hart] = loop
+        return arrived
 
     def is_dependent(self, work: Work, look: Look) -> bool:
         """Returns whether the next step of a hart is dependent: another hart could affect it or be affected."""
@@ -410,32 +409,32 @@ class ScheduleSearch:
         shared = self.shared_bytes
         if shared and not shared.isdisjoint(range(work.pc, work.pc + 4)):
             return True
-        if self.watched_bytes and self.is_watched(work.own, look):
+        if self.watched_bytes and self.is_watched(work.hart_context, look):
             return True
         if self.is_outcome_visible and self.outcome.may_change(work.hart, look):
             return True
-        if not look.kind or is_inside(work.own, look):
+        if not look.kind or is_inside(work.hart_context, look):
             return False
-        return not shared.isdisjoint(range(look.at, look.at + look.width)) or self.machine.overlaps_region(look.at, look.width)
+        return not shared.isdisjoint(range(look.address, look.address + look.width)) or self.machine.overlaps_region(look.address, look.width)
 
-    def is_watched(self, own: HartContext, look: Look) -> bool:
+    def is_watched(self, context: HartContext, look: Look) -> bool:
         """Returns whether a step of an enclave is dependent because the host may not resume the enclave after a timer interrupt.
 
         This is so if the step stores a part of the outcome, or if the steps are limited."""
-        if own.world == "host":
+        if context.world == "host":
             return False
-        return bool(self.machine.limit) or look.kind == "w" and not self.watched_bytes.isdisjoint(range(look.at, look.at + look.width))
+        return bool(self.machine.limit) or look.kind == "w" and not self.watched_bytes.isdisjoint(range(look.address, look.address + look.width))
 
-    def log(self, hart: int, world: str, pc: int, look: Look, done: Outcome) -> None:
+    def record_access(self, hart: int, world: str, pc: int, look: Look, result: StepResult) -> None:
         """Records the accesses of a step."""
         agent: Agent = (hart, world) if self.bounds.timers else hart
         self.touches.executed[agent].add(pc)
         if look.kind in ("r", "w"):
-            own = self.machine.contexts[look.key[0]]
-            if not is_inside(own, look):
-                (self.touches.read if look.kind == "r" else self.touches.written)[agent].update(range(look.at, look.at + look.width))
-        elif isinstance(done, Called) and look.kind == "call" and done.writes:
-            self.touches.written[agent].update(at for at, _ in done.writes)
+            context = self.machine.contexts[look.key[0]]
+            if not is_inside(context, look):
+                (self.touches.read if look.kind == "r" else self.touches.written)[agent].update(range(look.address, look.address + look.width))
+        elif isinstance(result, CallResult) and look.kind == "call" and result.writes:
+            self.touches.written[agent].update(at for at, _ in result.writes)
 
     # ---- harts that make no progress
 
@@ -446,27 +445,27 @@ class ScheduleSearch:
     def is_in_loop(self, state: CachedState, hart: int, schedule: Schedule) -> bool:
         """Returns whether a hart returns by itself to this state; `cycles` has the number of steps, or 0."""
         chain: dict[CachedState, int] = {}
-        passed, runs, move = [0], state, None
-        while (state, hart) not in self.cycles and state not in chain and len(chain) <= MOST_ALONE:
+        passed_steps, first_state, move = [0], state, None
+        while (state, hart) not in self.cycles and state not in chain and len(chain) <= MAX_MOVES_ALONE:
             chain[state] = len(chain)
-            move = self.move(state, hart, lambda: schedule() + ([Segment(hart, passed[-1])] if passed[-1] else []))
+            move = self.move(state, hart, lambda: schedule() + ([Segment(hart, passed_steps[-1])] if passed_steps[-1] else []))
             if move is None:
                 break
             state = move.state
-            passed.append(passed[-1] + move.steps)
+            passed_steps.append(passed_steps[-1] + move.steps)
         first = chain[state] if state in chain and move else len(chain)
-        self.cycles.update({(it, hart): passed[-1] - passed[first] if index >= first else 0 for it, index in chain.items()})
-        return bool(self.cycles[runs, hart])
+        self.cycles.update({(it, hart): passed_steps[-1] - passed_steps[first] if index >= first else 0 for it, index in chain.items()})
+        return bool(self.cycles[first_state, hart])
 
 
-def is_taken(done: Outcome | None) -> bool:
+def is_taken(result: StepResult | None) -> bool:
     """Returns whether a step was a timer interrupt."""
-    if done is None:
+    if result is None:
         return False
-    return done.trap.startswith(names.TIMER) if isinstance(done, Called) else done.trapped == names.TIMER
+    return result.trap.startswith(names.TIMER) if isinstance(result, CallResult) else result.trap_cause == names.TIMER
 
 
-def is_inside(own: HartContext, look: Look) -> bool:
+def is_inside(context: HartContext, look: Look) -> bool:
     """Returns whether an enclave accesses its own region, which no other world accesses while it runs."""
-    blocks = own.blocks
-    return bool(blocks) and blocks[0] <= look.at and look.at + look.width <= blocks[0] + blocks[1]
+    blocks = context.blocks
+    return bool(blocks) and blocks[0] <= look.address and look.address + look.width <= blocks[0] + blocks[1]

@@ -11,7 +11,7 @@ from rvlook.finders.races.final_states import (ENDED, GRACE, HALTS, NOT_SEARCHED
 from rvlook.finders.races.machine import RaceMachine, commands_of
 from rvlook.finders.races.parallel import MovesAhead
 from rvlook.finders.races.replay import Replays, script_of
-from rvlook.finders.races.search import MOST_ALONE, DependentStep, ScheduleSearch, SearchBounds, SearchNode
+from rvlook.finders.races.search import MAX_MOVES_ALONE, DependentStep, ScheduleSearch, SearchBounds, SearchNode
 from rvlook.finders.races.time_limit import OutOfTime, TimeLimit
 from rvlook.output.files import write_files
 from rvlook.output.findings import ReportedCases
@@ -21,7 +21,7 @@ from rvlook.protocol.run import Run
 from rvlook.protocol.symbols import Symbols
 
 INTERRUPT = "Ctrl-C"
-SHOWN = 3  # accesses at the beginning and at the end of a hart's turn
+MAX_ACCESSES_SHOWN = 3  # accesses at the beginning and at the end of a hart's turn
 PROGRESS = "round %d: %d states, %d queued, %d preemptions, %d timers, %d runs of rvbench"
 HOW_TEXT = {WAITS: "waits forever", RUNS_ON: "runs forever", NOT_SEARCHED: "not searched further"}
 
@@ -51,8 +51,8 @@ class Story:
     def limit(self, hart: int) -> str:
         """Returns how far a hart was run."""
         search, state = self.search, self.end.node.point.state
-        is_alone = any((state, hart) in it.alone for it in search.graphs())
-        return "%d transitions alone" % MOST_ALONE if is_alone else counted(search.bounds.steps, "step")
+        is_alone = any((state, hart) in it.unended_alone for it in search.graphs())
+        return "%d transitions alone" % MAX_MOVES_ALONE if is_alone else counted(search.bounds.steps, "step")
 
     def location(self, pc: int | None) -> str:
         """Returns the source line of a pc, its symbol or its address. The pc must not be None."""
@@ -63,7 +63,7 @@ class Story:
         """Returns the moves that lead to the final state, grouped by hart; a timer interrupt begins a group."""
         turns: list[list[SearchNode]] = []
         for node in self.end.node.path():
-            if turns and turns[-1][0].point.last == node.point.last and not node.is_timer:
+            if turns and turns[-1][0].point.last_hart == node.point.last_hart and not node.is_timer:
                 turns[-1].append(node)
             else:
                 turns.append([node])
@@ -94,12 +94,12 @@ class Story:
         pc, look = dependent.pc, dependent.look
         assert pc is not None and look is not None
         if node.is_timer:
-            what = timer_text(dependent)
+            access = timer_text(dependent)
         elif look.kind in ("r", "w"):
-            what = "%s %08x %d  %s" % (look.kind, look.at, look.width, self.symbols.name(look.at) or "")
+            access = "%s %08x %d  %s" % (look.kind, look.address, look.width, self.symbols.name(look.address) or "")
         else:
-            what = "monitor call" if look.kind == "call" else "x"
-        return "      %-34s %s" % (what.rstrip(), place_text("%08x" % pc, self.symbols))
+            access = "monitor call" if look.kind == "call" else "x"
+        return "      %-34s %s" % (access.rstrip(), place_text("%08x" % pc, self.symbols))
 
     def lines(self, total: int) -> Iterator[str]:
         """Yields the lines of a final state after its heading."""
@@ -112,8 +112,8 @@ class Story:
         for turn in self.turns():
             yield "    hart %d, %s" % (turn[0].hart, counted(sum(it.last_move.steps for it in turn), "step"))
             lines = [self.access(it) for it in turn if it.last_move.dependent.pc is not None]
-            yield from lines if len(lines) <= 2 * SHOWN + 1 else \
-                [*lines[:SHOWN], "      ... %d more" % (len(lines) - 2 * SHOWN), *lines[-SHOWN:]]
+            yield from lines if len(lines) <= 2 * MAX_ACCESSES_SHOWN + 1 else \
+                [*lines[:MAX_ACCESSES_SHOWN], "      ... %d more" % (len(lines) - 2 * MAX_ACCESSES_SHOWN), *lines[-MAX_ACCESSES_SHOWN:]]
         for part in self.end.tail:
             yield "    then hart %d, %s" % (part.hart, counted(part.steps, "step"))
         if self.end.round:
@@ -136,8 +136,8 @@ class Story:
         """Returns the access of a node as an object."""
         look, pc = node.last_move.dependent.look, node.last_move.dependent.pc
         assert look is not None and pc is not None
-        return dict(kind="timer" if node.is_timer else look.kind or "x", address=hex8(look.at) if look.kind in ("r", "w") else None,
-                    symbol=self.symbols.name(look.at) if look.kind in ("r", "w") else None, pc=hex8(pc), source=self.symbols.source(pc))
+        return dict(kind="timer" if node.is_timer else look.kind or "x", address=hex8(look.address) if look.kind in ("r", "w") else None,
+                    symbol=self.symbols.name(look.address) if look.kind in ("r", "w") else None, pc=hex8(pc), source=self.symbols.source(pc))
 
 
 def timer_text(step: DependentStep) -> str:
@@ -159,25 +159,25 @@ def bound_text(bounds: SearchBounds) -> str:
         bound.append("at most " + counted(bounds.preemptions, "preemption"))
     if bounds.timers:
         bound.append("at most " + counted(bounds.timers, "timer"))
-    what = " with " + " and ".join(bound) if bound else ""
+    bounds_text = " with " + " and ".join(bound) if bound else ""
     if bounds.is_part:
-        what += ", first switch after step %d%s" % (bounds.first, " or later" if bounds.last is None else " to %d" % bounds.last)
-    return what
+        bounds_text += ", first switch after step %d%s" % (bounds.first, " or later" if bounds.last is None else " to %d" % bounds.last)
+    return bounds_text
 
 
 def covered_text(search: ScheduleSearch, found: FinalStates) -> str:
     """Returns what was searched in words. `all` is used only if no order is missing."""
-    what, graph = bound_text(search.bounds), search.graph
-    given_up = len(graph.alone) + len(graph.unended)
+    bounds, graph = bound_text(search.bounds), search.graph
+    given_up = len(graph.unended_alone) + len(graph.unended_in_move)
     if search.why_cut:
-        text = "stopped by %s after %s%s; completely searched: %s" % (search.why_cut, counted(found.orders, "schedule"), what, level_text(search))
+        text = "stopped by %s after %s%s; completely searched: %s" % (search.why_cut, counted(found.orders, "schedule"), bounds, level_text(search))
         text += "; not every final state was replayed" if found.is_cut else ""
     elif found.is_cut:
-        text = "stopped by --seconds before every final state was replayed; %s%s" % (counted(found.orders, "schedule"), what)
+        text = "stopped by --seconds before every final state was replayed; %s%s" % (counted(found.orders, "schedule"), bounds)
     elif given_up:
-        text = counted(found.orders, "schedule") + what
+        text = counted(found.orders, "schedule") + bounds
     else:
-        text = "all %d of %s%s" % (found.orders, counted(found.orders, "schedule"), what)
+        text = "all %d of %s%s" % (found.orders, counted(found.orders, "schedule"), bounds)
     return text + ("; not beyond %s in which a hart did not finish" % counted(given_up, "state") if given_up else "")
 
 
@@ -209,8 +209,7 @@ class RacesOptions(NamedTuple):
 
 
 def find_races(run: Run, options: RacesOptions) -> RacesReport:
-    """Searches all orders, and replays the final states. Writes their inputs if the options have a folder. Raises Unfinished if the program cannot be
-    searched."""
+    """Searches all orders, replays the final states, and writes them to the folder of the options. Raises Unfinished if no search is possible."""
     symbols = run.setup.symbols
     conditions = [condition_of(it, symbols) for it in options.forbid]
     outcome = outcomes_of(options.outcome, conditions, run, options.symbols)
@@ -223,7 +222,7 @@ def find_races(run: Run, options: RacesOptions) -> RacesReport:
             search = ScheduleSearch(machine, bounds, options.plain, watched_of(outcome), limit)
             if options.jobs > 1:
                 MovesAhead(search, options.jobs)
-            search.progress = lambda it: progress.show(PROGRESS, it.rounds, len(it.done), it.waiting, *it.level, it.machine.runs)
+            search.progress = lambda it: progress.show(PROGRESS, it.rounds, len(it.visited), it.waiting, *it.level, it.machine.runs)
             found = find_final_states(search, lambda it: outcome or [*ranges_of(it.shared_bytes, symbols), EnclaveStates()])
         return completed(RacesReport(run, symbols, search, found, conditions), options)
     except RvlookError as fault:  # the arguments are right, but the program cannot be searched
@@ -295,8 +294,7 @@ def completed(report: RacesReport, options: RacesOptions) -> RacesReport:
 
 
 def note(findings: ReportedCases, report: RacesReport) -> None:
-    """Notes what counts as found: with --forbid the ends that are forbidden, else each end but the first, and each in which a hart does
-    not come to its end."""
+    """Notes the findings: final states that --forbid names; without it all but the first, and those in which a hart does not end."""
     for story in report.stories if not report.conditions else ():
         findings.add("final state %d" % story.end.number, story.heading() if report.is_finding(story) else "")
     for condition, end in report.bad:
@@ -343,7 +341,7 @@ def objects(report: RacesReport, printer: Printer) -> None:
     printer.object("races", final_states=len(stories), schedules=found.orders, complete=is_whole(search, found), covered=covered_text(search, found),
                    forbidden=sorted({end.number for _, end in bad}), preemptions=bounds.preemptions, timers=bounds.timers,
                    shared=[dict(address=hex8(it.at), size=it.count, symbol=it.name) for it in ranges_of(search.shared_bytes, symbols)],
-                   states=len(search.done), transitions=search.count, rounds=search.rounds, runs=machine.runs, steps=machine.steps_run)
+                   states=len(search.visited), transitions=search.transitions, rounds=search.rounds, runs=machine.runs, steps=machine.steps_run)
 
 
 def texts(report: RacesReport, printer: Printer) -> None:
@@ -361,5 +359,5 @@ def texts(report: RacesReport, printer: Printer) -> None:
     printer.line()
     printer.line("%s, each replayed on rvbench. Covered: %s" % (counted(len(stories), "final state"), covered_text(search, found)))
     printer.line("%s and %s in %s; %s of rvbench with %s" % (
-        counted(len(search.done), "state"), counted(search.count, "transition"), counted(search.rounds, "round"),
+        counted(len(search.visited), "state"), counted(search.transitions, "transition"), counted(search.rounds, "round"),
         counted(search.machine.runs, "run"), counted(search.machine.steps_run, "step")))

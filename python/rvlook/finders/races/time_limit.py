@@ -7,8 +7,8 @@ import time
 from contextlib import contextmanager
 from typing import Iterator, NoReturn
 
-AGAIN = 0.2  # seconds between two alarms; an exception that is raised in a destructor is dropped
-LONGEST = 1e9  # seconds; a longer alarm does not fit into a timer of the system
+ALARM_INTERVAL = 0.2  # seconds between two alarms; an exception that is raised in a destructor is dropped
+MAX_ALARM = 1e9  # seconds; a longer alarm does not fit into a timer of the system
 
 
 class OutOfTime(Exception):
@@ -30,7 +30,7 @@ class TimeLimit:
         end = self.start + share * self.seconds + more
         old = signal.signal(signal.SIGALRM, stop)
         try:
-            signal.setitimer(signal.ITIMER_REAL, min(max(end - time.monotonic(), 0.001), LONGEST), AGAIN)
+            signal.setitimer(signal.ITIMER_REAL, min(max(end - time.monotonic(), 0.001), MAX_ALARM), ALARM_INTERVAL)
             yield
         finally:
             signal.setitimer(signal.ITIMER_REAL, 0)
