@@ -18,7 +18,7 @@ def meant(name: str, known: Iterable[str], otherwise: str = "") -> str:
 
 
 def nearest(name: str, known: Iterable[str]) -> str | None:
-    """Returns the known name most similar to an unknown one, or None. Of many names, only those with the most common pairs are compared."""
+    """Returns the known name most similar to an unknown one, or None. If there are many names, only those with the most common pairs are compared."""
     if not name or len(name) > MAX_NAME_LENGTH:
         return None
     longest = len(name) * (2 / MIN_SIMILARITY - 1)  # no longer name is similar enough

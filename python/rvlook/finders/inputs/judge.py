@@ -147,7 +147,7 @@ class TraceJudge:
                 part.unusual = self.version, unusual
 
     def indices_to_judge(self, trace: Trace, indices: Sequence[int], pcs: Sequence[int], part: Trace | None) -> Sequence[int]:
-        """Returns which of these steps of a trace may be unusual. Of a part that was judged before, these are its unusual steps of then."""
+        """Returns which of these steps of a trace may be unusual. If a part was judged before, they are the steps that were unusual then."""
         if part and part.unusual and part.unusual[0] == self.version:
             return part.unusual[1]
         plain = self.tracer.plain
