@@ -44,7 +44,7 @@ class Bounds:
                 if at.startswith("x"):
                     registers[at.split("_")[0]] = None
                 continue
-            member = self.extents.member(at) if at < stack else None
+            member = self.extents.member_at(at) if at < stack else None
             size = (member.element or member.size) if member else WORD
             if member and size < WORD and member.size <= LONGEST_ROW * size:
                 words["b%x" % at] = None
@@ -58,7 +58,7 @@ class Bounds:
             return False
         if abs(x - y) > NEAR or max(x, y) >= self.search.world.objects.stack:
             return False
-        return self.extents.variable(x).bounds == self.extents.variable(y).bounds
+        return self.extents.variable_at(x).bounds == self.extents.variable_at(y).bounds
 
     def are_ordered(self, x: WordPlace, y: WordPlace) -> bool:
         """Returns whether one of two words in memory may bound the other: two variables of one word, or words that are close to each other."""
@@ -68,7 +68,7 @@ class Bounds:
         """Returns whether a word is a variable."""
         if not isinstance(x, int) or x >= self.search.world.objects.stack:
             return False
-        extent = self.extents.variable(x)
+        extent = self.extents.variable_at(x)
         return extent.high - extent.low <= WORD
 
     def candidates(self, new: Sequence[WordPlace], others: Sequence[WordPlace], words: Words, tags: Dict[Any, Any], own: Optional[int]) -> List[Fact]:
@@ -124,7 +124,7 @@ def numbers_of(search: Search) -> Set[int]:
         instruction = decode(int.from_bytes(memory[at:at + 4], "little"))
         if instruction.kind != "imm" or not 0 < instruction.imm < LARGEST_NUMBER:
             continue
-        if instruction.more in ("sltu", "slt", "and") or (instruction.more == "add" and instruction.r1 == 0):
+        if instruction.op in ("sltu", "slt", "and") or (instruction.op == "add" and instruction.rs1 == 0):
             found.add(instruction.imm)
     return found
 

@@ -1,8 +1,7 @@
 """Calls, returns, traps, control and status registers, and calls of the monitor (docs/ISA.md, docs/MONITOR.md)."""
 from __future__ import annotations
 
-from typing import Tuple
-
+from rvlook.symbolic.decode import Decoded
 from rvlook.symbolic.fields import CSRS, EXITED, FINDING, SCAUSE, SEPC, SSCRATCH, SSTATUS, STOPPED, STVAL, STVEC, Answer, Area, Ended, OpenCall
 from rvlook.symbolic.memory import Memory
 from rvlook.symbolic.nodes import M32, Node, Word
@@ -122,25 +121,24 @@ class Traps(Memory):
         self.context = next((contexts.parents[context] for context in contexts.chain(self.context) if contexts.traps[context]), 0)
         return target
 
-    def csr_access(self, rd: int, r1: int, number: int, word: int, how: Tuple[str, bool]) -> int:
-        """Executes the instruction `word` on the control and status register with a number. `how` is the access, "w", "s" or "c" (write, set, clear),
-        and whether `r1` is the operand itself or the register that has it. Returns the next pc."""
-        access, is_immediate = how
+    def csr_access(self, instruction: Decoded) -> int:
+        """Executes an instruction of the kind "csr". Its operation is "w", "s" or "c" (write, set, clear). Returns the next pc."""
+        rd, rs1, number, is_immediate = instruction.rd, instruction.rs1, instruction.csr, instruction.is_immediate
         if not self.mode or number not in CSRS:
-            return self.trap(ILLEGAL, word)
+            return self.trap(ILLEGAL, instruction.imm)
         old = self.csr[number]
         old_tag = self.csr_tags.get(number)
         old_sp = self.regs[SP]
-        if access == "w" or r1 != 0:
-            operand = r1 if is_immediate else self.regs[r1]
+        if instruction.op == "w" or rs1 != 0:  # else the instruction only reads
+            operand = rs1 if is_immediate else self.regs[rs1]
             tag: Tag = None
-            if access == "s":
+            if instruction.op == "s":
                 new = operation("or", old, operand)
-            elif access == "c":
+            elif instruction.op == "c":
                 new = operation("and", old, operation("xor", operand, M32))
             else:
                 new = operand
-                tag = None if is_immediate else self.tags[r1]
+                tag = None if is_immediate else self.tags[rs1]
             new = operation("and", new, CSRS[number])
             self.csr[number] = self.fixed(new) if number == SSTATUS else new
             self.csr_tags[number] = tag if number == SSCRATCH else None

@@ -32,7 +32,7 @@ def confirm(search: Search, example: Counterexample) -> str:
         return DIFFERS + "the step does not trap"
     if example.address is not None:
         reached = observed(search.world.word_at(example.pc), one.regs)[0]
-        predicted = evaluate(example.address, example.one, {})
+        predicted = evaluate(example.address, example.one)
         if reached != predicted:
             return DIFFERS + "the access is at %08x, predicted %08x" % (reached, predicted)
     return CONFIRMED

@@ -92,7 +92,7 @@ class Flows:
         if instruction.kind == "jalr":
             if instruction.rd in LINKS:
                 return (following,), True
-            return [] if instruction.r1 in LINKS else self.tables.get(self.function_at(pc), []), False
+            return [] if instruction.rs1 in LINKS else self.tables.get(self.function_at(pc), []), False
         if instruction.kind in ("sret", "illegal", "ebreak"):
             return (), False
         return (following,), instruction.kind == "ecall"

@@ -74,9 +74,9 @@ class Indices:
             if around.isdisjoint(flow.heads.get(place, ())):
                 continue
             instruction = self.at(place)
-            is_word_offset = instruction.kind == "imm" and instruction.more == "sll" and instruction.imm == WORD_SHIFT
+            is_word_offset = instruction.kind == "imm" and instruction.op == "sll" and instruction.imm == WORD_SHIFT
             if is_word_offset and self.is_loaded(place + 4, instruction.rd):
-                found.add(instruction.r1)
+                found.add(instruction.rs1)
         return frozenset(found)
 
     def at(self, pc: int) -> Decoded:
@@ -90,13 +90,13 @@ class Indices:
         derived = {register}  # the registers that have the offset, or a sum with it
         for at in range(pc, pc + 4 * NEAR, 4):
             instruction = self.at(at)
-            kind, rd, r1 = instruction.kind, instruction.rd, instruction.r1
-            if kind == "load" and r1 in derived:
+            kind, rd, rs1 = instruction.kind, instruction.rd, instruction.rs1
+            if kind == "load" and rs1 in derived:
                 following = map(self.at, range(at + 4, at + 4 * SOON, 4))
-                is_target = any(later.kind == "jalr" and later.r1 == rd for later in following)
-                return instruction.more[0] == 4 and not is_target
-            has_derived = (kind in ("op", "imm") and r1 in derived) or (kind == "op" and instruction.r2 in derived)
-            if instruction.more == "add" and has_derived:
+                is_target = any(later.kind == "jalr" and later.rs1 == rd for later in following)
+                return instruction.width == 4 and not is_target
+            has_derived = (kind in ("op", "imm") and rs1 in derived) or (kind == "op" and instruction.rs2 in derived)
+            if instruction.op == "add" and has_derived:
                 derived = derived | {rd}
             else:
                 derived = derived - {rd}

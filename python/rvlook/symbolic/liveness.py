@@ -23,9 +23,9 @@ def reads(instruction: Decoded, register: int, is_saved: bool) -> bool:
     if instruction.kind == "ecall":
         return is_saved or register in ARGUMENTS
     if instruction.kind in BOTH:
-        return register in (instruction.r1, instruction.r2)
+        return register in (instruction.rs1, instruction.rs2)
     if instruction.kind in FIRST:
-        return register == instruction.r1
+        return register == instruction.rs1
     return instruction.kind in ("sret", "illegal")  # the code at the target may read each register
 
 
@@ -50,7 +50,7 @@ def is_read(flows: Flows, pc: int, register: int, is_saved: bool = True) -> bool
         if instruction.rd == register and instruction.kind not in ("ecall", "sret"):
             continue
         if instruction.kind == "jalr" and instruction.rd == 0 and not following:  # a return, or a jump
-            is_return = instruction.r1 in LINKS
+            is_return = instruction.rs1 in LINKS
             may_be_read_by_caller = register not in TEMPORARIES and register not in ARGUMENTS[2:]
             if not is_return or (depth == 0 and may_be_read_by_caller):
                 return True

@@ -248,7 +248,7 @@ class LoopMerger(Merger):
         if self.is_popped(merged.state, at):
             return False
         aligned = at & -4
-        member = self.search.extents.member(at) if at < self.search.world.objects.stack else None
+        member = self.search.extents.member_at(at) if at < self.search.world.objects.stack else None
         if member:
             is_word = (member.element or member.size) >= 4
         else:

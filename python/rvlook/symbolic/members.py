@@ -71,7 +71,7 @@ def member_of(state: Accesses, place: Place) -> Optional[Member]:
     search = state.search
     if place.tag.how not in (How.SYMBOL, How.UPPER, How.MEMORY):
         return None
-    return search.extents.member(place.base) if search.world.region[0] <= place.base < search.world.objects.stack else None
+    return search.extents.member_at(place.base) if search.world.region[0] <= place.base < search.world.objects.stack else None
 
 
 def is_shifted(state: Accesses, address: Word, width: int, place: Place, kind: str) -> bool:
@@ -83,7 +83,7 @@ def is_shifted(state: Accesses, address: Word, width: int, place: Place, kind: s
     whole = place.whole
     if place.tag.how not in (How.SYMBOL, How.MEMORY) or not whole.has(start, 1) or whole.has(place.base, 1):
         return False
-    member = search.extents.member(start) if search.world.region[0] <= start < search.world.objects.stack else None
+    member = search.extents.member_at(start) if search.world.region[0] <= start < search.world.objects.stack else None
     if member is not None and not is_one_array(member, whole) and not stays_usual(state, address, width):
         search.doubt_access(kind, state, UNION if member.is_union else MEMBER)
     return True
@@ -92,7 +92,7 @@ def is_shifted(state: Accesses, address: Word, width: int, place: Place, kind: s
 def stays_usual(state: Accesses, address: Word, width: int) -> bool:
     """Returns whether an access always stays in one member, which the run itself reaches by the instruction."""
     search = state.search
-    member = search.extents.member(state.value(address))
+    member = search.extents.member_at(state.value(address))
     if member is None or member.is_union:
         return False
     usual = state.context, state.pc, member.at
@@ -116,7 +116,7 @@ def member_leaves(state: Accesses, at: int, width: int, place: Place, kind: str)
     a structure may be one to its first member. The run itself is allowed to do so, and other paths at the same instruction too."""
     search = state.search
     if is_shifted(state, at, width, place, kind):
-        start = search.extents.member(place.tag.base)
+        start = search.extents.member_at(place.tag.base)
         if start is not None and not is_one_array(start, place.whole):
             del state.last_objects[state.pc]
         return
@@ -149,7 +149,7 @@ def reach_of(state: Accesses, member: Member) -> int:
 
 def size_begun(state: Accesses, member: Member) -> int:
     """Returns the size of the largest structure or element that begins with a number, or the size of the number itself."""
-    whole = state.search.extents.variable(member.at)
+    whole = state.search.extents.variable_at(member.at)
     own = [other for other in state.search.world.objects.fixed if whole.low <= other.at < whole.high]
     parts = member.name.split(".")
     for n in range(1, len(parts)):
@@ -178,7 +178,7 @@ def asked_member(state: Accesses, address: Node, width: int, place: Place, kind:
     if member.is_union:
         search.doubt_access(kind, state, UNION)
         return place.whole
-    variable = search.extents.variable(member.at)
+    variable = search.extents.variable_at(member.at)
     is_variable = member.at == variable.low and reach_of(state, member) == variable.high - variable.low
     if is_variable and not member.row:
         return place.whole  # the variable is the array, or begins with the number

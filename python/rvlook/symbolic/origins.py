@@ -27,7 +27,7 @@ class Origin(NamedTuple):
     base: int  # the first address
     call: int = 0  # the number of the call that has computed it
     pc: int = 0  # the instruction that has computed it
-    more: int = 0  # a constant in the index that was added to sp, which the compiler may have taken from the offset
+    index_constant: int = 0  # a constant in the index that was added to sp, which the compiler may have taken from the offset
 
 
 NO_ORIGIN = Origin(How.NONE, 0)  # of a word in memory that is no pointer, although its value looks like one

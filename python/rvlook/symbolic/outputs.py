@@ -214,7 +214,7 @@ def is_one_byte(output: Node, taint: int) -> bool:
     if output.taint & ~taint or not has_one_variable:
         return False
     name = names_of(mask)[0]
-    return len({evaluate(output, {name: value}, {}) for value in range(BYTES)}) == BYTES
+    return len({evaluate(output, {name: value}) for value in range(BYTES)}) == BYTES
 
 
 def comparison_with(node: Node, taint: int) -> Optional[Node]:

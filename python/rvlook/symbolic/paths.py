@@ -143,7 +143,7 @@ class Paths(Fields):
         elif answer and tried >= MOST_VALUES:
             search.words_with_many_values[self.pc] += 1
         elif answer:
-            self.add_path_again(other, model, tried + 1, evaluate(word, model, {}))
+            self.add_path_again(other, model, tried + 1, evaluate(word, model))
         self.assume(eq(word, value))
         return value
 

@@ -231,12 +231,12 @@ def observed(word: int, regs: Sequence[int]) -> Tuple[int, ...]:
     """Returns what the host may observe of an instruction word: the accessed address, the stored value, or the operands. `regs` has the registers
     before the instruction."""
     instruction = decode(word)
-    first = regs[instruction.r1]
+    first = regs[instruction.rs1]
     if instruction.kind == "load":
         return ((first + instruction.imm) & M32,)
     if instruction.kind == "store":
-        width = instruction.more
-        return (first + instruction.imm) & M32, regs[instruction.r2] & (1 << 8 * width) - 1
+        stored = regs[instruction.rs2] & (1 << 8 * instruction.width) - 1
+        return (first + instruction.imm) & M32, stored
     if instruction.kind == "ecall":
         return regs[A0], regs[A1], regs[A6]
-    return first, regs[instruction.r2] if instruction.kind in ("op", "branch") else 0
+    return first, regs[instruction.rs2] if instruction.kind in ("op", "branch") else 0

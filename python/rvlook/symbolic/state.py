@@ -108,11 +108,11 @@ class State(Traps):
     def has_origin(self) -> bool:
         """Returns whether the instruction at the pc accesses an address that the enclave has computed, not a pointer of the host."""
         instruction = self.present_instruction()
-        return instruction.kind in ("load", "store") and self.tags[instruction.r1] is not None
+        return instruction.kind in ("load", "store") and self.tags[instruction.rs1] is not None
 
     def access_address(self) -> Optional[Word]:
         """Returns the address that the load or store at the pc accesses; None for another instruction."""
         instruction = self.present_instruction()
         if instruction.kind not in ("load", "store"):
             return None
-        return operation("add", self.regs[instruction.r1], instruction.imm & M32)
+        return operation("add", self.regs[instruction.rs1], instruction.imm & M32)
