@@ -176,7 +176,7 @@ class Loops:
         """Returns the function that gives the words in the state at a head, and the places of the words that are tried as a measure. `name` is the
         prefix of the head."""
         merger, head = next(pair for pair in self.heads.values() if pair[0].prefix == name)
-        return merger.words(head, head.cells), merger.candidates(head)
+        return merger.merged_word_reader(head, head.cells), merger.candidates(head)
 
 
 def is_around(outer: Head, head: Head) -> bool:
