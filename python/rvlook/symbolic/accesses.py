@@ -11,7 +11,7 @@ from rvlook.symbolic.decode import decode
 from rvlook.symbolic.evaluation import evaluate
 from rvlook.symbolic.extents import Extent
 from rvlook.symbolic.fields import FINDING, Ended
-from rvlook.symbolic.members import Place, asked_member, member_leaves
+from rvlook.symbolic.members import Place, ask_member, member_leaves
 from rvlook.symbolic.nodes import INPUT, M32, SECRET, Condition, Node, Word
 from rvlook.symbolic.origins import MIXED, How, Origin, Tag
 from rvlook.symbolic.paths import MOST_VALUES, Paths
@@ -199,14 +199,14 @@ class Accesses(Paths):
             return self.allowed_place(address, width, kind) if search.doubt_access(kind, self, UNKNOWN) else None
         candidates = [Candidate(within(address, extent.low, extent.high - width), extent) for extent in objects]
         is_inside = any(candidate.inside is True for candidate in candidates)  # for all inputs
-        if not is_inside and self.asked_outside(address, candidates, is_sure, kind) is None:
+        if not is_inside and self.ask_outside(address, candidates, is_sure, kind) is None:
             return self.allowed_place(address, width, kind) if search.world.allowed.has(self.pc) else None
         if self.is_base and not any(self.holds(candidate.inside) for candidate in candidates):
             return None  # the run itself is outside
         found = self.choose_object(candidates)
         if tag is not None and found.low != search.world.window[0]:
             self.note_variable(tag, found, kind)
-            return asked_member(self, address, width, Place(tag, offset, found), kind)
+            return ask_member(self, address, width, Place(tag, offset, found), kind)
         return found
 
     def places(self, address: Node, tag: Tag, offset: int, width: int) -> Tuple[List[Extent], bool]:
@@ -229,7 +229,7 @@ class Accesses(Paths):
             is_sure = answer is True  # an address that is never inside was folded
         return objects, is_sure
 
-    def asked_outside(self, address: Node, candidates: List[Candidate], is_sure: bool, kind: str) -> Optional[bool]:
+    def ask_outside(self, address: Node, candidates: List[Candidate], is_sure: bool, kind: str) -> Optional[bool]:
         """Asks whether an address can be outside all candidates, and reports it if leaving them is an error (`is_sure`). Returns False if it cannot,
         None if the address is to be followed value by value, and else True: then the path assumes that the access is inside."""
         search = self.search

@@ -135,10 +135,10 @@ def numbers_of(search: Search) -> Set[int]:
 def sizes_of(extents: Extents) -> Set[int]:
     """Returns the sizes of the variables of the enclave, and the numbers of their elements."""
     sizes = set()
-    for symbol in extents.objects.own:  # all symbols of the region
+    for symbol in extents.region_symbols:
         if symbol.size and not symbol.is_function:
             sizes.add(symbol.size)
-    for member in extents.objects.fixed:  # all members of variables at fixed addresses
+    for member in extents.static_members:
         sizes.add(member.size)
         if member.element:
             sizes.add(member.size // member.element)

@@ -50,7 +50,7 @@ class TraceState(State):
     """A state that proposes values at the borders of objects."""
     __slots__ = ()
 
-    def asked_outside(self, address: Node, candidates: List[Candidate], is_sure: bool, kind: str) -> Optional[bool]:
+    def ask_outside(self, address: Node, candidates: List[Candidate], is_sure: bool, kind: str) -> Optional[bool]:
         """Proposes addresses right before and right after the objects of an access, and the last address inside. `address` is the accessed
         address."""
         search: TracePath = self.search  # type: ignore[assignment]

@@ -33,7 +33,7 @@ class Traps(Memory):
     """A state that calls, returns and traps."""
     __slots__ = ()
 
-    def called(self, pc: int, target: int, is_trap: bool = False) -> None:
+    def note_call(self, pc: int, target: int, is_trap: bool = False) -> None:
         """Notes that the instruction at a pc calls the function with the entry `target`, or traps to this address."""
         search = self.search
         self.context = search.world.contexts.called(self.context, pc, is_trap)
@@ -41,10 +41,10 @@ class Traps(Memory):
         self.calls = OpenCall(self.calls, self.call, pc + 4, self.regs[SP], self.entry)
         self.call = search.calls
         self.entry = target
-        if target not in search.flows.known:
+        if target not in search.flows.by_entry:
             search.note_flow(target)
 
-    def returned(self, target: int) -> None:
+    def note_return(self, target: int) -> None:
         """Notes a return to an address. Reports a return that does not lead to the caller, since the host must not choose where it leads."""
         search = self.search
         contexts = search.world.contexts
@@ -72,7 +72,7 @@ class Traps(Memory):
         self.areas = tuple(area for area in self.areas if area.call != self.call)
         self.call = self.search.calls
 
-    def moved_sp(self, old: int, is_relative: bool) -> None:
+    def note_moved_sp(self, old: int, is_relative: bool) -> None:
         """Notes that sp has changed from `old` by another amount than a constant: it points to another stack, or a variable-length array begins or
         ends. `is_relative` says whether the new value was computed from the old one. Ends the path if sp is an expression."""
         new = self.regs[SP]
@@ -100,7 +100,7 @@ class Traps(Memory):
         csr[STVAL] = value
         csr[SSTATUS] = status & ~(SIE | SPIE | SPP) | (SPP if self.mode else 0) | (SPIE if status & SIE else 0)
         self.mode = 1
-        self.called(self.pc, target, is_trap=True)
+        self.note_call(self.pc, target, is_trap=True)
         return target
 
     def jump_target(self, address: Word) -> int:
@@ -108,7 +108,7 @@ class Traps(Memory):
         except among two numbers."""
         if type(address) is Node and not is_number_choice(address):
             return self.search.jump(self, address, is_return=True)
-        return self.fixed(address)
+        return self.concretize(address)
 
     def sret(self) -> int:
         """Executes `sret`: returns from a trap. Returns the next pc."""
@@ -140,13 +140,13 @@ class Traps(Memory):
                 new = operand
                 tag = None if is_immediate else self.tags[rs1]
             new = operation("and", new, CSRS[number])
-            self.csr[number] = self.fixed(new) if number == SSTATUS else new
+            self.csr[number] = self.concretize(new) if number == SSTATUS else new
             self.csr_tags[number] = tag if number == SSCRATCH else None
         if rd:
             self.regs[rd] = old
             self.tags[rd] = old_tag
             if rd == SP:
-                self.moved_sp(old_sp, is_relative=False)
+                self.note_moved_sp(old_sp, is_relative=False)
         return self.pc + 4
 
     # ---- the monitor
@@ -155,7 +155,7 @@ class Traps(Memory):
         """Executes `ecall`: calls the monitor in S-mode, and the runtime of the enclave in U-mode. Returns the next pc."""
         if not self.mode:
             return self.trap(ECALL_U, 0)
-        call = self.fixed(self.regs[A6]) if self.fixed(self.regs[A7]) == MONITOR_KEY else 0
+        call = self.concretize(self.regs[A6]) if self.concretize(self.regs[A7]) == MONITOR_KEY else 0
         if call in (STOP, EXIT):
             self.leave_enclave(call)
         elif call == MEASURE:
@@ -206,10 +206,10 @@ class Traps(Memory):
             extent = self.place_at(at, DIGEST, self.tags[A1], 0, "store")
             if extent is not None and extent.low == world.window[0]:
                 for n, byte in enumerate(digest):
-                    self.sent(self.value(at) + n, 1, byte, add(at, n))
+                    self.store_window(self.value(at) + n, 1, byte, add(at, n))
                 self.set_result(0)
                 return self.pc + 4
-            at = self.fixed(at, "address")
+            at = self.concretize(at, "address")
         if all(world.is_allowed(at + n, 1) for n in range(DIGEST)):
             self.access(at, DIGEST, self.tags[A1], 0, "store")
             for n, byte in enumerate(digest):

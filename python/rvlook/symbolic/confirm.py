@@ -4,7 +4,7 @@ from __future__ import annotations
 from typing import TYPE_CHECKING
 
 from rvlook.symbolic.evaluation import evaluate
-from rvlook.symbolic.replay import FURTHER, observed
+from rvlook.symbolic.replay import FURTHER_STEPS, observed
 
 if TYPE_CHECKING:
     from rvlook.symbolic.record import Counterexample
@@ -41,7 +41,7 @@ def confirm(search: Search, example: Counterexample) -> str:
 def confirm_endless(replayed: Replayed) -> str:
     """Returns what the replay of an endless loop shows: whether the registers repeat after many steps."""
     if replayed.is_again:
-        return CONFIRMED + ": after %d more steps the registers repeat" % FURTHER
+        return CONFIRMED + ": after %d more steps the registers repeat" % FURTHER_STEPS
     return DIFFERS + "the registers do not repeat"
 
 

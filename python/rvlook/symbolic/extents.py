@@ -58,10 +58,12 @@ class Extents:
     def __init__(self, world: World) -> None:
         self.world = world
         self.objects = world.objects
+        self.region_symbols = world.objects.own  # the symbols in the region, in ascending order of their addresses
+        self.static_members = world.objects.fixed  # the variables at fixed addresses, down to their members, in the same order
         low, high = world.region
         self.stacks: List[Stack] = [stack for stacks in stacks_of(world.symbols).values() for stack in stacks if low <= stack.bottom < high]
         self.locals = variables_of(world.objects.locals)
-        self.member_starts = {member.at for member in self.objects.fixed}  # the addresses at which members of variables begin
+        self.member_starts = {member.at for member in self.static_members}  # the addresses at which members of variables begin
         self.reaches: Dict[Member, int] = {}  # the size of the largest object that begins with a member
 
     def stack_of(self, sp: int) -> Bounds:
@@ -81,13 +83,13 @@ class Extents:
             high = symbol.address + symbol.size if symbol.size else end
             is_start = address == symbol.address or address in self.member_starts
             return Extent(symbol.address, high, self.objects.fixed_at(address).name, is_start)
-        last = self.objects.own[index - 1] if index else None
+        last = self.region_symbols[index - 1] if index else None
         low = last.address + last.size if last else self.world.region[0]
         return Extent(low, max(end, address + 1), "the data after %s" % last.name if last else "the data", is_start=False)
 
     def member_at(self, address: int) -> Optional[Member]:
         """Returns the member of a variable at an address below the stacks, or None without DWARF."""
-        members = self.objects.fixed
+        members = self.static_members
         index = bisect_right(self.objects.starts, address) - 1  # of the last member that begins at or before the address
         while index >= 0 and members[index].at > address - LARGEST_MEMBER:
             if address < members[index].at + members[index].size:

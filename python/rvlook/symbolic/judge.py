@@ -190,15 +190,15 @@ class Judge(Leaving):
         compared it. Returns the address at which this path goes on."""
         what = "return" if is_return else "jump"
         if (what, state.pc) not in self.findings:
-            known: List[Condition] = [eq(target, entry) for entry in sorted(self.world.functions)]
-            outside = differ(target, state.value(target)) if is_return else all_of(*(not_(is_function) for is_function in known))
+            are_functions: List[Condition] = [eq(target, entry) for entry in sorted(self.world.functions)]
+            outside = differ(target, state.value(target)) if is_return else all_of(*(not_(is_function) for is_function in are_functions))
             answer, model = self.solver.satisfiable(state.conds, outside, state.model)
             if answer:
                 self.report(what, state, "the host chooses the target: %08x" % evaluate(target, model), model)
             elif answer is None:
                 self.undecided[what, state.pc] += 1
             if not answer:
-                return state.fixed(target)
+                return state.concretize(target)
         if not state.is_base:
             raise Ended(FINDING)
         self.assumed_inside[state.pc] += 1

@@ -33,8 +33,8 @@ MOST_RANKS = 40  # words that are tried as the measure of a loop
 MOST_ON_WAYS = 24  # words that are tried as the measure of the ways from one loop to another
 MOST_OPERATIONS = 1000  # of the value of a word that is tried as a measure
 TIMEOUT = 1000  # milliseconds of a question about measures
-OWN = 3  # how much it counts if a round of the loop drops a bound; a path from another loop counts 1, since it may follow its own bounds
-MOST_DROPS = {MOST: 3 * OWN, SUM: OWN, LEAST: 2 * OWN}  # as in `merge`; fewer drops of one loop suffice, since `widen` drops bounds at once
+ROUND = 3  # how much it counts if a round of the loop drops a bound; a path from another loop counts 1, since it may follow its own bounds
+MOST_DROPS = {MOST: 3 * ROUND, SUM: ROUND, LEAST: 2 * ROUND}  # as in `merge`; fewer drops of one loop suffice, since `widen` drops bounds at once
 
 
 class LoopMerger(Merger):
@@ -238,7 +238,7 @@ class LoopMerger(Merger):
 
     def drop_weight(self, state: State) -> int:
         """Returns how much it counts in `Merged.drops` if a path drops a bound."""
-        return OWN if self.is_own(state) else 1
+        return ROUND if self.is_own(state) else 1
 
     def may_have_facts(self, merged: Merged, at: Place, wanted: Optional[Set[MergedPlace]]) -> bool:
         """Returns whether a byte may have facts: one of a register that is read later, of a word that is loaded, or of a place on which a doubt

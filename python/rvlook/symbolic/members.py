@@ -61,8 +61,8 @@ def stride_of(state: Accesses, member: Member) -> int:
     Returns 0 if there is no such array."""
     if "[]" not in member.name:
         return 0
-    objects = state.search.world.objects
-    starts = sorted(other.at for other in objects.fixed if other.name == member.name)
+    members = state.search.extents.static_members
+    starts = sorted(other.at for other in members if other.name == member.name)
     return min((following - start for start, following in zip(starts, starts[1:])), default=0)
 
 
@@ -141,20 +141,20 @@ def member_leaves(state: Accesses, at: int, width: int, place: Place, kind: str)
 def reach_of(state: Accesses, member: Member) -> int:
     """Returns the size of the largest object that begins with a member. A pointer to a number may be one to the variable, the structure or the
     element that begins with this number."""
-    known = state.search.extents.reaches
-    if member not in known:
-        known[member] = member.size if member.element or member.is_union else size_begun(state, member)
-    return known[member]
+    sizes = state.search.extents.reaches
+    if member not in sizes:
+        sizes[member] = member.size if member.element or member.is_union else size_begun(state, member)
+    return sizes[member]
 
 
 def size_begun(state: Accesses, member: Member) -> int:
     """Returns the size of the largest structure or element that begins with a number, or the size of the number itself."""
     whole = state.search.extents.variable_at(member.at)
-    own = [other for other in state.search.world.objects.fixed if whole.low <= other.at < whole.high]
+    members = [other for other in state.search.extents.static_members if whole.low <= other.at < whole.high]  # of the same variable
     parts = member.name.split(".")
     for n in range(1, len(parts)):
         prefix = ".".join(parts[:n])
-        group = [other for other in own if other.name.startswith(prefix + ".")]  # the members of the structure, or of all elements
+        group = [other for other in members if other.name.startswith(prefix + ".")]  # the members of the structure, or of all elements
         stride = stride_of(state, member) if prefix.endswith("[]") else 0
         moved = member.at - group[0].at
         if stride:
@@ -164,11 +164,11 @@ def size_begun(state: Accesses, member: Member) -> int:
         if stride:
             return stride
         end = max(other.at + other.size for other in group)
-        return min((other.at for other in own if other.at >= end), default=whole.high) - member.at
+        return min((other.at for other in members if other.at >= end), default=whole.high) - member.at
     return member.size
 
 
-def asked_member(state: Accesses, address: Node, width: int, place: Place, kind: str) -> Extent:
+def ask_member(state: Accesses, address: Node, width: int, place: Place, kind: str) -> Extent:
     """Asks whether an access at an expression, which stays in its variable, can leave the member or the row of an array in which it begins. Returns
     the array in which it stays for sure, or the variable."""
     search = state.search

@@ -36,7 +36,7 @@ LOST = Origin(How.NONE, 1)  # of a word that has an origin on some of the paths 
 Tag = Optional[Origin]  # None for a word that is no pointer, as far as is known
 
 
-def known(tag: Tag) -> Tag:
+def register_tag(tag: Tag) -> Tag:
     """Returns an origin as the tag of a register: None for NO_ORIGIN, which only words in memory have."""
     return None if tag is NO_ORIGIN else tag
 

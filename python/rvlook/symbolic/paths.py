@@ -125,7 +125,7 @@ class Paths(Fields):
             if not self.is_base:
                 raise Ended("bound")
 
-    def fixed(self, word: Word, what: str = "pc") -> int:
+    def concretize(self, word: Word, what: str = "pc") -> int:
         """Returns the value of a word in the model as a number, which the word then has on this path. Leaves other values to other paths. `what` is
         the kind of a finding if the value depends on the secret: how the host can observe it."""
         if type(word) is int:

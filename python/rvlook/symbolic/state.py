@@ -53,7 +53,7 @@ class State(Traps):
         search merges paths at this head from the first round on. A search that does not merge loops only notes the head."""
         search = self.search
         head = pc, self.context
-        flow = search.flows.known.get(self.entry)
+        flow = search.flows.by_entry.get(self.entry)
         if search.is_trial or flow is None or flow.innermost_head(pc) != pc or head in search.divided:
             return
         if self.is_base:
