@@ -67,7 +67,7 @@ def test_loaded_public_word_must_be_followed(bench, monkeypatch, capsys, words):
     monkeypatch.setenv("RVBENCH", bench)
     arguments = [str(it) for it in words(6, *KEY, *SHOWN[6])]
     assert main(arguments) == 0 and FOR_ALL not in capsys.readouterr().out
-    monkeypatch.setattr(OwnState, "received", received)
+    monkeypatch.setattr(OwnState, "load_window", received)
     assert main(arguments) == 0 and FOR_ALL in capsys.readouterr().out
 
 

@@ -120,7 +120,7 @@ def wrong_answers(seeds):
         known = Domains().answer(asked)[0] if asked else None
         if known is not None:
             translator = Translator()
-            answer = translator.z3.checked([translator(it) for it in asked], 5000)[0]
+            answer = translator.z3.check([translator(it) for it in asked], 5000)[0]
             found += [seed] if answer is not known else []
             counts[known] += 1
     return found, counts

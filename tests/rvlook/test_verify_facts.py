@@ -9,7 +9,7 @@ pytest.importorskip("z3", reason="python3-z3 is not installed")
 from rvlook.symbolic import facts
 from rvlook.symbolic.bounds import LONGEST_BOUND, Bounds
 from rvlook.symbolic.conditions import element, ult
-from rvlook.symbolic.facts import BELOW, DIFFERENCE, LEAST, MOST, ORDER, SUM, Fact, Limits, condition_of
+from rvlook.symbolic.facts import BELOW, DIFFERENCE, LEAST, MOST, NOT_ABOVE, SUM, Fact, Limits, condition_of
 from rvlook.symbolic.nodes import INPUT, M32, variable
 from rvlook.symbolic.opaque import FEW_BYTES
 from rvlook.symbolic.ranks import Edge, Measure, Passage, circular, outer_ways
@@ -66,7 +66,7 @@ def test_rough_session_asks_nothing_once_the_time_is_over():
 NUMBERS = (0, 1, 2, 5, 6, M32 - 1, M32)
 BOUNDS = [Fact(MOST, it, 0, offset, bound) for it in "xy" for offset in (0, 1, M32) for bound in (1, 5)]
 BOUNDS += [Fact(LEAST, it, bound=bound) for it in "xy" for bound in (1, 6)]
-PAIRS = [Fact(ORDER, "x", "y"), Fact(BELOW, "x", "y"), Fact(SUM, "x", "y", 0, 6), Fact(SUM, "x", "y", 0, 11)]
+PAIRS = [Fact(NOT_ABOVE, "x", "y"), Fact(BELOW, "x", "y"), Fact(SUM, "x", "y", 0, 6), Fact(SUM, "x", "y", 0, 11)]
 
 
 def wrongly_left_out():
@@ -91,7 +91,7 @@ def ranges_that_wrap(found):
 
 
 FACT_ERRORS = {"equal words are below each other": ("follows", lambda fact, ranges: fact.kind == BELOW and ranges.get(fact.x, (0, M32))[1] <= 5),
-               "a range wraps": ("ranges_of", ranges_that_wrap), "a name is forgotten": ("BELOW", ORDER)}
+               "a range wraps": ("ranges_of", ranges_that_wrap), "a name is forgotten": ("BELOW", NOT_ABOVE)}
 
 
 @pytest.mark.parametrize("name", FACT_ERRORS)

@@ -16,7 +16,7 @@ from rvlook.output.progress import Progress
 from rvlook.protocol.run import Setup, run_of
 from rvlook.image.symbols import symbols_of
 from rvlook.symbolic import bounds, joins, merge, solver
-from rvlook.symbolic.bounds import words_of
+from rvlook.symbolic.bounds import word_reader
 from rvlook.symbolic.conditions import all_of, differ
 from rvlook.symbolic.evaluation import evaluate
 from rvlook.symbolic.fields import Ended
@@ -261,7 +261,7 @@ def doubtful_facts(bench, monkeypatch, task):
     found = []
     for state, key in search.states:
         own = active(search.merger.merged[key].facts)
-        found += [it for it in own if not evaluate(condition_of(it, words_of(state)), state.model, {})]
+        found += [it for it in own if not evaluate(condition_of(it, word_reader(state)), state.model, {})]
     return found
 
 

@@ -86,7 +86,7 @@ RULE_ERRORS = {
 
 def sret_keeps_the_mode(self):
     """Returns from a trap, and stays in its mode."""
-    return self.fixed(self.csr[fields.SEPC])
+    return self.concretize(self.csr[fields.SEPC])
 
 
 def signless(b0, b1, width):

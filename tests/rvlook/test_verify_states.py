@@ -148,12 +148,12 @@ def test_all_work_shares_one_deadline(bench, monkeypatch, elf):
     from rvlook.symbolic.replay import Replayer
     from rvlook.symbolic.translate import Z3
     asked, replayed = [], []
-    checked, go = Z3.checked, Replayer.go
-    monkeypatch.setattr(Z3, "checked", lambda self, asts, timeout: asked.append(time.perf_counter() + timeout / 1000) or checked(self, asts, timeout))
+    checked, go = Z3.check, Replayer.go
+    monkeypatch.setattr(Z3, "check", lambda self, asts, timeout: asked.append(time.perf_counter() + timeout / 1000) or checked(self, asts, timeout))
     monkeypatch.setattr(Replayer, "go", lambda self, *more, **named: replayed.append(self.deadline) or go(self, *more, **named))
     search = searched(bench, monkeypatch, elf("verify_parsers", "-DCBOR"), 4)
     ended = time.perf_counter()
-    assert questions.gone(search) and not questions.is_complete(search)
+    assert questions.reasons_not_covered(search) and not questions.is_complete(search)
     (deadline,) = set(replayed)
     assert asked and max(asked) < deadline and ended < deadline + 20
 
@@ -166,9 +166,9 @@ def test_replay_that_is_late_is_not_complete(bench, monkeypatch):
     search.replayer.deadline, state = 0, search.first_state()
     state.step()
     search.replay(state, "exit")
-    assert questions.gone(search) == ["the time is over before 1 paths were replayed"]
+    assert questions.reasons_not_covered(search) == ["the time is over before 1 paths were replayed"]
     search.not_replayed, search.not_confirmed = 0, 2
-    assert questions.gone(search) == ["the time is over before 2 findings were replayed"] and not questions.is_complete(search)
+    assert questions.reasons_not_covered(search) == ["the time is over before 2 findings were replayed"] and not questions.is_complete(search)
 
 
 def test_search_that_is_late_before_the_last_pass_is_not_complete(bench, monkeypatch):
@@ -176,7 +176,7 @@ def test_search_that_is_late_before_the_last_pass_is_not_complete(bench, monkeyp
     search = searched(bench, monkeypatch, EXAMPLES / "enclaves" / "adds" / "image", 60)
     assert questions.is_complete(search)
     search.loops.is_final, search.loops.heads = False, {1: (SimpleNamespace(prefix="l"), SimpleNamespace(arrivals=[]))}
-    assert questions.gone(search) == ["the time is over before the ends of loops were examined"] and not questions.is_complete(search)
+    assert questions.reasons_not_covered(search) == ["the time is over before the ends of loops were examined"] and not questions.is_complete(search)
 
 
 def test_length_of_the_run_itself_is_not_left_out(rvlook, elf):
@@ -186,11 +186,11 @@ def test_length_of_the_run_itself_is_not_left_out(rvlook, elf):
 
 @pytest.mark.parametrize("is_final, undecided, count", [(True, {}, 2), (False, {}, 1), (True, {("load", 8): 1}, 1)])
 def test_search_without_a_doubt_goes_on_in_its_last_pass(monkeypatch, is_final, undecided, count):
-    from rvlook.symbolic.strategy import MERGED, Strategy
+    from rvlook.symbolic.strategy import LOOP_SEARCHES, Strategy
     runs, strategy = [], Strategy.__new__(Strategy)
     search = SimpleNamespace(loops=SimpleNamespace(is_final=is_final), undecided=undecided, is_outgrown=False)
     monkeypatch.setattr(Strategy, "is_done", lambda self: False)
     monkeypatch.setattr(Strategy, "add_search", lambda self, means: search)
     monkeypatch.setattr(Strategy, "run", lambda self, search, part, progress: runs.append(part) or search)
-    strategy.search_merged(MERGED[0], .8, None)
+    strategy.search_merged(LOOP_SEARCHES[0], .8, None)
     assert runs == [.8, 1][:count]

@@ -7,15 +7,15 @@ from __future__ import annotations
 import gdb
 from gdb.unwinder import Unwinder, register_unwinder  # type: ignore[attr-defined]
 
-SAVED = ["ra", "sp", *("s%d" % number for number in range(12))]  # what a function keeps for its caller
-KEPT = ["world", "priv", "stvec", "host_pc", *("host_" + name for name in SAVED)]  # what a trap leaves as it is
-HANDLER = 0xFFFFFFFC  # of stvec: where traps go
-SWAP = 0x14011173  # csrrw sp, sscratch, sp: the stack of the handler for that of what it interrupted, and back
-STORE, TO_SP, MOVE_SP = 0x2023, 0x2, 0x10113  # sw, the number of sp, and addi sp, sp
+SAVED = ["ra", "sp", *("s%d" % number for number in range(12))]  # callee-saved registers, and ra
+UNCHANGED = ["world", "priv", "stvec", "host_pc", *("host_" + name for name in SAVED)]  # registers that a trap does not change
+BASE_MASK = 0xFFFFFFFC  # the bits of stvec that are BASE: the address of the trap handler
+SWAP = 0x14011173  # csrrw sp, sscratch, sp: exchanges the stack pointers of the handler and of the interrupted code
+STORE, SP, MOVE_SP = 0x2023, 2, 0x10113  # sw (opcode and funct3), the number of sp, and addi sp, sp (all but the immediate)
 
 
 class FrameId:
-    """The identity of a frame."""
+    """The identity of a frame, by which gdb recognises it."""
 
     def __init__(self, sp: gdb.Value, pc: gdb.Value) -> None:
         self.sp, self.pc = sp, pc  # of the frame
@@ -32,10 +32,11 @@ class Assembly(Unwinder):
             pc = int(pending.read_register("pc")) & 0xFFFFFFFF
             if self.is_function(pc):
                 return None
-            handler = int(pending.read_register("stvec")) & HANDLER
+            handler = int(pending.read_register("stvec")) & BASE_MASK
             if handler and handler <= pc and name_of(pc) == name_of(handler):
                 return self.interrupted(pending, pc, handler)
-            return self.caller(pending, pc) if str(pending.read_register("world")).startswith("e") else None
+            is_enclave = str(pending.read_register("world")).startswith("e")  # the world of the enclave in slot N is eN
+            return self.caller(pending, pc) if is_enclave else None
         except (ValueError, gdb.error):
             return None  # a register of this frame is not known, or there is none of that name without the server
 
@@ -50,23 +51,23 @@ class Assembly(Unwinder):
 
     @staticmethod
     def interrupted(pending: gdb.PendingFrame, pc: int, handler: int) -> gdb.UnwindInfo:
-        """Returns the frame of a trap handler, with the interrupted code as its caller. The handler's instructions up to here show where it
-        saved registers."""
-        stack, saved, moved, swapped = int(pending.read_register("sp")), {}, 0, False
+        """Returns the frame of a trap handler, whose caller is the interrupted code. The instructions before `pc` show where registers were saved."""
+        saved = {}  # the offsets from sp at which registers are saved, by their numbers
+        stack, moved, is_swapped = int(pending.read_register("sp")), 0, False  # `moved`: the sum of the constants that were added to sp
         for at in range(handler, pc, 4):
             word = int.from_bytes(bytes(gdb.selected_inferior().read_memory(at, 4)), "little")
             if word == SWAP:
-                swapped = not swapped
+                is_swapped = not is_swapped
             elif word & 0x000FFFFF == MOVE_SP:
                 moved += signed(word >> 20)
-            elif word & 0x000FF07F == STORE | TO_SP << 15:
+            elif word & 0x000FF07F == STORE | SP << 15:  # relative to sp
                 saved[word >> 20 & 31] = signed(word >> 25 << 5 | word >> 7 & 31)
         info = pending.create_unwind_info(FrameId(pending.read_register("sp"), gdb.Value(pc)))
-        for name in [*KEPT, *("x%d" % number for number in (1, *range(3, 32)) if number not in saved)]:
+        for name in [*UNCHANGED, *("x%d" % number for number in (1, *range(3, 32)) if number not in saved)]:
             info.add_saved_register(name, pending.read_register(name))
         kind = pending.read_register("ra").type
         info.add_saved_register("pc", pending.read_register("sepc"))
-        info.add_saved_register("sp", pending.read_register("sscratch") if swapped else gdb.Value(stack - moved).cast(kind))
+        info.add_saved_register("sp", pending.read_register("sscratch") if is_swapped else gdb.Value(stack - moved).cast(kind))
         for number, offset in saved.items():
             data = bytes(gdb.selected_inferior().read_memory((stack + offset) & 0xFFFFFFFF, 4))
             info.add_saved_register("x%d" % number, gdb.Value(int.from_bytes(data, "little")).cast(kind))
@@ -76,7 +77,7 @@ class Assembly(Unwinder):
     def caller(pending: gdb.PendingFrame, pc: int) -> gdb.UnwindInfo:
         """Returns the frame of an enclave, with the registers of the host as those of its caller."""
         values = {name: pending.read_register("host_" + name) for name in ["pc", *SAVED]}
-        int(values["pc"])  # fails if the server found no entry
+        int(values["pc"])  # raises gdb.error if the server has found no entry of the enclave
         info = pending.create_unwind_info(FrameId(pending.read_register("sp"), gdb.Value(pc)))
         for name, value in values.items():
             info.add_saved_register(name, value)

@@ -80,8 +80,7 @@ def blocks_of(ahead: Timeline, actions: Iterable[Action]) -> Iterator[ScheduledS
 
 
 def by_turns(timeline: Timeline, stops: Stops, turns: str, count: int) -> Iterator[Halt | None]:
-    """Does steps of a schedule, each run in an exchange of its own, so that the bench never passes a stop. Yields the halt after each run, or
-    None."""
+    """Does steps of a schedule, each run in an exchange of its own, so that the bench passes no stop. Yields the halt after each run, or None."""
     end = timeline.position + count
     while timeline.position < end:
         hart, left = int(turns[0]), min(end - timeline.position, MOST_STEPS)

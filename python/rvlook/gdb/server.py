@@ -31,11 +31,11 @@ VALUE = re.compile(r"[0-9a-fA-F]{8}\Z")
 BREAKS, WATCHES = ("0", "1"), {"2": ("watch", "w"), "3": ("rwatch", "r"), "4": ("awatch", "rw")}
 FEATURES = ("PacketSize=4000;QStartNoAckMode+;qXfer:features:read+;qXfer:memory-map:read+;qXfer:threads:read+;vContSupported+;"
             "ReverseStep+;ReverseContinue+;ConditionalBreakpoints+")
-MOST_WATCHED = 32
+MOST_WATCHED = 32  # bytes of one watchpoint
 MOST_READ = 0x2000  # bytes of memory in a reply; their digits fill PacketSize
 PIECE = 2000  # characters of the output of `monitor` in a packet
 SIGNS = re.compile(r"[#$}*]")  # characters that the text of an error must not contain
-GONE = "X09"  # the program was ended
+GONE = "X09"  # the stop reply "terminated by signal 9"
 
 
 class Refused(Exception):
@@ -103,16 +103,16 @@ class Server(Closing):
     # what there is
 
     def no_acknowledgements(self, _: str) -> None:
-        """Replies to QStartNoAckMode."""
+        """Replies to QStartNoAckMode: packets after this reply are not acknowledged."""
         self.link.send("OK")
         self.link.acknowledged = False
 
     def transfer(self, rest: str) -> str:
         """Replies to qXfer with a part of a document."""
         kind, _, name, location = rest[1:].split(":")
-        made = {("features", "target.xml"): target_text, ("memory-map", ""): lambda: MEMORY % (RAM_BASE, self.setup.ram),
-                ("threads", ""): lambda: threads_text(map(self.hart_text, range(self.setup.harts if self.running else 0)))}
-        text = made[kind, name]()
+        documents = {("features", "target.xml"): target_text, ("memory-map", ""): lambda: MEMORY % (RAM_BASE, self.setup.ram),
+                     ("threads", ""): lambda: threads_text(map(self.hart_text, range(self.setup.harts if self.running else 0)))}
+        text = documents[kind, name]()
         first, count = map(number_of, location.split(","))
         return ("m" if first + count < len(text) else "l") + escaped(text[first:first + count])
 
@@ -213,7 +213,7 @@ class Server(Closing):
     # breakpoints and watchpoints
 
     def set_stop(self, rest: str) -> str:
-        """Replies to Z."""
+        """Replies to Z: sets a breakpoint with its conditions, or a watchpoint."""
         kind, first, count = self.stop_of(rest)
         if kind in BREAKS:
             conditions = [bytes.fromhex(it[2])[:int(it[1], 16)] for it in CONDITION.finditer(rest)]
@@ -224,7 +224,7 @@ class Server(Closing):
         return "OK"
 
     def clear_stop(self, rest: str) -> str:
-        """Replies to z."""
+        """Replies to z: removes a breakpoint or a watchpoint."""
         kind, first, count = self.stop_of(rest)
         if kind in BREAKS:
             self.moves.stops.clear_break(self.timeline, kind, first)
@@ -290,7 +290,7 @@ class Server(Closing):
         return self.halted(self.back.step(self.shown if self.moved is None else self.moved))
 
     def go_back(self, _: str) -> str:
-        """Replies to bc."""
+        """Replies to bc: runs back to the last stop before."""
         harts = range(self.setup.harts) if self.moved is None else [self.moved]
         return self.halted(self.back.go(self.shown if self.moved is None else self.moved, list(harts)))
 
@@ -308,7 +308,7 @@ class Server(Closing):
         return "OK"
 
     def detach(self, _: str) -> str:
-        """Replies to D."""
+        """Replies to D: ends the connection, unless the debugger uses extended mode."""
         self.over = not self.extended
         return "OK"
 
@@ -330,7 +330,7 @@ class Server(Closing):
         return "OK"
 
     def run_again(self, _: str) -> str:
-        """Replies to vRun."""
+        """Replies to vRun: starts the bench again, and returns the stop reply of its first state."""
         self.start()
         return self.where("")
 

@@ -16,24 +16,24 @@ AGAIN = 1.0  # seconds after which the timer interrupts again, if Python dropped
 PAGE = resource.getpagesize()
 LIMIT = "its symbols and debugging information take more than %d entries, %d seconds or %d MiB" % (MOST_ENTRIES, MOST_SECONDS, MOST_MEMORY >> 20)
 
-UNIT, UNIT_RANGE = 100, 10  # what a compilation unit and a range of it cost; each lookup of an address passes over them
+UNIT, UNIT_RANGE = 100, 10  # entries that a compilation unit and an address range of it count as, since each lookup of an address scans them
 
 
 class BudgetExceeded(Exception):
-    """Raised if reading an ELF file takes more entries or time than the budget has."""
+    """Raised if reading an ELF file takes more entries, time or memory than its budget has."""
 
     def __init__(self) -> None:
         super().__init__(LIMIT)
 
 
 class Budget:
-    """The entries and the processor time that are left for one ELF file."""
+    """The entries and the processor time that are left for reading the symbols and the debugging information of one ELF file."""
 
     def __init__(self) -> None:
         self.entries, self.seconds = MOST_ENTRIES, MOST_SECONDS  # that are left, of processor time for `seconds`
 
     def spend(self, count: int) -> None:
-        """Takes entries from the budget. Raises BudgetExceeded if fewer are left."""
+        """Takes `count` entries from this budget. Raises BudgetExceeded if fewer are left."""
         self.entries -= count
         if self.entries < 0:
             raise BudgetExceeded
@@ -81,7 +81,7 @@ def causes(error: BaseException | None) -> Iterator[BaseException]:
 
 @lru_cache(maxsize=4)
 def budget_of(data: bytes) -> Budget:
-    """Returns the budget of an ELF file with these bytes, which all readers of the file share. `budget_of.cache_clear` gives each file a new one."""
+    """Returns the budget of an ELF file, which its readers share: no command reads more than four at a time. `image_of` clears this cache."""
     return Budget()
 
 

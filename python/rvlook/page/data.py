@@ -1,6 +1,5 @@
-"""Packs a run for the page: repeated values are numbers in a table, and numbers are columns of bytes. The result
-is compressed by zlib, in base 64. It has the length of a JSON object in four bytes, little-endian, then the object, then the columns. The
-object names their offsets."""
+"""Packs a run for the page: repeated values are numbers in a table, and numbers are columns of bytes. The result is the length of a JSON object in
+four bytes, little-endian, then the object, then the columns, whose offsets the object names. It is compressed by zlib, in base 64."""
 from __future__ import annotations
 
 import base64
@@ -21,15 +20,15 @@ from rvlook.protocol.symbols import Symbols
 from rvlook.trace.text import ObjectTrace
 from rvlook.trace.tracer import Touch, TracedStep
 
-GRANULE = 16  # bytes that are touched are kept by so many, which bounds the memory for them
+GRANULE = 16  # bytes; accessed memory is noted in units of this size, which bounds the memory for the notes
 KINDS = {"r": 0, "w": 1}
-KINDS_OF_ARRAYS = "BHI"
+ARRAY_TYPES = "BHI"  # type codes of arrays of unsigned numbers, in ascending order of their width
 COMMON = ("stdin", "image", "program.elf")  # names that do not identify a run
-MAP = ("enclaves", "columns", "rows")
+MAP = ("enclaves", "columns", "rows")  # the members of an event that equal maps share
 REFUSED, NO_VALUE = 2, 4  # added to the kind of an access that trapped, and to that of an access without a value
 LEVEL = 4  # of zlib; level 6 takes twice the time, for 2 % fewer bytes
 BRANCH = re.compile(r"b|jal ")
-TOUCH = ("step", "address", "width", "kind", "name", "value")
+TOUCH = ("step", "address", "width", "kind", "name", "value")  # the columns for loads and stores; `name` is a number in the list of names
 SITE = ("word", "abi", "symbol", "function", "source", "caller")  # of a site, after its pc
 
 
@@ -54,7 +53,7 @@ class NumberColumns:
     def add(self, numbers: array[int]) -> dict[str, int]:
         """Appends an array, in little-endian numbers of the least width that is enough; returns its location."""
         largest = max(numbers, default=0)
-        narrow = array(next(kind for kind in KINDS_OF_ARRAYS if largest < 256 ** array(kind).itemsize), numbers)
+        narrow = array(next(code for code in ARRAY_TYPES if largest < 256 ** array(code).itemsize), numbers)
         if sys.byteorder == "big":
             narrow.byteswap()
         location = {"width": narrow.itemsize, "at": len(self.bytes), "count": len(narrow)}
@@ -77,7 +76,7 @@ def refusal(step: TracedStep) -> str | None:
 
 
 class Collector:
-    """Takes the steps of a run, and its other objects as a printer does, and keeps those parts that the page shows."""
+    """Collects what the page shows of a run: its steps, and the other objects that a printer would print."""
 
     def __init__(self, run: Run, symbols: Symbols) -> None:
         self.objects, self.symbols = ObjectTrace(run, symbols, self), symbols  # makes the objects of steps, and calls `object` of this collector
@@ -88,7 +87,7 @@ class Collector:
         self.traps = NumberedValues()  # the cause, the value and the name of a trap
         self.names = NumberedValues()  # of accessed addresses
         self.kinds: dict[tuple[object, ...], tuple[int, int, int]] = {}  # the numbers of site, place and trap of equal steps
-        self.name_numbers: dict[tuple[int, int], int] = {}  # of `names`, by address and width of an access
+        self.name_numbers: dict[tuple[int, int], int] = {}  # the numbers that `names` gives, by address and width of an access
         self.site, self.place, self.trap = array("I"), array("B"), array("I")  # the numbers for each step; a trap counts from 1, 0 is none
         self.changes = array("B")  # how many registers each step changed
         self.registers, self.values = array("B"), array("I")  # the changed ones of all steps, and their new values
@@ -100,7 +99,7 @@ class Collector:
         self.labels: dict[str, int] = {}  # the lowest accessed address in each symbol
         self.maps = NumberedValues()  # the members MAP of events, as JSON
         self.boundaries: set[str] = set()  # the first addresses of the ranges of all maps
-        self.points = self.rows = 0  # accesses and instructions that are drawn, and rows of all maps
+        self.drawn_points = self.rows = 0  # how many instructions and accesses the chart has as points, and how many rows all maps have
 
     @property
     def title(self) -> str:
@@ -112,17 +111,17 @@ class Collector:
         return os.path.splitext(name)[0] if name.endswith(".elf") else name
 
     def object(self, __kind: str, **members: Json) -> None:
-        """Takes an object of a kind. A page is passed on, so it has the name of the image and no path."""
+        """Adds an object of a kind. A page may be sent to others, so it has the name of the image and no path."""
         record: dict[str, Any] = members
         if __kind == "event":
-            self.take_event(record)
+            self.add_event(record)
         elif __kind == "run":
             self.path, self.run = record["image"], {**record, "image": os.path.basename(record["image"])}
         else:
             self.others[__kind].append(record)
 
-    def take_event(self, record: dict[str, Any]) -> None:
-        """Takes an event. Equal maps are stored once."""
+    def add_event(self, record: dict[str, Any]) -> None:
+        """Adds an event. Equal maps are stored once."""
         self.rows += len(record["rows"])
         self.boundaries.update(row["first"] for row in record["rows"])
         shown = json.dumps({name: record[name] for name in MAP})
@@ -130,7 +129,7 @@ class Collector:
         self.events.append({**rest, "map": self.maps[shown]})
 
     def step(self, step: TracedStep) -> None:
-        """Takes a step."""
+        """Adds a step: its numbers in the tables, its changed registers, its call of the monitor and its access."""
         trap, changed = step.trap, step.changed
         kind = step.hart, step.at, step.instruction, trap
         numbers = self.kinds.get(kind)
@@ -149,9 +148,9 @@ class Collector:
             call = self.objects.call(step.call) or {}
             self.calls.append({"step": step.number, **call, "to": step.next.world, "refused": refusal(step)})
         if not (trap and step.is_interrupt):
-            self.points += 1
+            self.drawn_points += 1
         if step.touch:
-            self.take_touch(step.number, step.touch)
+            self.add_access(step.number, step.touch)
 
     def site_of(self, step: TracedStep) -> int:
         """Returns the number of the site of a step: its pc and instruction. A site is drawn, unless an interrupt came in its place."""
@@ -161,22 +160,22 @@ class Collector:
             symbol = self.symbols.name(target)
             text = "%s%08x%s" % (text[:text.rindex(" ") + 1], target, " <%s>" % symbol if symbol else "")
         if not step.is_interrupt:
-            self.add_place(int(step.at.pc, 16), 4, site["symbol"])
+            self.note_accessed(int(step.at.pc, 16), 4, site["symbol"])
         return self.sites[(step.at.pc, *(site[name] for name in SITE), text)]
 
-    def take_touch(self, step: int, touch: Touch) -> None:
-        """Takes the load or store of a step."""
-        self.points += 1
-        place = touch.address, touch.width
-        if place not in self.name_numbers:
+    def add_access(self, step: int, touch: Touch) -> None:
+        """Adds the load or store of a step."""
+        self.drawn_points += 1
+        accessed = touch.address, touch.width
+        if accessed not in self.name_numbers:
             name = self.symbols.name(touch.address)
-            self.name_numbers[place] = self.names[name]
-            self.add_place(*place, name)
+            self.name_numbers[accessed] = self.names[name]  # a new name gets the next number
+            self.note_accessed(*accessed, name)
         kind = KINDS[touch.kind] + (0 if touch.done else REFUSED) + (NO_VALUE if touch.value is None else 0)
-        self.touches.append((step, *place, kind, self.name_numbers[place], int(touch.value or "0", 16)))
+        self.touches.append((step, *accessed, kind, self.name_numbers[accessed], int(touch.value or "0", 16)))
 
-    def add_place(self, address: int, width: int, symbol: str | None) -> None:
-        """Takes the address of an access of `width` bytes, with its symbol."""
+    def note_accessed(self, address: int, width: int, symbol: str | None) -> None:
+        """Notes accessed bytes and their symbol, for the memory and the labels that the page shows."""
         self.granules.update((address // GRANULE, (address + width - 1) // GRANULE))
         name = symbol and symbol.split("+")[0]
         if name and address < self.labels.get(name, 1 << 32):
@@ -194,7 +193,7 @@ class Collector:
     def data(self, columns: NumberColumns) -> dict[str, Any]:
         """Returns all data as one object, and appends the columns."""
         return {
-            "title": self.title, "run": self.run, "end": self.others["end"][-1], "steps": len(self.site), "points": self.points,
+            "title": self.title, "run": self.run, "end": self.others["end"][-1], "steps": len(self.site), "points": self.drawn_points,
             "rows": self.rows, "maps": [json.loads(it) for it in self.maps],
             "sites": self.sites.rows("pc", *SITE, "shown"),
             "places": self.places.rows("hart", "world", "mode"), "traps": self.traps.rows("cause", "value", "name"),

@@ -78,7 +78,7 @@ class PromptSession:
 
     @property
     def pc(self) -> str:
-        """Reads the pc of the chosen hart, in hexadecimal digits."""
+        """Reads the pc of the chosen hart, in hexadecimal digits: from the line "pc=..." after x0 to x31."""
         return self.timeline.ask("regs")[0][32][3:]
 
     def prompt(self) -> str:
@@ -150,8 +150,9 @@ class PromptSession:
     def help(self) -> None:
         """Prints the commands."""
         self.print("rvbench commands (operands may be symbols and register names):")
-        self.print("  " + "  ".join(("%s %s" % (name, it.letters)).strip() for name, it in list(COMMANDS.items())[:10]))
-        self.print("  " + "  ".join(("%s %s" % (name, it.letters)).strip() for name, it in list(COMMANDS.items())[10:]))
+        usages = [("%s %s" % (name, it.letters)).strip() for name, it in COMMANDS.items()]
+        for row in (usages[:10], usages[10:]):
+            self.print("  " + "  ".join(row))
         self.print("prompt commands:")
         for text in OWN.values():
             self.print("  " + text)
@@ -159,9 +160,10 @@ class PromptSession:
     def where(self) -> None:
         """Prints the next instruction."""
         pc = self.pc
-        text = self.timeline.ask("dis " + pc)[0][0].split(": ")[-1]
-        token, _, text = text.partition(" ")
-        self.print("next  %s  %s" % (names.with_abi_names(text) if token != "error" else "(outside RAM)", place_text(pc, self.symbols)))
+        [[reply]] = self.timeline.ask("dis " + pc)  # "PC: WORD INSTRUCTION", or "error ..." outside the RAM
+        word, _, instruction = reply.rpartition(": ")[2].partition(" ")
+        text = names.with_abi_names(instruction) if word != "error" else "(outside RAM)"
+        self.print("next  %s  %s" % (text, place_text(pc, self.symbols)))
 
     def map(self) -> None:
         """Prints the present access rights."""
@@ -180,8 +182,7 @@ class PromptSession:
         self.where()
 
     def until(self, what: str) -> None:
-        """Runs up to a world switch, a trap or a return from M. A second bench at the same step first finds the number of steps; without any,
-        nothing is done."""
+        """Runs up to a world switch, a trap or a return from M, if there is one within MOST_STEPS: a second bench at this step finds it first."""
         if what not in UNTIL:
             self.print(OWN["until"])
             return

@@ -4,14 +4,14 @@ The *origin* (tag) of an address says from which symbol, frame or pointer it was
 have computed it from another object, at a constant distance. The *kind* of an access is "load" or "store"."""
 from __future__ import annotations
 
-from typing import List, Optional, Tuple
+from typing import List, NamedTuple, Optional, Tuple
 
 from rvlook.symbolic.conditions import all_of, any_of, within
 from rvlook.symbolic.decode import decode
 from rvlook.symbolic.evaluation import evaluate
 from rvlook.symbolic.extents import Extent
 from rvlook.symbolic.fields import FINDING, Ended
-from rvlook.symbolic.members import Place, asked_member, member_leaves
+from rvlook.symbolic.members import Place, ask_member, member_leaves
 from rvlook.symbolic.nodes import INPUT, M32, SECRET, Condition, Node, Word
 from rvlook.symbolic.origins import MIXED, How, Origin, Tag
 from rvlook.symbolic.paths import MOST_VALUES, Paths
@@ -20,7 +20,14 @@ from rvlook.symbolic.words import not_
 LOOK_BACK = 6  # the last instructions, in which a constant is searched that was added to a register
 UNKNOWN = "an address whose origin is not known"
 FOLDED = "an address that may be folded by the compiler"
+NO_OBJECT = (None, 0, 0)  # in place of the last origin, and the bounds of its object, before the first access of an instruction
 GONE = "uses a local variable of a function that has returned"
+
+
+class Candidate(NamedTuple):
+    """An object in which an access may stay."""
+    inside: Condition  # that the access stays in the object
+    extent: Extent
 
 
 class Accesses(Paths):
@@ -43,72 +50,74 @@ class Accesses(Paths):
             return tag
         extents = self.search.extents
         target = tag.base + offset & M32
-        found = extents.at(self, target, None)
+        found = extents.object_at(self, target)
         if found is None or not found.is_start:
             return tag
-        is_other = found.low == target or extents.is_other_member(tag.base, target)
+        is_other = found.low == target or extents.begins_other_member(target, tag.base)
         return tag._replace(base=target) if is_other else tag
 
     def constant_in(self, register: int, pc: int) -> int:
         """Returns the constant that one of the last instructions before a pc has added to another register for this register; 0 if there is none."""
         world = self.search.world
         for n in range(1, min(LOOK_BACK, len(self.pcs)) + 1):
-            at = pc - 4 * n
-            if self.pcs[-n] != at or not world.region[0] <= at:
+            earlier_pc = pc - 4 * n
+            if self.pcs[-n] != earlier_pc or not world.region[0] <= earlier_pc:
                 return 0
-            instruction = decode(world.word_at(at))
+            instruction = decode(world.word_at(earlier_pc))
             if instruction.rd == register:
-                is_addition = instruction.kind == "imm" and instruction.more == "add" and instruction.r1 not in (0, register)
+                is_addition = instruction.kind == "imm" and instruction.op == "add" and instruction.rs1 not in (0, register)
                 return instruction.imm if is_addition else 0
         return 0
 
-    def objects_of(self, origin: Origin, offset: int, at: Optional[int] = None) -> List[Extent]:
-        """Returns the objects to which an access may belong: more than one only if the origin fits both. `at` is the address if it is a number.
-        The offset of the instruction may be a part of the address, in the function that has computed it. Then the object is the one that begins
-        there, or that the run itself reaches. If one begins at the address without the offset too, the access stays in one of them (`settle`)."""
-        is_own = origin.call == self.call  # whether the present call has computed the address
-        first, second = self.objects_without_and_with(origin, offset, is_own)
-        if is_own and (origin.how in (How.UPPER, How.STACK) or at == origin.base + offset & M32):
+    def objects_of(self, origin: Origin, offset: int, address: Optional[int] = None) -> List[Extent]:
+        """Returns the objects to which an access may belong: more than one only if the origin fits both. `address` is None for an expression.
+        In the function that has computed the address, the offset of the instruction may be a part of it. Then the object is the one that begins
+        at the sum, or that the run itself reaches. If one begins at the address without the offset too, the access stays in one of them
+        (`note_variable`)."""
+        is_computed_here = origin.call == self.call  # by the present call
+        first, second = self.objects_without_and_with(origin, offset, is_computed_here)
+        if is_computed_here and (origin.how in (How.UPPER, How.STACK) or address == origin.base + offset & M32):
             return [second] if second is not None else []
         if first is None or second is None:
-            known = first or second
-            return [known] if known is not None else []
+            only = first or second
+            return [only] if only is not None else []
         if first.bounds == second.bounds or origin.how not in (How.SYMBOL, How.FRAME):
             return [first]
-        landed = self.search.landed
-        if self.is_base and at is not None and first.has(at, 1) != second.has(at, 1):
-            landed.add((self.pc, (first if first.has(at, 1) else second).bounds))
+        reached_objects = self.search.reached_objects
+        if self.is_base and address is not None and first.has(address, 1) != second.has(address, 1):
+            reached = first if first.has(address, 1) else second
+            reached_objects.add((self.pc, reached.bounds))
         for extent in (second, first):
-            if (self.pc, extent.bounds) in landed:
+            if (self.pc, extent.bounds) in reached_objects:
                 return [extent]
-        begun = [extent for extent in (second, first) if extent.is_start]
-        if not begun:
+        beginning_there = [extent for extent in (second, first) if extent.is_start]
+        if not beginning_there:
             return [first, second]
-        return begun if origin.how is How.SYMBOL else begun[:1]
+        return beginning_there if origin.how is How.SYMBOL else beginning_there[:1]
 
-    def objects_without_and_with(self, origin: Origin, offset: int, is_own: bool) -> Tuple[Optional[Extent], Optional[Extent]]:
+    def objects_without_and_with(self, origin: Origin, offset: int, is_computed_here: bool) -> Tuple[Optional[Extent], Optional[Extent]]:
         """Returns the object at the address of an origin, and the object there with the offset of the instruction, if the present call has computed
-        the address (`is_own`). For sp and an index, a constant in the index may also be a part of the address."""
+        the address (`is_computed_here`). For sp and an index, a constant in the index may also be a part of the address."""
         extents = self.search.extents
-        first = extents.at(self, origin.base, origin)
-        second = extents.at(self, origin.base + offset & M32, origin) if is_own and offset else first
-        if origin.how is How.STACK and is_own and origin.more:
-            first = extents.at(self, origin.base + origin.more + offset & M32, origin)
+        first = extents.object_at(self, origin.base, origin)
+        second = extents.object_at(self, origin.base + offset & M32, origin) if is_computed_here and offset else first
+        if origin.how is How.STACK and is_computed_here and origin.index_constant:
+            first = extents.object_at(self, origin.base + origin.index_constant + offset & M32, origin)
             if second is None or (first is not None and first.is_start and not second.is_start):
                 second = first
         return first, second
 
     # ---- addresses that are numbers
 
-    def access(self, at: int, width: int, tag: Tag, offset: int, kind: str) -> None:
+    def access(self, address: int, width: int, tag: Tag, offset: int, kind: str) -> None:
         """Checks an access of `width` bytes at a number: reports it if it leaves the object of its origin. `tag` is the origin of the register with
         the address, and `offset` that of the instruction."""
-        last = self.last_objects.get(self.pc)
-        if last is not None and last[0] == tag and last[1] <= at and at + width <= last[2]:
+        last_tag, last_low, last_high = self.last_objects.get(self.pc, NO_OBJECT)
+        if last_tag == tag and last_low <= address and address + width <= last_high:
             return
         search = self.search
         low, high = search.world.window
-        if low <= at and at + width <= high and (tag is None or tag.how is How.NONE or low <= tag.base < high):
+        if low <= address and address + width <= high and (tag is None or tag.how is How.NONE or low <= tag.base < high):
             return
         if tag is None or tag.how in (How.NONE, How.MIXED):
             search.doubt_access(kind, self, UNKNOWN)
@@ -116,34 +125,34 @@ class Accesses(Paths):
         if self.is_gone(tag):
             search.report(kind, self, GONE, self.model)
             return
-        objects = self.objects_of(tag, offset, at)
-        found = next((extent for extent in objects if extent.has(at, width)), None)
+        objects = self.objects_of(tag, offset, address)
+        found = next((extent for extent in objects if extent.has(address, width)), None)
         if found is None:
-            self.report_leaving(at, width, tag, objects, kind)
-        elif len(objects) > 1 and at != tag.base + offset & M32 and not objects[0].is_start:
+            self.report_leaving(address, width, tag, objects, kind)
+        elif len(objects) > 1 and address != tag.base + offset & M32 and not objects[0].is_start:
             search.doubt_access(kind, self, FOLDED)
         else:
-            search.landed.add((self.pc, found.bounds))
+            search.reached_objects.add((self.pc, found.bounds))
             self.last_objects[self.pc] = tag, found.low, found.high
-            self.settle(tag, found, kind)
-            member_leaves(self, at, width, Place(tag, offset, found), kind)
+            self.note_variable(tag, found, kind)
+            member_leaves(self, address, width, Place(tag, offset, found), kind)
 
-    def settle(self, tag: Origin, found: Extent, kind: str) -> None:
+    def note_variable(self, tag: Origin, found: Extent, kind: str) -> None:
         """Notes the variable that an access reaches. The access is not decided if the instruction has reached another variable from the same address,
         on this or another path: one of the two may be wrong."""
         search = self.search
         if tag.how is not How.SYMBOL or max(tag.base, found.low) >= search.world.objects.stack:
             return
-        if search.reached.setdefault((self.pc, tag.base), found.bounds) != found.bounds:
+        if search.reached_variables.setdefault((self.pc, tag.base), found.bounds) != found.bounds:
             search.doubt_access(kind, self, FOLDED)
 
-    def report_leaving(self, at: int, width: int, tag: Origin, objects: List[Extent], kind: str) -> None:
+    def report_leaving(self, address: int, width: int, tag: Origin, objects: List[Extent], kind: str) -> None:
         """Reports an access that leaves the object of its origin. If the address may belong to another object, the access is not decided."""
         search = self.search
-        target = search.extents.at(self, at, None)
+        target = search.extents.object_at(self, address)
         if not objects:
             search.doubt_access(kind, self, UNKNOWN)
-        elif not any(self.is_sure(tag, extent) for extent in objects) or self.is_end(tag, at, width):
+        elif not any(self.is_sure(tag, extent) for extent in objects) or self.is_end(tag, address, width):
             search.doubt_access(kind, self, FOLDED)
         else:
             text = "moves from %s into %s" % (objects[0].name, target.name if target else "memory that is no object")
@@ -153,24 +162,24 @@ class Accesses(Paths):
 
     def is_sure(self, tag: Origin, found: Extent) -> bool:
         """Returns whether an origin is in an object for sure, so that an access that leaves the object is an error."""
-        return tag.how is How.FRAME or found.is_start or (self.pc, found.bounds) in self.search.landed
+        return tag.how is How.FRAME or found.is_start or (self.pc, found.bounds) in self.search.reached_objects
 
-    def is_end(self, tag: Origin, at: int, width: int) -> bool:
+    def is_end(self, tag: Origin, address: int, width: int) -> bool:
         """Returns whether an origin may be the end of the object that an access reaches, from which the compiler counts back."""
         if tag.how is not How.SYMBOL:
             return False
-        extent = self.search.extents.at(self, at, None)
-        return extent is not None and extent.high == tag.base and extent.has(at, width)
+        extent = self.search.extents.object_at(self, address)
+        return extent is not None and extent.high == tag.base and extent.has(address, width)
 
-    def stack_access(self, at: int, kind: str) -> None:
+    def stack_access(self, address: int, kind: str) -> None:
         """Checks an access relative to sp: reports it if it is below the stack."""
-        if at < self.stack_bottom:
-            self.overflow(at, kind)
+        if address < self.stack_bottom:
+            self.overflow(address, kind)
 
-    def overflow(self, at: int, kind: str) -> None:
+    def overflow(self, address: int, kind: str) -> None:
         """Reports a stack that has grown to an address of the object below it."""
-        extent = self.search.extents.at(self, at, None)
-        self.search.report(kind, self, "the stack runs into %s" % (extent.name if extent else "%08x" % at), self.model)
+        extent = self.search.extents.object_at(self, address)
+        self.search.report(kind, self, "the stack runs into %s" % (extent.name if extent else "%08x" % address), self.model)
         if not self.is_base:
             raise Ended(FINDING)
 
@@ -188,15 +197,16 @@ class Accesses(Paths):
         objects, is_sure = self.places(address, tag, offset, width)
         if not objects:
             return self.allowed_place(address, width, kind) if search.doubt_access(kind, self, UNKNOWN) else None
-        insides = [(within(address, extent.low, extent.high - width), extent) for extent in objects]
-        if not any(inside is True for inside, _ in insides) and self.asked_outside(address, insides, is_sure, kind) is None:
+        candidates = [Candidate(within(address, extent.low, extent.high - width), extent) for extent in objects]
+        is_inside = any(candidate.inside is True for candidate in candidates)  # for all inputs
+        if not is_inside and self.ask_outside(address, candidates, is_sure, kind) is None:
             return self.allowed_place(address, width, kind) if search.world.allowed.has(self.pc) else None
-        if self.is_base and not any(self.holds(inside) for inside, _ in insides):
+        if self.is_base and not any(self.holds(candidate.inside) for candidate in candidates):
             return None  # the run itself is outside
-        found = self.chosen(insides)
+        found = self.choose_object(candidates)
         if tag is not None and found.low != search.world.window[0]:
-            self.settle(tag, found, kind)
-            return asked_member(self, address, width, Place(tag, offset, found), kind)
+            self.note_variable(tag, found, kind)
+            return ask_member(self, address, width, Place(tag, offset, found), kind)
         return found
 
     def places(self, address: Node, tag: Tag, offset: int, width: int) -> Tuple[List[Extent], bool]:
@@ -207,9 +217,9 @@ class Accesses(Paths):
         if tag is MIXED:
             return [], True
         if tag is None or tag.how is How.NONE:
-            constant = evaluate(address, {}, {})  # the address if all inputs are 0: a pointer of the enclave plus an offset is in the region then
-            is_hosts = bool(address.taint & INPUT) and not world.region[0] <= constant < world.region[1]
-            return ([Extent(*world.window, name="the window", is_start=True)] if is_hosts else []), True
+            constant = evaluate(address, model={})  # the address if all inputs are 0: a pointer of the enclave plus an offset is in the region then
+            is_host_pointer = bool(address.taint & INPUT) and not world.region[0] <= constant < world.region[1]
+            return ([Extent(*world.window, name="the window", is_start=True)] if is_host_pointer else []), True
         objects = self.objects_of(tag, offset)
         if tag.how is How.FRAME and len(objects) == 1:
             return objects, True
@@ -219,11 +229,11 @@ class Accesses(Paths):
             is_sure = answer is True  # an address that is never inside was folded
         return objects, is_sure
 
-    def asked_outside(self, address: Node, insides: List[Tuple[Condition, Extent]], is_sure: bool, kind: str) -> Optional[bool]:
-        """Asks whether an address can be outside all its objects, and reports it if leaving them is an error (`is_sure`). `insides` has the objects,
-        each with the condition that the access stays inside. Returns None if the address is to be followed value by value."""
+    def ask_outside(self, address: Node, candidates: List[Candidate], is_sure: bool, kind: str) -> Optional[bool]:
+        """Asks whether an address can be outside all candidates, and reports it if leaving them is an error (`is_sure`). Returns False if it cannot,
+        None if the address is to be followed value by value, and else True: then the path assumes that the access is inside."""
         search = self.search
-        outside = self.outside_of(insides)
+        outside = all_of(*(not_(candidate.inside) for candidate in candidates))
         if (kind, self.pc) in search.findings:
             search.assumed_inside[self.pc] += 1
             return True
@@ -236,10 +246,10 @@ class Accesses(Paths):
             search.doubt_access(kind, self, FOLDED)
             return None
         else:
-            at = evaluate(address, model, {})
-            target = search.extents.at(self, at, None)
-            reached = "%s, %08x" % (target.name, at) if target else "%08x" % at
-            names = " or ".join(extent.name for _, extent in insides)
+            outside_address = evaluate(address, model)
+            target = search.extents.object_at(self, outside_address)
+            reached = "%s, %08x" % (target.name, outside_address) if target else "%08x" % outside_address
+            names = " or ".join(candidate.extent.name for candidate in candidates)
             search.report(kind, self, "the host can move it from %s to %s" % (names, reached), model)
         search.assumed_inside[self.pc] += 1
         return True
@@ -254,33 +264,28 @@ class Accesses(Paths):
         if answer is None:
             search.undecided[kind, self.pc] += 1
         elif answer:
-            search.report(kind, self, "the host can move it out of region and window, to %08x" % evaluate(address, model, {}), model)
+            search.report(kind, self, "the host can move it out of region and window, to %08x" % evaluate(address, model), model)
             search.assumed_inside[self.pc] += 1
             if self.is_base and not self.holds(inside):
                 return None
             self.move_to(inside)
-        found = search.extents.at(self, self.value(address), None)
+        found = search.extents.object_at(self, self.value(address))
         if found is None:
             return None
         outside = not_(within(address, found.low, found.high - width))
         return found if search.solver.satisfiable(self.conds, outside, self.model)[0] is False else None
 
-    @staticmethod
-    def outside_of(insides: List[Tuple[Condition, Extent]]) -> Condition:
-        """Returns the condition that an address is in none of its objects."""
-        return all_of(*(not_(inside) for inside, _ in insides))
-
-    def chosen(self, insides: List[Tuple[Condition, Extent]]) -> Extent:
-        """Chooses the object in which this path goes on, and leaves the others to other paths. `insides` has the objects, each with the condition
-        that the access stays inside. Returns the object of the model, or the first object if the model is in none of them."""
+    def choose_object(self, candidates: List[Candidate]) -> Extent:
+        """Chooses the object in which this path goes on, and leaves the others to other paths. Returns the object that the access reaches in the
+        model, or the first object if it reaches none of them there."""
         search = self.search
-        condition, own = next(((inside, extent) for inside, extent in insides if self.holds(inside)), (None, None))
-        if own is None:
-            condition, own = insides[0]
-            self.move_to(condition)
-            return own
-        for inside, extent in insides:
-            if extent is own:
+        chosen = next((candidate for candidate in candidates if self.holds(candidate.inside)), None)
+        if chosen is None:
+            chosen = candidates[0]
+            self.move_to(chosen.inside)
+            return chosen.extent
+        for inside, extent in candidates:
+            if extent is chosen.extent:
                 continue
             answer, model = search.solver.satisfiable(self.conds, inside, self.model)
             if answer is None:
@@ -291,5 +296,5 @@ class Accesses(Paths):
                     search.words_with_many_values[self.pc] += 1
                 elif inside is not True:
                     self.add_path_again(inside, model, tried + 1, extent.low)
-        self.assume(condition)
-        return own
+        self.assume(chosen.inside)
+        return chosen.extent

@@ -4,7 +4,7 @@ from __future__ import annotations
 from typing import Any, Callable, Dict, List, Optional, Sequence, Set, Tuple, TYPE_CHECKING
 
 from rvlook.symbolic.decode import decode
-from rvlook.symbolic.facts import Fact, Limits, WordPlace, Words, active, candidates, condition_of, holding, thresholds_of
+from rvlook.symbolic.facts import Fact, Limits, WordAt, WordPlace, active, candidates, condition_of, holding, thresholds_of
 from rvlook.symbolic.nodes import Node, Word, mask_of
 from rvlook.symbolic.origins import How
 from rvlook.symbolic.words import word
@@ -31,7 +31,7 @@ class Bounds:
         self.search = search
         self.extents = search.extents
         sizes = sizes_of(search.extents)
-        self.limits = Limits(thresholds_of(numbers_of(search), sizes), sorted(sizes), self.are_ordered, self.is_near)
+        self.limits = Limits(thresholds_of(numbers_of(search), sizes), sorted(sizes), self.are_comparable, self.is_near)
 
     def places(self, unknown: Sequence[Any]) -> List[WordPlace]:
         """Returns the words to which unknown bytes belong: all registers, and at most 2 * MOST_PLACES words of memory and bytes of small variables.
@@ -44,7 +44,7 @@ class Bounds:
                 if at.startswith("x"):
                     registers[at.split("_")[0]] = None
                 continue
-            member = self.extents.member(at) if at < stack else None
+            member = self.extents.member_at(at) if at < stack else None
             size = (member.element or member.size) if member else WORD
             if member and size < WORD and member.size <= LONGEST_ROW * size:
                 words["b%x" % at] = None
@@ -58,85 +58,88 @@ class Bounds:
             return False
         if abs(x - y) > NEAR or max(x, y) >= self.search.world.objects.stack:
             return False
-        return self.extents.variable(x).bounds == self.extents.variable(y).bounds
+        return self.extents.variable_at(x).bounds == self.extents.variable_at(y).bounds
 
-    def are_ordered(self, x: WordPlace, y: WordPlace) -> bool:
-        """Returns whether one of two words in memory may bound the other: two variables of one word, or words that are close to each other."""
-        return self.is_near(x, y) or (self.is_alone(x) and self.is_alone(y))
+    def are_comparable(self, x: WordPlace, y: WordPlace) -> bool:
+        """Returns whether facts compare two words, of which one may be a bound of the other, such as an index and a length. They are two variables
+        of one word each, or words that are close to each other in memory."""
+        return self.is_near(x, y) or (self.is_whole_variable(x) and self.is_whole_variable(y))
 
-    def is_alone(self, x: WordPlace) -> bool:
-        """Returns whether a word is a variable."""
+    def is_whole_variable(self, x: WordPlace) -> bool:
+        """Returns whether a word in memory is a variable of its own, and not a part of a larger one. A variable on a stack does not count."""
         if not isinstance(x, int) or x >= self.search.world.objects.stack:
             return False
-        extent = self.extents.variable(x)
+        extent = self.extents.variable_at(x)
         return extent.high - extent.low <= WORD
 
-    def candidates(self, new: Sequence[WordPlace], others: Sequence[WordPlace], words: Words, tags: Dict[Any, Any], own: Optional[int]) -> List[Fact]:
+    def candidates(self, new: Sequence[WordPlace], others: Sequence[WordPlace], word_at: WordAt, tags: Dict[Any, Any],
+                   loop_mask: Optional[int]) -> List[Fact]:
         """Returns facts that may hold for words that became unknown (`new`), without long bounds such as results of a hash. `others` are the words to
-        which they may be related. `words` gives the values of words, and `tags` has their origins. `own` is the mask of the unknowns of a loop, on
-        which no bound may depend; None at a stop."""
+        which they may be related. `word_at` gives the values of words, and `tags` has their origins. `loop_mask` is the mask of the unknowns of a
+        loop, on which no bound may depend; None at a stop."""
         bases = {at: tag.base for at, tag in tags.items() if tag is not None and tag.how in (How.SYMBOL, How.FRAME, How.MEMORY, How.UPPER)}
-        found = candidates(new[:MOST_PLACES], others[:MOST_PLACES], words, bases, self.limits, own is not None)
+        found = candidates(new[:MOST_PLACES], others[:MOST_PLACES], word_at, bases, self.limits, loop_mask is not None)
 
         def is_usable(bound: Any) -> bool:
-            return type(bound) is not Node or (bound.weight <= LONGEST_BOUND and not mask_of(bound) & (own or 0))
+            return type(bound) is not Node or (bound.weight <= LONGEST_BOUND and not mask_of(bound) & (loop_mask or 0))
         return [fact for fact in found if is_usable(fact.bound)]
 
-    def holding(self, assumed: Assumed, facts: Sequence[Fact], words: Words) -> List[Fact]:
-        """Returns the facts that hold for all values for which some conditions hold. `words` gives the words of the facts."""
+    def holding(self, assumed: Assumed, facts: Sequence[Fact], word_at: WordAt) -> List[Fact]:
+        """Returns the facts that hold for all values for which some conditions hold. `word_at` gives the words of the facts."""
         conditions, model = assumed
-        return holding(self.search.solver, conditions, model, facts, words, self.search.is_late)
+        return holding(self.search.solver, conditions, model, facts, word_at, self.search.is_late)
 
     @staticmethod
-    def conditions(facts: Sequence[Fact], words: Words) -> List[Node]:
-        """Returns facts as conditions, without conditions that always hold. `words` gives the words of the facts."""
-        found = [condition_of(fact, words) for fact in active(facts)]
+    def conditions(facts: Sequence[Fact], word_at: WordAt) -> List[Node]:
+        """Returns facts as conditions, without conditions that always hold. `word_at` gives the words of the facts."""
+        found = [condition_of(fact, word_at) for fact in active(facts)]
         return [condition for condition in found if type(condition) is Node]
 
 
-def words_of(state: State) -> Words:
-    """Returns the function that gives the words of a state."""
-    def words(at: WordPlace) -> Word:
+def word_reader(state: State) -> WordAt:
+    """Returns the function that returns the word at a place in a state."""
+    def word_at(at: WordPlace) -> Word:
         if isinstance(at, int):
             return state.load(at, WORD, is_signed=False)
         if at.startswith("x"):
             return state.regs[int(at[1:])]
         return state.load(int(at[1:], 16), 1, is_signed=False)
-    return words
+    return word_at
 
 
-def words_of_cells(byte_at: Callable[[Any], Any]) -> Words:
-    """Returns the function that gives the words of a merged state. `byte_at` gives its bytes."""
-    def words(at: WordPlace) -> Word:
+def word_reader_of_bytes(byte_at: Callable[[Any], Any]) -> WordAt:
+    """Returns the function that returns the word at a place in a merged state. `byte_at` returns a byte at a place."""
+    def word_at(at: WordPlace) -> Word:
         if isinstance(at, int):
             return word(*(byte_at(at + n) for n in range(WORD)))
         if at.startswith("x"):
             return word(*(byte_at("%s_%d" % (at, n)) for n in range(WORD)))
         return word(byte_at(int(at[1:], 16)), 0, 0, 0)
-    return words
+    return word_at
 
 
 def numbers_of(search: Search) -> Set[int]:
     """Returns the positive numbers with which instructions of the enclave compare or mask a register, or which they load into a register."""
     memory = search.world.memory
-    found = set()
-    for at in range(0, len(memory) - 3, 4):
-        instruction = decode(int.from_bytes(memory[at:at + 4], "little"))
+    numbers = set()
+    for offset in range(0, len(memory) - 3, 4):
+        instruction = decode(int.from_bytes(memory[offset:offset + 4], "little"))
         if instruction.kind != "imm" or not 0 < instruction.imm < LARGEST_NUMBER:
             continue
-        if instruction.more in ("sltu", "slt", "and") or (instruction.more == "add" and instruction.r1 == 0):
-            found.add(instruction.imm)
-    return found
+        is_load = instruction.op == "add" and instruction.rs1 == 0  # `li`
+        if is_load or instruction.op in ("sltu", "slt", "and"):
+            numbers.add(instruction.imm)
+    return numbers
 
 
 def sizes_of(extents: Extents) -> Set[int]:
     """Returns the sizes of the variables of the enclave, and the numbers of their elements."""
-    found = set()
-    for symbol in extents.objects.own:
+    sizes = set()
+    for symbol in extents.region_symbols:
         if symbol.size and not symbol.is_function:
-            found.add(symbol.size)
-    for member in extents.objects.fixed:
-        found.add(member.size)
+            sizes.add(symbol.size)
+    for member in extents.static_members:
+        sizes.add(member.size)
         if member.element:
-            found.add(member.size // member.element)
-    return {size for size in found if size <= LARGEST_SIZE}
+            sizes.add(member.size // member.element)
+    return {size for size in sizes if size <= LARGEST_SIZE}

@@ -11,9 +11,10 @@ from typing import Counter as Counts, Dict, Iterator, List, Mapping, Optional, T
 from rvlook.errors import RvlookError
 from rvlook.finders.inputs.trace import Change
 from rvlook.finders.inputs.values import Child, with_change
+from rvlook.symbolic.accesses import Candidate
 from rvlook.symbolic.conditions import eq
 from rvlook.symbolic.evaluation import evaluate
-from rvlook.symbolic.nodes import Condition, Node
+from rvlook.symbolic.nodes import Node
 from rvlook.symbolic.options import VerifyOptions
 from rvlook.symbolic.search import Search
 from rvlook.symbolic.state import State
@@ -22,7 +23,6 @@ from rvlook.symbolic.world import World
 if TYPE_CHECKING:
     from rvlook.finders.inputs.search import InputSearch
     from rvlook.finders.inputs.trace import Trace
-    from rvlook.symbolic.extents import Extent
     from rvlook.symbolic.fields import AnyState, Load
 
 MOST_STEPS = 30000  # of a path
@@ -50,12 +50,13 @@ class TraceState(State):
     """A state that proposes values at the borders of objects."""
     __slots__ = ()
 
-    def asked_outside(self, address: Node, insides: List[Tuple[Condition, Extent]], is_sure: bool, kind: str) -> Optional[bool]:
+    def ask_outside(self, address: Node, candidates: List[Candidate], is_sure: bool, kind: str) -> Optional[bool]:
         """Proposes addresses right before and right after the objects of an access, and the last address inside. `address` is the accessed
         address."""
         search: TracePath = self.search  # type: ignore[assignment]
         if self.is_base and search.is_new_access(self.pc, self.context):
-            for _, extent in insides:
+            for candidate in candidates:
+                extent = candidate.extent
                 for at in (extent.high, extent.high - 1, extent.low - 1):
                     answer, model = search.solver.satisfiable(self.conds, eq(address, at), self.model)
                     if answer:
@@ -153,7 +154,7 @@ def values_of(world: World, model: Model) -> Dict[int, Dict[int, int]]:
     low, high = world.window
     for step, at, names in model.loads:
         number = sum(end < step for end in model.leaving_steps)
-        first = evaluate(at, model.values, {})
+        first = evaluate(at, model.values)
         data = {first + n: model.values[name] for n, name in names if low <= first + n < high}
         if number < len(world.windows) and any(world.windows[number][at - low] != value for at, value in data.items()):
             found.setdefault(number, {}).update(data)

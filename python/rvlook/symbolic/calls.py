@@ -1,8 +1,7 @@
 """Calls, returns, traps, control and status registers, and calls of the monitor (docs/ISA.md, docs/MONITOR.md)."""
 from __future__ import annotations
 
-from typing import Tuple
-
+from rvlook.symbolic.decode import Decoded
 from rvlook.symbolic.fields import CSRS, EXITED, FINDING, SCAUSE, SEPC, SSCRATCH, SSTATUS, STOPPED, STVAL, STVEC, Answer, Area, Ended, OpenCall
 from rvlook.symbolic.memory import Memory
 from rvlook.symbolic.nodes import M32, Node, Word
@@ -34,7 +33,7 @@ class Traps(Memory):
     """A state that calls, returns and traps."""
     __slots__ = ()
 
-    def called(self, pc: int, target: int, is_trap: bool = False) -> None:
+    def note_call(self, pc: int, target: int, is_trap: bool = False) -> None:
         """Notes that the instruction at a pc calls the function with the entry `target`, or traps to this address."""
         search = self.search
         self.context = search.world.contexts.called(self.context, pc, is_trap)
@@ -42,10 +41,10 @@ class Traps(Memory):
         self.calls = OpenCall(self.calls, self.call, pc + 4, self.regs[SP], self.entry)
         self.call = search.calls
         self.entry = target
-        if target not in search.flows.known:
+        if target not in search.flows.by_entry:
             search.note_flow(target)
 
-    def returned(self, target: int) -> None:
+    def note_return(self, target: int) -> None:
         """Notes a return to an address. Reports a return that does not lead to the caller, since the host must not choose where it leads."""
         search = self.search
         contexts = search.world.contexts
@@ -73,7 +72,7 @@ class Traps(Memory):
         self.areas = tuple(area for area in self.areas if area.call != self.call)
         self.call = self.search.calls
 
-    def moved_sp(self, old: int, is_relative: bool) -> None:
+    def note_moved_sp(self, old: int, is_relative: bool) -> None:
         """Notes that sp has changed from `old` by another amount than a constant: it points to another stack, or a variable-length array begins or
         ends. `is_relative` says whether the new value was computed from the old one. Ends the path if sp is an expression."""
         new = self.regs[SP]
@@ -101,7 +100,7 @@ class Traps(Memory):
         csr[STVAL] = value
         csr[SSTATUS] = status & ~(SIE | SPIE | SPP) | (SPP if self.mode else 0) | (SPIE if status & SIE else 0)
         self.mode = 1
-        self.called(self.pc, target, is_trap=True)
+        self.note_call(self.pc, target, is_trap=True)
         return target
 
     def jump_target(self, address: Word) -> int:
@@ -109,7 +108,7 @@ class Traps(Memory):
         except among two numbers."""
         if type(address) is Node and not is_number_choice(address):
             return self.search.jump(self, address, is_return=True)
-        return self.fixed(address)
+        return self.concretize(address)
 
     def sret(self) -> int:
         """Executes `sret`: returns from a trap. Returns the next pc."""
@@ -122,33 +121,32 @@ class Traps(Memory):
         self.context = next((contexts.parents[context] for context in contexts.chain(self.context) if contexts.traps[context]), 0)
         return target
 
-    def csr_access(self, rd: int, r1: int, number: int, word: int, how: Tuple[str, bool]) -> int:
-        """Executes the instruction `word` on the control and status register with a number. `how` is the access, "w", "s" or "c" (write, set, clear),
-        and whether `r1` is the operand itself or the register that has it. Returns the next pc."""
-        access, is_immediate = how
+    def csr_access(self, instruction: Decoded) -> int:
+        """Executes an instruction of the kind "csr". Its operation is "w", "s" or "c" (write, set, clear). Returns the next pc."""
+        rd, rs1, number, is_immediate = instruction.rd, instruction.rs1, instruction.csr, instruction.is_immediate
         if not self.mode or number not in CSRS:
-            return self.trap(ILLEGAL, word)
+            return self.trap(ILLEGAL, instruction.imm)
         old = self.csr[number]
         old_tag = self.csr_tags.get(number)
         old_sp = self.regs[SP]
-        if access == "w" or r1 != 0:
-            operand = r1 if is_immediate else self.regs[r1]
+        if instruction.op == "w" or rs1 != 0:  # else the instruction only reads
+            operand = rs1 if is_immediate else self.regs[rs1]
             tag: Tag = None
-            if access == "s":
+            if instruction.op == "s":
                 new = operation("or", old, operand)
-            elif access == "c":
+            elif instruction.op == "c":
                 new = operation("and", old, operation("xor", operand, M32))
             else:
                 new = operand
-                tag = None if is_immediate else self.tags[r1]
+                tag = None if is_immediate else self.tags[rs1]
             new = operation("and", new, CSRS[number])
-            self.csr[number] = self.fixed(new) if number == SSTATUS else new
+            self.csr[number] = self.concretize(new) if number == SSTATUS else new
             self.csr_tags[number] = tag if number == SSCRATCH else None
         if rd:
             self.regs[rd] = old
             self.tags[rd] = old_tag
             if rd == SP:
-                self.moved_sp(old_sp, is_relative=False)
+                self.note_moved_sp(old_sp, is_relative=False)
         return self.pc + 4
 
     # ---- the monitor
@@ -157,7 +155,7 @@ class Traps(Memory):
         """Executes `ecall`: calls the monitor in S-mode, and the runtime of the enclave in U-mode. Returns the next pc."""
         if not self.mode:
             return self.trap(ECALL_U, 0)
-        call = self.fixed(self.regs[A6]) if self.fixed(self.regs[A7]) == MONITOR_KEY else 0
+        call = self.concretize(self.regs[A6]) if self.concretize(self.regs[A7]) == MONITOR_KEY else 0
         if call in (STOP, EXIT):
             self.leave_enclave(call)
         elif call == MEASURE:
@@ -208,10 +206,10 @@ class Traps(Memory):
             extent = self.place_at(at, DIGEST, self.tags[A1], 0, "store")
             if extent is not None and extent.low == world.window[0]:
                 for n, byte in enumerate(digest):
-                    self.sent(self.value(at) + n, 1, byte, add(at, n))
+                    self.store_window(self.value(at) + n, 1, byte, add(at, n))
                 self.set_result(0)
                 return self.pc + 4
-            at = self.fixed(at, "address")
+            at = self.concretize(at, "address")
         if all(world.is_allowed(at + n, 1) for n in range(DIGEST)):
             self.access(at, DIGEST, self.tags[A1], 0, "store")
             for n, byte in enumerate(digest):

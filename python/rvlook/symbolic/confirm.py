@@ -4,7 +4,7 @@ from __future__ import annotations
 from typing import TYPE_CHECKING
 
 from rvlook.symbolic.evaluation import evaluate
-from rvlook.symbolic.replay import FURTHER, observed
+from rvlook.symbolic.replay import FURTHER_STEPS, observed
 
 if TYPE_CHECKING:
     from rvlook.symbolic.record import Counterexample
@@ -32,7 +32,7 @@ def confirm(search: Search, example: Counterexample) -> str:
         return DIFFERS + "the step does not trap"
     if example.address is not None:
         reached = observed(search.world.word_at(example.pc), one.regs)[0]
-        predicted = evaluate(example.address, example.one, {})
+        predicted = evaluate(example.address, example.one)
         if reached != predicted:
             return DIFFERS + "the access is at %08x, predicted %08x" % (reached, predicted)
     return CONFIRMED
@@ -41,7 +41,7 @@ def confirm(search: Search, example: Counterexample) -> str:
 def confirm_endless(replayed: Replayed) -> str:
     """Returns what the replay of an endless loop shows: whether the registers repeat after many steps."""
     if replayed.is_again:
-        return CONFIRMED + ": after %d more steps the registers repeat" % FURTHER
+        return CONFIRMED + ": after %d more steps the registers repeat" % FURTHER_STEPS
     return DIFFERS + "the registers do not repeat"
 
 

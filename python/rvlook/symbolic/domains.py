@@ -14,7 +14,7 @@ class Domains:
     """The values of bytes for which conditions hold. A set of values is a number: bit n is set if the value n is in the set."""
 
     def __init__(self) -> None:
-        self.known: Dict[Node, List[Any]] = {}  # the values of a node, one for each value of its byte
+        self.value_lists: Dict[Node, List[Any]] = {}  # the values of a node, one for each value of its byte
         self.sets: Dict[Node, int] = {}  # the values for which a condition holds
 
     def set_of(self, condition: Node) -> Optional[int]:
@@ -36,41 +36,41 @@ class Domains:
         new = {condition}  # the operations without values
         stack = [condition]
         while stack and len(new) <= LONGEST:
-            more = [operand for operand in operands(stack.pop()) if operand not in self.known and operand not in new]
+            more = [operand for operand in operands(stack.pop()) if operand not in self.value_lists and operand not in new]
             new.update(more)
             stack += more
         return len(new) <= LONGEST
 
     def values(self, node: Node) -> List[Any]:
         """Returns the values of a node that depends on one byte, for each value of it."""
-        known = self.known
+        lists = self.value_lists
         stack = [node]  # nodes that need values, after their operands
         while stack:
             top = stack[-1]
-            missing = [operand for operand in operands(top) if operand not in known]
+            missing = [operand for operand in operands(top) if operand not in lists]
             if top.op == "var":
-                known[top] = list(range(VALUES))
+                lists[top] = list(range(VALUES))
             elif missing:
                 stack += missing
                 continue
-            elif top not in known:
-                known[top] = self.looked_up(top) if top.op == "table" else self.computed(top)
+            elif top not in lists:
+                lists[top] = self.look_up(top) if top.op == "table" else self.compute(top)
             stack.pop()
-        return known[node]
+        return lists[node]
 
-    def computed(self, node: Node) -> List[Any]:
+    def compute(self, node: Node) -> List[Any]:
         """Returns the values of an operation whose operands have values."""
-        rows = [self.known[operand] if type(operand) is Node else [operand] * VALUES for operand in node.args]
+        rows = [self.value_lists[operand] if type(operand) is Node else [operand] * VALUES for operand in node.args]
         return [value_of(node.op, row) for row in zip(*rows)]
 
-    def looked_up(self, node: Node) -> List[int]:
+    def look_up(self, node: Node) -> List[int]:
         """Returns the values of a byte of a table; 0 outside."""
         at, low, table = node.args
         found = []
-        for n, place in enumerate(self.known[at] if type(at) is Node else [at] * VALUES):
+        for n, place in enumerate(self.value_lists[at] if type(at) is Node else [at] * VALUES):
             index = place - low & M32
             content_byte = table.content[index] if index < len(table.content) else 0
-            found.append(self.known[content_byte][n] if type(content_byte) is Node else content_byte)
+            found.append(self.value_lists[content_byte][n] if type(content_byte) is Node else content_byte)
         return found
 
     def answer(self, conditions: Sequence[Node]) -> Tuple[Optional[bool], Dict[Node, int]]:
@@ -79,12 +79,12 @@ class Domains:
         sets: Dict[int, Tuple[Node, int]] = {}  # a condition and the values of a byte, by the mask of its variable
         is_whole = True
         for part in parts_of(conditions):
-            own = self.set_of(part)
-            if own is None:
+            allowed = self.set_of(part)
+            if allowed is None:
                 is_whole = False
                 continue
             mask = mask_of(part)
-            left = sets[mask][1] & own if mask in sets else own
+            left = sets[mask][1] & allowed if mask in sets else allowed
             if not left:
                 return False, {}
             sets[mask] = part, left

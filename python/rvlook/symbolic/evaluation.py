@@ -10,12 +10,14 @@ from rvlook.symbolic.words import bool_, byte, choice, extended, not_, operation
 Model = Mapping[str, int]  # values of variables, by name
 
 
-def evaluate(node: Word, model: Model, memo: Dict[Node, Any]) -> Any:
-    """Returns the value of a node for the values of a model; 0 for a variable that the model does not have. `memo` has the values of nodes that are
-    known for this model; the function adds more."""
+def evaluate(node: Word, model: Model, memo: Optional[Dict[Node, Any]] = None) -> Any:
+    """Returns the value of a node for the values of a model; 0 for a variable that the model does not have. `memo` caches the values of nodes for
+    this model: the function adds more."""
     if type(node) is not Node:
         return node
-    if node in memo:
+    if memo is None:
+        memo = {}
+    elif node in memo:
         return memo[node]
     stack = [node]
     while stack:

@@ -58,10 +58,12 @@ class Extents:
     def __init__(self, world: World) -> None:
         self.world = world
         self.objects = world.objects
+        self.region_symbols = world.objects.own  # the symbols in the region, in ascending order of their addresses
+        self.static_members = world.objects.fixed  # the variables at fixed addresses, down to their members, in the same order
         low, high = world.region
         self.stacks: List[Stack] = [stack for stacks in stacks_of(world.symbols).values() for stack in stacks if low <= stack.bottom < high]
         self.locals = variables_of(world.objects.locals)
-        self.member_starts = {member.at for member in self.objects.fixed}  # the addresses at which members of variables begin
+        self.member_starts = {member.at for member in self.static_members}  # the addresses at which members of variables begin
         self.reaches: Dict[Member, int] = {}  # the size of the largest object that begins with a member
 
     def stack_of(self, sp: int) -> Bounds:
@@ -71,33 +73,34 @@ class Extents:
                 return stack.bottom, stack.top
         return self.objects.stack, self.world.region[1]
 
-    def variable(self, at: int) -> Extent:
+    def variable_at(self, address: int) -> Extent:
         """Returns the variable at an address of the region below the stacks: by its symbol, else the bytes between two symbols."""
-        symbol = self.objects.symbol_at(at)
+        symbol = self.objects.symbol_at(address)
         starts = self.objects.own_starts
-        index = bisect_right(starts, at)  # of the next symbol
+        index = bisect_right(starts, address)  # of the next symbol
         end = starts[index] if index < len(starts) else self.objects.stack
         if symbol:
             high = symbol.address + symbol.size if symbol.size else end
-            return Extent(symbol.address, high, self.objects.fixed_at(at).name, at == symbol.address or at in self.member_starts)
-        last = self.objects.own[index - 1] if index else None
+            is_start = address == symbol.address or address in self.member_starts
+            return Extent(symbol.address, high, self.objects.fixed_at(address).name, is_start)
+        last = self.region_symbols[index - 1] if index else None
         low = last.address + last.size if last else self.world.region[0]
-        return Extent(low, max(end, at + 1), "the data after %s" % last.name if last else "the data", is_start=False)
+        return Extent(low, max(end, address + 1), "the data after %s" % last.name if last else "the data", is_start=False)
 
-    def member(self, at: int) -> Optional[Member]:
+    def member_at(self, address: int) -> Optional[Member]:
         """Returns the member of a variable at an address below the stacks, or None without DWARF."""
-        fixed = self.objects.fixed
-        index = bisect_right(self.objects.starts, at) - 1
-        while index >= 0 and fixed[index].at > at - LARGEST_MEMBER:
-            if at < fixed[index].at + fixed[index].size:
-                return fixed[index]
+        members = self.static_members
+        index = bisect_right(self.objects.starts, address) - 1  # of the last member that begins at or before the address
+        while index >= 0 and members[index].at > address - LARGEST_MEMBER:
+            if address < members[index].at + members[index].size:
+                return members[index]
             index -= 1
         return None
 
-    def is_other_member(self, one: int, two: int) -> bool:
-        """Returns whether a member begins at the second address, in which the first address is not."""
-        member = self.member(two) if two < self.objects.stack else None
-        return member is not None and member.at == two and not member.at <= one < member.at + member.size
+    def begins_other_member(self, target: int, base: int) -> bool:
+        """Returns whether a member begins at the address `target`, and the address `base` is outside it."""
+        member = self.member_at(target) if target < self.objects.stack else None
+        return member is not None and member.at == target and not member.at <= base < member.at + member.size
 
     # ---- frames
 
@@ -118,25 +121,25 @@ class Extents:
         _, top = self.stack_of(sp)
         return caller_sp if sp <= caller_sp <= top else top
 
-    def at(self, state: State, at: int, origin: Optional[Origin]) -> Optional[Extent]:
-        """Returns the object at an address; None outside region and window, and between two frames. For a local variable, the instruction of an
-        origin decides which variable of the frame is there."""
+    def object_at(self, state: State, address: int, origin: Optional[Origin] = None) -> Optional[Extent]:
+        """Returns the object at an address; None outside region and window, and between two frames. Which local variable of a frame is there depends
+        on the pc: that of `origin` if the same call has computed it, else that at which the call is."""
         world = self.world
-        if world.window[0] <= at < world.window[1]:
+        if world.window[0] <= address < world.window[1]:
             return Extent(*world.window, name="the window", is_start=True)
-        if not world.region[0] <= at < world.region[1]:
+        if not world.region[0] <= address < world.region[1]:
             return None
-        if at < self.objects.stack:
-            return self.variable(at)
+        if address < self.objects.stack:
+            return self.variable_at(address)
         for frame in self.frames(state):
-            if frame.sp <= at < frame.top:
+            if frame.sp <= address < frame.top:
                 pc = frame.pc
                 if origin is not None and origin.pc and origin.call == frame.call:
                     pc = origin.pc
-                return self.in_frame(state, at, frame, pc)
+                return self.in_frame(state, address, frame, pc)
         return None
 
-    def in_frame(self, state: State, at: int, frame: Frame, pc: int) -> Extent:
+    def in_frame(self, state: State, address: int, frame: Frame, pc: int) -> Extent:
         """Returns the local variable at an address in a frame, a saved register, or the bytes between these. `pc` is the instruction that has
         computed the address."""
         function = self.world.symbols.function(pc) or "%08x" % pc
@@ -147,10 +150,10 @@ class Extents:
                 parts.append((base + variable.low, base + variable.high, "%s in %s" % (variable.name, function)))
         parts += [(area.low, area.high, "the variable-length array in " + function) for area in state.areas if area.call == frame.call]
         for start, stop, name in parts:
-            if start <= at < stop:
-                return Extent(start, stop, name, at == start)
-        low = max([frame.sp, *(stop for _, stop, _ in parts if stop <= at)])
-        high = min([frame.top, *(start for start, _, _ in parts if start > at)])
+            if start <= address < stop:
+                return Extent(start, stop, name, is_start=address == start)
+        low = max([frame.sp, *(stop for _, stop, _ in parts if stop <= address)])
+        high = min([frame.top, *(start for start, _, _ in parts if start > address)])
         return Extent(low, high, "the frame of " + function, is_start=False)
 
 

@@ -17,11 +17,11 @@ if TYPE_CHECKING:
     from rvlook.symbolic.solver import Solver
 
 WordPlace = Union[int, str]  # the address of a word, a register x1 to x31, or b and the address of a byte
-Words = Callable[[WordPlace], Word]
+WordAt = Callable[[WordPlace], Word]  # returns the word at a place
 Ranges = Dict[WordPlace, Tuple[int, int]]  # the least and the greatest number that a word may be
 MOST = "most"  # kinds of facts: x + offset <= bound,
 LEAST = "least"  # x >= bound,
-ORDER = "order"  # x <= y,
+NOT_ABOVE = "not above"  # x <= y,
 BELOW = "below"  # x < y,
 SUM = "sum"  # x + y <= bound, without a carry,
 DIFFERENCE = "difference"  # x - y == bound,
@@ -34,24 +34,24 @@ TIMEOUT = 2000  # milliseconds of a question about the facts of a state
 
 class Fact(NamedTuple):
     """A fact about words of a merged state."""
-    kind: str  # MOST, LEAST, ORDER, BELOW, SUM, DIFFERENCE, TOTAL or ADDED
+    kind: str  # MOST, LEAST, NOT_ABOVE, BELOW, SUM, DIFFERENCE, TOTAL or ADDED
     x: WordPlace  # the place of the word
     y: Any = 0  # the place of a second word; for ADDED, pairs of a place and a sign (1 or -1)
     offset: int = 0  # a number that is added to x
     bound: Any = 0  # a number or an expression
 
 
-def condition_of(fact: Fact, words: Words) -> Condition:
-    """Returns a fact as a condition. `words` gives the word at a place."""
-    x = words(fact.x)
+def condition_of(fact: Fact, word_at: WordAt) -> Condition:
+    """Returns a fact as a condition. `word_at` gives the word at a place."""
+    x = word_at(fact.x)
     if fact.kind == MOST:
         return not_(ult(fact.bound, operation("add", x, fact.offset)))
     if fact.kind == LEAST:
         return not_(ult(x, fact.bound))
     if fact.kind == ADDED:
-        return equal(x, sum_of(fact, words))
-    y = words(fact.y)
-    if fact.kind == ORDER:
+        return equal(x, sum_of(fact, word_at))
+    y = word_at(fact.y)
+    if fact.kind == NOT_ABOVE:
         return not_(ult(y, x))
     if fact.kind == BELOW:
         return ult(x, y)
@@ -60,11 +60,11 @@ def condition_of(fact: Fact, words: Words) -> Condition:
     return eq(operation("sub" if fact.kind == DIFFERENCE else "add", x, y), fact.bound)
 
 
-def sum_of(fact: Fact, words: Words) -> Word:
-    """Returns the sum to which a word is equal by a fact of the kind ADDED. `words` gives the word at a place."""
+def sum_of(fact: Fact, word_at: WordAt) -> Word:
+    """Returns the sum to which a word is equal by a fact of the kind ADDED. `word_at` gives the word at a place."""
     total: Word = fact.bound
     for at, sign in fact.y:
-        total = operation("add" if sign > 0 else "sub", total, words(at))
+        total = operation("add" if sign > 0 else "sub", total, word_at(at))
     return total
 
 
@@ -77,7 +77,7 @@ def active(facts: Sequence[Fact]) -> List[Fact]:
     """Returns the facts that no others imply. If a word has several bounds, these include only the least. A fact about two words is left out if it
     follows from their bounds."""
     others: List[Fact] = []
-    least: Dict[Tuple[WordPlace, WordPlace, int], Fact] = {}  # the least bounds, by their words and their offset
+    least: Dict[Tuple[WordPlace, WordPlace, int], Fact] = {}  # the facts with the least bounds, by their words and their offset
     for fact in facts:
         if fact.kind in (MOST, SUM) and type(fact.bound) is int:
             key = fact.x, fact.y if fact.kind == SUM else "", fact.offset
@@ -90,7 +90,7 @@ def active(facts: Sequence[Fact]) -> List[Fact]:
     below = {(fact.x, fact.y) for fact in others if fact.kind == BELOW}
 
     def is_implied(fact: Fact) -> bool:
-        return (fact.kind == ORDER and (fact.x, fact.y) in below) or follows(fact, ranges)
+        return (fact.kind == NOT_ABOVE and (fact.x, fact.y) in below) or follows(fact, ranges)
     return [fact for fact in left if not is_implied(fact)]
 
 
@@ -112,7 +112,7 @@ def ranges_of(facts: Iterable[Fact]) -> Ranges:
 
 def follows(fact: Fact, ranges: Ranges) -> bool:
     """Returns whether a fact about two words follows from the ranges of the two."""
-    if fact.kind not in (ORDER, BELOW, SUM):
+    if fact.kind not in (NOT_ABOVE, BELOW, SUM):
         return False
     _, most_x = ranges.get(fact.x, (0, M32))
     least_y, most_y = ranges.get(fact.y, (0, M32))
@@ -121,33 +121,33 @@ def follows(fact: Fact, ranges: Ranges) -> bool:
     return most_x < least_y if fact.kind == BELOW else most_x <= least_y
 
 
-def hulls_of(lost: Iterable[Fact], words: Words, own: int) -> List[Fact]:
-    """Returns looser bounds in place of bounds that a state does not fulfil (`lost`): the words of the state itself, which `words` gives. `own` is
-    the mask of the unknowns of the loop, on which a bound must not depend."""
+def hulls_of(lost: Iterable[Fact], word_at: WordAt, loop_mask: int) -> List[Fact]:
+    """Returns looser bounds in place of bounds that a state does not fulfil (`lost`): the words of the state itself, which `word_at` gives.
+    `loop_mask` is the mask of the unknowns of the loop, on which a bound must not depend."""
     found = []
     for fact in lost:
         if fact.kind != LEAST and not (fact.kind == MOST and type(fact.bound) is Node):
             continue
-        bound = words(fact.x)
+        bound = word_at(fact.x)
         if type(bound) is Node:
-            is_bound = not mask_of(bound) & own
+            is_usable = not mask_of(bound) & loop_mask
         else:
-            is_bound = fact.kind == LEAST
-        if is_bound:
+            is_usable = fact.kind == LEAST
+        if is_usable:
             found.append(fact._replace(bound=bound))
     return found
 
 
-def holding(solver: Solver, conds: Sequence[Node], model: Dict[str, int], facts: Iterable[Fact], words: Words,
+def holding(solver: Solver, conds: Sequence[Node], model: Dict[str, int], facts: Iterable[Fact], word_at: WordAt,
             is_late: Callable[[], bool]) -> List[Fact]:
     """Returns the facts that hold for all values for which the conditions hold, without facts about results of a hash. `model` is one of these
     values. Asks nothing once the time is over."""
-    known = set(conds)
-    light: List[Fact] = []
-    wanted: List[Condition] = []
+    path_conditions = set(conds)
+    light: List[Fact] = []  # the facts that are asked: all but those about results of a hash
+    wanted: List[Condition] = []  # these facts as conditions
     for fact in dict.fromkeys(facts):
-        condition = condition_of(fact, words)
-        if condition is True or condition in known or (type(condition) is Node and condition.weight <= HEAVY):
+        condition = condition_of(fact, word_at)
+        if condition is True or condition in path_conditions or (type(condition) is Node and condition.weight <= HEAVY):
             light.append(fact)
             wanted.append(condition)
     numbers = {fact: n for n, fact in enumerate(light)}
@@ -170,22 +170,22 @@ class Limits(NamedTuple):
     """The bounds that are proposed for words."""
     numbers: Sequence[int]  # that may bound a word
     sums: Sequence[int]  # numbers that may bound the sum of two words
-    are_ordered: Callable[[WordPlace, WordPlace], bool]  # returns whether one of two words may bound the other
-    are_added: Callable[[WordPlace, WordPlace], bool]  # returns whether the sum of two words may be bounded
+    are_comparable: Callable[[WordPlace, WordPlace], bool]  # returns whether one of two words may bound the other
+    have_bounded_sum: Callable[[WordPlace, WordPlace], bool]  # returns whether the sum of two words may be bounded
 
 
-def candidates(new: Sequence[WordPlace], others: Sequence[WordPlace], words: Words, bases: Dict[WordPlace, int], limits: Limits,
+def candidates(new: Sequence[WordPlace], others: Sequence[WordPlace], word_at: WordAt, bases: Dict[WordPlace, int], limits: Limits,
                is_loop: bool) -> List[Fact]:
-    """Returns facts that may hold for words that became unknown (`new`). `others` are the words to which they may be related. `words` gives the first
-    values of the words, and `bases` has the first address of the object for each word that is a pointer. `is_loop` says whether the state is merged
-    at the head of a loop: then more facts are proposed."""
+    """Returns facts that may hold for words that became unknown (`new`). `others` are the words to which they may be related. `word_at` gives the
+    first values of the words, and `bases` has the first address of the object for each word that is a pointer. `is_loop` says whether the state is
+    merged at the head of a loop: then more facts are proposed."""
     found: List[Fact] = []
     for x in new:
         offsets = (-bases[x] & M32,) if x in bases else (0, 1)  # x - base, for a pointer; else x and x + 1
         for offset in offsets:
             found += [Fact(MOST, x, 0, offset, bound) for bound in limits.numbers]
         if is_loop:
-            first = words(x)
+            first = word_at(x)
             found += [Fact(LEAST, x, bound=first), Fact(LEAST, x, bound=1)]
             if type(first) is Node:
                 found.append(Fact(MOST, x, bound=first))
@@ -195,16 +195,16 @@ def candidates(new: Sequence[WordPlace], others: Sequence[WordPlace], words: Wor
             if x == y or is_byte(y):
                 continue
             has_register = isinstance(x, str) or isinstance(y, str)
-            is_close = (is_loop and has_register) or limits.are_ordered(x, y)
-            if is_close:
-                found += [Fact(ORDER, x, y), Fact(ORDER, y, x)]
+            are_comparable = (is_loop and has_register) or limits.are_comparable(x, y)
+            if are_comparable:
+                found += [Fact(NOT_ABOVE, x, y), Fact(NOT_ABOVE, y, x)]
                 if is_loop:
                     found += [Fact(BELOW, x, y), Fact(BELOW, y, x)]
-            if limits.are_added(x, y):
+            if limits.have_bounded_sum(x, y):
                 found += [Fact(SUM, x, y, 0, bound) for bound in limits.sums]
-            if is_loop and is_close and y in new and str(x) < str(y):  # each pair once
-                found.append(Fact(DIFFERENCE, x, y, bound=operation("sub", words(x), words(y))))
-                found.append(Fact(TOTAL, x, y, bound=operation("add", words(x), words(y))))
+            if is_loop and are_comparable and y in new and str(x) < str(y):  # each pair once
+                found.append(Fact(DIFFERENCE, x, y, bound=operation("sub", word_at(x), word_at(y))))
+                found.append(Fact(TOTAL, x, y, bound=operation("add", word_at(x), word_at(y))))
     return found
 
 
@@ -213,11 +213,11 @@ def is_byte(place: WordPlace) -> bool:
     return isinstance(place, str) and place.startswith("b")
 
 
-def thresholds_of(words: Iterable[int], sizes: Iterable[int]) -> List[int]:
-    """Returns numbers that may bound a word, in ascending order: those of the instructions (`words`), the sizes of objects, the numbers before these,
-    and powers of two."""
+def thresholds_of(numbers: Iterable[int], sizes: Iterable[int]) -> List[int]:
+    """Returns numbers that may bound a word, in ascending order: `numbers` of instructions, `sizes` of objects, the numbers before these, and powers
+    of two minus 1."""
     found = set(POWERS)
-    for number in (*words, *sizes):
+    for number in (*numbers, *sizes):
         if 0 < number < LARGEST_BOUND:
             found |= {number, number - 1}
     return sorted(found)

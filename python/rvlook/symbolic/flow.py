@@ -41,14 +41,14 @@ class Flows:
         self.low = low  # the address of the first byte
         self.functions = functions  # the sizes in bytes of the functions that symbols name, by entry
         self.entries = sorted(functions)
-        self.known: Dict[int, Optional[Flow]] = {}  # the control flow of each function that was analysed, by entry
+        self.by_entry: Dict[int, Optional[Flow]] = {}  # the control flow of each function that was analysed, by entry
         self.tables = self.jump_tables()  # the targets in the jump tables of each function, by entry
 
     def of(self, entry: int) -> Optional[Flow]:
         """Returns the control flow of the function with an entry, or None if it is not known."""
-        if entry not in self.known:
-            self.known[entry] = self.analyse(entry)
-        return self.known[entry]
+        if entry not in self.by_entry:
+            self.by_entry[entry] = self.analyse(entry)
+        return self.by_entry[entry]
 
     def function_at(self, pc: int) -> Optional[int]:
         """Returns the entry of the function that contains an address; None if no symbol names this function."""
@@ -92,7 +92,7 @@ class Flows:
         if instruction.kind == "jalr":
             if instruction.rd in LINKS:
                 return (following,), True
-            return [] if instruction.r1 in LINKS else self.tables.get(self.function_at(pc), []), False
+            return [] if instruction.rs1 in LINKS else self.tables.get(self.function_at(pc), []), False
         if instruction.kind in ("sret", "illegal", "ebreak"):
             return (), False
         return (following,), instruction.kind == "ecall"

@@ -9,7 +9,7 @@ from rvlook.symbolic.words import may_of, not_
 
 Part = Dict[str, int]  # values of some variables
 COMPARISONS = ("eq", "eq8", "ult", "lt")
-FLIPPED = 0x55555555  # bits of a value that are changed for another one
+OTHER_BITS = 0x55555555  # bits that are inverted for a value that differs much
 LEAP = 8  # steps to a value that leads further, such as that of a longer message
 MOST_INVERTED = 60  # operations that are inverted one after another
 
@@ -27,15 +27,15 @@ def solutions(question: Node, model: Model, memo: Dict[Node, Any], is_far: bool 
         if compared.op == "eq8" and x.op == "byte" and x.args[0].op == "or":
             x = x.args[0]
         if not is_not and type(y) is int and y == 0 and x.op == "or":
-            yield zeros(x, model, memo)
+            yield invert_zero_or(x, model, memo)
         for one, two in ((x, y), (y, x)):
             if type(one) is not Node:
                 continue
             value = evaluate(two, model, memo)
-            step = may_of(one) & -may_of(one)  # the least distance between two values
+            step = may_of(one) & -may_of(one)  # the lowest bit that may be set: the least distance between two values
             further = (value + LEAP * step,) if is_far else ()
-            for target in (value, *further, value + step, value - step, value ^ FLIPPED & may_of(one)):
-                part = inverse(one, target & M32, model, memo)
+            for target in (value, *further, value + step, value - step, value ^ OTHER_BITS & may_of(one)):
+                part = invert(one, target & M32, model, memo)
                 if part:
                     yield part
 
@@ -50,13 +50,13 @@ def parts_of_conjunction(node: Node, is_not: bool, model: Model, memo: Dict[Node
     chosen: Part = {}
     for part in node.args:
         values = {**model, **chosen} if chosen else model
-        known = {} if chosen else memo
-        if not evaluate(part, values, known):
-            chosen.update(next(solutions(part, values, known), {}))
+        values_memo = {} if chosen else memo
+        if not evaluate(part, values, values_memo):
+            chosen.update(next(solutions(part, values, values_memo), {}))
     yield chosen
 
 
-def zeros(x: Node, model: Model, memo: Dict[Node, Any]) -> Part:
+def invert_zero_or(x: Node, model: Model, memo: Dict[Node, Any]) -> Part:
     """Returns values of variables for which each part of an or is 0, as in a comparison of many bytes. `model` and `memo` are those of
     `solutions`."""
     chosen: Part = {}
@@ -70,13 +70,13 @@ def zeros(x: Node, model: Model, memo: Dict[Node, Any]) -> Part:
             continue
         values = {**model, **chosen}
         pairs = ((leaf.args[0], leaf.args[1]), (leaf.args[1], leaf.args[0])) if leaf.op == "xor" else ((leaf, 0),)
-        known = {} if chosen else memo
-        found = (inverse(one, evaluate(two, values, known), values, known) for one, two in pairs if type(one) is Node)
+        values_memo = {} if chosen else memo
+        found = (invert(one, evaluate(two, values, values_memo), values, values_memo) for one, two in pairs if type(one) is Node)
         chosen.update(next((part for part in found if part), {}))
     return chosen
 
 
-def inverse(node: Word, value: int, model: Model, memo: Dict[Node, Any]) -> Optional[Part]:
+def invert(node: Word, value: int, model: Model, memo: Dict[Node, Any]) -> Optional[Part]:
     """Returns values of variables for which a node has a value, or None if they are not that simple to find, as for the result of a hash. A choice
     keeps to its side, and an index keeps its value. `model` and `memo` are those of `solutions`."""
     for _ in range(MOST_INVERTED):
@@ -87,20 +87,20 @@ def inverse(node: Word, value: int, model: Model, memo: Dict[Node, Any]) -> Opti
         if node.op in ("word", "or") and node.weight > HEAVY:
             return None
         if node.op == "word":
-            return inverse_of_bytes(node.args, value, model, memo)
+            return invert_bytes(node.args, value, model, memo)
         if node.op == "sx16":
-            return inverse_of_bytes(node.args, value & 0xFFFF, model, memo) if signed(value & 0xFFFF, 16) & M32 == value else None
+            return invert_bytes(node.args, value & 0xFFFF, model, memo) if signed(value & 0xFFFF, 16) & M32 == value else None
         if node.op == "or" and not may_of(node.args[0]) & may_of(node.args[1]):
             one, two = node.args
-            return joined(inverse(one, value & may_of(one), model, memo), inverse(two, value & may_of(two), model, memo))
-        found = inner(node, value, model, memo)
+            return union_of(invert(one, value & may_of(one), model, memo), invert(two, value & may_of(two), model, memo))
+        found = invert_operation(node, value, model, memo)
         if found is None:
             return None
         node, value = found
     return None
 
 
-def inner(node: Node, value: int, model: Model, memo: Dict[Node, Any]) -> Optional[Tuple[Word, int]]:
+def invert_operation(node: Node, value: int, model: Model, memo: Dict[Node, Any]) -> Optional[Tuple[Word, int]]:
     """Returns an operand, and a value of it for which a node has a value while the other operands keep their values; or None. `model` and `memo` are
     those of `solutions`."""
     op, args = node.op, node.args
@@ -133,17 +133,17 @@ def inner(node: Node, value: int, model: Model, memo: Dict[Node, Any]) -> Option
     return None
 
 
-def joined(one: Optional[Part], two: Optional[Part]) -> Optional[Part]:
+def union_of(one: Optional[Part], two: Optional[Part]) -> Optional[Part]:
     """Returns the values of variables in two parts together. Returns None if one part is None, or if the parts contradict each other."""
     if one is None or two is None or any(one.get(name, value) != value for name, value in two.items()):
         return None
     return {**one, **two}
 
 
-def inverse_of_bytes(parts: Tuple[Any, ...], value: int, model: Model, memo: Dict[Node, Any]) -> Optional[Part]:
+def invert_bytes(parts: Tuple[Any, ...], value: int, model: Model, memo: Dict[Node, Any]) -> Optional[Part]:
     """Returns values of variables for which bytes have a value together, or None."""
     found: Optional[Part] = {}
     for n, part in enumerate(parts):
         if found is not None:
-            found = joined(found, inverse(part, value >> 8 * n & 255, model, memo))
+            found = union_of(found, invert(part, value >> 8 * n & 255, model, memo))
     return found

@@ -16,8 +16,8 @@ if TYPE_CHECKING:
     from rvlook.symbolic.flow import Flow, Flows
 
 WORD_SHIFT = 2  # bits by which an index of words is shifted to an offset
-NEAR = 8  # instructions after the shift within which the word is loaded
-SOON = 4  # instructions after the load within which a jump to the word makes it a target
+MOST_TO_LOAD = 8  # instructions after the shift within which the word is loaded
+MOST_TO_JUMP = 4  # instructions after the load within which a jump to the word makes it a target
 MOST_INDEX = 8  # the end of the values of an index that have a part of their own
 MOST_PARTS = 8  # of one head
 Part = Tuple[int, ...]  # the values of the index registers of a path; -1 for a value that has no part of its own
@@ -28,7 +28,7 @@ class Indices:
 
     def __init__(self, flows: Flows) -> None:
         self.flows = flows
-        self.known: Dict[int, Tuple[int, ...]] = {}  # the index registers at each pc that was examined
+        self.registers_by_pc: Dict[int, Tuple[int, ...]] = {}  # the index registers at each pc that was examined
         self.lives: Dict[int, FrozenSet[int]] = {}  # the live registers at each pc that was examined
         self.parts: Dict[Tuple[object, ...], Dict[Part, None]] = {}  # the parts of each head, by the key of the head
 
@@ -55,10 +55,10 @@ class Indices:
 
     def of(self, entry: int, pc: int) -> Tuple[int, ...]:
         """Returns the live index registers at a pc of the function with an entry."""
-        if pc not in self.known:
+        if pc not in self.registers_by_pc:
             flow = self.flows.of(entry)
-            self.known[pc] = tuple(sorted(self.index_registers(flow, pc) & self.live(pc))) if flow else ()
-        return self.known[pc]
+            self.registers_by_pc[pc] = tuple(sorted(self.index_registers(flow, pc) & self.live(pc))) if flow else ()
+        return self.registers_by_pc[pc]
 
     def is_changed(self, entry: int, head: int) -> bool:
         """Returns whether the loop with a head, in the function with an entry, writes an index register."""
@@ -74,9 +74,9 @@ class Indices:
             if around.isdisjoint(flow.heads.get(place, ())):
                 continue
             instruction = self.at(place)
-            is_word_offset = instruction.kind == "imm" and instruction.more == "sll" and instruction.imm == WORD_SHIFT
+            is_word_offset = instruction.kind == "imm" and instruction.op == "sll" and instruction.imm == WORD_SHIFT
             if is_word_offset and self.is_loaded(place + 4, instruction.rd):
-                found.add(instruction.r1)
+                found.add(instruction.rs1)
         return frozenset(found)
 
     def at(self, pc: int) -> Decoded:
@@ -88,15 +88,15 @@ class Indices:
         """Returns whether a word is loaded soon after a pc at an address that was computed from the offset in a register. A word that is the target
         of a jump does not count."""
         derived = {register}  # the registers that have the offset, or a sum with it
-        for at in range(pc, pc + 4 * NEAR, 4):
+        for at in range(pc, pc + 4 * MOST_TO_LOAD, 4):
             instruction = self.at(at)
-            kind, rd, r1 = instruction.kind, instruction.rd, instruction.r1
-            if kind == "load" and r1 in derived:
-                following = map(self.at, range(at + 4, at + 4 * SOON, 4))
-                is_target = any(later.kind == "jalr" and later.r1 == rd for later in following)
-                return instruction.more[0] == 4 and not is_target
-            has_derived = (kind in ("op", "imm") and r1 in derived) or (kind == "op" and instruction.r2 in derived)
-            if instruction.more == "add" and has_derived:
+            kind, rd, rs1 = instruction.kind, instruction.rd, instruction.rs1
+            if kind == "load" and rs1 in derived:
+                following = map(self.at, range(at + 4, at + 4 * MOST_TO_JUMP, 4))
+                is_target = any(later.kind == "jalr" and later.rs1 == rd for later in following)
+                return instruction.width == 4 and not is_target
+            has_derived = (kind in ("op", "imm") and rs1 in derived) or (kind == "op" and instruction.rs2 in derived)
+            if instruction.op == "add" and has_derived:
                 derived = derived | {rd}
             else:
                 derived = derived - {rd}

@@ -21,14 +21,15 @@ if TYPE_CHECKING:
 
 MOST_CONDITIONS = 400  # conditions of two paths since they divided; paths with more are not joined
 TIMEOUT = 500  # milliseconds of a question whether two paths exclude each other
-SAME = ("pc", "mode", "context", "call", "stack_bottom", "areas", "activation", "start_kind", "start_number", "is_released", "source_head",
-        "pending_outputs", "start_head", "entry", "is_covered")  # the fields of a state that joined paths must have in common
+EQUAL_FIELDS = (  # the fields of a state that joined paths must have in common
+    "pc", "mode", "context", "call", "stack_bottom", "areas", "activation", "start_kind", "start_number", "is_released", "source_head",
+    "pending_outputs", "start_head", "entry", "is_covered")
 
 
 def key_of(state: State) -> Tuple[Any, ...]:
     """Returns what paths must have in common to be joined. If loops are merged, this includes the indices by which their heads are divided."""
     indices = state.search.indices.values(state) if state.search.loops_from else ()
-    return (*(getattr(state, name) for name in SAME), id(state.calls), state.regs[2], state.csr[SSTATUS], indices)
+    return (*(getattr(state, name) for name in EQUAL_FIELDS), id(state.calls), state.regs[2], state.csr[SSTATUS], indices)
 
 
 class Joins:
@@ -59,36 +60,36 @@ class Joins:
     def join_pair(self, one: State, two: State) -> Optional[State]:
         """Returns two paths as one, or None if they cannot be joined. The result is one of the two states, which is changed."""
         count = common_count(one.conds, two.conds)
-        own = one.conds[count:]
-        others = two.conds[count:]
-        if not own or not others or len(own) + len(others) > MOST_CONDITIONS:
+        conditions_one = one.conds[count:]
+        conditions_two = two.conds[count:]
+        if not conditions_one or not conditions_two or len(conditions_one) + len(conditions_two) > MOST_CONDITIONS:
             return None
         if one.public != two.public or one.calm_window.keys() != two.calm_window.keys():
             return None
-        if any(condition.weight > HEAVY for condition in (*own, *others)):
+        if any(condition.weight > HEAVY for condition in (*conditions_one, *conditions_two)):
             return None
-        divider = self.find_divider(one, own, others)
+        divider = self.find_divider(one, conditions_one, conditions_two)
         if divider is None or not self.have_common_origins(one, two):
             return None
         condition: Node = divider
         if condition.op == "not":
             one, two = two, one
-            own, others = others, own
+            conditions_one, conditions_two = conditions_two, conditions_one
             condition = condition.args[0]
         self.count += 1
         self.join(one, two, condition)
-        one.conds = one.conds[:count] + rest_of(condition, own, others)
+        one.conds = one.conds[:count] + rest_of(condition, conditions_one, conditions_two)
         return one
 
-    def find_divider(self, one: State, own: List[Node], others: List[Node]) -> Optional[Node]:
-        """Returns a condition that the first path implies and the second one excludes, or None. `own` and `others` are the conditions of the paths
-        since they divided. The condition must not depend on a secret."""
-        condition: Condition = own[0]
-        if others[0] is not not_(own[0]):
-            condition = all_of(*own)
-            negation_is_known = any(other is not_(condition) for other in others)
+    def find_divider(self, one: State, conditions_one: List[Node], conditions_two: List[Node]) -> Optional[Node]:
+        """Returns a condition that the first path implies and the second one excludes, or None. `conditions_one` and `conditions_two` are those
+        of the paths since they divided. The condition must not depend on a secret."""
+        condition: Condition = conditions_one[0]
+        if conditions_two[0] is not not_(conditions_one[0]):
+            condition = all_of(*conditions_one)
+            negation_is_known = any(other is not_(condition) for other in conditions_two)
             if not negation_is_known:
-                answer, _ = self.search.solver.within(TIMEOUT).satisfiable(own, all_of(*others), one.model)
+                answer, _ = self.search.solver.within(TIMEOUT).satisfiable(conditions_one, all_of(*conditions_two), one.model)
                 if answer is not False:
                     return None
         if type(condition) is not Node or condition.taint & (SECRET | CHECK):
@@ -145,17 +146,17 @@ class Joins:
         places |= {at & -4 for at, content in one.sym.items() if two.sym.get(at) != content}
         places |= {at & -4 for at in two.sym if at not in one.sym}
         for at in sorted(places):
-            value = chosen(condition, word(*contents(one, at, low)), word(*contents(two, at, low)))
+            value = choose_word(condition, word(*contents(one, at, low)), word(*contents(two, at, low)))
             if type(value) is Node and value.op != "word":
                 one.sym[at], one.sym[at + 1], one.sym[at + 2], one.sym[at + 3] = parts_of(value)
                 continue
             for n in range(4):
                 one.put(at + n, byte(value, n))
         for at in {**one.mem_tags, **two.mem_tags}:
-            own = one.mem_tags.get(at)
-            other = two.mem_tags.get(at)
-            if own != other:
-                has_no_pointer = own in (None, NO_ORIGIN) and other in (None, NO_ORIGIN)
+            tag_one = one.mem_tags.get(at)
+            tag_two = two.mem_tags.get(at)
+            if tag_one != tag_two:
+                has_no_pointer = tag_one in (None, NO_ORIGIN) and tag_two in (None, NO_ORIGIN)
                 one.mem_tags[at] = NO_ORIGIN if has_no_pointer else MIXED
 
 
@@ -169,9 +170,9 @@ def join_registers(one: State, two: State, condition: Node) -> None:
     for register in range(1, 32):
         if one.tags[register] != two.tags[register]:
             one.tags[register] = MIXED
-        one.regs[register] = chosen(condition, one.regs[register], two.regs[register])
+        one.regs[register] = choose_word(condition, one.regs[register], two.regs[register])
     for number in one.csr:
-        one.csr[number] = chosen(condition, one.csr[number], two.csr[number])
+        one.csr[number] = choose_word(condition, one.csr[number], two.csr[number])
 
 
 def contents(state: State, at: int, low: int) -> List[Byte]:
@@ -179,22 +180,22 @@ def contents(state: State, at: int, low: int) -> List[Byte]:
     return [plain(state.sym.get(at + n, state.mem[at + n - low])) for n in range(4)]
 
 
-def chosen(condition: Node, one: Word, two: Word) -> Word:
+def choose_word(condition: Node, one: Word, two: Word) -> Word:
     """Returns the first word if a condition holds, else the second. The choice is byte by byte if one of them is made of bytes."""
     if one is two:
         return one
     first = bytes_of(one)
     second = bytes_of(two)
     if first and second and not (type(one) is int and type(two) is int):
-        return word(*(choice8(condition, own, other) for own, other in zip(first, second)))
+        return word(*(choice8(condition, byte_one, byte_two) for byte_one, byte_two in zip(first, second)))
     return choice(condition, one, two)
 
 
 def common_count(one: Sequence[Node], two: Sequence[Node]) -> int:
     """Returns how many conditions two paths have in common from the beginning on."""
     count = 0
-    for own, other in zip(one, two):
-        if own is not other:
+    for condition_one, condition_two in zip(one, two):
+        if condition_one is not condition_two:
             break
         count += 1
     return count
@@ -218,8 +219,8 @@ def join_fetched(one: State, two: State, condition: Node) -> None:
     """Joins what two states have loaded from the window in the first one. A load of only one path keeps the condition of this path."""
     both = [load for load in one.symbolic_fetches if load in two.symbolic_fetches]
     found = both[:]
-    for own, other, side in ((one, two, condition), (two, one, not_(condition))):
-        found += [load._replace(joined=(*load.joined, side)) for load in own.symbolic_fetches if load not in both]
-        found += [SymbolicFetch(at, 1, pc, context, (side,)) for at, (pc, context) in own.fetched.items() if at not in other.fetched]
+    for state, other, side in ((one, two, condition), (two, one, not_(condition))):
+        found += [load._replace(joined=(*load.joined, side)) for load in state.symbolic_fetches if load not in both]
+        found += [SymbolicFetch(at, 1, pc, context, (side,)) for at, (pc, context) in state.fetched.items() if at not in other.fetched]
     one.fetched = {at: site for at, site in one.fetched.items() if at in two.fetched}
     one.symbolic_fetches = found

@@ -53,8 +53,8 @@ class Judge(Leaving):
         self.saved: Dict[int, Set[int]] = {}  # the addresses at which a call saves registers, by the number of the call
         self.usual_moves: Set[Tuple[int, int]] = set()  # context and pc of accesses that leave a member in the run itself
         self.usual_members: Set[Tuple[int, int, int]] = set()  # context and pc of an access, and a member that it reaches in the run itself
-        self.landed: Set[Tuple[int, Bounds]] = set()  # the pc of an access, and an object that it reaches
-        self.reached: Dict[Tuple[int, int], Bounds] = {}  # the variable that an access reaches on all paths, by its pc and the origin of its address
+        self.reached_objects: Set[Tuple[int, Bounds]] = set()  # the pc of an access, and an object that it reaches
+        self.reached_variables: Dict[Tuple[int, int], Bounds] = {}  # the first variable that an access reaches, by its pc and the base of its origin
         self.allowed: Dict[int, Set[str]] = {}  # what is not known about accesses that only --allow makes right, by pc
         # ---- other answers
         self.assumptions: Set[int] = set()  # the pcs of assumptions of the enclave that some input does not fulfil
@@ -190,15 +190,15 @@ class Judge(Leaving):
         compared it. Returns the address at which this path goes on."""
         what = "return" if is_return else "jump"
         if (what, state.pc) not in self.findings:
-            known: List[Condition] = [eq(target, entry) for entry in sorted(self.world.functions)]
-            outside = differ(target, state.value(target)) if is_return else all_of(*(not_(is_function) for is_function in known))
+            are_functions: List[Condition] = [eq(target, entry) for entry in sorted(self.world.functions)]
+            outside = differ(target, state.value(target)) if is_return else all_of(*(not_(is_function) for is_function in are_functions))
             answer, model = self.solver.satisfiable(state.conds, outside, state.model)
             if answer:
-                self.report(what, state, "the host chooses the target: %08x" % evaluate(target, model, {}), model)
+                self.report(what, state, "the host chooses the target: %08x" % evaluate(target, model), model)
             elif answer is None:
                 self.undecided[what, state.pc] += 1
             if not answer:
-                return state.fixed(target)
+                return state.concretize(target)
         if not state.is_base:
             raise Ended(FINDING)
         self.assumed_inside[state.pc] += 1

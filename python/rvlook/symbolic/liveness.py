@@ -11,21 +11,21 @@ from rvlook.symbolic.nodes import M32
 if TYPE_CHECKING:
     from rvlook.symbolic.flow import Flows
 
-MOST_LOOKED_AT = 400  # instructions that are examined, before a register counts as read
+MOST_INSTRUCTIONS = 400  # instructions that are examined, before a register counts as read
 ARGUMENTS = range(10, 18)  # a0 to a7 of the calling convention; a0 and a1 have the results of a call
 TEMPORARIES = (1, 5, 6, 7, 28, 29, 30, 31)  # ra and t0 to t6, which a call may change
-BOTH = ("op", "store", "branch")  # kinds of instructions that read two registers
-FIRST = ("imm", "load", "jalr", "csr")  # kinds that read one register
+TWO_REGISTERS = ("op", "store", "branch")  # kinds of instructions that read two registers
+ONE_REGISTER = ("imm", "load", "jalr", "csr")  # kinds that read one register
 
 
 def reads(instruction: Decoded, register: int, is_saved: bool) -> bool:
     """Returns whether an instruction reads a register. An `ecall` reads its arguments, and saves all registers if `is_saved`."""
     if instruction.kind == "ecall":
         return is_saved or register in ARGUMENTS
-    if instruction.kind in BOTH:
-        return register in (instruction.r1, instruction.r2)
-    if instruction.kind in FIRST:
-        return register == instruction.r1
+    if instruction.kind in TWO_REGISTERS:
+        return register in (instruction.rs1, instruction.rs2)
+    if instruction.kind in ONE_REGISTER:
+        return register == instruction.rs1
     return instruction.kind in ("sret", "illegal")  # the code at the target may read each register
 
 
@@ -40,7 +40,7 @@ def is_read(flows: Flows, pc: int, register: int, is_saved: bool = True) -> bool
             continue
         seen.add((at, depth))
         found = flows.next_of(at)
-        if found is None or len(seen) > MOST_LOOKED_AT:
+        if found is None or len(seen) > MOST_INSTRUCTIONS:
             return True
         following, is_call = found
         offset = at - flows.low
@@ -50,7 +50,7 @@ def is_read(flows: Flows, pc: int, register: int, is_saved: bool = True) -> bool
         if instruction.rd == register and instruction.kind not in ("ecall", "sret"):
             continue
         if instruction.kind == "jalr" and instruction.rd == 0 and not following:  # a return, or a jump
-            is_return = instruction.r1 in LINKS
+            is_return = instruction.rs1 in LINKS
             may_be_read_by_caller = register not in TEMPORARIES and register not in ARGUMENTS[2:]
             if not is_return or (depth == 0 and may_be_read_by_caller):
                 return True

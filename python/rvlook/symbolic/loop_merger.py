@@ -5,7 +5,7 @@ from __future__ import annotations
 
 from typing import Callable, Dict, List, Optional, Sequence, Set, Tuple, TYPE_CHECKING
 
-from rvlook.symbolic.bounds import words_of
+from rvlook.symbolic.bounds import word_reader
 from rvlook.symbolic.cells import Cell, bytes_at, name_of, raw_cells, taint_of
 from rvlook.symbolic.conditions import all_of
 from rvlook.symbolic.facts import LEAST, MOST, SUM, Fact, condition_of, mask_of_all
@@ -25,7 +25,7 @@ from rvlook.symbolic.words import not_, operation
 
 if TYPE_CHECKING:
     from rvlook.symbolic.bounds import Assumed
-    from rvlook.symbolic.facts import Words
+    from rvlook.symbolic.facts import WordAt
     from rvlook.symbolic.search import Search
     from rvlook.symbolic.state import State
 
@@ -33,8 +33,8 @@ MOST_RANKS = 40  # words that are tried as the measure of a loop
 MOST_ON_WAYS = 24  # words that are tried as the measure of the ways from one loop to another
 MOST_OPERATIONS = 1000  # of the value of a word that is tried as a measure
 TIMEOUT = 1000  # milliseconds of a question about measures
-OWN = 3  # how much it counts if a round of the loop drops a bound; a path from another loop counts 1, since it may follow its own bounds
-MOST_DROPS = {MOST: 3 * OWN, SUM: OWN, LEAST: 2 * OWN}  # as in `merge`; fewer drops of one loop suffice, since `widen` drops bounds at once
+ROUND = 3  # how much it counts if a round of the loop drops a bound; a path from another loop counts 1, since it may follow its own bounds
+MOST_DROPS = {MOST: 3 * ROUND, SUM: ROUND, LEAST: 2 * ROUND}  # as in `merge`; fewer drops of one loop suffice, since `widen` drops bounds at once
 
 
 class LoopMerger(Merger):
@@ -182,15 +182,15 @@ class LoopMerger(Merger):
         first: List[SymbolicFetch] = []
         if is_own:
             first = [SymbolicFetch(at, 1, *site) for at, site in state.fetched.items() if at not in head.fetched]
-        before = self.words(head, head.explored, head.facts_explored)
+        word_before = self.merged_word_reader(head, head.explored, head.facts_explored)
 
         def implied(condition: Condition) -> bool:
             return self.implied(state, condition)
-        sweep = head.sweep.extended(moving + first, head.facts, before, state, implied)
+        sweep = head.sweep.extended(moving + first, head.facts, word_before, state, implied)
         if not sweep.is_lost:
             fetched = {at: site for at, site in fetched.items() if at in head.fetched or not is_own}
         elif first:
-            sweep = head.sweep.extended(moving, head.facts, before, state, implied)
+            sweep = head.sweep.extended(moving, head.facts, word_before, state, implied)
         if sweep.is_lost:
             self.search.note(("reread", sweep.site[0]), MEETS)
             self.search.rereads.append(sweep.site[0])
@@ -222,7 +222,7 @@ class LoopMerger(Merger):
         state.input_count = merged.input_count
         state.fetched = dict(merged.fetched)
         state.start_head = state.pc
-        merged.range_explored = merged.sweep.entry(merged.facts, self.words(merged, merged.cells))
+        merged.range_explored = merged.sweep.entry(merged.facts, self.merged_word_reader(merged, merged.cells))
         state.symbolic_fetches = merged.symbolic_fetches + merged.range_explored
         state.source_head = self.prefix
         state.pending_outputs = merged.state.pending_outputs
@@ -238,7 +238,7 @@ class LoopMerger(Merger):
 
     def drop_weight(self, state: State) -> int:
         """Returns how much it counts in `Merged.drops` if a path drops a bound."""
-        return OWN if self.is_own(state) else 1
+        return ROUND if self.is_own(state) else 1
 
     def may_have_facts(self, merged: Merged, at: Place, wanted: Optional[Set[MergedPlace]]) -> bool:
         """Returns whether a byte may have facts: one of a register that is read later, of a word that is loaded, or of a place on which a doubt
@@ -248,7 +248,7 @@ class LoopMerger(Merger):
         if self.is_popped(merged.state, at):
             return False
         aligned = at & -4
-        member = self.search.extents.member(at) if at < self.search.world.objects.stack else None
+        member = self.search.extents.member_at(at) if at < self.search.world.objects.stack else None
         if member:
             is_word = (member.element or member.size) >= 4
         else:
@@ -263,33 +263,33 @@ class LoopMerger(Merger):
         stays is found at once, and not after as many rounds as there are numbers below it."""
         assert isinstance(merged, Head)
         is_own = self.is_own(state)
-        before = self.words(merged, merged.explored, merged.facts_explored)  # when the round began
-        after = words_of(state)
+        word_before = self.merged_word_reader(merged, merged.explored, merged.facts_explored)  # when the round began
+        word_after = word_reader(state)
         growing = {fact._replace(bound=0) for fact in (*merged.facts, *dropped) if fact.kind == MOST and merged.drops[fact[:4]]}
-        bounds = {condition_of(fact._replace(bound=number), before) for fact in growing for number in self.bounds.limits.numbers}
-        olds = [fact for fact in dropped if fact.kind == MOST and type(fact.bound) is int and type(before(fact.x)) is Node]
+        bounds = {condition_of(fact._replace(bound=number), word_before) for fact in growing for number in self.bounds.limits.numbers}
+        olds = [fact for fact in dropped if fact.kind == MOST and type(fact.bound) is int and type(word_before(fact.x)) is Node]
         if not is_own:  # a path that does not depend on the unknowns of the head does not begin with the word that it has here
-            olds = [fact for fact in olds if mask_of(after(fact.x)) & merged.unknown_mask]
-        words = [words_at(fact.x) for fact in olds for words_at in (before, after)]
+            olds = [fact for fact in olds if mask_of(word_after(fact.x)) & merged.unknown_mask]
+        words = [word_at(fact.x) for fact in olds for word_at in (word_before, word_after)]
         session = Session(self.search.solver, [condition for condition in state.conds if condition not in bounds], words, state.model)
         for old in olds:
             wider = [fact for fact in merged.facts if fact[:4] == old[:4] and type(fact.bound) is int]
             wider.sort(key=lambda fact: fact.bound)
             lost = 0  # how many of these are dropped
             while lost < len(wider):
-                value = self.exceeding_value(session, wider[lost], before, after)
+                value = self.exceeding_value(session, wider[lost], word_before, word_after)
                 if value is None:
                     break
                 lost = max(lost + 1, next((n for n, fact in enumerate(wider) if fact.bound >= value), len(wider)))
             merged.facts = [fact for fact in merged.facts if fact not in wider[:lost]]
 
-    def exceeding_value(self, session: Session, bound: Fact, before: Words, after: Words) -> Optional[int]:
+    def exceeding_value(self, session: Session, bound: Fact, word_before: WordAt, word_after: WordAt) -> Optional[int]:
         """Returns a value of a word after a round that exceeds a bound, although the word kept the bound before the round. Returns None if z3 finds
         no such value."""
         if self.search.is_late():
             return None
-        answer = session.satisfiable(all_of(condition_of(bound, before), not_(condition_of(bound, after))))
-        return session.value_of(operation("add", after(bound.x), bound.offset)) if answer else None
+        answer = session.satisfiable(all_of(condition_of(bound, word_before), not_(condition_of(bound, word_after))))
+        return session.value_of(operation("add", word_after(bound.x), bound.offset)) if answer else None
 
     # ---- whether the loop ends
 
@@ -299,9 +299,10 @@ class LoopMerger(Merger):
         if state.source_head is None:
             return
         source = state.source_head
-        own = self.candidates(head)
+        candidates = self.candidates(head)
         is_related = source == self.prefix or bool(mask_of_all(state.conds) & head.unknown_mask)
-        arrival = Edge(source, self.prefix, *self.directions(head, state, self.words(head, head.cells), own if is_related else []))
+        word_at_head = self.merged_word_reader(head, head.cells)
+        arrival = Edge(source, self.prefix, *self.directions(head, state, word_at_head, candidates if is_related else []))
         head.arrivals.append(arrival)
         edges: Dict[str, Edge] = {}
         if source == self.prefix:
@@ -309,15 +310,16 @@ class LoopMerger(Merger):
         else:
             indices: List[Place] = ["x%d" % n for n in self.search.indices.of(state.entry, state.pc)]
             for name in [source, *self.search.loops.heads_around(source, state)]:
-                before, places = self.search.loops.words_before(name)
-                tried = list(dict.fromkeys([*indices, *own, *places]))[:MOST_ON_WAYS]
-                edges[name] = Edge(name, self.prefix, *self.directions(head, state, before, tried))
+                word_before, places = self.search.loops.words_before(name)
+                tried = list(dict.fromkeys([*indices, *candidates, *places]))[:MOST_ON_WAYS]
+                edges[name] = Edge(name, self.prefix, *self.directions(head, state, word_before, tried))
         head.passages.append(Passage(source, edges))
 
-    def directions(self, head: Head, state: State, before: Callable[[Place], Word], places: Sequence[Place]) -> Tuple[Set[Measure], Set[Measure]]:
-        """Returns the measures that change in one direction from the words `before` to the words of a state, and those that do so or stay the same.
-        Long values are left out."""
-        changes = [(at, before(at), self.present_word(state, at)) for at in places]
+    def directions(self, head: Head, state: State, word_before: Callable[[Place], Word],
+                   places: Sequence[Place]) -> Tuple[Set[Measure], Set[Measure]]:
+        """Returns the measures that change in one direction to the words of a state, and those that do so or stay the same. `word_before` gives the
+        words before. Long values are left out."""
+        changes = [(at, word_before(at), self.present_word(state, at)) for at in places]
         changes = [change for change in changes if weight_of(change[2]) <= MOST_OPERATIONS]
         words = [word for _, *pair in changes for word in pair]
         session = Session(self.search.solver.within(TIMEOUT), state.conds, words, state.model)

@@ -67,7 +67,7 @@ class Loops:
         """Returns the pcs of the last heads through which a path has come, the last one first. Returns an empty tuple unless the path enters a loop
         that has no loop inside and writes no index. The merged state at such a head is divided by them: words that depend on each other come from
         there, such as the pointer and the length of a copy."""
-        flow = self.search.flows.known.get(state.entry)
+        flow = self.search.flows.by_entry.get(state.entry)
         if state.source_head is None or flow is None or not flow.is_innermost(state.pc) or self.search.indices.is_changed(state.entry, state.pc):
             return ()
         source = next(head for merger, head in self.heads.values() if merger.prefix == state.source_head)
@@ -176,7 +176,7 @@ class Loops:
         """Returns the function that gives the words in the state at a head, and the places of the words that are tried as a measure. `name` is the
         prefix of the head."""
         merger, head = next(pair for pair in self.heads.values() if pair[0].prefix == name)
-        return merger.words(head, head.cells), merger.candidates(head)
+        return merger.merged_word_reader(head, head.cells), merger.candidates(head)
 
 
 def is_around(outer: Head, head: Head) -> bool:

@@ -61,8 +61,8 @@ def stride_of(state: Accesses, member: Member) -> int:
     Returns 0 if there is no such array."""
     if "[]" not in member.name:
         return 0
-    objects = state.search.world.objects
-    starts = sorted(other.at for other in objects.fixed if other.name == member.name)
+    members = state.search.extents.static_members
+    starts = sorted(other.at for other in members if other.name == member.name)
     return min((following - start for start, following in zip(starts, starts[1:])), default=0)
 
 
@@ -71,7 +71,7 @@ def member_of(state: Accesses, place: Place) -> Optional[Member]:
     search = state.search
     if place.tag.how not in (How.SYMBOL, How.UPPER, How.MEMORY):
         return None
-    return search.extents.member(place.base) if search.world.region[0] <= place.base < search.world.objects.stack else None
+    return search.extents.member_at(place.base) if search.world.region[0] <= place.base < search.world.objects.stack else None
 
 
 def is_shifted(state: Accesses, address: Word, width: int, place: Place, kind: str) -> bool:
@@ -83,7 +83,7 @@ def is_shifted(state: Accesses, address: Word, width: int, place: Place, kind: s
     whole = place.whole
     if place.tag.how not in (How.SYMBOL, How.MEMORY) or not whole.has(start, 1) or whole.has(place.base, 1):
         return False
-    member = search.extents.member(start) if search.world.region[0] <= start < search.world.objects.stack else None
+    member = search.extents.member_at(start) if search.world.region[0] <= start < search.world.objects.stack else None
     if member is not None and not is_one_array(member, whole) and not stays_usual(state, address, width):
         search.doubt_access(kind, state, UNION if member.is_union else MEMBER)
     return True
@@ -92,7 +92,7 @@ def is_shifted(state: Accesses, address: Word, width: int, place: Place, kind: s
 def stays_usual(state: Accesses, address: Word, width: int) -> bool:
     """Returns whether an access always stays in one member, which the run itself reaches by the instruction."""
     search = state.search
-    member = search.extents.member(state.value(address))
+    member = search.extents.member_at(state.value(address))
     if member is None or member.is_union:
         return False
     usual = state.context, state.pc, member.at
@@ -116,7 +116,7 @@ def member_leaves(state: Accesses, at: int, width: int, place: Place, kind: str)
     a structure may be one to its first member. The run itself is allowed to do so, and other paths at the same instruction too."""
     search = state.search
     if is_shifted(state, at, width, place, kind):
-        start = search.extents.member(place.tag.base)
+        start = search.extents.member_at(place.tag.base)
         if start is not None and not is_one_array(start, place.whole):
             del state.last_objects[state.pc]
         return
@@ -141,20 +141,20 @@ def member_leaves(state: Accesses, at: int, width: int, place: Place, kind: str)
 def reach_of(state: Accesses, member: Member) -> int:
     """Returns the size of the largest object that begins with a member. A pointer to a number may be one to the variable, the structure or the
     element that begins with this number."""
-    known = state.search.extents.reaches
-    if member not in known:
-        known[member] = member.size if member.element or member.is_union else size_begun(state, member)
-    return known[member]
+    sizes = state.search.extents.reaches
+    if member not in sizes:
+        sizes[member] = member.size if member.element or member.is_union else size_begun(state, member)
+    return sizes[member]
 
 
 def size_begun(state: Accesses, member: Member) -> int:
     """Returns the size of the largest structure or element that begins with a number, or the size of the number itself."""
-    whole = state.search.extents.variable(member.at)
-    own = [other for other in state.search.world.objects.fixed if whole.low <= other.at < whole.high]
+    whole = state.search.extents.variable_at(member.at)
+    members = [other for other in state.search.extents.static_members if whole.low <= other.at < whole.high]  # of the same variable
     parts = member.name.split(".")
     for n in range(1, len(parts)):
         prefix = ".".join(parts[:n])
-        group = [other for other in own if other.name.startswith(prefix + ".")]  # the members of the structure, or of all elements
+        group = [other for other in members if other.name.startswith(prefix + ".")]  # the members of the structure, or of all elements
         stride = stride_of(state, member) if prefix.endswith("[]") else 0
         moved = member.at - group[0].at
         if stride:
@@ -164,11 +164,11 @@ def size_begun(state: Accesses, member: Member) -> int:
         if stride:
             return stride
         end = max(other.at + other.size for other in group)
-        return min((other.at for other in own if other.at >= end), default=whole.high) - member.at
+        return min((other.at for other in members if other.at >= end), default=whole.high) - member.at
     return member.size
 
 
-def asked_member(state: Accesses, address: Node, width: int, place: Place, kind: str) -> Extent:
+def ask_member(state: Accesses, address: Node, width: int, place: Place, kind: str) -> Extent:
     """Asks whether an access at an expression, which stays in its variable, can leave the member or the row of an array in which it begins. Returns
     the array in which it stays for sure, or the variable."""
     search = state.search
@@ -178,7 +178,7 @@ def asked_member(state: Accesses, address: Node, width: int, place: Place, kind:
     if member.is_union:
         search.doubt_access(kind, state, UNION)
         return place.whole
-    variable = search.extents.variable(member.at)
+    variable = search.extents.variable_at(member.at)
     is_variable = member.at == variable.low and reach_of(state, member) == variable.high - variable.low
     if is_variable and not member.row:
         return place.whole  # the variable is the array, or begins with the number

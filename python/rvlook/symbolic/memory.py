@@ -9,7 +9,7 @@ from rvlook.symbolic.conditions import choice8, element, eq, ult
 from rvlook.symbolic.extents import Extent
 from rvlook.symbolic.fields import Ended, Load, Store
 from rvlook.symbolic.nodes import CHECK, INPUT, M32, SECRET, Byte, Node, Word, signed, variable
-from rvlook.symbolic.origins import NO_ORIGIN, How, Origin, Tag, known
+from rvlook.symbolic.origins import NO_ORIGIN, How, Origin, Tag, register_tag
 from rvlook.symbolic.words import byte, extended, not_, parts_of, plain, word
 
 MOST_TABLE = 4096  # bytes of an object from which a load at an index is one expression over all bytes
@@ -17,7 +17,7 @@ MOST_STORED = 1024  # bytes of an object in which a store at an index changes al
 A0 = 10  # the number of the register with the first argument of `any_bytes`
 
 
-def assembled(parts: List[Byte], width: int, is_signed: bool) -> Word:
+def assemble(parts: List[Byte], width: int, is_signed: bool) -> Word:
     """Returns the word that a load of `width` bytes makes of its bytes, the lowest first."""
     if width == 4:
         return word(*parts)
@@ -36,7 +36,7 @@ class Memory(Accesses):
         """Loads `width` bytes of the region or the window at a number. Returns the word."""
         low, high = self.search.world.region
         if not (low <= at and at + width <= high):
-            return assembled(self.received(at, width, at), width, is_signed)
+            return assemble(self.load_window(at, width, at), width, is_signed)
         sym, mem = self.sym, self.mem
         parts = [sym.get(at + n) for n in range(width)] if sym else []
         at -= low
@@ -46,13 +46,13 @@ class Memory(Accesses):
         first = parts[0]
         if width == 4 and type(first) is tuple and first[0].parts == tuple(parts):
             return first[0]
-        return assembled([mem[at + n] if part is None else plain(part) for n, part in enumerate(parts)], width, is_signed)
+        return assemble([mem[at + n] if part is None else plain(part) for n, part in enumerate(parts)], width, is_signed)
 
     def store(self, at: int, width: int, value: Word, tag: Tag = None) -> None:
         """Stores the lower `width` bytes of a word to the region or the window at a number. `tag` is the origin of the word."""
         low, high = self.search.world.region
         if not (low <= at and at + width <= high):
-            self.sent(at, width, value, at)
+            self.store_window(at, width, value, at)
             return
         self.search.note_written(self, at, width, width == 4)
         if type(value) is int:
@@ -103,7 +103,7 @@ class Memory(Accesses):
         if at & 3:
             return None
         if at in self.mem_tags:
-            return known(self.mem_tags[at])
+            return register_tag(self.mem_tags[at])
         world = self.search.world
         if type(value) is int and world.region[0] <= at < world.region[1] and world.is_pointer(value):
             return Origin(How.MEMORY, value)
@@ -120,35 +120,35 @@ class Memory(Accesses):
 
     # ---- the window
 
-    def received(self, at: int, width: int, place: Word) -> List[Byte]:
+    def load_window(self, number: int, width: int, address: Word) -> List[Byte]:
         """Loads `width` bytes of the window. Returns new inputs, apart from bytes of --given, and from bytes that this activation has used before
-        with --calm. `place` is the address, maybe an expression, and `at` its value in the model."""
+        with --calm. `address` may be an expression, and `number` is its value in the model."""
         search = self.search
         base = search.world.window[0]
-        is_number = type(place) is int
+        is_number = type(address) is int
         is_calm = is_number and search.options.calm
-        if is_calm and all(at + n in self.calm_window for n in range(width)):
-            return [self.calm_window[at + n] for n in range(width)]
-        if is_number and search.is_given(at, width):
-            return self.given(at, width)
+        if is_calm and all(number + n in self.calm_window for n in range(width)):
+            return [self.calm_window[number + n] for n in range(width)]
+        if is_number and search.is_given(number, width):
+            return self.load_given(number, width)
         found: List[Byte] = []
         names: List[Tuple[int, str]] = []  # the new inputs: offsets and variables
         for n in range(width):
-            if is_calm and at + n in self.calm_window:
-                found.append(self.calm_window[at + n])
+            if is_calm and number + n in self.calm_window:
+                found.append(self.calm_window[number + n])
                 continue
             name = "i%d_%d" % (self.input_count, n)
-            self.set_value(name, self.window_memory[at + n - base])
+            self.set_value(name, self.window_memory[number + n - base])
             input_byte = variable(name, INPUT)
             names.append((n, name))
             found.append(input_byte)
             if is_calm:
-                self.calm_window[at + n] = input_byte
-        self.loads.append(Load(self.steps, place, tuple(names)))
+                self.calm_window[number + n] = input_byte
+        self.loads.append(Load(self.steps, address, tuple(names)))
         self.input_count += 1
-        search.note_fetch(self, place, width, names)
-        if is_number and at in search.world.lengths:
-            self.limit_length(at, assembled(found, width, is_signed=False))
+        search.note_fetch(self, address, width, names)
+        if is_number and number in search.world.lengths:
+            self.limit_length(number, assemble(found, width, is_signed=False))
         return found
 
     def set_value(self, name: str, value: int) -> None:
@@ -187,7 +187,7 @@ class Memory(Accesses):
             self.note_origin(at + n, 1, 0, None)
         self.loads.append(Load(self.steps, at, tuple(names)))
 
-    def given(self, at: int, width: int) -> List[Byte]:
+    def load_given(self, at: int, width: int) -> List[Byte]:
         """Loads `width` bytes of --given, which the host gives as in the run itself. Returns them as numbers."""
         offset = at - self.search.world.window[0]
         values = list(self.window_memory[offset:offset + width])
@@ -196,30 +196,30 @@ class Memory(Accesses):
         self.loads.append(Load(self.steps, at, names))
         return values
 
-    def sent(self, at: int, width: int, value: Word, place: Word) -> None:
-        """Stores `width` bytes of a word to the window, and asks whether they may depend on a secret. `place` is the address, maybe an expression,
-        and `at` its value in the model."""
+    def store_window(self, number: int, width: int, value: Word, address: Word) -> None:
+        """Stores `width` bytes of a word to the window, and asks whether they may depend on a secret. `address` may be an expression,
+        and `number` is its value in the model."""
         search = self.search
         base = search.world.window[0]
-        is_number = type(place) is int
+        is_number = type(address) is int
         parts = [byte(value, n) for n in range(width)]
-        first: Optional[int] = place if is_number else None  # the address for --public; for an expression, the beginning of a public range
+        first: Optional[int] = address if is_number else None  # the address for --public; for an expression, the beginning of a public range
         if not is_number and type(value) is Node and value.taint & (SECRET | CHECK):
-            first = search.public_place(self, place, width)
+            first = search.public_place(self, address, width)
         places: List[Optional[int]] = [None if first is None else first + n for n in range(width)]
         search.check_output(self, parts, places, "window")
         if type(value) is int or self.is_base:
             stored = self.value(value)
             for n in range(width):
-                self.window_memory[at + n - base] = stored >> 8 * n & 255
+                self.window_memory[number + n - base] = stored >> 8 * n & 255
         if search.options.calm and is_number:
             for n in range(width):
-                self.calm_window[place + n] = parts[n]
+                self.calm_window[address + n] = parts[n]
         elif search.options.calm:
             self.calm_window.clear()
-        if search.world.given and (not is_number or search.is_given(at, width)):
+        if search.world.given and (not is_number or search.is_given(number, width)):
             search.stores_to_given.add(self.pc)
-        self.stores.append(Store(self.steps, place, width, value))
+        self.stores.append(Store(self.steps, address, width, value))
 
     # ---- expressions as addresses
 
@@ -229,12 +229,12 @@ class Memory(Accesses):
         extent = self.place_at(address, width, tag, offset, "load")
         world = self.search.world
         if extent is not None and extent.low == world.window[0]:
-            return assembled(self.received(self.value(address), width, address), width, is_signed), 0
+            return assemble(self.load_window(self.value(address), width, address), width, is_signed), 0
         if extent is not None and extent.high - extent.low <= MOST_TABLE and not (width == 4 and self.has_pointers(extent.low, extent.high)):
             self.search.note_loaded(extent.low, extent.high)
             content = self.contents_of(extent)
-            return assembled([element(address, extent.low - n, content) for n in range(width)], width, is_signed), 0
-        at = self.fixed(address, "address")
+            return assemble([element(address, extent.low - n, content) for n in range(width)], width, is_signed), 0
+        at = self.concretize(address, "address")
         self.search.note_loaded(at, at + width)
         return (self.load(at, width, is_signed), at) if world.is_allowed(at, width) else (None, at)
 
@@ -253,12 +253,12 @@ class Memory(Accesses):
         extent = self.place_at(address, width, address_tag, offset, "store")
         world = self.search.world
         if extent is not None and extent.low == world.window[0]:
-            self.sent(self.value(address), width, value, address)
+            self.store_window(self.value(address), width, value, address)
             return None
         if extent is not None and extent.high - extent.low <= MOST_STORED and tag is None and not self.has_pointers(extent.low & -4, extent.high):
             self.write_anywhere(address, width, value, extent)
             return None
-        at = self.fixed(address, "address")
+        at = self.concretize(address, "address")
         if not world.is_allowed(at, width):
             return at
         self.store(at, width, value, tag)

@@ -10,7 +10,7 @@ from __future__ import annotations
 from collections import Counter
 from typing import Any, Counter as Counts, Dict, FrozenSet, List, NamedTuple, Optional, Sequence, Set, Tuple, TYPE_CHECKING
 
-from rvlook.symbolic.bounds import words_of, words_of_cells
+from rvlook.symbolic.bounds import word_reader, word_reader_of_bytes
 from rvlook.symbolic.cells import (
     MOST_VALUES, Cell, byte_at, bytes_at, changed_bytes, is_unknown_word, name_of, raw_cells, sums_among, taint_and_values, taint_of, unknown_places,
     values_of)
@@ -26,7 +26,7 @@ from rvlook.symbolic.words import byte, plain, word
 
 if TYPE_CHECKING:
     from rvlook.symbolic.bounds import Assumed
-    from rvlook.symbolic.facts import Fact, WordPlace, Words
+    from rvlook.symbolic.facts import Fact, WordAt, WordPlace
     from rvlook.symbolic.search import Search
     from rvlook.symbolic.state import State
 
@@ -147,14 +147,14 @@ class Merger:
         cells = merged.cells
         base = self.search.world.region[0]
         places = [*cells, *(at for at in new if at not in cells)]
-        known = set(places)
-        places += [at for at in changed_bytes(merged.mem, mem, base) if at not in known]
+        with_cells = set(places)
+        places += [at for at in changed_bytes(merged.mem, mem, base) if at not in with_cells]
         is_changed = False
         for at in places:
-            own = cells[at] if at in cells else byte_at(merged.mem, base, at)
-            other = new[at] if at in new else byte_at(mem, base, at)
-            joined = self.join_cell(merged, at, own, other)
-            if joined != own:
+            old_cell = cells[at] if at in cells else byte_at(merged.mem, base, at)
+            new_cell = new[at] if at in new else byte_at(mem, base, at)
+            joined = self.join_cell(merged, at, old_cell, new_cell)
+            if joined != old_cell:
                 count = merged.changes[at] = merged.changes.get(at, 0) + 1
                 has_any_value = count > MOST_CHANGES and type(joined) is tuple
                 cells[at] = (joined[0], None) if has_any_value else joined
@@ -163,25 +163,25 @@ class Merger:
                 cells[at] = joined
         return is_changed
 
-    def join_cell(self, merged: Merged, at: Place, own: Cell, other: Cell) -> Cell:
-        """Returns the cell that includes two cells for one place."""
-        if is_same(own, other):
-            return own
-        if type(other) is Node and self.is_unknown_of(merged, at, other):  # the path has kept the unknown of this very place
-            other = own if type(own) is tuple and not other.taint & ~own[0] else (other.taint, None)
-        own_taint, own_values = taint_and_values(own)
-        other_taint, other_values = taint_and_values(other)
+    def join_cell(self, merged: Merged, at: Place, old: Cell, new: Cell) -> Cell:
+        """Returns the cell that includes two cells for one place: that of the merged state, and that of a state that is merged with it."""
+        if is_same(old, new):
+            return old
+        if type(new) is Node and self.is_unknown_of(merged, at, new):  # the path has not changed the unknown of this very place
+            new = old if type(old) is tuple and not new.taint & ~old[0] else (new.taint, None)
+        old_taint, old_values = taint_and_values(old)
+        new_taint, new_values = taint_and_values(new)
         values: Optional[FrozenSet[int]] = None
-        if own_values is not None and other_values is not None and len(own_values | other_values) <= MOST_VALUES:
-            values = own_values | other_values
-        return own_taint | other_taint, values
+        if old_values is not None and new_values is not None and len(old_values | new_values) <= MOST_VALUES:
+            values = old_values | new_values
+        return old_taint | new_taint, values
 
     # ---- conditions of a merged state
 
     def assumed(self, merged: Merged) -> Assumed:
         """Returns the conditions of a merged state on its unknowns, and values for which they hold."""
         conds = [condition for at, cell in merged.cells.items() for condition in self.value_conditions(merged, at, cell)]
-        return conds + self.bounds.conditions(merged.facts, self.words(merged, merged.cells)), self.model_of(merged)
+        return conds + self.bounds.conditions(merged.facts, self.merged_word_reader(merged, merged.cells)), self.model_of(merged)
 
     def model_of(self, merged: Merged) -> Dict[str, int]:
         """Returns the values of the variables in the state that was merged last."""
@@ -211,69 +211,71 @@ class Merger:
         condition = any_of(*(eq(word(unknown, 0, 0, 0), value) for value in sorted(cell[1])))
         return [condition] if type(condition) is Node else []
 
-    def words(self, merged: Merged, cells: Dict[Place, Cell], facts: Optional[Sequence[Fact]] = None) -> Words:
-        """Returns the function that gives the words of a merged state, with `cells` and `facts` in place of its own. If a fact says that a word is
-        the sum of others, the function gives that sum."""
+    def merged_word_reader(self, merged: Merged, cells: Dict[Place, Cell], facts: Optional[Sequence[Fact]] = None) -> WordAt:
+        """Returns the function that returns the word at a place in a merged state with `cells`, and with `facts` in place of those that it has. If a
+        fact says that a word is the sum of others, the function returns that sum."""
         base = self.search.world.region[0]
 
         def content_at(at: Place) -> Byte:
             cell = cells.get(at, merged.mem[at - base] if isinstance(at, int) else 0)
             return variable(name_of(merged.prefix, at, cell[0]), cell[0]) if type(cell) is tuple else cell
-        plain_words = words_of_cells(content_at)
+        plain_word_at = word_reader_of_bytes(content_at)
         sums = sums_among(merged.facts if facts is None else facts, cells)
 
-        def words(at: Place) -> Word:
-            return sum_of(sums[at], words) if at in sums else plain_words(at)
-        return words
+        def word_at(at: Place) -> Word:
+            return sum_of(sums[at], word_at) if at in sums else plain_word_at(at)
+        return word_at
 
     # ---- facts
 
-    def update_facts(self, merged: Merged, state: State, assumed: Optional[Assumed], old: Dict[Place, Cell], own: Optional[int] = None) -> bool:
+    def update_facts(self, merged: Merged, state: State, assumed: Optional[Assumed], old: Dict[Place, Cell],
+                     loop_mask: Optional[int] = None) -> bool:
         """Drops the facts that a state does not imply, and adds facts about words that became unknown with it. `assumed` has the conditions of the
-        merged state before, with the cells `old`. `own` is the mask of the unknowns of a loop, None at a stop. Returns whether a fact was dropped."""
+        merged state before, with the cells `old`. `loop_mask` is the mask of the unknowns of a loop, None at a stop. Returns whether a fact was
+        dropped."""
         merged.sample = {at: evaluate(content, state.model, state.memo) for at, content in raw_cells(state, self.zeros)}
         merged.sample_memory = bytes(state.mem)
         if not self.search.means.loops_from:
             return False
-        places = self.fact_places(merged, state, old, own)
-        kept = active(merged.facts)
-        words = self.words(merged, old) if assumed else words_of(state)
-        proposed = self.propose_facts(merged, places, words, own)
+        places = self.fact_places(merged, state, old, loop_mask)
+        old_facts = active(merged.facts)
+        old_word_at = self.merged_word_reader(merged, old) if assumed else word_reader(state)
+        proposed = self.propose_facts(merged, places, old_word_at, loop_mask)
         if assumed:
-            proposed = self.bounds.holding(assumed, proposed, words)
-        merged.facts = self.bounds.holding((state.conds, state.model), merged.facts + proposed, words_of(state))
-        dropped = set(kept) - set(merged.facts)
-        if assumed and own is not None:
-            lost = {*kept, *proposed} - set(merged.facts)
-            merged.facts += self.bounds.holding(assumed, hulls_of(lost, words_of(state), own), words)
+            proposed = self.bounds.holding(assumed, proposed, old_word_at)
+        merged.facts = self.bounds.holding((state.conds, state.model), merged.facts + proposed, word_reader(state))
+        dropped = set(old_facts) - set(merged.facts)
+        if assumed and loop_mask is not None:
+            lost = {*old_facts, *proposed} - set(merged.facts)
+            merged.facts += self.bounds.holding(assumed, hulls_of(lost, word_reader(state), loop_mask), old_word_at)
         weight = self.drop_weight(state)
         merged.drops.update({fact[:4]: weight for fact in dropped})
         merged.facts = [fact for fact in merged.facts if merged.drops[fact[:4]] <= self.most_drops.get(fact.kind, 0)]
         self.widen(merged, state, dropped)
         return bool(dropped)
 
-    def fact_places(self, merged: Merged, state: State, old: Dict[Place, Cell], own: Optional[int]) -> FactPlaces:
+    def fact_places(self, merged: Merged, state: State, old: Dict[Place, Cell], loop_mask: Optional[int]) -> FactPlaces:
         """Returns the words of a merged state that may have facts. The arguments are those of `update_facts`. At a stop, the search is outgrown if a
         byte that was unknown before may have facts only now: the next search proposes them from the first path on."""
-        wanted = self.find_wanted_places(state) if own is None else None
+        wanted = self.find_wanted_places(state) if loop_mask is None else None
         unknown = [at for at in unknown_places(merged.cells) if self.may_have_facts(merged, at, wanted)]
         unknown_before = {at for at in unknown if type(old.get(at)) is tuple}
-        if own is None and not unknown_before <= merged.considered:
+        if loop_mask is None and not unknown_before <= merged.considered:
             self.search.is_outgrown = True
         merged.considered |= set(unknown)
         words = self.bounds.places(unknown)
         words_before = set(self.bounds.places([at for at in unknown if at in unknown_before]))
         nodes = [at for at, cell in merged.cells.items() if type(cell) is Node and self.may_have_facts(merged, at, wanted)]
-        others = words if own is None else words + self.bounds.places(nodes)
+        others = words if loop_mask is None else words + self.bounds.places(nodes)
         return FactPlaces([at for at in words if at not in words_before], words, others)
 
-    def propose_facts(self, merged: Merged, places: FactPlaces, words: Words, own: Optional[int]) -> List[Fact]:
-        """Returns facts that may hold for the new words of a merged state. `words` gives the values of the words, and `own` is that of
+    def propose_facts(self, merged: Merged, places: FactPlaces, word_at: WordAt, loop_mask: Optional[int]) -> List[Fact]:
+        """Returns facts that may hold for the new words of a merged state. `word_at` gives the values of the words, and `loop_mask` is that of
         `update_facts`."""
-        found = self.bounds.candidates(places.new, places.others, words, merged.tags, own)
+        found = self.bounds.candidates(places.new, places.others, word_at, merged.tags, loop_mask)
         found = [fact for fact in found if form_of(fact) not in merged.lost]
-        solvable = [] if own is None else [at for at in places.unknown if is_unknown_word(merged.cells, at)]  # may be replaced by a sum
-        relations = relations_of(places.new, solvable, places.others, words, merged.facts)
+        solvable = [] if loop_mask is None else [at for at in places.unknown if is_unknown_word(merged.cells, at)]  # may be replaced by a sum
+        relations = relations_of(places.new, solvable, places.others, word_at, merged.facts)
         found += [fact for fact in relations if fact not in merged.lost]
         merged.tried |= set(found)
         return found
@@ -326,8 +328,8 @@ class Merger:
         """Sets the bytes of a state to the cells of a merged state, and adds the facts as conditions."""
         state.mem = bytearray(merged.mem)
         state.sym = {}
-        words = self.words(merged, merged.cells)
-        sums = {place: byte(words(at), n) for at in sums_among(merged.facts, merged.cells) for n, place in enumerate(bytes_at(at))}
+        word_at = self.merged_word_reader(merged, merged.cells)
+        sums = {place: byte(word_at(at), n) for at in sums_among(merged.facts, merged.cells) for n, place in enumerate(bytes_at(at))}
         contents: Dict[Place, Byte] = {}
         for at in merged.cells:
             contents[at] = sums[at] if at in sums else self.byte_of_cell(merged, state, at)
@@ -338,7 +340,7 @@ class Merger:
         for number in state.csr:
             state.csr[number] = word(*(contents["c%x_%d" % (number, n)] for n in range(4)))
         set_tags(state, merged.tags)
-        state.conds += self.bounds.conditions(merged.facts, words)
+        state.conds += self.bounds.conditions(merged.facts, word_at)
 
     def byte_of_cell(self, merged: Merged, state: State, at: Place) -> Byte:
         """Returns the byte of a cell. For an unknown, adds its value to the model of a state, and its conditions."""

@@ -51,14 +51,14 @@ class Node:
         return "%s#%d" % (self.op, self.number)
 
 
-known: Dict[Any, Node] = {}  # all nodes but variables, by operation and operands
+by_operation: Dict[Any, Node] = {}  # all nodes but variables, by operation and operands
 variables: List[Node] = []  # all variables, by the number of their bit in a mask
 by_name: Dict[str, Node] = {}  # all variables, by name
 
 
 def forget() -> None:
     """Removes all nodes, so that the next search begins with an empty graph."""
-    known.clear()
+    by_operation.clear()
     variables.clear()
     by_name.clear()
 
@@ -66,7 +66,7 @@ def forget() -> None:
 def make(op: str, args: Tuple[Any, ...], may: int = M32) -> Node:
     """Returns the node with an operation and operands. `may` has the bits of its value that may be set."""
     key = (op, args)
-    node = known.get(key)
+    node = by_operation.get(key)
     if node is None:
         taint = 0
         weight = 1
@@ -74,7 +74,7 @@ def make(op: str, args: Tuple[Any, ...], may: int = M32) -> Node:
             if type(operand) is Node:
                 taint |= operand.taint
                 weight += operand.weight
-        node = known[key] = Node(op, args, taint, may, len(known))
+        node = by_operation[key] = Node(op, args, taint, may, len(by_operation))
         node.weight = weight if weight < HEAVIEST else HEAVIEST
     return node
 
@@ -114,13 +114,13 @@ def mask_of(expression: Word | Condition) -> int:
     while stack:
         node = stack[-1]
         if node.mask is None:
-            own = operands(node)
-            missing = [operand for operand in own if operand.mask is None]
+            direct = operands(node)
+            missing = [operand for operand in direct if operand.mask is None]
             if missing:
                 stack += missing
                 continue
             mask = 0
-            for operand in own:
+            for operand in direct:
                 mask |= operand.mask or 0
             node.mask = mask
         stack.pop()

@@ -34,18 +34,18 @@ class OwnState(State):
     """A state that loads from the window what the host gives in the run, or what the enclave itself has stored there."""
     __slots__ = ()
 
-    def received(self, at: int, width: int, place: Word) -> List[Byte]:
-        """Returns `width` bytes of the window at the address `at`. Ends the path if the address is an expression (`place`)."""
-        if type(place) is not int:
+    def load_window(self, number: int, width: int, address: Word) -> List[Byte]:
+        """Returns `width` bytes of the window at the address `number`. Ends the path if `address` is an expression."""
+        if type(address) is not int:
             raise Ended(OPEN)
         base = self.search.world.window[0]
-        return [self.calm_window.get(at + n, self.window_memory[at + n - base]) for n in range(width)]
+        return [self.calm_window.get(number + n, self.window_memory[number + n - base]) for n in range(width)]
 
-    def sent(self, at: int, width: int, value: Word, place: Word) -> None:
-        """Stores to the window, whose bytes may be loaded again. Ends the path if the address is an expression (`place`)."""
-        if type(place) is not int:
+    def store_window(self, number: int, width: int, value: Word, address: Word) -> None:
+        """Stores to the window, whose bytes may be loaded again. Ends the path if `address` is an expression."""
+        if type(address) is not int:
             raise Ended(OPEN)
-        super().sent(at, width, value, place)
+        super().store_window(number, width, value, address)
 
 
 class OwnPath(Search):

@@ -38,7 +38,7 @@ class Opaque(Translator):
         """Returns the name of the variable in place of a node."""
         return "o%d" % node.number
 
-    def given(self, node: Node) -> Optional[Any]:
+    def predefined(self, node: Node) -> Optional[Any]:
         """Returns the variable of a node that is taken as any byte, or None."""
         return self.z3.variable(self.name_of(node)) if self.is_opaque(node) else None
 
@@ -51,13 +51,13 @@ class Opaque(Translator):
             if top in masks:
                 stack.pop()
                 continue
-            own = [] if self.is_opaque(top) else operands(top)
-            missing = [operand for operand in own if operand not in masks]
+            inner = [] if self.is_opaque(top) else operands(top)
+            missing = [operand for operand in inner if operand not in masks]
             if missing:
                 stack += missing
                 continue
-            mask = 0 if own else 1 << self.bits.setdefault(top, len(self.bits))
-            for operand in own:
+            mask = 0 if inner else 1 << self.bits.setdefault(top, len(self.bits))
+            for operand in inner:
                 mask |= masks[operand]
             masks[top] = mask
         return masks[node]

@@ -27,7 +27,7 @@ class Origin(NamedTuple):
     base: int  # the first address
     call: int = 0  # the number of the call that has computed it
     pc: int = 0  # the instruction that has computed it
-    more: int = 0  # a constant in the index that was added to sp, which the compiler may have taken from the offset
+    index_constant: int = 0  # a constant in the index that was added to sp, which the compiler may have taken from the offset
 
 
 NO_ORIGIN = Origin(How.NONE, 0)  # of a word in memory that is no pointer, although its value looks like one
@@ -36,7 +36,7 @@ LOST = Origin(How.NONE, 1)  # of a word that has an origin on some of the paths 
 Tag = Optional[Origin]  # None for a word that is no pointer, as far as is known
 
 
-def known(tag: Tag) -> Tag:
+def register_tag(tag: Tag) -> Tag:
     """Returns an origin as the tag of a register: None for NO_ORIGIN, which only words in memory have."""
     return None if tag is NO_ORIGIN else tag
 

@@ -56,14 +56,14 @@ class Outputs(Record):
     def check_output(self, state: State, parts: Sequence[Byte], places: Sequence[Optional[int]], what: str) -> None:
         """Asks whether bytes that the host can read may depend on the secret or on the code. `places` has the addresses of the bytes in the window,
         None for an answer or for an address that is an expression. `what` is the kind of a finding: "window" or "answer"."""
-        own = [n for n, part in enumerate(parts) if type(part) is Node and part.taint & (SECRET | CHECK)]
-        if not own:
+        tainted = [n for n, part in enumerate(parts) if type(part) is Node and part.taint & (SECRET | CHECK)]
+        if not tainted:
             return
-        public = [n for n in own if self.is_public(places[n], what)]
-        maybe_public = [n for n in own if n in public or self.public_answer([places[n]]) is not None]
-        self.check_copies(state, parts, places, own, maybe_public)
-        self.check_shown_codes(state, [parts[n] for n in own])
-        secret = [n for n in own if parts[n].taint & SECRET]
+        public = [n for n in tainted if self.is_public(places[n], what)]
+        maybe_public = [n for n in tainted if n in public or self.public_answer([places[n]]) is not None]
+        self.check_copies(state, parts, places, tainted, maybe_public)
+        self.check_shown_codes(state, [parts[n] for n in tainted])
+        secret = [n for n in tainted if parts[n].taint & SECRET]
         if secret:
             self.check_release(state, any(parts[n].taint & CHECK for n in secret))
             self.note_influence(state, parts)
@@ -106,11 +106,12 @@ class Outputs(Record):
                 return answer
         return None
 
-    def check_copies(self, state: State, parts: Sequence[Byte], places: Sequence[Optional[int]], own: Sequence[int], public: Sequence[int]) -> None:
+    def check_copies(self, state: State, parts: Sequence[Byte], places: Sequence[Optional[int]], tainted: Sequence[int],
+                     public: Sequence[int]) -> None:
         """Reports bytes of the secret that come out as they are, or changed so that one can compute them, if the run itself outputs none there. Only
-        public bytes are reported here. `parts` and `places` are those of `check_output`; `own` and `public` are indices of them: of the bytes that
-        depend on the secret or the code, and of those that may be public."""
-        copies = [n for n in own if parts[n].taint & SECRET and is_one_byte(parts[n], SECRET)]
+        public bytes are reported here. `parts` and `places` are those of `check_output`; `tainted` and `public` are indices of them: of the bytes
+        that depend on the secret or the code, and of those that may be public."""
+        copies = [n for n in tainted if parts[n].taint & SECRET and is_one_byte(parts[n], SECRET)]
         if not copies:
             return
         key = state.pc, places[copies[0]]
@@ -214,7 +215,7 @@ def is_one_byte(output: Node, taint: int) -> bool:
     if output.taint & ~taint or not has_one_variable:
         return False
     name = names_of(mask)[0]
-    return len({evaluate(output, {name: value}, {}) for value in range(BYTES)}) == BYTES
+    return len({evaluate(output, {name: value}) for value in range(BYTES)}) == BYTES
 
 
 def comparison_with(node: Node, taint: int) -> Optional[Node]:

@@ -125,7 +125,7 @@ class Paths(Fields):
             if not self.is_base:
                 raise Ended("bound")
 
-    def fixed(self, word: Word, what: str = "pc") -> int:
+    def concretize(self, word: Word, what: str = "pc") -> int:
         """Returns the value of a word in the model as a number, which the word then has on this path. Leaves other values to other paths. `what` is
         the kind of a finding if the value depends on the secret: how the host can observe it."""
         if type(word) is int:
@@ -143,7 +143,7 @@ class Paths(Fields):
         elif answer and tried >= MOST_VALUES:
             search.words_with_many_values[self.pc] += 1
         elif answer:
-            self.add_path_again(other, model, tried + 1, evaluate(word, model, {}))
+            self.add_path_again(other, model, tried + 1, evaluate(word, model))
         self.assume(eq(word, value))
         return value
 

@@ -47,7 +47,7 @@ class Answer:
     places: List[str] = field(default_factory=list)  # where the question is not decided, and why
 
 
-def asked(search: Search) -> List[str]:
+def questions_asked(search: Search) -> List[str]:
     """Returns the names of the questions that the options ask."""
     options = search.options
     has_secret = bool(search.world.secret)
@@ -62,7 +62,7 @@ def asked(search: Search) -> List[str]:
     return [name for name in QUESTIONS if is_asked.get(name, True)]
 
 
-def gone(search: Search) -> List[str]:
+def reasons_not_covered(search: Search) -> List[str]:
     """Returns why not all paths were covered; an empty list if they were."""
     place = search.world.place
     found = ["Ctrl-C ended the search"] if search.is_cut else []
@@ -112,9 +112,9 @@ def untrusted(search: Search) -> List[str]:
 
 def answers(search: Search) -> List[Answer]:
     """Returns the answer to each question."""
-    has_all_paths = not gone(search) and not untrusted(search)
+    has_all_paths = not reasons_not_covered(search) and not untrusted(search)
     found = []
-    for name in asked(search):
+    for name in questions_asked(search):
         title, kinds = QUESTIONS[name]
         is_limited = (name == "memory" and bool(search.allowed)) or (name == "state" and search.merger is not None)
         answer = Answer(name, PROVED if has_all_paths else NONE_FOUND, title + LIMITS[name] if is_limited else title)
@@ -157,12 +157,12 @@ def is_complete(search: Search) -> bool:
         return False
     if search.options.must_matter and missing_influences(search):
         return False
-    return not gone(search) and not untrusted(search)
+    return not reasons_not_covered(search) and not untrusted(search)
 
 
 def open_texts(search: Search) -> List[str]:
     """Returns why a result is not COMPLETE; an empty list if it is. An option --allow that no access needs is a reason: it may name a wrong place."""
-    found = [*gone(search), *untrusted(search)]
+    found = [*reasons_not_covered(search), *untrusted(search)]
     if not found and not is_complete(search):
         found = ["places are not decided"]
     return found + unused_options(search)

@@ -97,9 +97,9 @@ class Record:
             if key not in self.findings:
                 self.note(key, "%s: %s" % (text, IN_MERGED) if text else IN_MERGED)
             return
-        known = self.findings.get(key)
-        if known:
-            known.count += 1
+        earlier = self.findings.get(key)
+        if earlier:
+            earlier.count += 1
             return
         address = state.access_address() if what in ("load", "store") else None
         history = history_of(state, one)

@@ -5,22 +5,22 @@ from __future__ import annotations
 
 from typing import Dict, FrozenSet, Iterable, List, Optional, Sequence, Set, Tuple
 
-from rvlook.symbolic.facts import ADDED, Fact, WordPlace, Words, is_byte
+from rvlook.symbolic.facts import ADDED, Fact, WordAt, WordPlace, is_byte
 from rvlook.symbolic.linear import Linear, linear, plus
 from rvlook.symbolic.nodes import M32, Node
 
 
-def relations_of(new: Iterable[WordPlace], unknown: Iterable[WordPlace], others: Sequence[WordPlace], words: Words,
-                 known: Iterable[Fact]) -> List[Fact]:
+def relations_of(new: Iterable[WordPlace], unknown: Iterable[WordPlace], others: Sequence[WordPlace], word_at: WordAt,
+                 facts: Iterable[Fact]) -> List[Fact]:
     """Returns the relations of three words. At least one of the three is in `new`. Each relation is solved for a word in `unknown` that is in no
-    other relation. `others` are all words that may be in a relation, `words` gives their values, and `known` has the facts so far."""
-    values = [(at, words(at)) for at in others if not is_byte(at)]
+    other relation. `others` are all words that may be in a relation, `word_at` gives their values, and `facts` are those so far."""
+    values = [(at, word_at(at)) for at in others if not is_byte(at)]
     forms = [(at, linear(value)) for at, value in values if type(value) is Node]
     by_atoms: Dict[FrozenSet[Tuple[Node, int]], List[Tuple[WordPlace, Linear]]] = {}  # the words by the terms of their linear forms
     for at, form in forms:
         by_atoms.setdefault(form.atoms, []).append((at, form))
     used: Set[WordPlace] = set()  # the words that are in a relation
-    for fact in known:
+    for fact in facts:
         if fact.kind == ADDED:
             used |= {fact.x, *(place for place, _ in fact.y)}
     new_words = {*new}

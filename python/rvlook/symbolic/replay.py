@@ -23,10 +23,10 @@ A0 = 10  # numbers of registers
 A1 = 11
 A6 = 16
 A7 = 17
-PART = 20000  # steps between two checks of the time
-FURTHER = 20000  # steps of an endless loop that are executed after its finding
-FURTHER_PART = 2000  # of these, between two checks of the time
-WATCHED = 40000  # further steps that are executed one by one, until the registers repeat
+STEPS_AT_ONCE = 20000  # between two checks of the time
+FURTHER_STEPS = 20000  # of an endless loop, which are executed after its finding
+FURTHER_STEPS_AT_ONCE = 2000  # between two checks of the time
+WATCHED_STEPS = 40000  # after the further steps, which are executed one by one until the registers repeat
 
 
 class Path(Protocol):
@@ -104,7 +104,7 @@ class Replayer:
                 replayed.is_late = time.perf_counter() > self.deadline
                 if replayed.is_late:
                     return replayed
-                most = min(first + PART - 1, last)
+                most = min(first + STEPS_AT_ONCE - 1, last)
                 end = next((n for n in range(first, most + 1) if n in plan.leaves), most)
                 if end == last and not is_whole:
                     execute_steps(bench, plan, replayed, range(first, end))
@@ -188,25 +188,25 @@ def execute_last_step(bench: Bench, plan: Plan, replayed: Replayed, number: int)
 
 
 def execute_further(bench: Bench, replayed: Replayed, pc: int, deadline: float) -> None:
-    """Executes FURTHER steps in which the host gives nothing, and then up to WATCHED more, until the registers at a pc repeat."""
-    own = replayed.world
-    for _ in range(FURTHER // FURTHER_PART):
+    """Executes FURTHER_STEPS steps in which the host gives nothing, and then up to WATCHED_STEPS more, until the registers at a pc repeat."""
+    world = replayed.world  # the enclave
+    for _ in range(FURTHER_STEPS // FURTHER_STEPS_AT_ONCE):
         replayed.is_late = replayed.is_late or time.perf_counter() > deadline
         if replayed.is_late:
             return
-        lines = replies_to_steps(bench, ["step 1"] * FURTHER_PART)
+        lines = replies_to_steps(bench, ["step 1"] * FURTHER_STEPS_AT_ONCE)
         for line in (lines[0], lines[-1]):
             replayed.note(line)
-            if replayed.world != own:
+            if replayed.world != world:
                 replayed.wrong = "the enclave leaves in further steps"
     if not replayed.wrong:
         watch(bench, replayed, pc, deadline)
 
 
 def watch(bench: Bench, replayed: Replayed, pc: int, deadline: float) -> None:
-    """Executes up to WATCHED steps, until the registers at a pc repeat."""
+    """Executes up to WATCHED_STEPS steps, until the registers at a pc repeat."""
     seen: Set[Tuple[int, ...]] = set()
-    for _ in range(WATCHED):
+    for _ in range(WATCHED_STEPS):
         replayed.is_late = time.perf_counter() > deadline
         if replayed.after == pc:
             regs = tuple(register_values(bench.ask("regs")[0][:32]))
@@ -231,12 +231,12 @@ def observed(word: int, regs: Sequence[int]) -> Tuple[int, ...]:
     """Returns what the host may observe of an instruction word: the accessed address, the stored value, or the operands. `regs` has the registers
     before the instruction."""
     instruction = decode(word)
-    first = regs[instruction.r1]
+    operand = regs[instruction.rs1]
     if instruction.kind == "load":
-        return ((first + instruction.imm) & M32,)
+        return ((operand + instruction.imm) & M32,)
     if instruction.kind == "store":
-        width = instruction.more
-        return (first + instruction.imm) & M32, regs[instruction.r2] & (1 << 8 * width) - 1
+        stored = regs[instruction.rs2] & (1 << 8 * instruction.width) - 1
+        return (operand + instruction.imm) & M32, stored
     if instruction.kind == "ecall":
         return regs[A0], regs[A1], regs[A6]
-    return first, regs[instruction.r2] if instruction.kind in ("op", "branch") else 0
+    return operand, regs[instruction.rs2] if instruction.kind in ("op", "branch") else 0

@@ -30,7 +30,7 @@ def place_of(flows: Flows, state: State, entry: int, call: int, pc: int) -> Posi
     """Returns the place of a path in one of its calls. `entry` is the first instruction of the function, `call` is the number of the call, and `pc`
     is the present instruction in it. The place consists of the head and the round of each loop around the instruction, and then of the
     instruction."""
-    flow = flows.known.get(entry)
+    flow = flows.by_entry.get(entry)
     if flow is None or pc not in flow.order:
         return (0,)
     found: List[int] = []
@@ -45,7 +45,7 @@ def turn_of(flows: Flows, state: State) -> Position:
     found: List[int] = []
     places = [(state.entry, state.pc), *((it.entry, it.back - 4) for it in state.open_calls())]
     for entry, pc in reversed(places):
-        flow = flows.known.get(entry)
+        flow = flows.by_entry.get(entry)
         if flow is None or pc not in flow.order:
             continue
         found += [flow.order[head] for head in flow.heads.get(pc, ())]
@@ -108,7 +108,7 @@ def waiting(step: Step) -> Step:
 
 def count_round(flows: Flows, state: State, head: int) -> None:
     """Counts a round of a loop for a path that arrives at its head. The counts of the loops inside, and of the calls inside, begin again."""
-    flow = flows.known.get(state.entry)
+    flow = flows.by_entry.get(state.entry)
     if flow is None or head not in flow.heads.get(head, ()):
         return
     state.rounds[state.call, head] = state.rounds.get((state.call, head), 0) + 1

@@ -42,7 +42,7 @@ class Session:
             return question
         solver, opaque = self.solver, self.opaque
         asts = [*self.asts, opaque(question)]
-        answer, values = solver.ask_in_time(partial(solver.z3.checked_by_tactics, asts), solver.timeout)
+        answer, values = solver.ask_in_time(partial(solver.z3.check_by_tactics, asts), solver.timeout)
         if answer is False:
             solver.note_proof(asts)
         if answer:

@@ -105,9 +105,9 @@ class Solver:
         return answer, {**model, **part} if part else model
 
     @staticmethod
-    def is_valid_for(known: Tuple[Answer, Optional[Part]], relevant: Sequence[Node], question: Node, model: Part) -> bool:
+    def is_valid_for(cached: Tuple[Answer, Optional[Part]], relevant: Sequence[Node], question: Node, model: Part) -> bool:
         """Returns whether a cached answer is valid for a model. The cached values are those that differed from another model."""
-        answer, part = known
+        answer, part = cached
         if not answer:
             return True
         memo: Dict[Node, Any] = {}
@@ -118,11 +118,11 @@ class Solver:
         """Returns whether conditions and a question can hold together, and the values that differ from a model: by the values of bytes, by guesses,
         by simplification, or by z3. `mask` has the variables of all of them."""
         conditions = [*relevant, question]
-        known, sets = self.domains.answer(conditions)
-        if known is False:
+        answer, sets = self.domains.answer(conditions)
+        if answer is False:
             self.note_proof([self.plain(condition) for condition in conditions])
             return False, None
-        if known:
+        if answer:
             return True, {name: member_of(values, model.get(name, 0)) for node, values in sets.items() for name in names_of(mask_of(node))}
         part = self.guess(relevant, question, mask_of(question), model)
         if part is not None:
@@ -197,7 +197,7 @@ class Solver:
     def ask_z3(self, asts: List[Any], timeout: int) -> Tuple[Answer, Part]:
         """Asks z3 whether expressions can hold together, for at most `timeout` milliseconds. Raises TimeIsOver if the time of the whole run ends
         before an answer."""
-        check = self.z3.checked_by_tactics if self.has_many else self.z3.checked
+        check = self.z3.check_by_tactics if self.has_many else self.z3.check
         return self.ask_in_time(partial(check, asts), timeout)
 
     def ask_in_time(self, ask: Callable[[int], Tuple[Answer, Part]], timeout: int) -> Tuple[Answer, Part]:
@@ -222,16 +222,16 @@ class Solver:
     def allows_other_codes(self, conditions: Sequence[Node], names: Sequence[str]) -> Answer:
         """Returns whether conditions can also hold with other values of the bytes that the host must know, and with the same inputs. `names` are the
         variables of these bytes."""
-        own = [condition for condition in conditions if condition.taint & CHECK]
+        on_code = [condition for condition in conditions if condition.taint & CHECK]
         mask = 0
-        for condition in own:
+        for condition in on_code:
             mask |= mask_of(condition)
         if any(not (by_name[name].mask or 0) & mask for name in names):
             return True
         primed = Primed(self.plain, (), CHECK)
         differences = [self.z3.unequal(self.plain(by_name[name]), primed(by_name[name])) for name in names]
         relevant, _ = self.relevant_conditions(conditions, mask)
-        asts = [self.plain(condition) for condition in relevant] + [primed(condition) for condition in own]
+        asts = [self.plain(condition) for condition in relevant] + [primed(condition) for condition in on_code]
         return self.solve([*asts, self.z3.disjunction(differences)], [])[0]
 
     # ---- two runs with different secrets
@@ -284,15 +284,15 @@ class Solver:
         if not names:
             return None
         memo: Dict[Node, Any] = {}
-        own = evaluate(question, model, memo)
+        value = evaluate(question, model, memo)
         wanted = {node: evaluate(node, model, memo) for node in equal.computed}
         forced = {it: evaluate(it, model, memo) for it in equal.public if it.taint & SECRET and mask_of(it) & mask and it not in wanted}
         for number in range(TRIES):
             other = {**model, **self.other_secret(number, names, model)}
             values = dict(forced)
-            if evaluate(question, other, values) == own or not all(evaluate(condition, other, values) for condition in conditions):
+            if evaluate(question, other, values) == value or not all(evaluate(condition, other, values) for condition in conditions):
                 continue
-            if all(evaluate(node, other, values) == value for node, value in wanted.items()):
+            if all(evaluate(node, other, values) == public_value for node, public_value in wanted.items()):
                 self.guesses += 1
                 return True, dict(model), other
         return None

@@ -53,7 +53,7 @@ class State(Traps):
         search merges paths at this head from the first round on. A search that does not merge loops only notes the head."""
         search = self.search
         head = pc, self.context
-        flow = search.flows.known.get(self.entry)
+        flow = search.flows.by_entry.get(self.entry)
         if search.is_trial or flow is None or flow.innermost_head(pc) != pc or head in search.divided:
             return
         if self.is_base:
@@ -108,11 +108,11 @@ class State(Traps):
     def has_origin(self) -> bool:
         """Returns whether the instruction at the pc accesses an address that the enclave has computed, not a pointer of the host."""
         instruction = self.present_instruction()
-        return instruction.kind in ("load", "store") and self.tags[instruction.r1] is not None
+        return instruction.kind in ("load", "store") and self.tags[instruction.rs1] is not None
 
     def access_address(self) -> Optional[Word]:
         """Returns the address that the load or store at the pc accesses; None for another instruction."""
         instruction = self.present_instruction()
         if instruction.kind not in ("load", "store"):
             return None
-        return operation("add", self.regs[instruction.r1], instruction.imm & M32)
+        return operation("add", self.regs[instruction.rs1], instruction.imm & M32)

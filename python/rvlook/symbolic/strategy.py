@@ -24,23 +24,23 @@ if TYPE_CHECKING:
     from rvlook.symbolic.world import World
 
 # Which part of the time that is left a search may use.
-FIRST = .25  # the exact search
-LOOPS = .8  # each search with merged loops
-SEQUENCES = .4  # the search for sequences of activations
-MOST = .8  # any search, if the exact search has ended; and a search with merged loops, if few paths divide
+EXACT_PART = .25  # the exact search
+LOOPS_PART = .8  # each search with merged loops
+SEQUENCES_PART = .4  # the search for sequences of activations
+MOST_PART = .8  # any search, if the exact search has ended; and a search with merged loops, if few paths divide
 FIRST_FAR = Means(is_rare_first=True, is_far=True, merges=False, activations=1)
 RARE_FIRST = Means(is_rare_first=True, merges=False)
-RARE = (FIRST_FAR, .35), (RARE_FIRST, .4)  # the searches for rare branches, each with its part of the time
-ALL_TIME = 1  # a search that is continued at last
+RARE_SEARCHES = (FIRST_FAR, .35), (RARE_FIRST, .4)  # the searches for rare branches, each with its part of the time
+ALL_PART = 1  # a search that is continued at last
 
 LONGEST_FIRST = 30  # seconds of the exact search before the others
 LONGEST_RARE = 15  # seconds of each search for rare branches
 LONGEST_REPLAYS = 1  # seconds at the end in which findings are replayed,
 REPLAYS = .1  # and the part of --seconds, if that is less
 
-FEW = 1000  # steps for each division of a path; a search with more, as in a hash, has no rare branches
+STEPS_OF_A_HASH = 1000  # for each division of a path; a search with more steps computes, as in a hash, and has no rare branches
 LOOPS_FROM = 1, 3  # after so many divisions of a path in a loop, its head is merged: at first, and if that decides too little
-MERGED = Means(loops_from=LOOPS_FROM[0], is_rough=True), *(Means(loops_from=count) for count in LOOPS_FROM)  # the searches with merged loops
+LOOP_SEARCHES = Means(loops_from=LOOPS_FROM[0], is_rough=True), *(Means(loops_from=count) for count in LOOPS_FROM)  # the searches with merged loops
 MORE_ROUNDS = 16  # factor by which a search over sequences of activations of the enclave follows more rounds of a loop
 MOST_ACTIVATIONS = 12  # the longest sequence of activations
 MOST_STARTS = 60  # searches with the same means, each of which merges more loops, or proposes facts about more words
@@ -62,25 +62,25 @@ class Strategy:
 
     def go(self, progress: Progress) -> None:
         """Searches until one search is complete, something is found, or the time is over."""
-        self.run(self.exact_search, FIRST, progress, LONGEST_FIRST)
+        self.run(self.exact_search, EXACT_PART, progress, LONGEST_FIRST)
         if not self.is_done() and not self.exact_search.findings:
             self.search_otherwise(progress)
         if not self.is_done():
-            self.run(self.exact_search, ALL_TIME, progress)
+            self.run(self.exact_search, ALL_PART, progress)
 
     def search_otherwise(self, progress: Progress) -> None:
         """Searches with other means, after the exact search was not complete and found nothing."""
-        is_computing = self.exact_search.steps >= FEW * self.exact_search.divisions
+        is_computing = self.exact_search.steps >= STEPS_OF_A_HASH * self.exact_search.divisions
         if self.has_paths_left() and not is_computing:
-            for means, part in RARE[:self.exact_search.activations]:
+            for means, part in RARE_SEARCHES[:self.exact_search.activations]:
                 self.run(self.add_search(means), part, progress, LONGEST_RARE)
         for search in self.searches:
             self.heads[LOOPS_FROM[0]] |= search.divided
         if self.options.merges:
-            for means in MERGED:
-                self.search_merged(means, MOST if is_computing else LOOPS, progress)
+            for means in LOOP_SEARCHES:
+                self.search_merged(means, MOST_PART if is_computing else LOOPS_PART, progress)
         if not self.is_done() and self.has_doubt_in_merged():
-            self.run(self.add_search(Means(merges=False, activations=MOST_ACTIVATIONS, rounds=MORE_ROUNDS)), SEQUENCES, progress)
+            self.run(self.add_search(Means(merges=False, activations=MOST_ACTIVATIONS, rounds=MORE_ROUNDS)), SEQUENCES_PART, progress)
 
     def search_merged(self, means: Means, part: float, progress: Progress) -> None:
         """Searches with merged loops, and begins again if a search has to merge more. A search without a doubt that is in its last pass is
@@ -90,7 +90,7 @@ class Strategy:
                 break
             search = self.run(self.add_search(means), part, progress)
             if search.loops.is_final and not search.undecided and not self.is_done():
-                self.run(search, ALL_TIME, progress)
+                self.run(search, ALL_PART, progress)
             if not search.is_outgrown:
                 break
 
@@ -120,7 +120,7 @@ class Strategy:
     def run(self, search: Search, part: float, progress: Progress, longest: float = inf) -> Search:
         """Continues a search for a part of the time that is left, at most for `longest` seconds, and replays its findings. Returns the search."""
         if search is not self.exact_search and not self.has_paths_left():
-            part = MOST
+            part = MOST_PART
         now = time.perf_counter()
         search.deadline = now + min(longest, part * (search.solver.deadline - now))
         search.go(progress)
@@ -155,7 +155,7 @@ class Strategy:
             if questions.is_complete(search):
                 return search
         for search in whole:
-            if not questions.gone(search):
+            if not questions.reasons_not_covered(search):
                 return search
         if not self.exact_search.findings:
             for search in whole:

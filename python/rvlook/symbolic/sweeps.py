@@ -5,9 +5,9 @@ from __future__ import annotations
 
 from typing import Callable, Dict, List, NamedTuple, Sequence, Tuple, TYPE_CHECKING
 
-from rvlook.symbolic.bounds import words_of
+from rvlook.symbolic.bounds import word_reader
 from rvlook.symbolic.conditions import all_of, any_of, ult
-from rvlook.symbolic.facts import LEAST, Fact, WordPlace, Words
+from rvlook.symbolic.facts import LEAST, Fact, WordAt, WordPlace
 from rvlook.symbolic.fields import SymbolicFetch
 from rvlook.symbolic.nodes import M32, Condition, Node, Word, mask_of
 from rvlook.symbolic.words import not_, operation
@@ -30,34 +30,34 @@ class Sweep(NamedTuple):
         """Returns whether there are loads, but no word that is known to be after all of them."""
         return self.has_begun and not self.last_words
 
-    def extended(self, loads: Sequence[SymbolicFetch], facts: Sequence[Fact], before: Words, state: State, implied: Implied) -> Sweep:
+    def extended(self, loads: Sequence[SymbolicFetch], facts: Sequence[Fact], word_before: WordAt, state: State, implied: Implied) -> Sweep:
         """Returns the range with the loads of a round: without the words that are not after all of them. `facts` are those of the merged state.
-        `before` gives the words at the beginning of the round, and `state` is the end of the round."""
+        `word_before` gives the words at the beginning of the round, and `state` is the end of the round."""
         if not self.has_begun and not loads:
             return self
-        lows = lows_of(facts)
-        now = words_of(state)
+        least = least_values_of(facts)
+        word_now = word_reader(state)
         if self.has_begun:
             tried = self.last_words
             site = self.site
         else:
-            tried = tuple((x, distance_to_end(loads, now(x), state)) for x in sorted(lows, key=str, reverse=True))
+            tried = tuple((x, distance_to_end(loads, word_now(x), state)) for x in sorted(least, key=str, reverse=True))
             site = loads[0].pc, loads[0].context
         left = []
         for x, offset in tried:
-            if x in lows:
-                old_end = operation("add", before(x), offset)
-                new_end = operation("add", now(x), offset)
-                if implied(all_of(*conditions_of(loads, lows[x] + offset & M32, old_end, new_end))):
+            if x in least:
+                old_end = operation("add", word_before(x), offset)
+                new_end = operation("add", word_now(x), offset)
+                if implied(all_of(*conditions_of(loads, least[x] + offset & M32, old_end, new_end))):
                     left.append((x, offset))
         return Sweep(tuple(left), has_begun=True, site=site)
 
-    def entry(self, facts: Sequence[Fact], words: Words) -> List[SymbolicFetch]:
+    def entry(self, facts: Sequence[Fact], word_at: WordAt) -> List[SymbolicFetch]:
         """Returns the range as a load in a list. The list is empty if there is no range, or if its end is a number."""
-        lows = lows_of(facts)
+        least = least_values_of(facts)
         for x, offset in self.last_words:
-            if x in lows and type(words(x)) is Node:
-                return [SymbolicFetch(lows[x] + offset & M32, operation("add", words(x), offset), *self.site)]
+            if x in least and type(word_at(x)) is Node:
+                return [SymbolicFetch(least[x] + offset & M32, operation("add", word_at(x), offset), *self.site)]
         return []
 
 
@@ -71,7 +71,7 @@ def end_of(load: SymbolicFetch) -> Word:
     return load.width if type(load.width) is Node else operation("add", load.at, load.width)
 
 
-def lows_of(facts: Sequence[Fact]) -> Dict[WordPlace, int]:
+def least_values_of(facts: Sequence[Fact]) -> Dict[WordPlace, int]:
     """Returns the words that are at least a number by the facts, each with the greatest such number."""
     found: Dict[WordPlace, int] = {}
     for fact in facts:

@@ -13,8 +13,8 @@ BYTE_OPERANDS = ("word", "sx8", "sx16", "eq8", "ite8")  # operations whose opera
 
 
 class Z3:
-    """The functions of z3's interface to C, which are several times as fast as its classes. Expressions that it returns stay, in a context of their
-    own: the more of them a context has, the longer each question takes."""
+    """The functions of z3's interface to C, which are several times as fast as its classes. Expressions that it returns are never freed. They
+    are in a context of their own: the more of them a context has, the longer each question takes."""
 
     def __init__(self) -> None:
         try:
@@ -26,10 +26,10 @@ class Z3:
         self.c = library  # the functions of the interface to C
         self.owner = z3.Context()  # the context as an object
         self.context = self.owner.ref()  # the context for the functions of the interface
-        self.count = 0  # how many expressions stay
-        self.bit = self.kept(library.Z3_mk_bv_sort(self.context, 1))  # the sorts: bit vectors of 1, 8 and 32 bits
-        self.byte = self.kept(library.Z3_mk_bv_sort(self.context, 8))
-        self.word = self.kept(library.Z3_mk_bv_sort(self.context, 32))
+        self.count = 0  # how many expressions the context has
+        self.bit = self.hold(library.Z3_mk_bv_sort(self.context, 1))  # the sorts: bit vectors of 1, 8 and 32 bits
+        self.byte = self.hold(library.Z3_mk_bv_sort(self.context, 8))
+        self.word = self.hold(library.Z3_mk_bv_sort(self.context, 32))
         self.numbers: Dict[Tuple[int, int], Any] = {}  # the constants so far, by value and number of bits
         names = "simplify", "propagate-values", "solve-eqs", "simplify", "bit-blast", "sat"
         self.tactics = z3.Then(*names, ctx=self.owner)
@@ -44,8 +44,8 @@ class Z3:
                      "mulhu": (library.Z3_mk_zero_ext, library.Z3_mk_zero_ext)}
         self.divisions = {"divu": library.Z3_mk_bvudiv, "remu": library.Z3_mk_bvurem, "div": library.Z3_mk_bvsdiv, "rem": library.Z3_mk_bvsrem}
 
-    def kept(self, ast: Any) -> Any:
-        """Returns an expression of z3 that stays."""
+    def hold(self, ast: Any) -> Any:
+        """Adds a reference to an expression of z3, which is never freed then. Returns the expression."""
         self.count += 1
         self.c.Z3_inc_ref(self.context, ast)
         return ast
@@ -54,94 +54,94 @@ class Z3:
         """Returns a constant of 1, 8 or 32 bits."""
         if (value, bits) not in self.numbers:
             sort = {1: self.bit, 8: self.byte, 32: self.word}[bits]
-            self.numbers[value, bits] = self.kept(self.c.Z3_mk_unsigned_int64(self.context, value, sort))
+            self.numbers[value, bits] = self.hold(self.c.Z3_mk_unsigned_int64(self.context, value, sort))
         return self.numbers[value, bits]
 
     def variable(self, name: str) -> Any:
         """Returns the variable of a byte."""
-        return self.kept(self.c.Z3_mk_const(self.context, self.c.Z3_mk_string_symbol(self.context, name), self.byte))
+        return self.hold(self.c.Z3_mk_const(self.context, self.c.Z3_mk_string_symbol(self.context, name), self.byte))
 
-    def joined(self, make: Any, asts: Sequence[Any]) -> Any:
-        """Returns the conjunction or the disjunction of conditions."""
-        return self.kept(make(self.context, len(asts), (self.c.Ast * len(asts))(*asts)))
+    def connective(self, make: Any, asts: Sequence[Any]) -> Any:
+        """Returns the conjunction or the disjunction of conditions: `make` is Z3_mk_and or Z3_mk_or."""
+        return self.hold(make(self.context, len(asts), (self.c.Ast * len(asts))(*asts)))
 
     def disjunction(self, asts: Sequence[Any]) -> Any:
         """Returns the disjunction of conditions."""
-        return self.joined(self.c.Z3_mk_or, asts)
+        return self.connective(self.c.Z3_mk_or, asts)
 
     def equal(self, one: Any, two: Any) -> Any:
         """Returns the condition that two expressions are equal."""
-        return self.kept(self.c.Z3_mk_eq(self.context, one, two))
+        return self.hold(self.c.Z3_mk_eq(self.context, one, two))
 
     def unequal(self, one: Any, two: Any) -> Any:
         """Returns the condition that two expressions differ."""
-        return self.kept(self.c.Z3_mk_not(self.context, self.equal(one, two)))
+        return self.hold(self.c.Z3_mk_not(self.context, self.equal(one, two)))
 
-    def concatenated(self, high: Any, low: Any) -> Any:
+    def concatenate(self, high: Any, low: Any) -> Any:
         """Returns the bit vector of two bit vectors, the upper one first."""
-        return self.kept(self.c.Z3_mk_concat(self.context, high, low))
+        return self.hold(self.c.Z3_mk_concat(self.context, high, low))
 
     def operation(self, op: str, args: Sequence[Any], operands: List[Any]) -> Any:
         """Returns the expression of an operation of a Node with the operands `args`. `operands` has them as expressions of z3, as far as they have a
         sort."""
         library, context = self.c, self.context
         if op in self.binary:
-            return self.kept(self.binary[op](context, operands[0], operands[1]))
+            return self.hold(self.binary[op](context, operands[0], operands[1]))
         if op in self.shifts:
-            return self.kept(self.shifts[op](context, operands[0], self.kept(library.Z3_mk_bvand(context, operands[1], self.number(31, 32)))))
+            return self.hold(self.shifts[op](context, operands[0], self.hold(library.Z3_mk_bvand(context, operands[1], self.number(31, 32)))))
         if op == "word":
-            return self.concatenated(self.concatenated(operands[3], operands[2]), self.concatenated(operands[1], operands[0]))
+            return self.concatenate(self.concatenate(operands[3], operands[2]), self.concatenate(operands[1], operands[0]))
         if op == "byte":
-            return self.kept(library.Z3_mk_extract(context, 8 * args[1] + 7, 8 * args[1], operands[0]))
+            return self.hold(library.Z3_mk_extract(context, 8 * args[1] + 7, 8 * args[1], operands[0]))
         if op == "not":
-            return self.kept(library.Z3_mk_not(context, operands[0]))
+            return self.hold(library.Z3_mk_not(context, operands[0]))
         if op == "and1":
-            return self.joined(library.Z3_mk_and, operands)
+            return self.connective(library.Z3_mk_and, operands)
         if op == "bool":
-            return self.kept(library.Z3_mk_ite(context, operands[0], self.number(1, 32), self.number(0, 32)))
+            return self.hold(library.Z3_mk_ite(context, operands[0], self.number(1, 32), self.number(0, 32)))
         if op in ("ite8", "ite"):
-            return self.kept(library.Z3_mk_ite(context, operands[0], operands[1], operands[2]))
-        return self.wide(op, operands)
+            return self.hold(library.Z3_mk_ite(context, operands[0], operands[1], operands[2]))
+        return self.wide_operation(op, operands)
 
-    def wide(self, op: str, operands: List[Any]) -> Any:
+    def wide_operation(self, op: str, operands: List[Any]) -> Any:
         """Returns the expression of an operation that extends its operands, or of a division."""
         library, context = self.c, self.context
         if op == "sx8":
-            return self.kept(library.Z3_mk_sign_ext(context, 24, operands[0]))
+            return self.hold(library.Z3_mk_sign_ext(context, 24, operands[0]))
         if op == "sx16":
-            return self.kept(library.Z3_mk_sign_ext(context, 16, self.concatenated(operands[1], operands[0])))
+            return self.hold(library.Z3_mk_sign_ext(context, 16, self.concatenate(operands[1], operands[0])))
         if op in self.high:
-            one, two = self.high[op]
-            product = self.kept(library.Z3_mk_bvmul(context, self.kept(one(context, 32, operands[0])), self.kept(two(context, 32, operands[1]))))
-            return self.kept(library.Z3_mk_extract(context, 63, 32, product))
-        is_zero = self.kept(library.Z3_mk_eq(context, operands[1], self.number(0, 32)))
+            one, two = self.high[op]  # they extend the factors to 64 bits
+            product = self.hold(library.Z3_mk_bvmul(context, self.hold(one(context, 32, operands[0])), self.hold(two(context, 32, operands[1]))))
+            return self.hold(library.Z3_mk_extract(context, 63, 32, product))
+        is_zero = self.hold(library.Z3_mk_eq(context, operands[1], self.number(0, 32)))
         by_zero = self.number(M32, 32) if op in ("div", "divu") else operands[0]
-        return self.kept(library.Z3_mk_ite(context, is_zero, by_zero, self.kept(self.divisions[op](context, operands[0], operands[1]))))
+        return self.hold(library.Z3_mk_ite(context, is_zero, by_zero, self.hold(self.divisions[op](context, operands[0], operands[1]))))
 
-    def looked_up(self, at: Any, low: int, content: List[Any]) -> Any:
+    def look_up(self, at: Any, low: int, content: List[Any]) -> Any:
         """Returns the byte at an address of an object as a tree of choices over the bits of the index; 0 outside. The object begins at `low`, and
         `content` has its bytes."""
         library, context = self.c, self.context
-        index = self.kept(library.Z3_mk_bvsub(context, at, self.number(low, 32)))
+        index = self.hold(library.Z3_mk_bvsub(context, at, self.number(low, 32)))
         bits = max(1, (len(content) - 1).bit_length())
         zero = self.number(0, 8)
         one = self.number(1, 1)
         row = [content[n] if n < len(content) else zero for n in range(1 << bits)]
         for bit in range(bits):
-            is_set = self.kept(library.Z3_mk_eq(context, self.kept(library.Z3_mk_extract(context, bit, bit, index)), one))
-            row = [x if x is y else self.kept(library.Z3_mk_ite(context, is_set, y, x)) for x, y in zip(row[::2], row[1::2])]
-        is_inside = self.kept(library.Z3_mk_bvult(context, index, self.number(len(content), 32)))
-        return self.kept(library.Z3_mk_ite(context, is_inside, row[0], zero))
+            is_set = self.hold(library.Z3_mk_eq(context, self.hold(library.Z3_mk_extract(context, bit, bit, index)), one))
+            row = [x if x is y else self.hold(library.Z3_mk_ite(context, is_set, y, x)) for x, y in zip(row[::2], row[1::2])]
+        is_inside = self.hold(library.Z3_mk_bvult(context, index, self.number(len(content), 32)))
+        return self.hold(library.Z3_mk_ite(context, is_inside, row[0], zero))
 
-    def assuming(self, asts: Sequence[Any]) -> Any:
-        """Returns a solver of z3 that has some conditions."""
+    def solver_with(self, asts: Sequence[Any]) -> Any:
+        """Returns a new solver of z3 to which conditions were added."""
         solver = self.z3.SolverFor("QF_BV", self.owner)
         for ast in asts:
             self.c.Z3_solver_assert(self.context, solver.solver, ast)
         return solver
 
-    def answer_of(self, solver: Any, timeout: int) -> Tuple[Optional[bool], Dict[str, int]]:
-        """Asks a solver for values for which its conditions hold, within so many milliseconds. Returns True with the values, False, or None."""
+    def ask(self, solver: Any, timeout: int) -> Tuple[Optional[bool], Dict[str, int]]:
+        """Asks a solver for values for which its conditions hold, for at most `timeout` milliseconds. Returns True with them, False, or None."""
         solver.set("timeout", timeout)
         answer = solver.check()
         if answer == self.z3.sat:
@@ -149,16 +149,16 @@ class Z3:
             return True, {declaration.name(): model[declaration].as_long() for declaration in model.decls()}
         return (False if answer == self.z3.unsat else None), {}
 
-    def checked(self, asts: Sequence[Any], timeout: int) -> Tuple[Optional[bool], Dict[str, int]]:
-        """Asks for values for which all conditions hold, within so many milliseconds. Returns True with the values, False, or None."""
-        return self.answer_of(self.assuming(asts), timeout)
+    def check(self, asts: Sequence[Any], timeout: int) -> Tuple[Optional[bool], Dict[str, int]]:
+        """Asks for values for which all conditions hold, for at most `timeout` milliseconds. Returns True with the values, False, or None."""
+        return self.ask(self.solver_with(asts), timeout)
 
-    def checked_by_tactics(self, asts: Sequence[Any], timeout: int) -> Tuple[Optional[bool], Dict[str, int]]:
-        """Asks for values as `checked` does, with a fixed list of tactics. These take less time if there are many simple conditions."""
+    def check_by_tactics(self, asts: Sequence[Any], timeout: int) -> Tuple[Optional[bool], Dict[str, int]]:
+        """Asks for values as `check` does, with a fixed list of tactics. These take less time if there are many simple conditions."""
         solver = self.tactics.solver()
         for ast in asts:
             self.c.Z3_solver_assert(self.context, solver.solver, ast)
-        return self.answer_of(solver, timeout)
+        return self.ask(solver, timeout)
 
 
 @lru_cache(maxsize=None)
@@ -178,50 +178,50 @@ class Translator:
 
     def __init__(self) -> None:
         self.z3 = the_z3()
-        self.known: Dict[Node, Any] = {}  # the expressions of nodes that were translated
+        self.translated: Dict[Node, Any] = {}  # the expressions of nodes that were translated
 
     def variable_of(self, node: Node) -> Any:
         """Returns the variable of z3 for a byte."""
         return self.z3.variable(node.args[0])
 
-    def given(self, _: Node) -> Optional[Any]:
-        """Returns the expression of a node that has one before it is translated, or None."""
+    def predefined(self, _: Node) -> Optional[Any]:
+        """Returns the expression of a node that is not translated from its operands, or None. A subclass chooses such nodes."""
         return None
 
     def __call__(self, node: Node) -> Any:
         """Returns the expression of z3 for a node."""
-        known = self.known
+        translated = self.translated
         stack = [node]  # nodes that are to be translated, after their operands
         while stack:
             top = stack[-1]
-            if top in known:
+            if top in translated:
                 stack.pop()
                 continue
-            given = self.given(top)
-            missing = [] if given is not None else [operand for operand in operands(top) if operand not in known]
-            if given is not None:
-                known[top] = given
+            predefined = self.predefined(top)
+            missing = [] if predefined is not None else [operand for operand in operands(top) if operand not in translated]
+            if predefined is not None:
+                translated[top] = predefined
             elif missing:
                 stack += missing
             else:
-                known[top] = self.made(top)
-        return known[node]
+                translated[top] = self.translate(top)
+        return translated[node]
 
-    def made(self, node: Node) -> Any:
-        """Returns the expression of a node whose operands have one."""
-        known = self.known
+    def translate(self, node: Node) -> Any:
+        """Returns the expression of a node whose operands are translated."""
+        translated = self.translated
         number = self.z3.number
         if node.op == "var":
             return self.variable_of(node)
         if node.op == "table":
             at, low, table = node.args
-            content = [known[content_byte] if type(content_byte) is Node else number(content_byte, 8) for content_byte in table.content]
-            return self.z3.looked_up(known[at] if type(at) is Node else number(at, 32), low, content)
+            content = [translated[content_byte] if type(content_byte) is Node else number(content_byte, 8) for content_byte in table.content]
+            return self.z3.look_up(translated[at] if type(at) is Node else number(at, 32), low, content)
         bits = 8 if node.op in BYTE_OPERANDS else 32
         operands_of_z3 = []
         for operand in node.args:
             if type(operand) is Node:
-                operands_of_z3.append(known[operand])
+                operands_of_z3.append(translated[operand])
             else:
                 operands_of_z3.append(number(operand, bits) if type(operand) is int else operand)
         return self.z3.operation(node.op, node.args, operands_of_z3)
@@ -240,6 +240,6 @@ class Primed(Translator):
         """Returns the variable of the second run."""
         return self.z3.variable(node.args[0] + ("'" if node.taint & self.kind else ""))
 
-    def given(self, node: Node) -> Optional[Any]:
+    def predefined(self, node: Node) -> Optional[Any]:
         """Returns the expression of a node that is the same in both runs, or None."""
         return self.plain(node) if not node.taint & self.kind or node in self.public else None

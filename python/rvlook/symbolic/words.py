@@ -15,7 +15,7 @@ def may_of(x: Word) -> int:
     return x if type(x) is int else x.may
 
 
-def below(n: int) -> int:
+def mask_up_to(n: int) -> int:
     """Returns the mask of all bits up to the highest one of a number."""
     return (1 << n.bit_length()) - 1
 
@@ -112,7 +112,7 @@ def add(x: Word, y: Word) -> Word:
     if not may_of(x) & may_of(y):
         return or_(x, y)
     total = x.may + may_of(y)
-    return make("add", (x, y), below(total) if total <= M32 else M32)
+    return make("add", (x, y), mask_up_to(total) if total <= M32 else M32)
 
 
 def sub(x: Word, y: Word) -> Word:
@@ -122,7 +122,7 @@ def sub(x: Word, y: Word) -> Word:
     return 0 if x is y else make("sub", (x, y))
 
 
-def bytewise(op: str, a: Byte, b: Byte) -> Optional[Byte]:
+def byte_operation(op: str, a: Byte, b: Byte) -> Optional[Byte]:
     """Returns the result of a bitwise operation on two bytes if it is a number or one of the bytes, else None."""
     if type(a) is int and type(b) is int:
         return concrete(op, a, b)
@@ -136,13 +136,13 @@ def bytewise(op: str, a: Byte, b: Byte) -> Optional[Byte]:
     return 0 if op == "and" and b == 0 else None
 
 
-def merged(op: str, x: Word, y: Word) -> Optional[Word]:
-    """Returns the result of a bitwise operation on two words whose bytes are known one by one, if `bytewise` gives each byte of the result; else
-    None."""
+def operation_by_bytes(op: str, x: Word, y: Word) -> Optional[Word]:
+    """Returns the result of a bitwise operation on two words whose bytes are known one by one, if `byte_operation` gives each byte of the result;
+    else None."""
     p, q = bytes_of(x), bytes_of(y)
     if not p or not q:
         return None
-    found = [bytewise(op, a, b) for a, b in zip(p, q)]
+    found = [byte_operation(op, a, b) for a, b in zip(p, q)]
     return None if None in found else word(*found)
 
 
@@ -159,8 +159,8 @@ def xor(x: Word, y: Word) -> Word:
             return bool_(not_(x.args[0]))
     elif x.number > y.number:
         x, y = y, x
-    joined = merged("xor", x, y)
-    return make("xor", (x, y), below(x.may | may_of(y))) if joined is None else joined
+    joined = operation_by_bytes("xor", x, y)
+    return make("xor", (x, y), mask_up_to(x.may | may_of(y))) if joined is None else joined
 
 
 def or_(x: Word, y: Word) -> Word:
@@ -173,7 +173,7 @@ def or_(x: Word, y: Word) -> Word:
         return x
     if type(y) is Node and x.number > y.number:
         x, y = y, x
-    joined = merged("or", x, y)
+    joined = operation_by_bytes("or", x, y)
     return make("or", (x, y), x.may | may_of(y)) if joined is None else joined
 
 
@@ -194,7 +194,7 @@ def and_(x: Word, y: Word) -> Word:
             return word(byte(x, 0), byte(x, 1), 0, 0)
     elif x.number > y.number:
         x, y = y, x
-    joined = merged("and", x, y)
+    joined = operation_by_bytes("and", x, y)
     return make("and", (x, y), x.may & may_of(y)) if joined is None else joined
 
 
@@ -216,7 +216,7 @@ def sll(x: Word, y: Word) -> Word:
 def srl(x: Word, y: Word) -> Word:
     """Returns a word shifted right, with zeros."""
     if type(y) is not int:
-        return make("srl", (x, y), below(may_of(x)))
+        return make("srl", (x, y), mask_up_to(may_of(x)))
     y &= 31
     if y == 0:
         return x
@@ -247,21 +247,21 @@ def mul(x: Word, y: Word) -> Word:
     elif x.number > y.number:
         x, y = y, x
     most = x.may * may_of(y)
-    return make("mul", (x, y), below(most) if most <= M32 else M32)
+    return make("mul", (x, y), mask_up_to(most) if most <= M32 else M32)
 
 
 def remu(x: Word, y: Word) -> Word:
     """Returns the unsigned remainder."""
     if type(y) is int and y and not y & y - 1:
         return and_(x, y - 1)
-    return make("remu", (x, y), below(may_of(x)))
+    return make("remu", (x, y), mask_up_to(may_of(x)))
 
 
 def divu(x: Word, y: Word) -> Word:
     """Returns the unsigned quotient."""
     if type(y) is int and y and not y & y - 1:
         return srl(x, y.bit_length() - 1)
-    return make("divu", (x, y), below(may_of(x)) if type(y) is int and y else M32)
+    return make("divu", (x, y), mask_up_to(may_of(x)) if type(y) is int and y else M32)
 
 
 def bool_(condition: Condition) -> Word:
