@@ -61,7 +61,7 @@ class Bounds:
         return self.extents.variable_at(x).bounds == self.extents.variable_at(y).bounds
 
     def are_comparable(self, x: WordPlace, y: WordPlace) -> bool:
-        """Returns whether facts compare two words, of which one may be a bound of the other, such as an index and a length. They are two variables
+        """Returns whether facts compare two words: one may be a bound of the other, such as an index and a length. They are two variables
         of one word each, or words that are close to each other in memory."""
         return self.is_near(x, y) or (self.is_whole_variable(x) and self.is_whole_variable(y))
 
