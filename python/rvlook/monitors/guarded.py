@@ -247,16 +247,16 @@ class Guarded(MonitorBench):
         return ran.trap.cause
 
     def set_state(self, registers: dict[int, int], csrs: dict[str, int]) -> None:
-        """Sets registers, and S-mode registers by instructions that M executes at its pc, whose bytes are put back."""
+        """Sets registers. Sets S-mode registers by instructions that it stores at the pc of M and executes; it restores the code there."""
         if csrs:
             state = self.state()
             pc, old_t0 = state.pc_in_m, state.registers[T0]
-            words = [word_at(self.bench, pc), word_at(self.bench, pc + 4)]
-            lines = []
+            old_code = [word_at(self.bench, pc), word_at(self.bench, pc + 4)]
+            commands = []
             for name, value in csrs.items():
-                lines += ["setreg %d %x" % (T0, value), *poke_commands(pc, struct.pack("<I", csrw(CSRS[name], T0))), "step 1"]
-                lines += [*poke_commands(pc + 4, struct.pack("<I", BACK)), "step 1"]
-            self.do(*lines, *poke_commands(pc, struct.pack("<II", *words)), "setreg %d %x" % (T0, old_t0))
+                commands += ["setreg %d %x" % (T0, value), *poke_commands(pc, struct.pack("<I", csrw(CSRS[name], T0))), "step 1"]
+                commands += [*poke_commands(pc + 4, struct.pack("<I", BACK)), "step 1"]
+            self.do(*commands, *poke_commands(pc, struct.pack("<II", *old_code)), "setreg %d %x" % (T0, old_t0))
         self.do(*("setreg %d %x" % it for it in registers.items() if it[0]))
 
     def memory(self) -> bytes:

@@ -15,8 +15,8 @@ from rvlook.protocol.replies import Ran, step_of
 if TYPE_CHECKING:
     from rvlook.protocol.run import Setup
 
-CHANGING = ("poke", "setreg", "timer")  # commands that change the state without a step
-CONTRARY = {"break": "clear", "watch": "unwatch", "clear": "break", "unwatch": "watch"}
+STATE_COMMANDS = ("poke", "setreg", "timer")  # commands that change the state without a step
+UNDONE_BY = {"break": "clear", "watch": "unwatch", "clear": "break", "unwatch": "watch"}
 MAX_DIGITS = 64  # digits of a sched, at most
 MOST_STEPS = 1000000  # of one command
 
@@ -79,7 +79,7 @@ class Line:
     @property
     def changes_state(self) -> bool:
         """Returns whether the command changes what a step does."""
-        return self.command == "hart" or self.command in CHANGING
+        return self.command == "hart" or self.command in STATE_COMMANDS
 
     @property
     def chosen(self) -> list[str]:
@@ -263,12 +263,12 @@ class Timeline(Closing):
             self.add(ScheduledSteps(turns or str(self.hart), step_of(replies[0]).steps))
         elif name == "sched":
             self.add(ScheduledSteps(line.split()[1], len(line.split()[1])))
-        elif name in CHANGING:
+        elif name in STATE_COMMANDS:
             self.add(Line(line, self.hart))
         elif name in ("break", "watch"):
             self.stops["%s %x" % (name, int(line.split()[1], 16))] = None
-        elif name in CONTRARY:
-            self.stops.pop("%s %x" % (CONTRARY[name], int(line.split()[1], 16)), None)
+        elif name in UNDONE_BY:
+            self.stops.pop("%s %x" % (UNDONE_BY[name], int(line.split()[1], 16)), None)
 
     def add(self, action: Action) -> None:
         """Appends an action to the past; joins steps that continue the schedule."""
@@ -377,7 +377,7 @@ class Timeline(Closing):
 
     def set_stops(self, wanted: Iterable[str]) -> None:
         """Sets these breaks and watches, and removes all others."""
-        self.do_all(["%s %s" % (CONTRARY[it.split()[0]], it.split()[1]) for it in self.stops if it not in wanted])
+        self.do_all(["%s %s" % (UNDONE_BY[it.split()[0]], it.split()[1]) for it in self.stops if it not in wanted])
         self.do_all([it for it in wanted if it not in self.stops])
 
     def is_break(self, pc: str) -> bool:

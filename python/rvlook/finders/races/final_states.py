@@ -26,8 +26,8 @@ class HartEnd(NamedTuple):
 
 
 class OutcomeState(NamedTuple):
-    """A state with a set of values, and the schedule that leads to it."""
-    vertex: Vertex  # of the component
+    """A state in which the outcome has some values, and the schedule that leads to it."""
+    vertex: Vertex  # of the strongly connected component
     state: CachedState  # the state, at the vertex or after it
     tail: Tuple[Segment, ...] = ()  # the schedule from the vertex to the state
 
@@ -179,7 +179,7 @@ class Component:
         raise RvlookError("hart %d does not return to its state in the endless loop at %08x" % (hart, work.pc))
 
     def values(self, outcome: Sequence[Observed]) -> tuple[dict[tuple[Value, ...], OutcomeState], bool]:
-        """Returns the recurring sets of values, each with a vertex, a state and the schedule between them; and whether some may be missing."""
+        """Returns the recurring values of the outcome, each with a vertex, a state and the schedule between them; and whether some may be missing."""
         machine = self.machine
         found: dict[tuple[Value, ...], OutcomeState] = {}
         for vertex in self.vertices:
