@@ -66,8 +66,8 @@ class FactPlaces(NamedTuple):
 
 
 def key_of(state: State) -> Key:
-    """Returns what paths must have in common to be merged: the pc, the mode, the call context, sp, sstatus, the open calls with sp in each of them,
-    the lower end of the stack, and the arrays on the stack."""
+    """Returns what paths must have in common to be merged. It includes sp and sstatus, the open calls with sp in each of them, and the arrays on the
+    stack."""
     calls = tuple((call.back, call.sp) for call in state.open_calls())
     areas = tuple((area.low, area.high) for area in state.areas)
     return state.pc, state.mode, state.context, state.regs[2], state.csr[SSTATUS], calls, state.stack_bottom, areas
