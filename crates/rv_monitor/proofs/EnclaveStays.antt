@@ -147,30 +147,30 @@ module _ (k : ℕ) (state : HartView) (view_invariant : HartViewInvariant state)
 -- ---- a step of the machine
 
 -- the machine after the step differs only in the hart of the enclave and in the bytes of its region and window
-pub record Unchanged (e hart : ℕ) (before after : MonitoredMachine) : Type 0 where
+pub record Unchanged (enclave hart : ℕ) (before after : MonitoredMachine) : Type 0 where
   pub harts : count_of before ≡ count_of after
   pub others : (j : ℕ) → j ≢ hart → hart_state_of j before ≡ hart_state_of j after
   pub behind : SameHostOn hart before after
   pub table : before.shared.table ≡ after.shared.table
   pub contexts : before.shared.contexts ≡ after.shared.contexts
   pub size : length before.shared.memory ≡ length after.shared.memory
-  pub bytes : (byte : ℕ) → is_beyond before.shared.table e byte ≡ true → byte_at after.shared.memory byte ≡ byte_at before.shared.memory byte
+  pub bytes : (byte : ℕ) → is_beyond before.shared.table enclave byte ≡ true → byte_at after.shared.memory byte ≡ byte_at before.shared.memory byte
 
 -- a step of an enclave after which the enclave still runs changes only its hart, its region and its window
-pub one_unchanged : (e hart : ℕ) (machine : MonitoredMachine) → Invariant machine → runs_on e hart machine ≡ true
-    → runs_on e hart (step_of hart machine).state ≡ true
-    → Unchanged e hart machine (step_of hart machine).state
-one_unchanged e hart machine invariant runs_on_hart runs_after =
-    let in_range = runs_inside e hart machine runs_on_hart in
+pub one_unchanged : (enclave hart : ℕ) (machine : MonitoredMachine) → Invariant machine → runs_on enclave hart machine ≡ true
+    → runs_on enclave hart (step_of hart machine).state ≡ true
+    → Unchanged enclave hart machine (step_of hart machine).state
+one_unchanged enclave hart machine invariant runs_on_hart runs_after =
+    let in_range = runs_inside enclave hart machine runs_on_hart in
     let state = hart_view hart machine in
     let view_invariant = hart_view_invariant hart machine invariant in_range in
-    let world = world_is_enclave e state.hart_state.world runs_on_hart in
+    let world = world_is_enclave enclave state.hart_state.world runs_on_hart in
     let step_is = step_of_view hart machine in_range in
     let after = monitored_step state in
     let enclave_runs_after : is_host after.state.hart_state.world ≡ false =
     ap (λ (a : HartViewStepped). is_host a.state.hart_state.world) (sym step_is)
-    ∙ not_host_by e (hart_state_of hart (step_of hart machine).state).world runs_after in
-    let stays = stays_behind e state view_invariant world enclave_runs_after in
+    ∙ not_host_by enclave (hart_state_of hart (step_of hart machine).state).world runs_after in
+    let stays = stays_behind enclave state view_invariant world enclave_runs_after in
     let shared = ap (λ (a : HartViewStepped). a.state.shared) step_is in
     let hart_state = ap (λ (a : HartViewStepped). a.state.hart_state) step_is in
     let table = stays.table ∙ sym (ap (λ (s : Shared). s.table) shared) in
@@ -193,7 +193,7 @@ one_unchanged e hart machine invariant runs_on_hart runs_after =
       table = table;
       contexts = stays.contexts ∙ sym (ap (λ (s : Shared). s.contexts) shared);
       size = stays.size ∙ sym (ap (λ (s : Shared). length s.memory) shared);
-      bytes = λ byte is_beyond_e. ap (λ (s : Shared). byte_at s.memory byte) shared ∙ own_bytes e state view_invariant world byte is_beyond_e;
+      bytes = λ byte is_beyond_e. ap (λ (s : Shared). byte_at s.memory byte) shared ∙ own_bytes enclave state view_invariant world byte is_beyond_e;
     }
 
 -- ---- bytes of equal memories
