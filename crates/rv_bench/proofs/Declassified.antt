@@ -163,10 +163,10 @@ script_declassification bench invariant = record {
   low = λ enclave before lines other other_invariant related same_windows are_low.
       lines_low enclave (state_after bench_line bench before) other lines (lines_keep_invariant bench before invariant) other_invariant
       related same_windows are_low;
-  ended = λ enclave k before lines other other_invariant related ended.
+  ended = λ enclave slot before lines other other_invariant related ended.
       let start = state_after bench_line bench before in
       let start_invariant = lines_keep_invariant bench before invariant in
-      lines_after_end k start other lines start_invariant other_invariant (ended_law.ended enclave start other start_invariant related ended);
+      lines_after_end slot start other lines start_invariant other_invariant (ended_law.ended enclave start other start_invariant related ended);
 }
 
 -- on each bench that starts, every part of a script satisfies noninterference with declassification

@@ -75,9 +75,9 @@ pub record ScriptDeclassification (bench : BenchState) : Type 0 where
   pub low : (enclave : ℕ) (before lines : List (List ℕ)) (other : BenchState) → TargetInvariant other.target
       → BenchesAreRelated enclave (state_after bench_line bench before) other → WindowsAreEqual enclave (state_after bench_line bench before) other
       → LinesAreLow enclave (state_after bench_line bench before) lines → LinesAlike enclave (state_after bench_line bench before) other lines lines
-  pub ended : (enclave k : ℕ) (before lines : List (List ℕ)) (other : BenchState) → TargetInvariant other.target
+  pub ended : (enclave slot : ℕ) (before lines : List (List ℕ)) (other : BenchState) → TargetInvariant other.target
       → BenchesAreRelated enclave (state_after bench_line bench before) other → EnclaveHasEnded enclave (state_after bench_line bench before).target
-      → LinesAlike k (state_after bench_line bench before) other lines lines
+      → LinesAlike slot (state_after bench_line bench before) other lines lines
 
 -- ---- from bytes to bytes
 

@@ -24,7 +24,7 @@ stays_entered_with_more enclave one other has_entered =
 pub stays_entered_with : (enclave slots : ℕ) (entered : Option ℕ) → is_entered enclave slots ≡ true
     → is_entered enclave (slots_with slots entered) ≡ true
 stays_entered_with enclave slots None has_entered = has_entered
-stays_entered_with enclave slots (Some k) has_entered = stays_entered_with_more enclave slots (2 ^ k) has_entered
+stays_entered_with enclave slots (Some slot) has_entered = stays_entered_with_more enclave slots (2 ^ slot) has_entered
 
 -- the slot that a step enters is among the entered slots
 pub entered_by_step : (enclave slots : ℕ) (entered : Option ℕ) → entered ≡ Some enclave → is_entered enclave (slots_with slots entered) ≡ true

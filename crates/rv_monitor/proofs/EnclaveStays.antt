@@ -45,8 +45,8 @@ rest_parts : (c : CsrState) → rest (machine_parts c) ≡ rest c
 unfolding machine_parts
 rest_parts c = refl
 
--- the hart of the view runs enclave k
-module _ (k : ℕ) (state : HartView) (view_invariant : HartViewInvariant state) (runs_enclave : state.hart_state.world ≡ Enclave k) where
+-- the hart of the view runs the enclave in `slot`
+module _ (slot : ℕ) (state : HartView) (view_invariant : HartViewInvariant state) (runs_enclave : state.hart_state.world ≡ Enclave slot) where
   -- a step of an enclave without a trap leaves unchanged what `StaysBehind` names
   quiet_stays : (step (bare_machine state)).outcome.trap ≡ None → StaysBehind state (view_without_trap state)
   quiet_stays no_trap =
@@ -82,13 +82,13 @@ module _ (k : ℕ) (state : HartView) (view_invariant : HartViewInvariant state)
         handler_cases hart_state trap state.shared Stays (record {
           answers = λ status result enclave_runs_after. (refl, rw mprv refl, refl, refl);
           creates =
-              λ requests no_refusal. no_create _ k hart_state.world runs_enclave
+              λ requests no_refusal. no_create _ slot hart_state.world runs_enclave
               (requested-is_offered hart_state.world hart_state.hart.regs _ requests.asked).1;
           destroys =
-              λ requests is_taken. no_destroy _ k hart_state.world runs_enclave
+              λ requests is_taken. no_destroy _ slot hart_state.world runs_enclave
               (requested-is_offered hart_state.world hart_state.hart.regs _ requests.asked).1;
           measures = λ requests no_refusal enclave_runs_after. (refl, rw mprv refl, refl, refl);
-          enters = λ call requests is_entry_call from_host is_taken. not_host _ k hart_state.world runs_enclave from_host;
+          enters = λ call requests is_entry_call from_host is_taken. not_host _ slot hart_state.world runs_enclave from_host;
           leaves = λ enclave_runs_after. cc;
           redirects = λ enclave_runs_after. (refl, rw mprv refl, refl, refl);
         })
@@ -103,7 +103,7 @@ module _ (k : ℕ) (state : HartView) (view_invariant : HartViewInvariant state)
           rest = stays.1;
           table = stays.2;
           contexts = stays.3;
-          size = sym (handled_keeps k hart_state runs_enclave trap state.shared view_invariant.valid.count).1;
+          size = sym (handled_keeps slot hart_state runs_enclave trap state.shared view_invariant.valid.count).1;
         }
 
   -- each step after which an enclave still runs leaves unchanged what `StaysBehind` names
@@ -112,20 +112,21 @@ module _ (k : ℕ) (state : HartView) (view_invariant : HartViewInvariant state)
       (λ no_trap enclave_runs_after. quiet_stays no_trap) (λ trap trapped. trapped_stays trap (step (bare_machine state)).outcome)
 
   -- a byte is not both within the enclave's memory and beyond it
-  not_within_and_beyond : (byte : ℕ) → is_beyond state.shared.table k byte ≡ false → is_beyond state.shared.table k byte ≡ true → (P : Type 0) → P
+  not_within_and_beyond : (byte : ℕ) → is_beyond state.shared.table slot byte ≡ false → is_beyond state.shared.table slot byte ≡ true
+      → (P : Type 0) → P
   not_within_and_beyond byte byte_within byte_beyond P = let contradiction : false ≡ true = sym byte_within ∙ byte_beyond in cc
 
   -- each byte that the enclave may write is in its region or window
   writes_within : (address n byte : ℕ)
       → is_accessible state.shared.memory state.shared.table state.hart_state.world Write (bytes_from address n) ≡ true
-      → address ≤ byte → byte < address + n → is_beyond state.shared.table k byte ≡ false
+      → address ≤ byte → byte < address + n → is_beyond state.shared.table slot byte ≡ false
   writes_within address n byte may_write from_start before_end =
-      own_seen state.shared.memory state.shared.table k Write address n
+      own_seen state.shared.memory state.shared.table slot Write address n
       (subst (λ (w : World). is_accessible state.shared.memory state.shared.table w Write
       (bytes_from address n) ≡ true) runs_enclave may_write) byte from_start before_end
 
   -- a byte that the step leaves unchanged, or changes as the enclave may, is unchanged if it is beyond the enclave's memory
-  unchanged_beyond : (byte : ℕ) → is_beyond state.shared.table k byte ≡ true
+  unchanged_beyond : (byte : ℕ) → is_beyond state.shared.table slot byte ≡ true
       → byte_at (monitored_step state).state.shared.memory byte ≡ byte_at state.shared.memory byte ⊎ IsChanged state (monitored_step state) byte
       → byte_at (monitored_step state).state.shared.memory byte ≡ byte_at state.shared.memory byte
   unchanged_beyond byte byte_beyond (inl same) = same
@@ -134,13 +135,13 @@ module _ (k : ℕ) (state : HartView) (view_invariant : HartViewInvariant state)
       (writes_within stored.span.addr (bytes_in stored.span.len) byte stored.accessible stored.low stored.high) byte_beyond _
   unchanged_beyond byte byte_beyond (inr (inr call)) = elim call.change [
     | inl cleared ↦
-        no_destroy _ k state.hart_state.world runs_enclave
+        no_destroy _ slot state.hart_state.world runs_enclave
         (requested-is_offered state.hart_state.world state.hart_state.hart.regs _ cleared.asked).1
     | inr put ↦ not_within_and_beyond byte (writes_within byte 1 byte put.accessible (omega arith) (omega arith)) byte_beyond _
   ]
 
   -- a step after which the enclave still runs changes no byte outside its region and window
-  pub own_bytes : (byte : ℕ) → is_beyond state.shared.table k byte ≡ true
+  pub own_bytes : (byte : ℕ) → is_beyond state.shared.table slot byte ≡ true
       → byte_at (monitored_step state).state.shared.memory byte ≡ byte_at state.shared.memory byte
   own_bytes byte byte_beyond = unchanged_beyond byte byte_beyond (changes state view_invariant byte)
 
