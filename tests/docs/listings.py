@@ -13,7 +13,7 @@ from models import monitor_model
 from models import privileged_hart
 from rvlook.protocol import names
 
-WORLDS = {"Host": "the host", "(Enclave k)": "an enclave"}
+WORLDS = {"Host": "the host", "(Enclave slot)": "an enclave"}
 NUMBERS = "no one two three four five six seven eight nine ten eleven twelve".split()
 CALL_TESTS = ("generators/monitor_call_cases", "generators/harts_race_cases", "generators/twin_call_cases", "fuzz/inputs", "fuzz/monitor_play")
 
@@ -47,7 +47,7 @@ def calls():
     """Returns the number of each monitor call, the worlds that may make it, and the status of each refusal."""
     text = text_of("crates/rv_enclaves/specs/Calls.antt")
     numbers = {name: int(number) for name, number in re.findall(r"^call_number (\w+) = (\d+)$", text, re.M)}
-    rows = re.findall(r"^is_offered (Host|\(Enclave k\)) (\w+) = (true|false)$", text, re.M)
+    rows = re.findall(r"^is_offered (Host|\(Enclave slot\)) (\w+) = (true|false)$", text, re.M)
     worlds = {name.lower(): {WORLDS[it] for it in WORLDS if next(is_of for world, of, is_of in rows if (world, of) in ((it, name), (it, "_"))) == "true"}
               for name in numbers}
     statuses = {name: int(number, 16) for name, number in re.findall(r"^status_of (\w+) = 0x(\w+)$", text, re.M)}

@@ -1,4 +1,4 @@
--- Declassification over scripts: lines that are alike keep two benches related for enclave e, and the observed parts of the replies are equal. The
+-- Declassification over scripts: lines that are alike keep two benches related for `enclave`, and the observed parts of the replies are equal. The
 -- proof is by the law of one command and induction over the lines, and then compares two inputs.
 use Rattle.std.proofs.Common.{◌≡◌, ℕ, false, inl, List, [], ◌∷◌, ◌++◌, Result, Ok, Err, IfOk, refl, sym, ◌∙◌, ap, ap₂, true}
 use Rattle.rv_word.specs.Cases.{result_case}
@@ -30,26 +30,27 @@ use Rattle.rv_bench.proofs.PrefixLines.{bench_in-prefix, script_lines-prefix}
 use Rattle.rv_bench.proofs.RepliesLemmas.{replies-append}
 use Rattle.rv_bench.proofs.Starts.{StartInvariant, bench_in_invariant, of_started}
 
-module _ (e : ℕ) where
+module _ (enclave : ℕ) where
   -- ---- one line of each bench
 
   -- two lines have equal observations, and leave related benches
   record LineObserved (first second : BenchState) (line other : List ℕ) : Type 0 where
-    pub text : (observed_line e first line).reply ≡ (observed_line e second other).reply
-    pub state : BenchesAreRelated e (execute_line first line).state (execute_line second other).state
+    pub text : (observed_line enclave first line).reply ≡ (observed_line enclave second other).reply
+    pub state : BenchesAreRelated enclave (execute_line first line).state (execute_line second other).state
 
   -- two lines that are alike have equal observations, and leave related benches
   line_observed : (first second : BenchState) (line other : List ℕ) → TargetInvariant first.target → TargetInvariant second.target
-      → BenchesAreRelated e first second → ParsedAlike e first second (parse_of line) (parse_of other) → LineObserved first second line other
+      → BenchesAreRelated enclave first second → ParsedAlike enclave first second (parse_of line) (parse_of other)
+      → LineObserved first second line other
   unfolding execute_line
   line_observed first second line other first_invariant second_invariant related alike =
       let (text, state) = by_parsed (parse_of line) (parse_of other) alike in record { text = text; state = state } where
         -- two parsed lines that are alike have equal observations, and leave related benches
-        by_parsed : (parsed other_parsed : Result Command CommandFault) → ParsedAlike e first second parsed other_parsed
-            → (result_case parsed (observed e first) command_fault_text ≡ result_case other_parsed (observed e second) command_fault_text)
-            × BenchesAreRelated e (execute_or_fault first parsed).state (execute_or_fault second other_parsed).state
+        by_parsed : (parsed other_parsed : Result Command CommandFault) → ParsedAlike enclave first second parsed other_parsed
+            → (result_case parsed (observed enclave first) command_fault_text ≡ result_case other_parsed (observed enclave second) command_fault_text)
+            × BenchesAreRelated enclave (execute_or_fault first parsed).state (execute_or_fault second other_parsed).state
         by_parsed (Ok command) (Ok other_command) alike =
-            let alike_after = declassification e first second command other_command first_invariant second_invariant related alike in
+            let alike_after = declassification enclave first second command other_command first_invariant second_invariant related alike in
             (alike_after.observed, alike_after.state)
         by_parsed (Err fault) (Err other_fault) same_fault = (ap command_fault_text same_fault, related)
         by_parsed (Ok command) (Err fault) impossible = absurd impossible
@@ -59,7 +60,7 @@ module _ (e : ℕ) where
 
   -- lines that are alike have equal observations on related benches, and leave them related, by induction over both lists
   pub lines_observed : (first second : BenchState) (lines others : List (List ℕ)) → TargetInvariant first.target → TargetInvariant second.target
-      → BenchesAreRelated e first second → LinesAlike e first second lines others → LinesObservedAlike e first second lines others
+      → BenchesAreRelated enclave first second → LinesAlike enclave first second lines others → LinesObservedAlike enclave first second lines others
   lines_observed first second [] [] first_invariant second_invariant related alike = record { text = refl; state = related }
   lines_observed first second [] (other ∷ others) first_invariant second_invariant related impossible = absurd impossible
   lines_observed first second (line ∷ lines) [] first_invariant second_invariant related impossible = absurd impossible
@@ -73,23 +74,25 @@ module _ (e : ℕ) where
 
   -- A low line does not step a hart on which the enclave runs, and does not enter the enclave. It is alike in both benches, and leaves equal windows.
   line_low : (first second : BenchState) (line : List ℕ) → TargetInvariant first.target → TargetInvariant second.target
-      → BenchesAreRelated e first second → WindowsAreEqual e first second → LineIsLow e first line
-      → ParsedAlike e first second (parse_of line) (parse_of line)
-      × WindowsAreEqual e (execute_line first line).state (execute_line second line).state
+      → BenchesAreRelated enclave first second → WindowsAreEqual enclave first second → LineIsLow enclave first line
+      → ParsedAlike enclave first second (parse_of line) (parse_of line)
+      × WindowsAreEqual enclave (execute_line first line).state (execute_line second line).state
   unfolding execute_line
   line_low first second line first_invariant second_invariant related same_windows = by_parsed (parse_of line) where
     -- a low parsed line is alike in both benches, and leaves equal windows
     by_parsed : (parsed : Result Command CommandFault) → IfOk parsed (λ command.
-        RunsOnNoneIn e (harts_named first.target command) first.target × (is_entered e (execute first command).entered ≡ false))
-        → ParsedAlike e first second parsed parsed × WindowsAreEqual e (execute_or_fault first parsed).state (execute_or_fault second parsed).state
+        RunsOnNoneIn enclave (harts_named first.target command) first.target × (is_entered enclave (execute first command).entered ≡ false))
+        → ParsedAlike enclave first second parsed parsed
+        × WindowsAreEqual enclave (execute_or_fault first parsed).state (execute_or_fault second parsed).state
     by_parsed (Ok command) (on_none, not_entered) =
-        let alike = low_command e first second command first_invariant second_invariant related same_windows on_none not_entered in
+        let alike = low_command enclave first second command first_invariant second_invariant related same_windows on_none not_entered in
         (inl (inl alike.same), alike.window)
     by_parsed (Err fault) is_low = (refl, same_windows)
 
   -- lines that are low in the first bench are alike if the windows are equal, by induction over the lines
   pub lines_low : (first second : BenchState) (lines : List (List ℕ)) → TargetInvariant first.target → TargetInvariant second.target
-      → BenchesAreRelated e first second → WindowsAreEqual e first second → LinesAreLow e first lines → LinesAlike e first second lines lines
+      → BenchesAreRelated enclave first second → WindowsAreEqual enclave first second → LinesAreLow enclave first lines
+      → LinesAlike enclave first second lines lines
   lines_low first second [] first_invariant second_invariant related same_windows are_low = tt
   lines_low first second (line ∷ lines) first_invariant second_invariant related same_windows (is_low, others_low) =
       let (alike, next_windows) = line_low first second line first_invariant second_invariant related same_windows is_low in
@@ -104,21 +107,22 @@ module _ (e : ℕ) where
   -- after an enclave has ended in related benches, the same line is alike for every slot, and leaves benches that are related for every slot
   line_after_end : (first second : BenchState) (line : List ℕ) → TargetInvariant first.target → TargetInvariant second.target
       → AreRelatedForAll first second
-      → ParsedAlike e first second (parse_of line) (parse_of line) × AreRelatedForAll (execute_line first line).state (execute_line second line).state
+      → ParsedAlike enclave first second (parse_of line) (parse_of line)
+      × AreRelatedForAll (execute_line first line).state (execute_line second line).state
   unfolding execute_line
   line_after_end first second line first_invariant second_invariant related = by_parsed (parse_of line) where
     -- the same claim for a parsed line
-    by_parsed : (parsed : Result Command CommandFault) → ParsedAlike e first second parsed parsed
+    by_parsed : (parsed : Result Command CommandFault) → ParsedAlike enclave first second parsed parsed
         × AreRelatedForAll (execute_or_fault first parsed).state (execute_or_fault second parsed).state
     by_parsed (Ok command) = (
-      inl (inl (ended_law.same e first second command first_invariant second_invariant related)),
+      inl (inl (ended_law.same enclave first second command first_invariant second_invariant related)),
       ended_law.again first second command first_invariant second_invariant related,
     )
     by_parsed (Err fault) = (refl, related)
 
   -- after an enclave has ended in related benches, the same lines are alike for every slot, by induction over the lines
   pub lines_after_end : (first second : BenchState) (lines : List (List ℕ)) → TargetInvariant first.target → TargetInvariant second.target
-      → AreRelatedForAll first second → LinesAlike e first second lines lines
+      → AreRelatedForAll first second → LinesAlike enclave first second lines lines
   lines_after_end first second [] first_invariant second_invariant related = tt
   lines_after_end first second (line ∷ lines) first_invariant second_invariant related =
       let (alike, still_related) = line_after_end first second line first_invariant second_invariant related in (
@@ -130,39 +134,39 @@ module _ (e : ℕ) where
   -- ---- scripts
 
   -- what is observed of the replies has no effect on the state: observed lines leave the state that the lines leave
-  observed_state : (bench : BenchState) (lines : List (List ℕ)) → state_after (observed_line e) bench lines ≡ state_after bench_line bench lines
+  observed_state : (bench : BenchState) (lines : List (List ℕ)) → state_after (observed_line enclave) bench lines ≡ state_after bench_line bench lines
   observed_state bench [] = refl
   observed_state bench (line ∷ lines) = observed_state (bench_line bench line).state lines
 
   -- two scripts that are alike after the same lines have equal observations
   script_observed : (bench : BenchState) (before lines others : List (List ℕ)) → TargetInvariant bench.target
-      → (let start = state_after bench_line bench before in LinesAlike e start start lines others)
-      → replies (observed_line e) bench (before ++ lines) ≡ replies (observed_line e) bench (before ++ others)
+      → (let start = state_after bench_line bench before in LinesAlike enclave start start lines others)
+      → replies (observed_line enclave) bench (before ++ lines) ≡ replies (observed_line enclave) bench (before ++ others)
   script_observed bench before lines others invariant alike =
       let start = state_after bench_line bench before in
       let start_invariant = lines_keep_invariant bench before invariant in
-      let observed = lines_observed start start lines others start_invariant start_invariant (relation_law.itself e start) alike in
-      let first_text = replies (observed_line e) bench before in
-      let text : BenchState → List (List ℕ) → List ℕ = λ state script. first_text ++ replies (observed_line e) state script in
-      replies-append (observed_line e) bench before lines
+      let observed = lines_observed start start lines others start_invariant start_invariant (relation_law.itself enclave start) alike in
+      let first_text = replies (observed_line enclave) bench before in
+      let text : BenchState → List (List ℕ) → List ℕ = λ state script. first_text ++ replies (observed_line enclave) state script in
+      replies-append (observed_line enclave) bench before lines
       ∙ ap (λ (state : BenchState). text state lines) (observed_state bench before)
       ∙ ap (λ (later_text : List ℕ). first_text ++ later_text) observed.text
       ∙ ap (λ (state : BenchState). text state others) (sym (observed_state bench before))
-      ∙ sym (replies-append (observed_line e) bench before others)
+      ∙ sym (replies-append (observed_line enclave) bench before others)
 
 -- on a bench with the invariant, every part of a script satisfies noninterference with declassification
 script_declassification : (bench : BenchState) → TargetInvariant bench.target → ScriptDeclassification bench
 script_declassification bench invariant = record {
-  alike = λ e before lines others other other_invariant related alike.
-      lines_observed e (state_after bench_line bench before) other lines others (lines_keep_invariant bench before invariant) other_invariant
+  alike = λ enclave before lines others other other_invariant related alike.
+      lines_observed enclave (state_after bench_line bench before) other lines others (lines_keep_invariant bench before invariant) other_invariant
       related alike;
-  low = λ e before lines other other_invariant related same_windows are_low.
-      lines_low e (state_after bench_line bench before) other lines (lines_keep_invariant bench before invariant) other_invariant
+  low = λ enclave before lines other other_invariant related same_windows are_low.
+      lines_low enclave (state_after bench_line bench before) other lines (lines_keep_invariant bench before invariant) other_invariant
       related same_windows are_low;
-  ended = λ e k before lines other other_invariant related ended.
+  ended = λ enclave slot before lines other other_invariant related ended.
       let start = state_after bench_line bench before in
       let start_invariant = lines_keep_invariant bench before invariant in
-      lines_after_end k start other lines start_invariant other_invariant (ended_law.ended e start other start_invariant related ended);
+      lines_after_end slot start other lines start_invariant other_invariant (ended_law.ended enclave start other start_invariant related ended);
 }
 
 -- on each bench that starts, every part of a script satisfies noninterference with declassification
@@ -172,34 +176,34 @@ started_declassification = of_started ScriptDeclassification script_declassifica
 -- ---- inputs
 
 -- inputs that begin with the same prefix, which has the image, the separator and the first lines of the script
-module _ (setup : Setup) (e : ℕ) (prefix : List ℕ) (whole : through_last_feed prefix ≡ prefix) (separated : has_separator prefix ≡ true) where
+module _ (setup : Setup) (enclave : ℕ) (prefix : List ℕ) (whole : through_last_feed prefix ≡ prefix) (separated : has_separator prefix ≡ true) where
   -- the lines of the script in the prefix
   abbrev before : List (List ℕ)
   before = lines_of (after_separator prefix)
 
   -- `Observed` is the observed output of a script, if the bench starts
   abbrev Observed : Result BenchState BenchFault → List (List ℕ) → Result (List ℕ) BenchFault
-  Observed bench script = result_case bench (λ state. Ok (replies (observed_line e) state script)) Err
+  Observed bench script = result_case bench (λ state. Ok (replies (observed_line enclave) state script)) Err
 
   -- the observed output of an input is the observed output of the lines of its script
-  observed_is : (rest : List ℕ) → observed_output e setup (prefix ++ rest) ≡ Observed (bench_in setup prefix) (before ++ lines_of rest)
+  observed_is : (rest : List ℕ) → observed_output enclave setup (prefix ++ rest) ≡ Observed (bench_in setup prefix) (before ++ lines_of rest)
   observed_is rest =
       ap₂ Observed (bench_in-prefix prefix whole separated setup rest) (script_lines-prefix prefix whole separated rest)
 
   -- two rests of a script that are alike have equal observed outputs
   rests_observed : (bench : Result BenchState BenchFault) (rest another : List ℕ) → StartInvariant bench
-      → IfOk bench (λ bench. let start = state_after bench_line bench before in LinesAlike e start start (lines_of rest) (lines_of another))
+      → IfOk bench (λ bench. let start = state_after bench_line bench before in LinesAlike enclave start start (lines_of rest) (lines_of another))
       → Observed bench (before ++ lines_of rest) ≡ Observed bench (before ++ lines_of another)
   rests_observed (Ok bench) rest another invariant alike =
-      ap Ok (script_observed e bench before (lines_of rest) (lines_of another) invariant alike)
+      ap Ok (script_observed enclave bench before (lines_of rest) (lines_of another) invariant alike)
   rests_observed (Err fault) rest another invariant alike = refl
 
 -- proves that inputs which differ only in secrets have equal observed outputs
 pub secret_declassification : (setup : Setup) (input : List ℕ) → SecretDeclassification setup input
-secret_declassification setup input e other differ =
-    ap (observed_output e setup) differ.input_is
-    ∙ observed_is setup e differ.prefix differ.whole_prefix differ.separated differ.rest
-    ∙ rests_observed setup e differ.prefix differ.whole_prefix differ.separated (bench_in setup differ.prefix) differ.rest differ.another
+secret_declassification setup input enclave other differ =
+    ap (observed_output enclave setup) differ.input_is
+    ∙ observed_is setup enclave differ.prefix differ.whole_prefix differ.separated differ.rest
+    ∙ rests_observed setup enclave differ.prefix differ.whole_prefix differ.separated (bench_in setup differ.prefix) differ.rest differ.another
     (bench_in_invariant setup differ.prefix) differ.alike
-    ∙ sym (observed_is setup e differ.prefix differ.whole_prefix differ.separated differ.another)
-    ∙ sym (ap (observed_output e setup) differ.other_is)
+    ∙ sym (observed_is setup enclave differ.prefix differ.whole_prefix differ.separated differ.another)
+    ∙ sym (ap (observed_output enclave setup) differ.other_is)

@@ -49,11 +49,11 @@ lines_keep_invariant bench (line ∷ lines) invariant =
 
 -- a bench with the invariant preserves every enclave that its lines leave undisturbed
 script_integrity : (bench : BenchState) → TargetInvariant bench.target → PreservesThrough bench
-script_integrity bench invariant k before part undisturbed =
+script_integrity bench invariant slot before part undisturbed =
     let start = state_after bench_line bench before in
     let end_is = state_after-append bench_line bench before part ∙ lines_are_commands start part in
-    subst (λ (end : BenchState). IsPreservedIn k start.target end.target) (sym end_is)
-    (integrity k start (commands_of part) (lines_keep_invariant bench before invariant) undisturbed)
+    subst (λ (end : BenchState). IsPreservedIn slot start.target end.target) (sym end_is)
+    (integrity slot start (commands_of part) (lines_keep_invariant bench before invariant) undisturbed)
 
 -- each bench that starts preserves every enclave that its lines leave undisturbed
 pub started_integrity : (image : List ℕ) (setup : Setup) → IfOk (started image setup) PreservesThrough

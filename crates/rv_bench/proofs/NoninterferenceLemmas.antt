@@ -1,4 +1,4 @@
--- Noninterference of scripts: two benches that are equivalent except for enclave e reply the same to lines that avoid it. The proof is by the law of
+-- Noninterference of scripts: two benches that are equivalent except for `enclave` reply the same to lines that avoid it. The proof is by the law of
 -- one command and induction over the lines, and then compares two inputs that differ only in a secret.
 use Rattle.std.proofs.Common.{◌≡◌, inl, inr, ℕ, Bool, true, false, List, [], ◌∷◌, ◌++◌, Result, Ok, Err, IfOk, IsOkAnd, refl, sym, ◌∙◌, ap, ap₂, subst}
 use Rattle.rv_text.specs.Lines.{lines_of, through_last_feed}
@@ -27,44 +27,45 @@ use Rattle.rv_bench.proofs.RepliesLemmas.{replies-append}
 use Rattle.rv_bench.proofs.IntegrityLemmas.{line_keeps_invariant, lines_keep_invariant}
 use Rattle.rv_bench.proofs.Starts.{StartInvariant, bench_in_invariant, of_started}
 
-module _ (e : ℕ) where
-  -- two executions have equal replies, and leave benches that are equivalent except for enclave e
+module _ (enclave : ℕ) where
+  -- two executions have equal replies, and leave benches that are equivalent except for `enclave`
   abbrev Alike : Executed → Executed → Type 0
-  Alike one other = (one.reply ≡ other.reply) × BenchesEquivExcept e one.state other.state
+  Alike one other = (one.reply ≡ other.reply) × BenchesEquivExcept enclave one.state other.state
 
   -- ---- lines that avoid the enclave
 
   -- a line that avoids the enclave and its hart is executed alike
   line_alike : (first second : BenchState) (line : List ℕ) → TargetInvariant first.target → TargetInvariant second.target
-      → BenchesEquivExcept e first second → LineAvoidsEnclave e first line → LineAvoidsHart e first line
+      → BenchesEquivExcept enclave first second → LineAvoidsEnclave enclave first line → LineAvoidsHart enclave first line
       → Alike (execute_line first line) (execute_line second line)
   unfolding execute_line
   line_alike first second line first_invariant second_invariant equiv = by_parsed (parse_of line) where
     -- a parsed line that avoids the enclave and its hart is executed alike
-    by_parsed : (parsed : Result Command CommandFault) → IfOk parsed (AvoidsEnclave e first) → IfOk parsed (AvoidsHart e first)
+    by_parsed : (parsed : Result Command CommandFault) → IfOk parsed (AvoidsEnclave enclave first) → IfOk parsed (AvoidsHart enclave first)
         → Alike (execute_or_fault first parsed) (execute_or_fault second parsed)
     by_parsed (Ok command) avoids_enclave avoids_hart =
-        let law = noninterference e first second command first_invariant second_invariant equiv avoids_enclave.blind avoids_hart in
+        let law = noninterference enclave first second command first_invariant second_invariant equiv avoids_enclave.blind avoids_hart in
         let alike = law.passed avoids_enclave.past in (alike.reply, (let state = alike.state in state.but))
     by_parsed (Err fault) avoids_enclave avoids_hart = (refl, equiv)
 
   -- A property P of equivalent benches holds if it holds while the enclave is live, and holds of equal benches. Equivalent benches are equal after
   -- the end of the enclave.
-  while_live : (first second : BenchState) → TargetInvariant first.target → TargetInvariant second.target → BenchesEquivExcept e first second
-      → (P : BenchState → BenchState → Type 0) → (live : Bool) → is_live_in e first.target ≡ live
-      → (is_live_in e first.target ≡ true → P first second) → (TargetInvariant first.target → P first first) → P first second
+  while_live : (first second : BenchState) → TargetInvariant first.target → TargetInvariant second.target → BenchesEquivExcept enclave first second
+      → (P : BenchState → BenchState → Type 0) → (live : Bool) → is_live_in enclave first.target ≡ live
+      → (is_live_in enclave first.target ≡ true → P first second) → (TargetInvariant first.target → P first first) → P first second
   while_live first second first_invariant second_invariant equiv P true is_live if_live if_equal = if_live is_live
   while_live first second first_invariant second_invariant equiv P false not_live if_live if_equal =
-      subst (P first) ((equiv_again e first second first_invariant equiv).gone not_live) (if_equal first_invariant)
+      subst (P first) ((equiv_again enclave first second first_invariant equiv).gone not_live) (if_equal first_invariant)
 
   -- lines that avoid the enclave and its hart have equal replies, by induction over the lines
   lines_alike : (first second : BenchState) (lines : List (List ℕ)) → TargetInvariant first.target → TargetInvariant second.target
-      → BenchesEquivExcept e first second → LinesAvoidEnclave e first lines → LinesAvoidHart e first lines → RepliesAlike e first second lines
+      → BenchesEquivExcept enclave first second → LinesAvoidEnclave enclave first lines → LinesAvoidHart enclave first lines
+      → RepliesAlike enclave first second lines
   lines_alike first second [] first_invariant second_invariant equiv avoid_enclave avoid_hart =
-      record { text = refl; state = equiv_again e first second first_invariant equiv }
+      record { text = refl; state = equiv_again enclave first second first_invariant equiv }
   lines_alike first second (line ∷ lines) first_invariant second_invariant equiv avoid_enclave avoid_hart =
-      while_live first second first_invariant second_invariant equiv (λ one other. RepliesAlike e one other (line ∷ lines))
-      (is_live_in e first.target) refl
+      while_live first second first_invariant second_invariant equiv (λ one other. RepliesAlike enclave one other (line ∷ lines))
+      (is_live_in enclave first.target) refl
       (λ live.
       let (reply, next_equiv) = line_alike first second line first_invariant second_invariant equiv (avoid_enclave live).0 (avoid_hart live).0 in
       let other_lines = lines_alike (execute_line first line).state (execute_line second line).state lines
@@ -73,34 +74,38 @@ module _ (e : ℕ) where
       record { text = ap₂ (λ (one others : List ℕ). one ++ others) reply other_lines.text; state = other_lines.state })
       (λ invariant.
       let end = state_after bench_line first (line ∷ lines) in
-      record { text = refl; state = equiv_again e end end (lines_keep_invariant first (line ∷ lines) invariant) (equiv_with_itself e end) })
+      record {
+        text = refl;
+        state = equiv_again enclave end end (lines_keep_invariant first (line ∷ lines) invariant)
+            (equiv_with_itself enclave end);
+      })
 
   -- ---- an enclave that runs on no hart at first
 
   -- a line that avoids an enclave that runs on no hart also avoids its hart, and leaves the enclave on no hart
-  line_leaves_on_no_hart : (bench : BenchState) (line : List ℕ) → TargetInvariant bench.target → RunsOnNoHart e bench.target
-      → LineAvoidsEnclave e bench line → LineAvoidsHart e bench line × RunsOnNoHart e (execute_line bench line).state.target
+  line_leaves_on_no_hart : (bench : BenchState) (line : List ℕ) → TargetInvariant bench.target → RunsOnNoHart enclave bench.target
+      → LineAvoidsEnclave enclave bench line → LineAvoidsHart enclave bench line × RunsOnNoHart enclave (execute_line bench line).state.target
   unfolding execute_line
   line_leaves_on_no_hart bench line invariant not_running = by_parsed (parse_of line) where
     -- the same claim for a parsed line
-    by_parsed : (parsed : Result Command CommandFault) → IfOk parsed (AvoidsEnclave e bench)
-        → IfOk parsed (AvoidsHart e bench) × RunsOnNoHart e (execute_or_fault bench parsed).state.target
+    by_parsed : (parsed : Result Command CommandFault) → IfOk parsed (AvoidsEnclave enclave bench)
+        → IfOk parsed (AvoidsHart enclave bench) × RunsOnNoHart enclave (execute_or_fault bench parsed).state.target
     by_parsed (Ok command) avoids_enclave =
-        let stays = on_no_hart_law e bench command invariant not_running in (stays.by, stays.not_running avoids_enclave.past)
+        let stays = on_no_hart_law enclave bench command invariant not_running in (stays.by, stays.not_running avoids_enclave.past)
     by_parsed (Err fault) avoids_enclave = (tt, not_running)
 
   -- while the enclave runs on no hart, each line avoids its hart
-  line_avoids_hart : (bench : BenchState) (line : List ℕ) → TargetInvariant bench.target → RunsOnNoHart e bench.target
-      → LineAvoidsHart e bench line
+  line_avoids_hart : (bench : BenchState) (line : List ℕ) → TargetInvariant bench.target → RunsOnNoHart enclave bench.target
+      → LineAvoidsHart enclave bench line
   line_avoids_hart bench line invariant not_running = by_parsed (parse_of line) where
     -- a parsed line avoids the hart of an enclave that runs on no hart
-    by_parsed : (parsed : Result Command CommandFault) → IfOk parsed (AvoidsHart e bench)
-    by_parsed (Ok command) = (on_no_hart_law e bench command invariant not_running).by
+    by_parsed : (parsed : Result Command CommandFault) → IfOk parsed (AvoidsHart enclave bench)
+    by_parsed (Ok command) = (on_no_hart_law enclave bench command invariant not_running).by
     by_parsed (Err fault) = tt
 
   -- lines that avoid an enclave that runs on no hart also avoid its hart, by induction over the lines
-  lines_avoid_hart : (bench : BenchState) (lines : List (List ℕ)) → TargetInvariant bench.target → RunsOnNoHart e bench.target
-      → LinesAvoidEnclave e bench lines → LinesAvoidHart e bench lines
+  lines_avoid_hart : (bench : BenchState) (lines : List (List ℕ)) → TargetInvariant bench.target → RunsOnNoHart enclave bench.target
+      → LinesAvoidEnclave enclave bench lines → LinesAvoidHart enclave bench lines
   lines_avoid_hart bench [] invariant not_running avoid_enclave = tt
   lines_avoid_hart bench (line ∷ lines) invariant not_running avoid_enclave = λ live.
       let (avoids_hart, still_not_running) = line_leaves_on_no_hart bench line invariant not_running (avoid_enclave live).0 in
@@ -111,24 +116,24 @@ module _ (e : ℕ) where
 
   -- two lines that poke into the region are executed alike, also if they poke different bytes
   pokes_alike : (first second : BenchState) (line other : List ℕ) → TargetInvariant first.target → TargetInvariant second.target
-      → BenchesEquivExcept e first second
-      → IsOkAnd (parse_of line) (PokesInto e first) → IsOkAnd (parse_of other) (PokesInto e second)
+      → BenchesEquivExcept enclave first second
+      → IsOkAnd (parse_of line) (PokesInto enclave first) → IsOkAnd (parse_of other) (PokesInto enclave second)
       → Alike (execute_line first line) (execute_line second other)
   unfolding execute_line
   pokes_alike first second line other first_invariant second_invariant equiv = by_parsed (parse_of line) (parse_of other) where
     -- two parsed lines that poke into the region are executed alike
     by_parsed : (parsed other_parsed : Result Command CommandFault)
-        → IsOkAnd parsed (PokesInto e first) → IsOkAnd other_parsed (PokesInto e second)
+        → IsOkAnd parsed (PokesInto enclave first) → IsOkAnd other_parsed (PokesInto enclave second)
         → Alike (execute_or_fault first parsed) (execute_or_fault second other_parsed)
     by_parsed (Ok command) (Ok other_command) first_pokes second_pokes =
-        let alike = poke_law e first second command other_command first_invariant second_invariant equiv first_pokes second_pokes in
+        let alike = poke_law enclave first second command other_command first_invariant second_invariant equiv first_pokes second_pokes in
         (alike.reply, (let state = alike.state in state.but))
     by_parsed (Ok command) (Err fault) first_pokes second_pokes = absurd second_pokes
     by_parsed (Err fault) other_parsed first_pokes second_pokes = absurd first_pokes
 
   -- two lines that poke into the region, or one that avoids the enclave, are executed alike
   poke_or_pass_alike : (first second : BenchState) (line other : List ℕ) → TargetInvariant first.target → TargetInvariant second.target
-      → BenchesEquivExcept e first second → LineAvoidsHart e first line → PokeOrPass e first second line other
+      → BenchesEquivExcept enclave first second → LineAvoidsHart enclave first line → PokeOrPass enclave first second line other
       → Alike (execute_line first line) (execute_line second other)
   poke_or_pass_alike first second line other first_invariant second_invariant equiv avoids_hart (inl (first_pokes, second_pokes)) =
       pokes_alike first second line other first_invariant second_invariant equiv first_pokes second_pokes
@@ -139,11 +144,11 @@ module _ (e : ℕ) where
   -- the replies to two lists of lines are equal, and the benches after them are equivalent except for the enclave
   record SecretsAlike (first second : BenchState) (lines others : List (List ℕ)) : Type 0 where
     pub text : replies bench_line first lines ≡ replies bench_line second others
-    pub equiv : BenchesEquivExcept e (state_after bench_line first lines) (state_after bench_line second others)
+    pub equiv : BenchesEquivExcept enclave (state_after bench_line first lines) (state_after bench_line second others)
 
   -- two lists of lines that differ in pokes into the region have equal replies, by induction over both lists
   secrets_alike : (first second : BenchState) (lines others : List (List ℕ)) → TargetInvariant first.target → TargetInvariant second.target
-      → BenchesEquivExcept e first second → EachLineAvoidsHart e first lines → DifferInPokes e first second lines others
+      → BenchesEquivExcept enclave first second → EachLineAvoidsHart enclave first lines → DifferInPokes enclave first second lines others
       → SecretsAlike first second lines others
   secrets_alike first second [] [] first_invariant second_invariant equiv avoid_hart differ = record { text = refl; equiv = equiv }
   secrets_alike first second [] (other ∷ others) first_invariant second_invariant equiv avoid_hart impossible = absurd impossible
@@ -157,19 +162,20 @@ module _ (e : ℕ) where
       record { text = ap₂ (λ (one other : List ℕ). one ++ other) reply other_lines.text; equiv = other_lines.equiv }
 
   -- after a poke the enclave still runs on no hart
-  poke_leaves_on_no_hart : (bench : BenchState) (line : List ℕ) → TargetInvariant bench.target → RunsOnNoHart e bench.target
-      → IsOkAnd (parse_of line) (PokesInto e bench) → RunsOnNoHart e (execute_line bench line).state.target
+  poke_leaves_on_no_hart : (bench : BenchState) (line : List ℕ) → TargetInvariant bench.target → RunsOnNoHart enclave bench.target
+      → IsOkAnd (parse_of line) (PokesInto enclave bench) → RunsOnNoHart enclave (execute_line bench line).state.target
   unfolding execute_line
   poke_leaves_on_no_hart bench line invariant not_running = by_parsed (parse_of line) where
     -- after a parsed line that pokes into the region, the enclave still runs on no hart
-    by_parsed : (parsed : Result Command CommandFault) → IsOkAnd parsed (PokesInto e bench)
-        → RunsOnNoHart e (execute_or_fault bench parsed).state.target
-    by_parsed (Ok command) pokes = poked_on_no_hart e bench command invariant not_running pokes
+    by_parsed : (parsed : Result Command CommandFault) → IsOkAnd parsed (PokesInto enclave bench)
+        → RunsOnNoHart enclave (execute_or_fault bench parsed).state.target
+    by_parsed (Ok command) pokes = poked_on_no_hart enclave bench command invariant not_running pokes
     by_parsed (Err fault) impossible = absurd impossible
 
   -- a line that pokes into the region, or avoids the enclave, leaves the enclave on no hart
-  poke_or_pass_leaves_on_no_hart : (first second : BenchState) (line other : List ℕ) → TargetInvariant first.target → RunsOnNoHart e first.target
-      → PokeOrPass e first second line other → LineAvoidsHart e first line × RunsOnNoHart e (execute_line first line).state.target
+  poke_or_pass_leaves_on_no_hart : (first second : BenchState) (line other : List ℕ) → TargetInvariant first.target
+      → RunsOnNoHart enclave first.target
+      → PokeOrPass enclave first second line other → LineAvoidsHart enclave first line × RunsOnNoHart enclave (execute_line first line).state.target
   poke_or_pass_leaves_on_no_hart first second line other invariant not_running (inl (pokes, other_pokes)) =
       (line_avoids_hart first line invariant not_running, poke_leaves_on_no_hart first line invariant not_running pokes)
   poke_or_pass_leaves_on_no_hart first second line other invariant not_running (inr (same_line, avoids_enclave)) =
@@ -177,12 +183,12 @@ module _ (e : ℕ) where
 
   -- the enclave runs on no hart after these lines, and each line avoids its hart
   record StaysOnNoHart (bench : BenchState) (lines : List (List ℕ)) : Type 0 where
-    pub avoid_hart : EachLineAvoidsHart e bench lines
-    pub not_running : RunsOnNoHart e (state_after bench_line bench lines).target
+    pub avoid_hart : EachLineAvoidsHart enclave bench lines
+    pub not_running : RunsOnNoHart enclave (state_after bench_line bench lines).target
 
   -- lines that poke into the region or avoid the enclave leave the enclave on no hart, by induction over the lines
   pokes_leave_on_no_hart : (first second : BenchState) (lines others : List (List ℕ)) → TargetInvariant first.target
-      → RunsOnNoHart e first.target → DifferInPokes e first second lines others → StaysOnNoHart first lines
+      → RunsOnNoHart enclave first.target → DifferInPokes enclave first second lines others → StaysOnNoHart first lines
   pokes_leave_on_no_hart first second [] [] invariant not_running differ = record { avoid_hart = tt; not_running = not_running }
   pokes_leave_on_no_hart first second [] (other ∷ others) invariant not_running impossible = absurd impossible
   pokes_leave_on_no_hart first second (line ∷ lines) [] invariant not_running impossible = absurd impossible
@@ -196,11 +202,11 @@ module _ (e : ℕ) where
 
   -- The lines avoid the hart of the enclave: the enclave runs on no hart when the secret is poked, or it is a premise.
   secret_avoids_hart : (bench : BenchState) (secret another rest : List (List ℕ)) → TargetInvariant bench.target
-      → AreSecret e bench secret another rest
-      → EachLineAvoidsHart e bench secret × LinesAvoidHart e (state_after bench_line bench secret) rest
+      → AreSecret enclave bench secret another rest
+      → EachLineAvoidsHart enclave bench secret × LinesAvoidHart enclave (state_after bench_line bench secret) rest
   secret_avoids_hart bench secret another rest invariant are_secret = elim are_secret.by [
     | inl is_scramblable ↦
-        let not_running = scrambled_on_no_hart e bench.target invariant is_scramblable in
+        let not_running = scrambled_on_no_hart enclave bench.target invariant is_scramblable in
         let stays = pokes_leave_on_no_hart bench bench secret another invariant not_running are_secret.pokes in
         let next_invariant = lines_keep_invariant bench secret invariant in
         (stays.avoid_hart, lines_avoid_hart (state_after bench_line bench secret) rest next_invariant stays.not_running are_secret.passes)
@@ -209,14 +215,14 @@ module _ (e : ℕ) where
 
   -- two scripts that differ only in a secret have equal replies: to the lines before it, to the secret, and to the rest
   script_alike : (bench : BenchState) (before secret another rest : List (List ℕ)) → TargetInvariant bench.target
-      → AreSecret e (state_after bench_line bench before) secret another rest
+      → AreSecret enclave (state_after bench_line bench before) secret another rest
       → replies bench_line bench (before ++ (secret ++ rest)) ≡ replies bench_line bench (before ++ (another ++ rest))
   script_alike bench before secret another rest invariant are_secret =
       let start = state_after bench_line bench before in
       let start_invariant = lines_keep_invariant bench before invariant in
       let (secret_avoid, rest_avoid) = secret_avoids_hart start secret another rest start_invariant are_secret in
       let secrets =
-      secrets_alike start start secret another start_invariant start_invariant (equiv_with_itself e start) secret_avoid are_secret.pokes in
+      secrets_alike start start secret another start_invariant start_invariant (equiv_with_itself enclave start) secret_avoid are_secret.pokes in
       let rests = lines_alike (state_after bench_line start secret) (state_after bench_line start another) rest
       (lines_keep_invariant start secret start_invariant) (lines_keep_invariant start another start_invariant) secrets.equiv
       are_secret.passes rest_avoid in
@@ -231,11 +237,11 @@ module _ (e : ℕ) where
 -- on a bench with the invariant, every part of a script satisfies noninterference
 script_noninterference : (bench : BenchState) → TargetInvariant bench.target → ScriptNoninterference bench
 script_noninterference bench invariant = record {
-  alike = λ e before part other other_invariant equiv avoid_enclave avoid_hart.
-      lines_alike e (state_after bench_line bench before) other part (lines_keep_invariant bench before invariant) other_invariant equiv
+  alike = λ enclave before part other other_invariant equiv avoid_enclave avoid_hart.
+      lines_alike enclave (state_after bench_line bench before) other part (lines_keep_invariant bench before invariant) other_invariant equiv
       avoid_enclave avoid_hart;
-  not_running = λ e before part not_running avoid_enclave.
-      lines_avoid_hart e (state_after bench_line bench before) part (lines_keep_invariant bench before invariant) not_running avoid_enclave;
+  not_running = λ enclave before part not_running avoid_enclave.
+      lines_avoid_hart enclave (state_after bench_line bench before) part (lines_keep_invariant bench before invariant) not_running avoid_enclave;
 }
 
 -- on each bench that starts, every part of a script satisfies noninterference
@@ -245,7 +251,7 @@ started_noninterference = of_started ScriptNoninterference script_noninterferenc
 -- ---- inputs
 
 -- two inputs with the same prefix and the same rest, where the prefix has the image, the separator and the first lines of the script
-module _ (setup : Setup) (e : ℕ) (prefix secret another rest : List ℕ) (whole : through_last_feed prefix ≡ prefix)
+module _ (setup : Setup) (enclave : ℕ) (prefix secret another rest : List ℕ) (whole : through_last_feed prefix ≡ prefix)
     (separated : has_separator prefix ≡ true) (whole_secret : through_last_feed secret ≡ secret)
     (whole_another : through_last_feed another ≡ another) where
   -- the lines of the script in the prefix
@@ -267,13 +273,13 @@ module _ (setup : Setup) (e : ℕ) (prefix secret another rest : List ℕ) (whol
   -- the texts are secrets in the script, if the bench starts
   abbrev AreSecretIn : Result BenchState BenchFault → Type 0
   AreSecretIn bench =
-      IfOk bench (λ bench. AreSecret e (state_after bench_line bench before) (lines_of secret) (lines_of another) (lines_of rest))
+      IfOk bench (λ bench. AreSecret enclave (state_after bench_line bench before) (lines_of secret) (lines_of another) (lines_of rest))
 
   -- the replies with both secrets are equal
   replies_alike : (bench : Result BenchState BenchFault) → StartInvariant bench → AreSecretIn bench
       → replies_with bench secret ≡ replies_with bench another
   replies_alike (Ok bench) invariant are_secret =
-      ap Ok (script_alike e bench before (lines_of secret) (lines_of another) (lines_of rest) invariant are_secret)
+      ap Ok (script_alike enclave bench before (lines_of secret) (lines_of another) (lines_of rest) invariant are_secret)
   replies_alike (Err fault) invariant are_secret = refl
 
   -- the outputs with both secrets are equal
@@ -284,8 +290,8 @@ module _ (setup : Setup) (e : ℕ) (prefix secret another rest : List ℕ) (whol
 
 -- proves that inputs which differ only in the secret that they poke have equal outputs
 pub secret_noninterference : (setup : Setup) (input : List ℕ) → SecretNoninterference setup input
-secret_noninterference setup input e other differ =
+secret_noninterference setup input enclave other differ =
     ap (output setup) differ.input_is
-    ∙ outputs_alike setup e differ.prefix differ.secret differ.another differ.rest differ.whole_prefix differ.separated
+    ∙ outputs_alike setup enclave differ.prefix differ.secret differ.another differ.rest differ.whole_prefix differ.separated
     differ.whole_secret differ.whole_another differ.poked
     ∙ sym (ap (output setup) differ.other_is)

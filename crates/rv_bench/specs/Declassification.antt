@@ -25,63 +25,64 @@ use Rattle.rv_bench.specs.Replies.{Replied, bench_line, replies, state_after}
 
 -- the state after a line, and what others observe of its reply; the reply to a line with an error is observed
 abbrev pub observed_line : ℕ → BenchState → List ℕ → Replied BenchState
-observed_line e bench line =
-    record { state = (bench_line bench line).state; reply = result_case (parse_of line) (observed e bench) command_fault_text }
+observed_line enclave bench line =
+    record { state = (bench_line bench line).state; reply = result_case (parse_of line) (observed enclave bench) command_fault_text }
 
 -- others observe this output for an input, or its error
 abbrev pub observed_output : ℕ → Setup → List ℕ → Result (List ℕ) BenchFault
-observed_output e setup input =
-    result_case (bench_in setup input) (λ bench. Ok (replies (observed_line e) bench (lines_of (after_separator input)))) Err
+observed_output enclave setup input =
+    result_case (bench_in setup input) (λ bench. Ok (replies (observed_line enclave) bench (lines_of (after_separator input)))) Err
 
 -- ---- two scripts
 
 -- two lines, one for each bench: their commands are alike, or both have the same error
 abbrev pub ParsedAlike : ℕ → BenchState → BenchState → Result Command CommandFault → Result Command CommandFault → Type 0
-ParsedAlike e first second (Ok command) (Ok other_command) = CommandsAlike e first second command other_command
-ParsedAlike e first second (Err here) (Err there) = here ≡ there
-ParsedAlike e first second _ _ = ⊥
+ParsedAlike enclave first second (Ok command) (Ok other_command) = CommandsAlike enclave first second command other_command
+ParsedAlike enclave first second (Err here) (Err there) = here ≡ there
+ParsedAlike enclave first second _ _ = ⊥
 
 -- two lists of lines of the same length, one for each bench, are alike line by line
 abbrev pub LinesAlike : ℕ → BenchState → BenchState → List (List ℕ) → List (List ℕ) → Type 0
-LinesAlike e first second [] [] = Unit {0}
-LinesAlike e first second (line ∷ lines) (other ∷ others) =
-    ParsedAlike e first second (parse_of line) (parse_of other)
-    × LinesAlike e (bench_line first line).state (bench_line second other).state lines others
-LinesAlike e first second _ _ = ⊥
+LinesAlike enclave first second [] [] = Unit {0}
+LinesAlike enclave first second (line ∷ lines) (other ∷ others) =
+    ParsedAlike enclave first second (parse_of line) (parse_of other)
+    × LinesAlike enclave (bench_line first line).state (bench_line second other).state lines others
+LinesAlike enclave first second _ _ = ⊥
 
 -- what others observe of the replies is equal, and the benches are related again
-pub record LinesObservedAlike (e : ℕ) (first second : BenchState) (lines others : List (List ℕ)) : Type 0 where
-  pub text : replies (observed_line e) first lines ≡ replies (observed_line e) second others
-  pub state : BenchesAreRelated e (state_after bench_line first lines) (state_after bench_line second others)
+pub record LinesObservedAlike (enclave : ℕ) (first second : BenchState) (lines others : List (List ℕ)) : Type 0 where
+  pub text : replies (observed_line enclave) first lines ≡ replies (observed_line enclave) second others
+  pub state : BenchesAreRelated enclave (state_after bench_line first lines) (state_after bench_line second others)
 
 -- A line steps no hart on which the enclave runs, and does not enter it. A line with an error does neither.
 abbrev pub LineIsLow : ℕ → BenchState → List ℕ → Type 0
-LineIsLow e bench line = IfOk (parse_of line) (λ command.
-    RunsOnNoneIn e (harts_named bench.target command) bench.target × (is_entered e (execute bench command).entered ≡ false))
+LineIsLow enclave bench line = IfOk (parse_of line) (λ command.
+    RunsOnNoneIn enclave (harts_named bench.target command) bench.target × (is_entered enclave (execute bench command).entered ≡ false))
 
 -- each line is low in the bench that the lines before it lead to
 abbrev pub LinesAreLow : ℕ → BenchState → List (List ℕ) → Type 0
-LinesAreLow e bench [] = Unit {0}
-LinesAreLow e bench (line ∷ lines) = LineIsLow e bench line × LinesAreLow e (bench_line bench line).state lines
+LinesAreLow enclave bench [] = Unit {0}
+LinesAreLow enclave bench (line ∷ lines) = LineIsLow enclave bench line × LinesAreLow enclave (bench_line bench line).state lines
 
 -- After any lines, take the rest of the script, and other lines for a bench that is related. If they are alike line by line, what others observe is
 -- equal. The same lines for both benches are alike if they are low in the first, and if the window is equal while the enclave runs. After the
 -- enclave has ended, the same lines are alike for every slot.
 pub record ScriptDeclassification (bench : BenchState) : Type 0 where
-  pub alike : (e : ℕ) (before lines others : List (List ℕ)) (other : BenchState) → TargetInvariant other.target
-      → BenchesAreRelated e (state_after bench_line bench before) other → LinesAlike e (state_after bench_line bench before) other lines others
-      → LinesObservedAlike e (state_after bench_line bench before) other lines others
-  pub low : (e : ℕ) (before lines : List (List ℕ)) (other : BenchState) → TargetInvariant other.target
-      → BenchesAreRelated e (state_after bench_line bench before) other → WindowsAreEqual e (state_after bench_line bench before) other
-      → LinesAreLow e (state_after bench_line bench before) lines → LinesAlike e (state_after bench_line bench before) other lines lines
-  pub ended : (e k : ℕ) (before lines : List (List ℕ)) (other : BenchState) → TargetInvariant other.target
-      → BenchesAreRelated e (state_after bench_line bench before) other → EnclaveHasEnded e (state_after bench_line bench before).target
-      → LinesAlike k (state_after bench_line bench before) other lines lines
+  pub alike : (enclave : ℕ) (before lines others : List (List ℕ)) (other : BenchState) → TargetInvariant other.target
+      → BenchesAreRelated enclave (state_after bench_line bench before) other
+      → LinesAlike enclave (state_after bench_line bench before) other lines others
+      → LinesObservedAlike enclave (state_after bench_line bench before) other lines others
+  pub low : (enclave : ℕ) (before lines : List (List ℕ)) (other : BenchState) → TargetInvariant other.target
+      → BenchesAreRelated enclave (state_after bench_line bench before) other → WindowsAreEqual enclave (state_after bench_line bench before) other
+      → LinesAreLow enclave (state_after bench_line bench before) lines → LinesAlike enclave (state_after bench_line bench before) other lines lines
+  pub ended : (enclave slot : ℕ) (before lines : List (List ℕ)) (other : BenchState) → TargetInvariant other.target
+      → BenchesAreRelated enclave (state_after bench_line bench before) other → EnclaveHasEnded enclave (state_after bench_line bench before).target
+      → LinesAlike slot (state_after bench_line bench before) other lines lines
 
 -- ---- from bytes to bytes
 
 -- Two inputs begin with the same lines, through the separator and part of the script. The rest of their scripts is alike, line by line.
-pub record DifferInEnclave (e : ℕ) (setup : Setup) (input other : List ℕ) : Type 0 where
+pub record DifferInEnclave (enclave : ℕ) (setup : Setup) (input other : List ℕ) : Type 0 where
   pub prefix : List ℕ
   pub rest : List ℕ
   pub another : List ℕ
@@ -90,12 +91,14 @@ pub record DifferInEnclave (e : ℕ) (setup : Setup) (input other : List ℕ) : 
   pub whole_prefix : through_last_feed prefix ≡ prefix
   pub separated : has_separator prefix ≡ true
   pub alike : IfOk (bench_in setup prefix) (λ bench.
-      let start = state_after bench_line bench (lines_of (after_separator prefix)) in LinesAlike e start start (lines_of rest) (lines_of another))
+      let start = state_after bench_line bench (lines_of (after_separator prefix)) in
+      LinesAlike enclave start start (lines_of rest) (lines_of another))
 
 -- what others observe of the output is equal for every other input that differs only in secrets of an enclave, if it hands over the same
 abbrev pub SecretDeclassification : Setup → List ℕ → Type 0
 SecretDeclassification setup input =
-    (e : ℕ) (other : List ℕ) → DifferInEnclave e setup input other → observed_output e setup input ≡ observed_output e setup other
+    (enclave : ℕ) (other : List ℕ) → DifferInEnclave enclave setup input other
+    → observed_output enclave setup input ≡ observed_output enclave setup other
 
 -- ---- the laws
 

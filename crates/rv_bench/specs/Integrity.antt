@@ -19,8 +19,8 @@ commands_of (line ∷ lines) = result_case (parse_of line) (λ command. command 
 -- leaves undisturbed. Such an enclave is not the world of a hart that steps, is neither entered nor ended, and no byte of its region is poked.
 abbrev pub PreservesThrough : BenchState → Type 0
 PreservesThrough bench =
-    (k : ℕ) (before part : List (List ℕ)) → UndisturbedByAll k (state_after bench_line bench before) (commands_of part)
-    → IsPreservedIn k (state_after bench_line bench before).target (state_after bench_line bench (before ++ part)).target
+    (slot : ℕ) (before part : List (List ℕ)) → UndisturbedByAll slot (state_after bench_line bench before) (commands_of part)
+    → IsPreservedIn slot (state_after bench_line bench before).target (state_after bench_line bench (before ++ part)).target
 
 -- each bench that an image starts preserves every enclave that its lines leave undisturbed
 abbrev pub ScriptIntegrityLaw : Type 0

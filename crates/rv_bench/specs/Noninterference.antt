@@ -15,70 +15,71 @@ use Rattle.rv_bench.specs.Replies.{bench_line, replies, state_after}
 
 -- ---- a part of a script
 
--- a line avoids the enclave of slot e: it accesses no byte of its region, and does not enter it; a line with an error does neither
+-- a line avoids `enclave`: it accesses no byte of its region, and does not enter it; a line with an error does neither
 abbrev pub LineAvoidsEnclave : ℕ → BenchState → List ℕ → Type 0
-LineAvoidsEnclave e bench line = IfOk (parse_of line) (AvoidsEnclave e bench)
+LineAvoidsEnclave enclave bench line = IfOk (parse_of line) (AvoidsEnclave enclave bench)
 
 -- a line avoids the hart on which the enclave runs: it neither steps nor shows it
 abbrev pub LineAvoidsHart : ℕ → BenchState → List ℕ → Type 0
-LineAvoidsHart e bench line = IfOk (parse_of line) (AvoidsHart e bench)
+LineAvoidsHart enclave bench line = IfOk (parse_of line) (AvoidsHart enclave bench)
 
--- The lines avoid the enclave that is live in slot e, as long as it is live. There is no condition on the lines after its end: they may enter
+-- The lines avoid the enclave that is live in slot `enclave`, as long as it is live. There is no condition on the lines after its end: they may enter
 -- another enclave that is created there.
 abbrev pub LinesAvoidEnclave : ℕ → BenchState → List (List ℕ) → Type 0
-LinesAvoidEnclave e bench [] = Unit {0}
-LinesAvoidEnclave e bench (line ∷ lines) =
-    is_live_in e bench.target ≡ true → LineAvoidsEnclave e bench line × LinesAvoidEnclave e (bench_line bench line).state lines
+LinesAvoidEnclave enclave bench [] = Unit {0}
+LinesAvoidEnclave enclave bench (line ∷ lines) =
+    is_live_in enclave bench.target ≡ true → LineAvoidsEnclave enclave bench line × LinesAvoidEnclave enclave (bench_line bench line).state lines
 
 -- the lines neither step nor show a hart on which the enclave runs, as long as it is live
 abbrev pub LinesAvoidHart : ℕ → BenchState → List (List ℕ) → Type 0
-LinesAvoidHart e bench [] = Unit {0}
-LinesAvoidHart e bench (line ∷ lines) =
-    is_live_in e bench.target ≡ true → LineAvoidsHart e bench line × LinesAvoidHart e (bench_line bench line).state lines
+LinesAvoidHart enclave bench [] = Unit {0}
+LinesAvoidHart enclave bench (line ∷ lines) =
+    is_live_in enclave bench.target ≡ true → LineAvoidsHart enclave bench line × LinesAvoidHart enclave (bench_line bench line).state lines
 
 -- Two benches give the same replies to lines, byte for byte, and are equivalent again after them.
-pub record RepliesAlike (e : ℕ) (first second : BenchState) (lines : List (List ℕ)) : Type 0 where
+pub record RepliesAlike (enclave : ℕ) (first second : BenchState) (lines : List (List ℕ)) : Type 0 where
   pub text : replies bench_line first lines ≡ replies bench_line second lines
-  pub state : RemainEquiv e (state_after bench_line first lines) (state_after bench_line second lines)
+  pub state : RemainEquiv enclave (state_after bench_line first lines) (state_after bench_line second lines)
 
 -- After any lines, take a part of the script that avoids an enclave and the hart on which it runs. Every bench that is equivalent except for
 -- that enclave replies the same to it. If the enclave runs on no hart at first, every part that avoids the enclave also avoids its hart.
 pub record ScriptNoninterference (bench : BenchState) : Type 0 where
-  pub alike : (e : ℕ) (before part : List (List ℕ)) (other : BenchState) → TargetInvariant other.target
-      → BenchesEquivExcept e (state_after bench_line bench before) other → LinesAvoidEnclave e (state_after bench_line bench before) part
-      → LinesAvoidHart e (state_after bench_line bench before) part → RepliesAlike e (state_after bench_line bench before) other part
-  pub not_running : (e : ℕ) (before part : List (List ℕ)) → RunsOnNoHart e (state_after bench_line bench before).target
-      → LinesAvoidEnclave e (state_after bench_line bench before) part → LinesAvoidHart e (state_after bench_line bench before) part
+  pub alike : (enclave : ℕ) (before part : List (List ℕ)) (other : BenchState) → TargetInvariant other.target
+      → BenchesEquivExcept enclave (state_after bench_line bench before) other → LinesAvoidEnclave enclave (state_after bench_line bench before) part
+      → LinesAvoidHart enclave (state_after bench_line bench before) part → RepliesAlike enclave (state_after bench_line bench before) other part
+  pub not_running : (enclave : ℕ) (before part : List (List ℕ)) → RunsOnNoHart enclave (state_after bench_line bench before).target
+      → LinesAvoidEnclave enclave (state_after bench_line bench before) part → LinesAvoidHart enclave (state_after bench_line bench before) part
 
 -- ---- from bytes to bytes
 
--- two lines, one for each bench: each pokes a byte into the region of slot e, or they are the same line, which avoids its enclave
+-- two lines, one for each bench: each pokes a byte into the region of `enclave`, or they are the same line, which avoids its enclave
 abbrev pub PokeOrPass : ℕ → BenchState → BenchState → List ℕ → List ℕ → Type 0
-PokeOrPass e first second line other =
-    (IsOkAnd (parse_of line) (PokesInto e first) × IsOkAnd (parse_of other) (PokesInto e second))
-    ⊎ ((line ≡ other) × LineAvoidsEnclave e first line)
+PokeOrPass enclave first second line other =
+    (IsOkAnd (parse_of line) (PokesInto enclave first) × IsOkAnd (parse_of other) (PokesInto enclave second))
+    ⊎ ((line ≡ other) × LineAvoidsEnclave enclave first line)
 
--- two lists of lines of the same length, one for each bench, that differ only in what they poke into the enclave of slot e
+-- two lists of lines of the same length, one for each bench, that differ only in what they poke into `enclave`
 abbrev pub DifferInPokes : ℕ → BenchState → BenchState → List (List ℕ) → List (List ℕ) → Type 0
-DifferInPokes e first second [] [] = Unit {0}
-DifferInPokes e first second (line ∷ lines) (other ∷ others) =
-    PokeOrPass e first second line other × DifferInPokes e (bench_line first line).state (bench_line second other).state lines others
-DifferInPokes e first second _ _ = ⊥
+DifferInPokes enclave first second [] [] = Unit {0}
+DifferInPokes enclave first second (line ∷ lines) (other ∷ others) =
+    PokeOrPass enclave first second line other × DifferInPokes enclave (bench_line first line).state (bench_line second other).state lines others
+DifferInPokes enclave first second _ _ = ⊥
 
--- each of these lines avoids the hart on which the enclave of slot e runs
+-- each of these lines avoids the hart on which `enclave` runs
 abbrev pub EachLineAvoidsHart : ℕ → BenchState → List (List ℕ) → Type 0
-EachLineAvoidsHart e bench [] = Unit {0}
-EachLineAvoidsHart e bench (line ∷ lines) = LineAvoidsHart e bench line × EachLineAvoidsHart e (bench_line bench line).state lines
+EachLineAvoidsHart enclave bench [] = Unit {0}
+EachLineAvoidsHart enclave bench (line ∷ lines) = LineAvoidsHart enclave bench line × EachLineAvoidsHart enclave (bench_line bench line).state lines
 
 -- Both lists of lines poke a secret into the region of an enclave. The other lines avoid it, both those between the pokes and the rest of the
 -- script. The enclave runs on no hart, or the lines avoid the one on which it runs.
-pub record AreSecret (e : ℕ) (bench : BenchState) (secret another rest : List (List ℕ)) : Type 0 where
-  pub pokes : DifferInPokes e bench bench secret another
-  pub passes : LinesAvoidEnclave e (state_after bench_line bench secret) rest
-  pub by : (can_scramble e bench ≡ true) ⊎ (EachLineAvoidsHart e bench secret × LinesAvoidHart e (state_after bench_line bench secret) rest)
+pub record AreSecret (enclave : ℕ) (bench : BenchState) (secret another rest : List (List ℕ)) : Type 0 where
+  pub pokes : DifferInPokes enclave bench bench secret another
+  pub passes : LinesAvoidEnclave enclave (state_after bench_line bench secret) rest
+  pub by : (can_scramble enclave bench ≡ true)
+      ⊎ (EachLineAvoidsHart enclave bench secret × LinesAvoidHart enclave (state_after bench_line bench secret) rest)
 
 -- Two inputs differ only in lines in the middle of the script, which poke a secret.
-pub record DifferInSecret (e : ℕ) (setup : Setup) (input other : List ℕ) : Type 0 where
+pub record DifferInSecret (enclave : ℕ) (setup : Setup) (input other : List ℕ) : Type 0 where
   pub prefix : List ℕ
   pub secret : List ℕ
   pub another : List ℕ
@@ -90,11 +91,12 @@ pub record DifferInSecret (e : ℕ) (setup : Setup) (input other : List ℕ) : T
   pub whole_another : through_last_feed another ≡ another
   pub separated : has_separator prefix ≡ true
   pub poked : IfOk (bench_in setup prefix) (λ bench.
-      AreSecret e (state_after bench_line bench (lines_of (after_separator prefix))) (lines_of secret) (lines_of another) (lines_of rest))
+      AreSecret enclave (state_after bench_line bench (lines_of (after_separator prefix))) (lines_of secret) (lines_of another) (lines_of rest))
 
 -- the output for an input equals that for every other input that differs only in what is poked into an enclave
 abbrev pub SecretNoninterference : Setup → List ℕ → Type 0
-SecretNoninterference setup input = (e : ℕ) (other : List ℕ) → DifferInSecret e setup input other → output setup input ≡ output setup other
+SecretNoninterference setup input = (enclave : ℕ) (other : List ℕ) → DifferInSecret enclave setup input other
+    → output setup input ≡ output setup other
 
 -- ---- the laws
 

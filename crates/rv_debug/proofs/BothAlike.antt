@@ -1,5 +1,5 @@
 -- Two benches that execute the same commands one after another: the state of each is that of executing its commands alone, and the two stay
--- equivalent except for slot e.
+-- equivalent except for `enclave`.
 use Rattle.std.proofs.Common.{◌≡◌, ℕ, suc, ◌+◌, ◌<◌, Bool, true, false, List, [], ◌∷◌, length, take, drop, get_or, ◌⊎◌, refl, sym, ◌∙◌, ap, ap₂}
 use Rattle.std.proofs.Common.{subst, inl, inr, arith, not}
 use Rattle.std.specs.Prelude.{◌&&◌, ◌||◌, if◌then◌else◌}
@@ -10,38 +10,39 @@ use Rattle.rv_debug.proofs.Prelude.{both_run, cases_Bool, drop_all, drop_more, g
 use Rattle.rv_debug.proofs.ExecuteAlike.{equiv_again, noninterference}
 use Rattle.rv_debug.proofs.EffectsInvariant.{command_keeps_invariant}
 
--- two benches `one` and `other`, and the slot e of the enclave in which they may differ
-module _ (e : ℕ) where
+-- two benches `one` and `other`, and the slot `enclave` in which they may differ
+module _ (enclave : ℕ) where
   -- `stopped` is the result of a command that is not blind in both benches: neither executes it
   abbrev pub stopped : BenchState → BenchState → BothExecuted
   stopped one other = record { first = one; second = other; first_reply = []; second_reply = []; why = NotBlind }
 
   -- `both_done` is the result of a command that both benches execute
   abbrev pub both_done : BenchState → BenchState → Command → BothExecuted
-  both_done one other command = both_do e (execute one command) (execute other command)
+  both_done one other command = both_do enclave (execute one command) (execute other command)
 
   -- ---- one command
 
   -- both benches execute a command that is blind in both benches, and neither executes any other command
   one_cases : (one other : BenchState) (command : Command)
-      → (((is_blind e one command && is_blind e other command) ≡ false) × (both_execute e one other command ≡ stopped one other))
-      ⊎ ((is_blind e one command ≡ true) × (both_execute e one other command ≡ both_done one other command))
+      → (((is_blind enclave one command && is_blind enclave other command) ≡ false) × (both_execute enclave one other command ≡ stopped one other))
+      ⊎ ((is_blind enclave one command ≡ true) × (both_execute enclave one other command ≡ both_done one other command))
   unfolding both_execute
-  one_cases one other command = elim (cases_Bool (is_blind e one command && is_blind e other command)) [
+  one_cases one other command = elim (cases_Bool (is_blind enclave one command && is_blind enclave other command)) [
     | inl both_blind ↦ inr ((and_parts _ _ both_blind).0, rw both_blind refl)
     | inr not_both ↦ inl (not_both, rw not_both refl)
   ]
 
-  -- the region of slot e is the same in equivalent targets
-  same_region : (command : Command) (one other : Target) → TargetsEquivExcept e one other
-      → meets (bytes_named command) (region_in e one) ≡ meets (bytes_named command) (region_in e other)
+  -- the region of `enclave` is the same in equivalent targets
+  same_region : (command : Command) (one other : Target) → TargetsEquivExcept enclave one other
+      → meets (bytes_named command) (region_in enclave one) ≡ meets (bytes_named command) (region_in enclave other)
   same_region command (Monitored one) (Monitored other) equiv =
-      ap (λ (slots : Slots). meets (bytes_named command) (region slots e)) (let state = equiv.state in state.shared.table)
+      ap (λ (slots : Slots). meets (bytes_named command) (region slots enclave)) (let state = equiv.state in state.shared.table)
   same_region command (Bare one) (Bare other) equiv = refl
   same_region command _ _ equiv = absurd equiv
 
   -- a command is blind in both equivalent benches or in neither
-  same_blind : (one other : BenchState) (command : Command) → BenchesEquivExcept e one other → is_blind e one command ≡ is_blind e other command
+  same_blind : (one other : BenchState) (command : Command) → BenchesEquivExcept enclave one other
+      → is_blind enclave one command ≡ is_blind enclave other command
   unfolding is_blind
   same_blind one other command equiv = ap (λ (met : Bool). not met) (same_region command one.target other.target equiv.target)
 
@@ -51,50 +52,50 @@ module _ (e : ℕ) where
   first_test_fails false y same_tests and_fails = refl
 
   -- the reason after a command that both benches execute is `Entered` if the slot is entered in either bench (x, y), and else `All`
-  why_is : (one other : BenchState) (command : Command) (x y : Bool) → is_entered e (execute one command).entered ≡ x
-      → is_entered e (execute other command).entered ≡ y → (both_done one other command).why ≡ (if x || y then Entered else All)
+  why_is : (one other : BenchState) (command : Command) (x y : Bool) → is_entered enclave (execute one command).entered ≡ x
+      → is_entered enclave (execute other command).entered ≡ y → (both_done one other command).why ≡ (if x || y then Entered else All)
   why_is one other command x y first_enters second_enters = ap₂ (λ (x y : Bool). if x || y then Entered else All) first_enters second_enters
 
   -- two executions that the law relates are alike for the reason that the command gives
-  done_alike : (one other : BenchState) (command : Command) → ExecuteAlike e (execute one command) (execute other command)
-      → AlikeBy e one other command (both_done one other command) (both_done one other command).why
-  done_alike one other command alike = elim (cases_Bool (is_entered e (execute one command).entered)) [
+  done_alike : (one other : BenchState) (command : Command) → ExecuteAlike enclave (execute one command) (execute other command)
+      → AlikeBy enclave one other command (both_done one other command) (both_done one other command).why
+  done_alike one other command alike = elim (cases_Bool (is_entered enclave (execute one command).entered)) [
     | inl first_enters ↦
         let second_enters = sym alike.entered ∙ first_enters in
-        subst (λ (why : BothWhy). AlikeBy e one other command (both_done one other command) why)
+        subst (λ (why : BothWhy). AlikeBy enclave one other command (both_done one other command) why)
         (sym (why_is one other command true true first_enters second_enters)) (record { here = first_enters; there = second_enters })
     | inr not_entered ↦
         let passed = alike.passed not_entered in
-        subst (λ (why : BothWhy). AlikeBy e one other command (both_done one other command) why)
+        subst (λ (why : BothWhy). AlikeBy enclave one other command (both_done one other command) why)
         (sym (why_is one other command false false not_entered (sym alike.entered ∙ not_entered)))
         (record { reply = passed.reply; state = passed.state })
   ]
 
   -- proves that one command for both benches is alike for each reason to go on or to end
   pub both_alike : (one other : BenchState) (command : Command) → TargetInvariant one.target
-      → TargetInvariant other.target → StayAlike e one other command (both_execute e one other command)
+      → TargetInvariant other.target → StayAlike enclave one other command (both_execute enclave one other command)
   both_alike one other command invariant other_invariant equiv avoids_hart = elim (one_cases one other command) [
     | inl stop ↦
         let not_blind = first_test_fails _ _ (same_blind one other command equiv) stop.0 in
-        subst (λ (after : BothExecuted). AlikeBy e one other command after after.why) (sym stop.1)
+        subst (λ (after : BothExecuted). AlikeBy enclave one other command after after.why) (sym stop.1)
         (record { here = not_blind; there = sym (same_blind one other command equiv) ∙ not_blind })
-    | inr executes ↦ subst (λ (after : BothExecuted). AlikeBy e one other command after after.why) (sym executes.1)
-        (done_alike one other command (noninterference e one other command invariant other_invariant equiv executes.0 avoids_hart))
+    | inr executes ↦ subst (λ (after : BothExecuted). AlikeBy enclave one other command after after.why) (sym executes.1)
+        (done_alike one other command (noninterference enclave one other command invariant other_invariant equiv executes.0 avoids_hart))
   ]
 
   -- ---- a list of commands
 
   -- the result of a list of commands, where `after` is the result of its first command and `why` says whether the list goes on
   run_more_by : (one other : BenchState) (command : Command) (commands : List Command) (after : BothExecuted) (why : BothWhy)
-      → both_execute e one other command ≡ after
-      → after.why ≡ why → both_run e one other (command ∷ commands) ≡ go_on why after (both_run e after.first after.second commands)
+      → both_execute enclave one other command ≡ after
+      → after.why ≡ why → both_run enclave one other (command ∷ commands) ≡ go_on why after (both_run enclave after.first after.second commands)
   unfolding both_run
   run_more_by one other command commands after why both_execute_is reason_is =
-      ap (λ (after : BothExecuted). go_on after.why after (both_run e after.first after.second commands)) both_execute_is
-      ∙ ap (λ (why : BothWhy). go_on why after (both_run e after.first after.second commands)) reason_is
+      ap (λ (after : BothExecuted). go_on after.why after (both_run enclave after.first after.second commands)) both_execute_is
+      ∙ ap (λ (why : BothWhy). go_on why after (both_run enclave after.first after.second commands)) reason_is
 
   -- an empty list of commands leaves both benches as they are
-  run_of_none : (one other : BenchState) → both_run e one other [] ≡ record { first = one; second = other; ran = 0; why = All }
+  run_of_none : (one other : BenchState) → both_run enclave one other [] ≡ record { first = one; second = other; ran = 0; why = All }
   unfolding both_run
   run_of_none one other = refl
 
@@ -117,31 +118,32 @@ module _ (e : ℕ) where
   not_stopped false reason_is = cc
 
   -- Proves `Folded` for each list of commands, by induction over the list.
-  pub folded : (one other : BenchState) (commands : List Command) → Folded one other commands (both_run e one other commands)
+  pub folded : (one other : BenchState) (commands : List Command) → Folded one other commands (both_run enclave one other commands)
   folded one other [] = subst (Folded one other []) (sym (run_of_none one other)) (refl, refl)
   folded one other (command ∷ commands) = elim (one_cases one other command) [
     | inl stop ↦ subst (Folded one other (command ∷ commands))
         (sym (run_more_by one other command commands (stopped one other) NotBlind stop.1 refl)) (refl, refl)
     | inr executes ↦
         subst (Folded one other (command ∷ commands)) (sym (run_more_by one other command commands (both_done one other command) _ executes.1 refl))
-        (folded_more one other command commands _ (both_run e (execute one command).state (execute other command).state commands) (not_stopped _)
+        (folded_more one other command commands _ (both_run enclave (execute one command).state (execute other command).state commands)
+        (not_stopped _)
         (folded (execute one command).state (execute other command).state commands))
   ]
 
   -- ---- equivalence of both
 
-  -- the executed commands of both are alike, if they avoid the hart of slot e
+  -- the executed commands of both are alike, if they avoid the hart of `enclave`
   abbrev pub EndAlike : BenchState → BenchState → List Command → BothRan → Type 0
-  EndAlike one other commands end = CommandsAvoidHart e one (take end.ran commands) → DoneAlike e one other commands end.ran end.why
+  EndAlike one other commands end = CommandsAvoidHart enclave one (take end.ran commands) → DoneAlike enclave one other commands end.ran end.why
 
   -- an empty list of commands has equal replies and leaves the benches equivalent
-  none_alike : (one other : BenchState) → TargetInvariant one.target → BenchesEquivExcept e one other → AllAlike e one other []
-  none_alike one other invariant equiv = record { replies = refl; state = equiv_again e one other invariant equiv }
+  none_alike : (one other : BenchState) → TargetInvariant one.target → BenchesEquivExcept enclave one other → AllAlike enclave one other []
+  none_alike one other invariant equiv = record { replies = refl; state = equiv_again enclave one other invariant equiv }
 
   -- if one command has equal replies and the remaining commands are alike, then all of them are alike
   one_more_alike : (one other : BenchState) (command : Command) (commands : List Command)
       → (execute one command).reply ≡ (execute other command).reply
-      → AllAlike e (execute one command).state (execute other command).state commands → AllAlike e one other (command ∷ commands)
+      → AllAlike enclave (execute one command).state (execute other command).state commands → AllAlike enclave one other (command ∷ commands)
   one_more_alike one other command commands same_reply rest_alike = record {
     replies = ap₂ (λ (reply : List ℕ) (replies : List (List ℕ)). reply ∷ replies) same_reply rest_alike.replies;
     state = rest_alike.state;
@@ -150,8 +152,8 @@ module _ (e : ℕ) where
   -- if one command has equal replies, and the executed ones among the remaining commands are alike, then all executed commands are alike
   done_more_alike : (one other : BenchState) (command : Command) (commands : List Command) (ran : ℕ) (why : BothWhy)
       → (execute one command).reply ≡ (execute other command).reply
-      → DoneAlike e (execute one command).state (execute other command).state commands ran why
-      → DoneAlike e one other (command ∷ commands) (suc ran) why
+      → DoneAlike enclave (execute one command).state (execute other command).state commands ran why
+      → DoneAlike enclave one other (command ∷ commands) (suc ran) why
   done_more_alike one other command commands ran All same_reply rest_alike =
       one_more_alike one other command (take ran commands) same_reply rest_alike
   done_more_alike one other command commands ran NotBlind same_reply rest_alike =
@@ -160,37 +162,38 @@ module _ (e : ℕ) where
       (suc rest_alike.0, ap (λ (n : ℕ). suc n) rest_alike.1, one_more_alike one other command (take rest_alike.0 commands) same_reply rest_alike.2)
 
   -- a list whose first command enters the slot ends alike in both benches, with this command as its last
-  entered_last : (one other : BenchState) (command : Command) (commands : List Command) → TargetInvariant one.target → BenchesEquivExcept e one other
-      → both_execute e one other command ≡ both_done one other command → (both_done one other command).why ≡ Entered
-      → EndAlike one other (command ∷ commands) (both_run e one other (command ∷ commands))
+  entered_last : (one other : BenchState) (command : Command) (commands : List Command) → TargetInvariant one.target
+      → BenchesEquivExcept enclave one other
+      → both_execute enclave one other command ≡ both_done one other command → (both_done one other command).why ≡ Entered
+      → EndAlike one other (command ∷ commands) (both_run enclave one other (command ∷ commands))
   entered_last one other command commands invariant equiv both_execute_is reason_is =
       subst (EndAlike one other (command ∷ commands))
       (sym (run_more_by one other command commands (both_done one other command) Entered both_execute_is reason_is))
       (λ avoids_hart. (0, refl, none_alike one other invariant equiv))
 
   -- Proves that a list of commands is alike in both benches, by induction over the list. The first command has four cases. It is not
-  -- blind, it enters slot e in the first bench, it enters the slot in the second bench only, or it enters the slot in neither.
+  -- blind, it enters `enclave` in the first bench, it enters the slot in the second bench only, or it enters the slot in neither.
   pub run_alike : (one other : BenchState) (commands : List Command) → TargetInvariant one.target
-      → TargetInvariant other.target → BenchesEquivExcept e one other → EndAlike one other commands (both_run e one other commands)
+      → TargetInvariant other.target → BenchesEquivExcept enclave one other → EndAlike one other commands (both_run enclave one other commands)
   run_alike one other [] invariant other_invariant equiv =
       subst (EndAlike one other []) (sym (run_of_none one other)) (λ avoids_hart. none_alike one other invariant equiv)
   run_alike one other (command ∷ commands) invariant other_invariant equiv = elim (one_cases one other command) [
     | inl stop ↦ subst (EndAlike one other (command ∷ commands))
         (sym (run_more_by one other command commands (stopped one other) NotBlind stop.1 refl))
         (λ avoids_hart. none_alike one other invariant equiv)
-    | inr executes ↦ elim (cases_Bool (is_entered e (execute one command).entered)) [
+    | inr executes ↦ elim (cases_Bool (is_entered enclave (execute one command).entered)) [
       | inl first_enters ↦ entered_last one other command commands invariant equiv executes.1
-          (why_is one other command true (is_entered e (execute other command).entered) first_enters refl)
-      | inr first_does_not ↦ elim (cases_Bool (is_entered e (execute other command).entered)) [
+          (why_is one other command true (is_entered enclave (execute other command).entered) first_enters refl)
+      | inr first_does_not ↦ elim (cases_Bool (is_entered enclave (execute other command).entered)) [
         | inl second_enters ↦
             entered_last one other command commands invariant equiv executes.1 (why_is one other command false true first_does_not second_enters)
         | inr second_does_not ↦
-            let rest = both_run e (execute one command).state (execute other command).state commands in
+            let rest = both_run enclave (execute one command).state (execute other command).state commands in
             subst (EndAlike one other (command ∷ commands))
             (sym (run_more_by one other command commands (both_done one other command) All executes.1
             (why_is one other command false false first_does_not second_does_not)))
             (λ avoids_hart.
-            let alike = noninterference e one other command invariant other_invariant equiv executes.0 avoids_hart.0 in
+            let alike = noninterference enclave one other command invariant other_invariant equiv executes.0 avoids_hart.0 in
             let passed = alike.passed first_does_not in
             done_more_alike one other command commands rest.ran rest.why passed.reply
             (run_alike (execute one command).state (execute other command).state commands (command_keeps_invariant one command invariant)
@@ -214,14 +217,15 @@ module _ (e : ℕ) where
   -- the state of the loop at the command of index n: `all_ran` is the result of all commands, and `after` that of this command
   module _ (one other : BenchState) (commands : List Command) (n : ℕ) (command : Command) (all_ran : BothRan) (after : BothExecuted)
       (in_bounds : n < length commands) (command_is : command ≡ get_or commands n command)
-      (so_far : later n (both_run e one other (drop n commands)) ≡ all_ran) (executed : both_execute e one other command ≡ after) where
+      (so_far : later n (both_run enclave one other (drop n commands)) ≡ all_ran) (executed : both_execute enclave one other command ≡ after) where
     -- the result of all commands, by the reason (why) for which the commands go on or end after the command at index n
-    result_by : (why : BothWhy) → after.why ≡ why → all_ran ≡ later n (go_on why after (both_run e after.first after.second (drop (n + 1) commands)))
+    result_by : (why : BothWhy) → after.why ≡ why
+        → all_ran ≡ later n (go_on why after (both_run enclave after.first after.second (drop (n + 1) commands)))
     result_by why reason_is =
-        sym so_far ∙ ap (λ (rest : List Command). later n (both_run e one other rest)) (next_command commands n command in_bounds command_is)
+        sym so_far ∙ ap (λ (rest : List Command). later n (both_run enclave one other rest)) (next_command commands n command in_bounds command_is)
         ∙ ap (later n) (run_more_by one other command (drop (n + 1) commands) after why executed reason_is)
 
-    -- after a command that enters slot e, the list ends, and this command is counted
+    -- after a command that enters `enclave`, the list ends, and this command is counted
     pub at_entered : after.why ≡ Entered → all_ran ≡ record { first = after.first; second = after.second; ran = n + 1; why = Entered }
     at_entered reason_is = result_by Entered reason_is
 
@@ -232,18 +236,18 @@ module _ (e : ℕ) where
         result_by NotBlind reason_is ∙ ap (λ (ran : ℕ). record { first = after.first; second = after.second; ran = ran; why = NotBlind }) count
 
     -- after any other command, the result is that of the remaining commands
-    pub at_more : after.why ≡ All → later (n + 1) (both_run e after.first after.second (drop (n + 1) commands)) ≡ all_ran
+    pub at_more : after.why ≡ All → later (n + 1) (both_run enclave after.first after.second (drop (n + 1) commands)) ≡ all_ran
     at_more reason_is =
-        let rest = both_run e after.first after.second (drop (n + 1) commands) in
+        let rest = both_run enclave after.first after.second (drop (n + 1) commands) in
         let count : n + 1 + rest.ran ≡ n + suc rest.ran = omega arith in
         ap (λ (ran : ℕ). record { first = rest.first; second = rest.second; ran = ran; why = rest.why }) count ∙ sym (result_by All reason_is)
 
   -- after the last command, the result is that all were executed
   pub at_last : (one other : BenchState) (commands : List Command) (n : ℕ) (all_ran : BothRan)
-      → n ≡ length commands → later n (both_run e one other (drop n commands)) ≡ all_ran
+      → n ≡ length commands → later n (both_run enclave one other (drop n commands)) ≡ all_ran
       → all_ran ≡ record { first = one; second = other; ran = length commands; why = All }
   at_last one other commands n all_ran at_end so_far =
       let nothing_left : drop n commands ≡ [] = drop_all n commands (omega arith) in
       let count : n + 0 ≡ length commands = omega (arith, at_end) in
-      sym so_far ∙ ap (λ (rest : List Command). later n (both_run e one other rest)) nothing_left ∙ ap (later n) (run_of_none one other)
+      sym so_far ∙ ap (λ (rest : List Command). later n (both_run enclave one other rest)) nothing_left ∙ ap (later n) (run_of_none one other)
       ∙ ap (λ (ran : ℕ). record { first = one; second = other; ran = ran; why = All }) count

@@ -32,14 +32,14 @@ use Rattle.rv_debug.proofs.ScheduledSteps.{bare_target, schedule_is_sched}
 
 -- the two commands are the same command, two pokes of secrets, or two writes of secrets to registers of the enclave
 abbrev SecretsOrSame : ℕ → BenchState → BenchState → Command → Command → Type 0
-SecretsOrSame e first second command other_command =
-    IsSameCommand e first second command other_command
-    ⊎ ((PokesInto e first command × PokesInto e second other_command)
-    ⊎ (SetsOwnRegister e first command × SetsOwnRegister e second other_command))
+SecretsOrSame enclave first second command other_command =
+    IsSameCommand enclave first second command other_command
+    ⊎ ((PokesInto enclave first command × PokesInto enclave second other_command)
+    ⊎ (SetsOwnRegister enclave first command × SetsOwnRegister enclave second other_command))
 
 -- two related machines `one` and `other` with hart `hart` selected, in benches with equal breakpoints and watchpoints
-module _ (e hart : ℕ) (one other : MonitoredMachine) (invariant : Invariant one) (other_invariant : Invariant other)
-    (related : AreRelated e one other) (breaks watches : List ℕ) where
+module _ (enclave hart : ℕ) (one other : MonitoredMachine) (invariant : Invariant one) (other_invariant : Invariant other)
+    (related : AreRelated enclave one other) (breaks watches : List ℕ) where
   -- the target with the given machine, and hart `hart` selected
   abbrev as_target : MonitoredMachine → Target
   as_target machine = selected_at hart machine
@@ -48,28 +48,28 @@ module _ (e hart : ℕ) (one other : MonitoredMachine) (invariant : Invariant on
   abbrev as_bench : MonitoredMachine → BenchState
   as_bench machine = bench_of (as_target machine) breaks watches
 
-  -- the targets of the two benches are related for slot e
-  targets_related : TargetsAreRelated e (as_target one) (as_target other)
+  -- the targets of the two benches are related for `enclave`
+  targets_related : TargetsAreRelated enclave (as_target one) (as_target other)
   targets_related = record { hart = refl; state = related }
 
   -- ---- effects
 
   -- the targets are related after steps that are moves of the two machines
-  related_after_steps : (harts others : List ℕ) (selected : ℕ) → StepsAreMoves e one other harts others
-      → TargetsAreRelated e (done (as_target one) (Steps harts selected)) (done (as_target other) (Steps others selected))
+  related_after_steps : (harts others : List ℕ) (selected : ℕ) → StepsAreMoves enclave one other harts others
+      → TargetsAreRelated enclave (done (as_target one) (Steps harts selected)) (done (as_target other) (Steps others selected))
   related_after_steps harts others selected steps =
-      let moved = moved_by e 0 harts others one other invariant other_invariant related steps in
-      subst (λ (t : Target). TargetsAreRelated e t (done (as_target other) (Steps others selected)))
+      let moved = moved_by enclave 0 harts others one other invariant other_invariant related steps in
+      subst (λ (t : Target). TargetsAreRelated enclave t (done (as_target other) (Steps others selected)))
       (sym (schedule_is_sched harts (record { hart = hart; state = one }) _ selected))
-      (subst (TargetsAreRelated e (selected_at selected (sched harts one).state))
+      (subst (TargetsAreRelated enclave (selected_at selected (sched harts one).state))
       (sym (schedule_is_sched others (record { hart = hart; state = other }) _ selected)) (record { hart = refl; state = moved.state }))
 
   -- the targets are related after the same write of a register
-  related_after_setreg : (number value : ℕ) → TargetsAreRelated e (done (as_target one) (effect (as_bench one) (SetReg number value)))
+  related_after_setreg : (number value : ℕ) → TargetsAreRelated enclave (done (as_target one) (effect (as_bench one) (SetReg number value)))
       (done (as_target other) (effect (as_bench other) (SetReg number value)))
   related_after_setreg number value = record {
     hart = refl;
-    state = changed_related e hart (reg_set number value) (reg_set number value) one other related (record {
+    state = changed_related enclave hart (reg_set number value) (reg_set number value) one other related (record {
       world = refl;
       state = λ hart_related. record { world = hart_related.world; same = λ not_on_hart. ap (reg_set number value) (hart_related.same not_on_hart) };
       host = λ hart_related. record { host = hart_related.host; rest = hart_related.rest };
@@ -77,12 +77,12 @@ module _ (e hart : ℕ) (one other : MonitoredMachine) (invariant : Invariant on
   }
 
   -- the targets are related after any writes of registers of the enclave on its own hart
-  related_after_secret_setreg : (number value other_number other_value : ℕ) → runs_on e hart one ≡ true
-      → TargetsAreRelated e (done (as_target one) (effect (as_bench one) (SetReg number value)))
+  related_after_secret_setreg : (number value other_number other_value : ℕ) → runs_on enclave hart one ≡ true
+      → TargetsAreRelated enclave (done (as_target one) (effect (as_bench one) (SetReg number value)))
       (done (as_target other) (effect (as_bench other) (SetReg other_number other_value)))
   related_after_secret_setreg number value other_number other_value on_hart = record {
     hart = refl;
-    state = changed_related e hart (reg_set number value) (reg_set other_number other_value) one other related (record {
+    state = changed_related enclave hart (reg_set number value) (reg_set other_number other_value) one other related (record {
       world = refl;
       state = λ hart_related. record { world = hart_related.world; same = λ not_on_hart. let never : true ≡ false = sym on_hart ∙ not_on_hart in cc };
       host = λ hart_related. record { host = hart_related.host; rest = hart_related.rest };
@@ -90,11 +90,11 @@ module _ (e hart : ℕ) (one other : MonitoredMachine) (invariant : Invariant on
   }
 
   -- the targets are related after the same change of the timer line
-  related_after_timer : (raised : Bool) → TargetsAreRelated e (done (as_target one) (effect (as_bench one) (Timer raised)))
+  related_after_timer : (raised : Bool) → TargetsAreRelated enclave (done (as_target one) (effect (as_bench one) (Timer raised)))
       (done (as_target other) (effect (as_bench other) (Timer raised)))
   related_after_timer raised = record {
     hart = refl;
-    state = changed_related e hart (timer_line_set raised) (timer_line_set raised) one other related (record {
+    state = changed_related enclave hart (timer_line_set raised) (timer_line_set raised) one other related (record {
       world = refl;
       state = λ hart_related. record { world = hart_related.world; same = λ not_on_hart. ap (timer_line_set raised) (hart_related.same not_on_hart) };
       host = λ hart_related. record { host = hart_related.host; rest = ap (λ (c : CsrState). record c { timer = raised }) hart_related.rest };
@@ -107,7 +107,7 @@ module _ (e hart : ℕ) (one other : MonitoredMachine) (invariant : Invariant on
 
   -- two pokes leave related targets and have equal replies
   record PokedAlike (m n : Option (List ℕ)) : Type 0 where
-    state : TargetsAreRelated e (poke_of (as_target one) m) (poke_of (as_target other) n)
+    state : TargetsAreRelated enclave (poke_of (as_target one) m) (poke_of (as_target other) n)
     reply : poked_text one m ≡ poked_text other n
 
   -- equal pokes of related targets have equal replies and leave related targets
@@ -121,12 +121,13 @@ module _ (e hart : ℕ) (one other : MonitoredMachine) (invariant : Invariant on
             let first_write = write-some one.shared.memory address bytes in_ram in
             let second_write = write-some other.shared.memory address bytes (rw (← same_size) in_ram) in
             let written_equal =
-            same_write (may_differ one.shared.table e) one.shared.memory other.shared.memory address bytes _ _ memory first_write second_write in
-            let same_if_ended : (is_live one.shared.table e ≡ false)
+            same_write (may_differ one.shared.table enclave) one.shared.memory other.shared.memory address bytes _ _ memory first_write
+            second_write in
+            let same_if_ended : (is_live one.shared.table enclave ≡ false)
             → write_bytes one.shared.memory (address - ram_base) bytes ≡ write_bytes other.shared.memory (address - ram_base) bytes =
             λ has_ended. ap (λ (s : Shared). write_bytes s.memory (address - ram_base) bytes) (related.gone has_ended) in
             rw (first_write, second_write) (record {
-              state = record { hart = refl; state = memory_related e one other _ _ related written_equal same_if_ended };
+              state = record { hart = refl; state = memory_related enclave one other _ _ related written_equal same_if_ended };
               reply = refl;
             })
         | inr outside_ram ↦
@@ -136,31 +137,31 @@ module _ (e hart : ℕ) (one other : MonitoredMachine) (invariant : Invariant on
       ]
 
   -- two pokes into the region, of two bytes and at two addresses, leave related targets and have equal replies
-  secret_pokes_related : (address byte other_address other_byte : ℕ) → has (region one.shared.table e) address ≡ true
-      → has (region other.shared.table e) other_address ≡ true
+  secret_pokes_related : (address byte other_address other_byte : ℕ) → has (region one.shared.table enclave) address ≡ true
+      → has (region other.shared.table enclave) other_address ≡ true
       → PokedAlike (write one.shared.memory address (byte ∷ [])) (write other.shared.memory other_address (other_byte ∷ []))
   secret_pokes_related address byte other_address other_byte in_region other_in_region =
-      let first_write = poke_succeeds one e address byte invariant in_region in
-      let second_write = poke_succeeds other e other_address other_byte other_invariant other_in_region in
-      let hidden : (a : ℕ) → has (region one.shared.table e) a ≡ true → may_differ one.shared.table e a ≡ true =
+      let first_write = poke_succeeds one enclave address byte invariant in_region in
+      let second_write = poke_succeeds other enclave other_address other_byte other_invariant other_in_region in
+      let hidden : (a : ℕ) → has (region one.shared.table enclave) a ≡ true → may_differ one.shared.table enclave a ≡ true =
       λ a within_region. rw within_region refl in
-      let in_first : has (region one.shared.table e) other_address ≡ true =
-      ap (λ (t : Slots). has (region t e) other_address) related.table ∙ other_in_region in
-      let memory = hidden_writes (may_differ one.shared.table e) one.shared.memory other.shared.memory address other_address byte other_byte _
+      let in_first : has (region one.shared.table enclave) other_address ≡ true =
+      ap (λ (t : Slots). has (region t enclave) other_address) related.table ∙ other_in_region in
+      let memory = hidden_writes (may_differ one.shared.table enclave) one.shared.memory other.shared.memory address other_address byte other_byte _
       _ related.memory
       first_write second_write (hidden address in_region) (hidden other_address in_first) in
       rw (first_write, second_write) (record {
         state = record {
           hart = refl;
-          state = memory_related e one other _ _ related memory (λ has_ended.
-              let never : true ≡ false = sym (live_if_in_region (slot_at one.shared.table e) address in_region) ∙ has_ended in cc);
+          state = memory_related enclave one other _ _ related memory (λ has_ended.
+              let never : true ≡ false = sym (live_if_in_region (slot_at one.shared.table enclave) address in_region) ∙ has_ended in cc);
         };
         reply = refl;
       })
 
   -- the targets are related after the command `hart`, where `exist` and `other_exist` state whether the hart exists in each
   related_after_hart : (number : ℕ) (exist other_exist : Bool) → exist ≡ other_exist
-      → TargetsAreRelated e (done (as_target one) (if exist then Steps [] number else Nothing))
+      → TargetsAreRelated enclave (done (as_target one) (if exist then Steps [] number else Nothing))
       (done (as_target other) (if other_exist then Steps [] number else Nothing))
   unfolding scheduled_steps
   related_after_hart number true true same_exist = record { hart = refl; state = related }
@@ -173,8 +174,8 @@ module _ (e hart : ℕ) (one other : MonitoredMachine) (invariant : Invariant on
 
   -- the targets are related after a schedule whose steps are moves of the two machines
   related_after_sched : (harts : List ℕ) (exist other_exist : Bool) → exist ≡ other_exist
-      → StepsAreMoves e one other (harts_stepped (sched_of harts exist)) (harts_stepped (sched_of harts other_exist))
-      → TargetsAreRelated e (done (as_target one) (sched_of harts exist)) (done (as_target other) (sched_of harts other_exist))
+      → StepsAreMoves enclave one other (harts_stepped (sched_of harts exist)) (harts_stepped (sched_of harts other_exist))
+      → TargetsAreRelated enclave (done (as_target one) (sched_of harts exist)) (done (as_target other) (sched_of harts other_exist))
   related_after_sched harts true true same_exist steps = related_after_steps harts harts hart steps
   related_after_sched harts false false same_exist steps = targets_related
   related_after_sched harts _ _ same_exist steps = cc
@@ -182,11 +183,11 @@ module _ (e hart : ℕ) (one other : MonitoredMachine) (invariant : Invariant on
   -- the claim of `related_after`: the targets are related after both benches execute the command
   abbrev RelatedAfter : Command → Type 0
   RelatedAfter command =
-      TargetsAreRelated e (done (as_target one) (effect (as_bench one) command)) (done (as_target other) (effect (as_bench other) command))
+      TargetsAreRelated enclave (done (as_target one) (effect (as_bench one) command)) (done (as_target other) (effect (as_bench other) command))
 
   -- A command that both benches execute leaves related targets, if the enclave hands over the same in both. Each kind of command has a clause; a
   -- command that only shows something leaves the targets as they are.
-  related_after : (command : Command) → HandsOverAlike e (as_bench one) (as_bench other) command → RelatedAfter command
+  related_after : (command : Command) → HandsOverAlike enclave (as_bench one) (as_bench other) command → RelatedAfter command
   related_after (Step count) steps = related_after_steps _ _ hart steps
   related_after (Run count) steps = related_after_steps _ _ hart steps
   related_after (SetReg number value) steps = related_after_setreg number value
@@ -204,44 +205,45 @@ module _ (e hart : ℕ) (one other : MonitoredMachine) (invariant : Invariant on
   -- `sched_observed` is what others observe of the command `sched`, where `exist` states whether its harts exist
   abbrev sched_observed : MonitoredMachine → List ℕ → Bool → List ℕ
   sched_observed machine harts exist =
-      if exist then observed_harts e (scheduled_steps harts (schedule_start (as_target machine))) else no_hart_text
+      if exist then observed_harts enclave (scheduled_steps harts (schedule_start (as_target machine))) else no_hart_text
 
   -- equal schedules have equal observations, if the steps in both machines are moves
   schedule_observed : (harts : List ℕ) (exist other_exist : Bool) → exist ≡ other_exist
-      → StepsAreMoves e one other (harts_stepped (sched_of harts exist)) (harts_stepped (sched_of harts other_exist))
+      → StepsAreMoves enclave one other (harts_stepped (sched_of harts exist)) (harts_stepped (sched_of harts other_exist))
       → sched_observed one harts exist ≡ sched_observed other harts other_exist
-  schedule_observed harts true true same_exist steps = schedules_alike e hart harts one other invariant other_invariant related steps
+  schedule_observed harts true true same_exist steps = schedules_alike enclave hart harts one other invariant other_invariant related steps
   schedule_observed harts false false same_exist steps = refl
   schedule_observed harts _ _ same_exist steps = cc
 
   -- the claim of `observed_equal`: what others observe of the command is equal in both benches
   abbrev ObservedEqual : Command → Type 0
-  ObservedEqual command = observed e (as_bench one) command ≡ observed e (as_bench other) command
+  ObservedEqual command = observed enclave (as_bench one) command ≡ observed enclave (as_bench other) command
 
   -- a command that both benches execute has equal observations, if the enclave hands over the same and both runs stop alike
-  observed_equal : (command : Command) → HandsOverAlike e (as_bench one) (as_bench other) command
+  observed_equal : (command : Command) → HandsOverAlike enclave (as_bench one) (as_bench other) command
       → stop_of (as_bench one) command ≡ stop_of (as_bench other) command → ObservedEqual command
-  observed_equal (Step count) steps stop = runs_alike e hart one other [] [] count invariant other_invariant related steps stop
-  observed_equal (Run count) steps stop = runs_alike e hart one other breaks watches count invariant other_invariant related steps stop
+  observed_equal (Step count) steps stop = runs_alike enclave hart one other [] [] count invariant other_invariant related steps stop
+  observed_equal (Run count) steps stop = runs_alike enclave hart one other breaks watches count invariant other_invariant related steps stop
   observed_equal (Sched schedule) steps stop =
       let harts = harts_in schedule in
       schedule_observed harts (has_all (count_of one) harts) (has_all (count_of other) harts) (ap (λ (n : ℕ). has_all n harts) related.harts) steps
-  observed_equal (Reg number) steps stop = hart_texts e hart one other related (λ (s : HartState). register_text number (register s.hart.regs number))
-  observed_equal Regs steps stop = hart_texts e hart one other related (λ (s : HartState). registers_text s.hart.regs s.hart.pc)
-  observed_equal (Csr number) steps stop = csrs_alike e hart one other number related
+  observed_equal (Reg number) steps stop =
+      hart_texts enclave hart one other related (λ (s : HartState). register_text number (register s.hart.regs number))
+  observed_equal Regs steps stop = hart_texts enclave hart one other related (λ (s : HartState). registers_text s.hart.regs s.hart.pc)
+  observed_equal (Csr number) steps stop = csrs_alike enclave hart one other number related
   observed_equal (Mem address count) steps stop =
-      memory_texts e one other related (record { base = address; size = count })
+      memory_texts enclave one other related (record { base = address; size = count })
       (λ (bytes : Option (List ℕ)). option_case bytes outside_text (memory_text address))
   observed_equal (Dis address) steps stop =
-      memory_texts e one other related (record { base = address; size = 4 })
+      memory_texts enclave one other related (record { base = address; size = 4 })
       (λ (bytes : Option (List ℕ)). option_case bytes outside_text (λ bytes. dis_text address (number_of_bytes bytes)))
   observed_equal (Poke address byte) steps stop = (pokes_alike address byte).reply
-  observed_equal Pmp steps stop = ap pmp_text (entries_alike e hart one other invariant other_invariant related)
+  observed_equal Pmp steps stop = ap pmp_text (entries_alike enclave hart one other invariant other_invariant related)
   observed_equal Enclaves steps stop = ap (λ (slots : Slots). table_text slots) related.table
   observed_equal (Access mode access address width) steps stop =
       same_access_reply one.shared.memory other.shared.memory related.memory.size (hart_state_of hart one).hart.csrs.pmp mode access address width
       ∙ ap (λ (entries : Entries). access_reply other.shared.memory entries mode access address width)
-      (entries_alike e hart one other invariant other_invariant related)
+      (entries_alike enclave hart one other invariant other_invariant related)
   observed_equal (Hart number) steps stop = ap (λ (n : ℕ). if nat_lt number n then ok_text else no_hart_text) related.harts
   observed_equal _ steps stop = refl
 
@@ -249,10 +251,10 @@ module _ (e hart : ℕ) (one other : MonitoredMachine) (invariant : Invariant on
 
   -- the claim that what others observe of two commands is equal, and that the benches are related after them
   abbrev Alike : Command → Command → Type 0
-  Alike command other_command = ObservedAlike e (as_bench one) (as_bench other) command other_command
+  Alike command other_command = ObservedAlike enclave (as_bench one) (as_bench other) command other_command
 
   -- a command that both benches execute is observed alike, if the enclave hands over the same and both runs stop alike
-  same_observed : (command : Command) → HandsOverAlike e (as_bench one) (as_bench other) command
+  same_observed : (command : Command) → HandsOverAlike enclave (as_bench one) (as_bench other) command
       → stop_of (as_bench one) command ≡ stop_of (as_bench other) command → Alike command command
   unfolding execute
   same_observed command steps stop = record {
@@ -272,8 +274,8 @@ module _ (e hart : ℕ) (one other : MonitoredMachine) (invariant : Invariant on
     watches_same _ = refl
 
   -- two pokes of secrets into the region are observed alike
-  secret_pokes_alike : (command other_command : Command) → PokesInto e (as_bench one) command
-      → PokesInto e (as_bench other) other_command → Alike command other_command
+  secret_pokes_alike : (command other_command : Command) → PokesInto enclave (as_bench one) command
+      → PokesInto enclave (as_bench other) other_command → Alike command other_command
   unfolding execute
   secret_pokes_alike (Poke address byte) (Poke other_address other_byte) pokes_secret other_pokes_secret =
       let poked = secret_pokes_related address byte other_address other_byte pokes_secret other_pokes_secret in
@@ -282,8 +284,8 @@ module _ (e hart : ℕ) (one other : MonitoredMachine) (invariant : Invariant on
   secret_pokes_alike _ other_command pokes_secret other_pokes_secret = absurd pokes_secret
 
   -- two writes of registers of the enclave are observed alike
-  secret_registers_alike : (command other_command : Command) → SetsOwnRegister e (as_bench one) command
-      → SetsOwnRegister e (as_bench other) other_command → Alike command other_command
+  secret_registers_alike : (command other_command : Command) → SetsOwnRegister enclave (as_bench one) command
+      → SetsOwnRegister enclave (as_bench other) other_command → Alike command other_command
   unfolding execute
   secret_registers_alike (SetReg number value) (SetReg other_number other_value) sets_secret other_sets_secret =
       record {
@@ -295,7 +297,7 @@ module _ (e hart : ℕ) (one other : MonitoredMachine) (invariant : Invariant on
   secret_registers_alike _ other_command sets_secret other_sets_secret = absurd sets_secret
 
   -- two commands that are equal, or that set secrets of the enclave, are observed alike
-  commands_alike : (command other_command : Command) → SecretsOrSame e (as_bench one) (as_bench other) command other_command
+  commands_alike : (command other_command : Command) → SecretsOrSame enclave (as_bench one) (as_bench other) command other_command
       → Alike command other_command
   commands_alike command other_command (inl same_command) =
       subst (Alike command) same_command.same (same_observed command same_command.steps same_command.stop)
@@ -305,18 +307,18 @@ module _ (e hart : ℕ) (one other : MonitoredMachine) (invariant : Invariant on
 -- ---- any two benches
 
 -- a command of a bare bench
-module _ (e : ℕ) (machine : Machine) (breaks watches : List ℕ) where
+module _ (enclave : ℕ) (machine : Machine) (breaks watches : List ℕ) where
   -- `bench` is the bench over the bare machine
   abbrev bench : BenchState
   bench = bench_of (Bare machine) breaks watches
 
   -- a command that two equal bare benches execute is observed alike
-  bare_itself : (command : Command) → ObservedAlike e bench bench command command
+  bare_itself : (command : Command) → ObservedAlike enclave bench bench command command
   unfolding execute
   bare_itself command = record {
     observed = refl;
     state = record {
-      target = bare_target (λ (target : Target). TargetsAreRelated e target target) (λ machine. refl) _
+      target = bare_target (λ (target : Target). TargetsAreRelated enclave target target) (λ machine. refl) _
           (effect_stays_bare machine (effect bench command));
       breaks = refl;
       watches = refl;
@@ -324,97 +326,102 @@ module _ (e : ℕ) (machine : Machine) (breaks watches : List ℕ) where
   }
 
   -- a bare machine has no region, so no command pokes into it
-  bare_pokes : (command : Command) → PokesInto e bench command → ⊥
+  bare_pokes : (command : Command) → PokesInto enclave bench command → ⊥
   bare_pokes (Poke address byte) pokes_secret = let never = live_if_in_region None address pokes_secret in cc
   bare_pokes _ pokes_secret = pokes_secret
 
   -- a bare machine has no enclave, so no command sets its registers
-  bare_sets : (command : Command) → SetsOwnRegister e bench command → ⊥
+  bare_sets : (command : Command) → SetsOwnRegister enclave bench command → ⊥
   bare_sets (SetReg number value) sets_secret = cc
   bare_sets _ sets_secret = sets_secret
 
   -- two commands that are alike on the same bare machine are observed alike
-  bare_alike : (command other_command : Command) → SecretsOrSame e bench bench command other_command
-      → ObservedAlike e bench bench command other_command
-  bare_alike command other_command (inl same_command) = subst (ObservedAlike e bench bench command) same_command.same (bare_itself command)
+  bare_alike : (command other_command : Command) → SecretsOrSame enclave bench bench command other_command
+      → ObservedAlike enclave bench bench command other_command
+  bare_alike command other_command (inl same_command) = subst (ObservedAlike enclave bench bench command) same_command.same (bare_itself command)
   bare_alike command other_command (inr (inl pokes_secret)) = absurd (bare_pokes command pokes_secret.0)
   bare_alike command other_command (inr (inr sets_secret)) = absurd (bare_sets command sets_secret.0)
 
 -- Two commands that are alike are observed alike in two benches with related targets and equal breakpoints and watchpoints. In the monitored case,
 -- the second target is rewritten to the selected hart of the first.
-targets_alike : (e : ℕ) (one other : Target) (breaks watches : List ℕ) (command other_command : Command) → TargetInvariant one → TargetInvariant other
-    → TargetsAreRelated e one other → SecretsOrSame e (bench_of one breaks watches) (bench_of other breaks watches) command other_command
-    → ObservedAlike e (bench_of one breaks watches) (bench_of other breaks watches) command other_command
-targets_alike e (Monitored one) (Monitored other) breaks watches command other_command invariant other_invariant related alike =
+targets_alike : (enclave : ℕ) (one other : Target) (breaks watches : List ℕ) (command other_command : Command) → TargetInvariant one
+    → TargetInvariant other
+    → TargetsAreRelated enclave one other → SecretsOrSame enclave (bench_of one breaks watches) (bench_of other breaks watches) command other_command
+    → ObservedAlike enclave (bench_of one breaks watches) (bench_of other breaks watches) command other_command
+targets_alike enclave (Monitored one) (Monitored other) breaks watches command other_command invariant other_invariant related alike =
     let for_hart : (hart : ℕ) → one.hart ≡ hart
-    → SecretsOrSame e (bench_of (Monitored one) breaks watches) (bench_of (selected_at hart other.state) breaks watches) command other_command
-    → ObservedAlike e (bench_of (Monitored one) breaks watches) (bench_of (selected_at hart other.state) breaks watches) command other_command =
+    → SecretsOrSame enclave (bench_of (Monitored one) breaks watches) (bench_of (selected_at hart other.state) breaks watches) command other_command
+    → ObservedAlike enclave (bench_of (Monitored one) breaks watches) (bench_of (selected_at hart other.state) breaks watches) command other_command =
     λ hart hart_is.
-    subst (λ (h : ℕ). SecretsOrSame e (bench_of (Monitored one) breaks watches)
+    subst (λ (h : ℕ). SecretsOrSame enclave (bench_of (Monitored one) breaks watches)
     (bench_of (selected_at h other.state) breaks watches) command other_command
-    → ObservedAlike e (bench_of (Monitored one) breaks watches) (bench_of (selected_at h other.state) breaks watches) command other_command) hart_is
-    (commands_alike e one.hart one.state other.state invariant other_invariant related.state breaks watches command other_command) in
+    → ObservedAlike enclave (bench_of (Monitored one) breaks watches) (bench_of (selected_at h other.state) breaks watches) command other_command)
+    hart_is
+    (commands_alike enclave one.hart one.state other.state invariant other_invariant related.state breaks watches command other_command) in
     for_hart other.hart related.hart alike
-targets_alike e (Bare one) (Bare other) breaks watches command other_command invariant other_invariant related alike =
-    subst (λ (m : Machine). SecretsOrSame e (bench_of (Bare one) breaks watches) (bench_of (Bare m) breaks watches) command other_command
-    → ObservedAlike e (bench_of (Bare one) breaks watches) (bench_of (Bare m) breaks watches) command other_command) related
-    (bare_alike e one breaks watches command other_command) alike
-targets_alike e _ _ breaks watches command other_command invariant other_invariant related alike = absurd related
+targets_alike enclave (Bare one) (Bare other) breaks watches command other_command invariant other_invariant related alike =
+    subst (λ (m : Machine). SecretsOrSame enclave (bench_of (Bare one) breaks watches) (bench_of (Bare m) breaks watches) command other_command
+    → ObservedAlike enclave (bench_of (Bare one) breaks watches) (bench_of (Bare m) breaks watches) command other_command) related
+    (bare_alike enclave one breaks watches command other_command) alike
+targets_alike enclave _ _ breaks watches command other_command invariant other_invariant related alike = absurd related
 
 -- two commands that are equal, or that set secrets of the enclave, are observed alike in related benches and leave them related
-secrets_or_same : (e : ℕ) (first second : BenchState) (command other_command : Command) → TargetInvariant first.target → TargetInvariant second.target
-    → BenchesAreRelated e first second → SecretsOrSame e first second command other_command → ObservedAlike e first second command other_command
-secrets_or_same e first second command other_command invariant other_invariant related =
-    subst (λ (breaks : List ℕ). SecretsOrSame e first (bench_of second.target breaks second.watches) command other_command
-    → ObservedAlike e first (bench_of second.target breaks second.watches) command other_command) related.breaks
-    (subst (λ (watches : List ℕ). SecretsOrSame e first (bench_of second.target first.breaks watches) command other_command
-    → ObservedAlike e first (bench_of second.target first.breaks watches) command other_command) related.watches
-    (targets_alike e first.target second.target first.breaks first.watches command other_command invariant other_invariant related.target))
+secrets_or_same : (enclave : ℕ) (first second : BenchState) (command other_command : Command) → TargetInvariant first.target
+    → TargetInvariant second.target
+    → BenchesAreRelated enclave first second → SecretsOrSame enclave first second command other_command
+    → ObservedAlike enclave first second command other_command
+secrets_or_same enclave first second command other_command invariant other_invariant related =
+    subst (λ (breaks : List ℕ). SecretsOrSame enclave first (bench_of second.target breaks second.watches) command other_command
+    → ObservedAlike enclave first (bench_of second.target breaks second.watches) command other_command) related.breaks
+    (subst (λ (watches : List ℕ). SecretsOrSame enclave first (bench_of second.target first.breaks watches) command other_command
+    → ObservedAlike enclave first (bench_of second.target first.breaks watches) command other_command) related.watches
+    (targets_alike enclave first.target second.target first.breaks first.watches command other_command invariant other_invariant related.target))
 
 -- Proves the law of declassification for two commands. A low command satisfies the condition on its steps by the law of low commands, so it is a case
 -- of equal commands.
 pub declassification : CommandDeclassificationLaw
-declassification e first second command other_command invariant other_invariant related (inl (inl same_command)) =
-    secrets_or_same e first second command other_command invariant other_invariant related (inl same_command)
-declassification e first second command other_command invariant other_invariant related (inl (inr same_low)) =
-    let low = low_command e first second command invariant other_invariant related same_low.window same_low.none same_low.past in
-    subst (ObservedAlike e first second command) same_low.same
-    (secrets_or_same e first second command command invariant other_invariant related (inl low.same))
-declassification e first second command other_command invariant other_invariant related (inr secrets) =
-    secrets_or_same e first second command other_command invariant other_invariant related (inr secrets)
+declassification enclave first second command other_command invariant other_invariant related (inl (inl same_command)) =
+    secrets_or_same enclave first second command other_command invariant other_invariant related (inl same_command)
+declassification enclave first second command other_command invariant other_invariant related (inl (inr same_low)) =
+    let low = low_command enclave first second command invariant other_invariant related same_low.window same_low.none same_low.past in
+    subst (ObservedAlike enclave first second command) same_low.same
+    (secrets_or_same enclave first second command command invariant other_invariant related (inl low.same))
+declassification enclave first second command other_command invariant other_invariant related (inr secrets) =
+    secrets_or_same enclave first second command other_command invariant other_invariant related (inr secrets)
 
 -- ---- lists of commands
 
 -- proves the law of declassification for lists of commands, by induction
 pub list_declassification : ListDeclassificationLaw
-list_declassification e first second [] [] invariant other_invariant related alike = record { observed = refl; state = related }
-list_declassification e first second [] (other_command ∷ others) invariant other_invariant related alike = absurd alike
-list_declassification e first second (command ∷ commands) [] invariant other_invariant related alike = absurd alike
-list_declassification e first second (command ∷ commands) (other_command ∷ others) invariant other_invariant related alike =
-    let alike_after = declassification e first second command other_command invariant other_invariant related alike.0 in
-    let rest = list_declassification e (execute first command).state (execute second other_command).state commands others
+list_declassification enclave first second [] [] invariant other_invariant related alike = record { observed = refl; state = related }
+list_declassification enclave first second [] (other_command ∷ others) invariant other_invariant related alike = absurd alike
+list_declassification enclave first second (command ∷ commands) [] invariant other_invariant related alike = absurd alike
+list_declassification enclave first second (command ∷ commands) (other_command ∷ others) invariant other_invariant related alike =
+    let alike_after = declassification enclave first second command other_command invariant other_invariant related alike.0 in
+    let rest = list_declassification enclave (execute first command).state (execute second other_command).state commands others
     (command_keeps_invariant first command invariant) (command_keeps_invariant second other_command other_invariant) alike_after.state alike.1 in
     record { observed = ap₂ (λ (text : List ℕ) (texts : List (List ℕ)). text ∷ texts) alike_after.observed rest.observed; state = rest.state }
 
 -- ---- where the relation begins
 
 -- each target is related to itself
-targets_itself : (e : ℕ) (target : Target) → TargetsAreRelated e target target
-targets_itself e (Bare machine) = refl
-targets_itself e (Monitored selected) = record { hart = refl; state = related_itself e selected.state }
+targets_itself : (enclave : ℕ) (target : Target) → TargetsAreRelated enclave target target
+targets_itself enclave (Bare machine) = refl
+targets_itself enclave (Monitored selected) = record { hart = refl; state = related_itself enclave selected.state }
 
 -- equivalent targets are related, if the enclave runs on no hart
-targets_begin : (e : ℕ) (one other : Target) → TargetsEquivExcept e one other → RunsOnNoHart e one → TargetsAreRelated e one other
-targets_begin e (Bare one) (Bare other) equiv on_no_hart = equiv
-targets_begin e (Monitored one) (Monitored other) equiv on_no_hart =
-    let guests = machine_relation_law.guests e one.state other.state equiv.state in
-    record { hart = equiv.hart; state = machine_relation_law.begins e one.state other.state guests on_no_hart }
-targets_begin e _ _ equiv on_no_hart = absurd equiv
+targets_begin : (enclave : ℕ) (one other : Target) → TargetsEquivExcept enclave one other → RunsOnNoHart enclave one
+    → TargetsAreRelated enclave one other
+targets_begin enclave (Bare one) (Bare other) equiv on_no_hart = equiv
+targets_begin enclave (Monitored one) (Monitored other) equiv on_no_hart =
+    let guests = machine_relation_law.guests enclave one.state other.state equiv.state in
+    record { hart = equiv.hart; state = machine_relation_law.begins enclave one.state other.state guests on_no_hart }
+targets_begin enclave _ _ equiv on_no_hart = absurd equiv
 
 -- Proves that each bench is related to itself, and that equivalent benches are related if the enclave runs on no hart.
 pub relation_law : BenchRelationLaw
 relation_law = record {
-  itself = λ e bench. record { target = targets_itself e bench.target; breaks = refl; watches = refl };
-  begins = λ e first second equiv on_no_hart.
-      record { target = targets_begin e first.target second.target equiv.target on_no_hart; breaks = equiv.breaks; watches = equiv.watches };
+  itself = λ enclave bench. record { target = targets_itself enclave bench.target; breaks = refl; watches = refl };
+  begins = λ enclave first second equiv on_no_hart.
+      record { target = targets_begin enclave first.target second.target equiv.target on_no_hart; breaks = equiv.breaks; watches = equiv.watches };
 }

@@ -140,18 +140,18 @@ windows_equal (Monitored machine) (Monitored other) invariant =
 
 -- ---- two machines that are equal in the guest view are related for every slot
 
--- two related machines in which the enclave of slot e has ended
-module _ (e k : ℕ) (one other : MonitoredMachine) (invariant : Invariant one) (related : AreRelated e one other)
-    (has_ended : is_live one.shared.table e ≡ false) where
+-- two related machines in which `enclave` has ended
+module _ (enclave k : ℕ) (one other : MonitoredMachine) (invariant : Invariant one) (related : AreRelated enclave one other)
+    (has_ended : is_live one.shared.table enclave ≡ false) where
   -- after the enclave has ended, the shared states are equal
   same_shared : one.shared ≡ other.shared
   same_shared = related.gone has_ended
 
   -- after the enclave has ended, the guest states of the harts are equal
   same_guest_state : (hart : ℕ) → guest_state (hart_state_of hart one) ≡ guest_state (hart_state_of hart other)
-  same_guest_state hart = elim (cases_Bool (runs_on e hart one)) [
+  same_guest_state hart = elim (cases_Bool (runs_on enclave hart one)) [
     | inr not_on_hart ↦ (related.hart_states hart).same not_on_hart
-    | inl on_hart ↦ absurd (both_ways _ has_ended (running_is_live e hart one invariant on_hart))
+    | inl on_hart ↦ absurd (both_ways _ has_ended (running_is_live enclave hart one invariant on_hart))
   ]
 
   -- after the enclave has ended, the machines are related for every slot k
@@ -170,12 +170,12 @@ module _ (e k : ℕ) (one other : MonitoredMachine) (invariant : Invariant one) 
   }
 
 -- after the enclave has ended, the targets are related for every slot
-targets_related : (e k : ℕ) (one other : Target) → TargetInvariant one → TargetsAreRelated e one other
-    → EnclaveHasEnded e one → TargetsAreRelated k one other
-targets_related e k (Bare one) (Bare other) invariant related has_ended = related
-targets_related e k (Monitored one) (Monitored other) invariant related has_ended =
-    record { hart = related.hart; state = machines_related e k one.state other.state invariant related.state has_ended }
-targets_related e k _ _ invariant related has_ended = absurd related
+targets_related : (enclave k : ℕ) (one other : Target) → TargetInvariant one → TargetsAreRelated enclave one other
+    → EnclaveHasEnded enclave one → TargetsAreRelated k one other
+targets_related enclave k (Bare one) (Bare other) invariant related has_ended = related
+targets_related enclave k (Monitored one) (Monitored other) invariant related has_ended =
+    record { hart = related.hart; state = machines_related enclave k one.state other.state invariant related.state has_ended }
+targets_related enclave k _ _ invariant related has_ended = absurd related
 
 -- the enclave of slot `slot_count` has ended in each target, since it is never live
 ended_in_target : (target : Target) → TargetInvariant target → EnclaveHasEnded slot_count target
@@ -183,11 +183,12 @@ ended_in_target (Bare machine) invariant = tt
 ended_in_target (Monitored machine) invariant = ap (λ (o : Option SlotInfo). is_some o) (no_slot_at_count machine.state invariant)
 
 -- after the enclave has ended, the benches are related for every slot
-ended_for_all : (e : ℕ) (first second : BenchState) → TargetInvariant first.target → BenchesAreRelated e first second → EnclaveHasEnded e first.target
+ended_for_all : (enclave : ℕ) (first second : BenchState) → TargetInvariant first.target → BenchesAreRelated enclave first second
+    → EnclaveHasEnded enclave first.target
     → AreRelatedForAll first second
-ended_for_all e first second invariant related ended k =
+ended_for_all enclave first second invariant related ended k =
     record {
-      target = targets_related e k first.target second.target invariant related.target ended;
+      target = targets_related enclave k first.target second.target invariant related.target ended;
       breaks = related.breaks;
       watches = related.watches;
     }
@@ -200,13 +201,13 @@ record ExitsNow (hart : ℕ) (machine : MonitoredMachine) : Type 0 where
   traps : (step_of hart machine).outcome.step.trap ≡ Some trap
   world : (hart_state_of hart (step_of hart machine).state).world ≡ Host
 
--- the enclave of slot e runs on the hart before a step of it, and not after the step
-module _ (e hart : ℕ) (machine : MonitoredMachine) (invariant : Invariant machine) (on_hart : runs_on e hart machine ≡ true)
-    (has_left : runs_on e hart (step_of hart machine).state ≡ false) where
+-- `enclave` runs on the hart before a step of it, and not after the step
+module _ (enclave hart : ℕ) (machine : MonitoredMachine) (invariant : Invariant machine) (on_hart : runs_on enclave hart machine ≡ true)
+    (has_left : runs_on enclave hart (step_of hart machine).state ≡ false) where
   -- an exit leaves the host on the hart
   exits_to_host : (hart_state_of hart (step_of hart machine).state).world ≡ Host
   exits_to_host =
-      let place : Place = record { slot = e; hart = hart } in
+      let place : Place = record { slot = enclave; hart = hart } in
       let same_enclave : SameEnclave place place machine machine =
       record { first = on_hart; second = on_hart; hart = refl; slot = refl; memory = record { size = refl; bytes = λ i shown. refl } } in
       ((enclave_step place place machine machine invariant invariant same_enclave).state.exits has_left).first.world
@@ -215,19 +216,20 @@ module _ (e hart : ℕ) (machine : MonitoredMachine) (invariant : Invariant mach
   exits_by_trap : (o : Option Trap) → (step_of hart machine).outcome.step.trap ≡ o → ExitsNow hart machine
   exits_by_trap (Some trap) trapped = record { trap = trap; traps = trapped; world = exits_to_host }
   exits_by_trap None no_trap =
-      let runs_enclave = world_is_enclave e (hart_state_of hart machine).world on_hart in
-      not_host _ e _ ((exits_law hart machine invariant e runs_enclave).quiet no_trap) exits_to_host
+      let runs_enclave = world_is_enclave enclave (hart_state_of hart machine).world on_hart in
+      not_host _ enclave _ ((exits_law hart machine invariant enclave runs_enclave).quiet no_trap) exits_to_host
 
   -- the enclave exits in its next step
   exits_now : ExitsNow hart machine
   exits_now = exits_by_trap (step_of hart machine).outcome.step.trap refl
 
--- Equal steps of two machines that are related for slot `slot_count` are moves, for each slot e. A step on a hart that does not run the enclave of e
+-- Equal steps of two machines that are related for slot `slot_count` are moves, for each `enclave`. A step on a hart that does not run the enclave
+-- of `enclave`
 -- is a low step of both machines. A step after which the enclave runs on is a move of each machine, and any other step is an exit from both.
-guest_moves : (e : ℕ) (harts : List ℕ) (one other : MonitoredMachine) → Invariant one → Invariant other → AreRelated slot_count one other
-    → StepsAreMoves e one other harts harts
-guest_moves e [] one other invariant other_invariant related = record { moves = []; steps = refl; first = refl; second = refl; are = tt }
-guest_moves e (hart ∷ harts) one other invariant other_invariant related =
+guest_moves : (enclave : ℕ) (harts : List ℕ) (one other : MonitoredMachine) → Invariant one → Invariant other → AreRelated slot_count one other
+    → StepsAreMoves enclave one other harts harts
+guest_moves enclave [] one other invariant other_invariant related = record { moves = []; steps = refl; first = refl; second = refl; are = tt }
+guest_moves enclave (hart ∷ harts) one other invariant other_invariant related =
     -- the shared states are equal, and so are the guest views of the hart
     let on_no_hart = runs_on_no_hart one invariant hart in
     let same_guest = (related.hart_states hart).same on_no_hart in
@@ -237,23 +239,23 @@ guest_moves e (hart ∷ harts) one other invariant other_invariant related =
     -- the step is low for slot `slot_count` in both machines, so they are related again after it
     let alike_after = declassification_law slot_count (Both (StepOf hart) ∷ []) one other invariant other_invariant related
     (inl (record { low = on_no_hart; window = λ running. window_read slot_count hart one other (window slot_count) }), tt) in
-    let rest = guest_moves e harts (step_of hart one).state (step_of hart other).state (invariant_law hart one invariant)
+    let rest = guest_moves enclave harts (step_of hart one).state (step_of hart other).state (invariant_law hart one invariant)
     (invariant_law hart other other_invariant) alike_after.state in
     let first = ap (λ (hs : List ℕ). hart ∷ hs) rest.first in
     let second = ap (λ (hs : List ℕ). hart ∷ hs) rest.second in
-    let same_before = ap (is_world_of e) (sym (related.hart_states hart).world) in
-    let same_after = ap (is_world_of e) (sym (alike_after.state.hart_states hart).world) in
-    elim (cases_Bool (runs_on e hart one)) [
-      -- the enclave of slot e does not run on the hart: the step is a low step of both machines
+    let same_before = ap (is_world_of enclave) (sym (related.hart_states hart).world) in
+    let same_after = ap (is_world_of enclave) (sym (alike_after.state.hart_states hart).world) in
+    elim (cases_Bool (runs_on enclave hart one)) [
+      -- `enclave` does not run on the hart: the step is a low step of both machines
       | inr not_on_hart ↦ record {
         moves = Both (StepOf hart) ∷ rest.moves;
         steps = rest.steps;
         first = first;
         second = second;
-        are = (inl (record { low = not_on_hart; window = λ running. window_read e hart one other (window e) }), rest.are);
+        are = (inl (record { low = not_on_hart; window = λ running. window_read enclave hart one other (window enclave) }), rest.are);
       }
-      | inl on_hart ↦ elim (cases_Bool (runs_on e hart (step_of hart one).state)) [
-        -- the enclave of slot e runs on: the step is a move of each machine
+      | inl on_hart ↦ elim (cases_Bool (runs_on enclave hart (step_of hart one).state)) [
+        -- `enclave` runs on: the step is a move of each machine
         | inl still_on_hart ↦ record {
           moves = First hart ∷ Second hart ∷ rest.moves;
           steps = rest.steps;
@@ -264,9 +266,9 @@ guest_moves e (hart ∷ harts) one other invariant other_invariant related =
             (record { before = same_before ∙ on_hart; after = same_after ∙ still_on_hart }, rest.are),
           );
         }
-        -- the enclave of slot e has left the hart: the step is an exit from both machines, with equal a0 and a6
+        -- `enclave` has left the hart: the step is an exit from both machines, with equal a0 and a6
         | inr has_left ↦
-            let exit = exits_now e hart one invariant on_hart has_left in
+            let exit = exits_now enclave hart one invariant on_hart has_left in
             record {
               moves = Both (StepOf hart) ∷ rest.moves;
               steps = rest.steps;
@@ -275,7 +277,7 @@ guest_moves e (hart ∷ harts) one other invariant other_invariant related =
               are = (
                 inr (record {
                   runs = on_hart;
-                  window = window e;
+                  window = window enclave;
                   handover = hands_over exit.trap.cause _ _ (record {
                     a0 = ap (λ (s : HartState). register s.hart.regs 10) same_guest;
                     a6 = ap (λ (s : HartState). register s.hart.regs 16) same_guest;
@@ -307,16 +309,18 @@ steps_of_both (Both (StepOf hart) ∷ moves) one other invariant other_invariant
     (steps_of_both moves (step_of hart one).state (step_of hart other).state (invariant_law hart one invariant)
     (invariant_law hart other other_invariant) are.1)
 
--- steps of two related targets that are moves for slot `slot_count` are moves for every slot e
-moves_for_each_slot : (e : ℕ) (one other : Target) (harts others : List ℕ)
+-- steps of two related targets that are moves for slot `slot_count` are moves for every `enclave`
+moves_for_each_slot : (enclave : ℕ) (one other : Target) (harts others : List ℕ)
     → TargetInvariant one → TargetInvariant other → TargetsAreRelated slot_count one other → IfSome (machine_in one)
     (λ one_machine. IfSome (machine_in other) (λ other_machine. StepsAreMoves slot_count one_machine other_machine harts others))
-    → IfSome (machine_in one) (λ one_machine. IfSome (machine_in other) (λ other_machine. StepsAreMoves e one_machine other_machine harts others))
-moves_for_each_slot e (Bare one) other harts others invariant other_invariant related steps = tt
-moves_for_each_slot e (Monitored one) (Bare other) harts others invariant other_invariant related steps = tt
-moves_for_each_slot e (Monitored one) (Monitored other) harts others invariant other_invariant related steps =
+    → IfSome (machine_in one) (λ one_machine. IfSome (machine_in other)
+    (λ other_machine. StepsAreMoves enclave one_machine other_machine harts others))
+moves_for_each_slot enclave (Bare one) other harts others invariant other_invariant related steps = tt
+moves_for_each_slot enclave (Monitored one) (Bare other) harts others invariant other_invariant related steps = tt
+moves_for_each_slot enclave (Monitored one) (Monitored other) harts others invariant other_invariant related steps =
     let same_harts = sym steps.first ∙ steps_of_both steps.moves one.state other.state invariant other_invariant steps.are ∙ steps.second in
-    subst (StepsAreMoves e one.state other.state harts) same_harts (guest_moves e harts one.state other.state invariant other_invariant related.state)
+    subst (StepsAreMoves enclave one.state other.state harts) same_harts
+    (guest_moves enclave harts one.state other.state invariant other_invariant related.state)
 
 -- A command that two benches execute satisfies the condition on its steps for every slot k, if they are related for every slot. The command is low
 -- for slot `slot_count`.

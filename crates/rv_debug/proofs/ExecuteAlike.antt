@@ -32,16 +32,16 @@ use Rattle.rv_debug.proofs.ScheduledSteps.{after_schedule, bare_target}
 
 -- ---- equal replies and equivalent states; the end of the file proves that the benches are equal once the enclave has ended
 
--- two executions have equal replies and entered slots, and leave benches that are equivalent except for e
-record ExecutedAlike (e : ℕ) (first second : Executed) : Type 0 where
+-- two executions have equal replies and entered slots, and leave benches that are equivalent except for `enclave`
+record ExecutedAlike (enclave : ℕ) (first second : Executed) : Type 0 where
   pub reply : first.reply ≡ second.reply
   pub entered : first.entered ≡ second.entered
-  pub state : BenchesEquivExcept e first.state second.state
+  pub state : BenchesEquivExcept enclave first.state second.state
 
--- two executions enter slot e both or neither; if neither, they have equal replies and leave equivalent benches
-record Alike (e : ℕ) (first second : Executed) : Type 0 where
-  pub entered : is_entered e first.entered ≡ is_entered e second.entered
-  pub passed : is_entered e first.entered ≡ false → ExecutedAlike e first second
+-- two executions enter `enclave` both or neither; if neither, they have equal replies and leave equivalent benches
+record Alike (enclave : ℕ) (first second : Executed) : Type 0 where
+  pub entered : is_entered enclave first.entered ≡ is_entered enclave second.entered
+  pub passed : is_entered enclave first.entered ≡ false → ExecutedAlike enclave first second
 
 -- `bench_of` is the bench over a target, with the given breakpoints and watchpoints
 abbrev pub bench_of : Target → List ℕ → List ℕ → BenchState
@@ -56,9 +56,10 @@ abbrev executed_with : Target → List ℕ → List ℕ → List ℕ → Execute
 executed_with target breaks watches reply = record { state = bench_of target breaks watches; reply = reply; entered = 0 }
 
 -- two executions that enter no enclave, leave equivalent targets and have equal replies are alike
-equal_replies_alike : (e : ℕ) (one other : Target) (breaks watches reply other_reply : List ℕ) → TargetsEquivExcept e one other → reply ≡ other_reply
-    → Alike e (executed_with one breaks watches reply) (executed_with other breaks watches other_reply)
-equal_replies_alike e one other breaks watches reply other_reply equiv same_reply = record {
+equal_replies_alike : (enclave : ℕ) (one other : Target) (breaks watches reply other_reply : List ℕ) → TargetsEquivExcept enclave one other
+    → reply ≡ other_reply
+    → Alike enclave (executed_with one breaks watches reply) (executed_with other breaks watches other_reply)
+equal_replies_alike enclave one other breaks watches reply other_reply equiv same_reply = record {
   entered = refl;
   passed = λ not_entered. record { reply = same_reply; entered = refl; state = record { target = equiv; breaks = refl; watches = refl } };
 }
@@ -66,20 +67,23 @@ equal_replies_alike e one other breaks watches reply other_reply equiv same_repl
 -- ---- steps of named harts, with the same summary for both
 
 -- the summary of a hart is equal in equivalent machines, if the enclave runs on no hart
-same_hart_summary : (e hart : ℕ) (ran : HartRan) (one other : Selected) → SelectedEquivExcept e one other → RunsOnNoHart e (Monitored one)
+same_hart_summary : (enclave hart : ℕ) (ran : HartRan) (one other : Selected) → SelectedEquivExcept enclave one other
+    → RunsOnNoHart enclave (Monitored one)
     → hart_summary_text (Monitored one) hart ran ≡ hart_summary_text (Monitored other) hart ran
-same_hart_summary e hart ran one other equiv on_no_hart =
+same_hart_summary enclave hart ran one other equiv on_no_hart =
     let hart_states = (let state = equiv.state in state.hart_states hart) in
     ap (λ (hart_state : HartState). hart_text hart hart_state.hart.pc hart_state.hart.mode (world_name hart_state.world) ran)
     (hart_states.same (on_no_hart hart))
 
 -- the summaries of all harts are equal in equivalent machines, if the enclave runs on no hart
-same_summaries : (e : ℕ) (summary : Scheduled) (one other : Selected) → SelectedEquivExcept e one other → RunsOnNoHart e (Monitored one)
+same_summaries : (enclave : ℕ) (summary : Scheduled) (one other : Selected) → SelectedEquivExcept enclave one other
+    → RunsOnNoHart enclave (Monitored one)
     → harts_summary_text (after_schedule (Monitored one) summary) ≡ harts_summary_text (after_schedule (Monitored other) summary)
-same_summaries e summary one other equiv on_no_hart =
+same_summaries enclave summary one other equiv on_no_hart =
     let state = equiv.state in
-    ap₂ (λ (line lines : List ℕ). line ++ lines) (same_hart_summary e 0 summary.first one other equiv on_no_hart)
-    (ap₂ (λ (n : ℕ) (line : List ℕ). if nat_lt 1 n then line else []) state.harts (same_hart_summary e 1 summary.second one other equiv on_no_hart))
+    ap₂ (λ (line lines : List ℕ). line ++ lines) (same_hart_summary enclave 0 summary.first one other equiv on_no_hart)
+    (ap₂ (λ (n : ℕ) (line : List ℕ). if nat_lt 1 n then line else []) state.harts
+    (same_hart_summary enclave 1 summary.second one other equiv on_no_hart))
 
 -- `schedule_executed` is the result of the command `sched`: the bench after the schedule, the summary and the entered slots
 abbrev pub schedule_executed : ℕ → List ℕ → List ℕ → AfterSchedule → Executed
@@ -87,32 +91,33 @@ schedule_executed hart breaks watches after =
     record { state = bench_of (with_selected hart after.state) breaks watches; reply = harts_summary_text after; entered = after.did.entered }
 
 -- the command `sched` is alike in two equivalent machines, if both schedules have equal summaries and the enclave runs on no hart
-equal_schedules_alike : (e hart : ℕ) (breaks watches : List ℕ) (summary other_summary : Scheduled) (one other : Selected)
-    → summary ≡ other_summary → SelectedEquivExcept e one other → RunsOnNoHart e (Monitored one)
-    → Alike e (schedule_executed hart breaks watches (after_schedule (Monitored one) summary))
+equal_schedules_alike : (enclave hart : ℕ) (breaks watches : List ℕ) (summary other_summary : Scheduled) (one other : Selected)
+    → summary ≡ other_summary → SelectedEquivExcept enclave one other → RunsOnNoHart enclave (Monitored one)
+    → Alike enclave (schedule_executed hart breaks watches (after_schedule (Monitored one) summary))
     (schedule_executed hart breaks watches (after_schedule (Monitored other) other_summary))
-equal_schedules_alike e hart breaks watches summary other_summary one other same_summary equiv on_no_hart =
-    subst (λ (summary_of_second : Scheduled). Alike e (schedule_executed hart breaks watches (after_schedule (Monitored one) summary))
+equal_schedules_alike enclave hart breaks watches summary other_summary one other same_summary equiv on_no_hart =
+    subst (λ (summary_of_second : Scheduled). Alike enclave (schedule_executed hart breaks watches (after_schedule (Monitored one) summary))
     (schedule_executed hart breaks watches (after_schedule (Monitored other) summary_of_second))) same_summary
     (record {
       entered = refl;
       passed = λ not_entered. record {
-        reply = same_summaries e summary one other equiv on_no_hart;
+        reply = same_summaries enclave summary one other equiv on_no_hart;
         entered = refl;
         state = record { target = record { hart = refl; state = equiv.state }; breaks = refl; watches = refl };
       };
     })
 
 -- the command `sched` is alike in two benches, if neither schedule enters the enclave and the enclave runs on no hart before them
-unentered_schedules_alike : (e hart : ℕ) (breaks watches : List ℕ) (start : Selected) (one other : AfterSchedule) → RunsOnNoHart e (Monitored start)
-    → NeitherEnters e start one other → Alike e (schedule_executed hart breaks watches one) (schedule_executed hart breaks watches other)
-unentered_schedules_alike e hart breaks watches start one other on_no_hart neither_enters =
-    subst (λ (target : Target). Alike e (schedule_executed hart breaks watches (after_schedule target one.did))
+unentered_schedules_alike : (enclave hart : ℕ) (breaks watches : List ℕ) (start : Selected) (one other : AfterSchedule)
+    → RunsOnNoHart enclave (Monitored start)
+    → NeitherEnters enclave start one other → Alike enclave (schedule_executed hart breaks watches one) (schedule_executed hart breaks watches other)
+unentered_schedules_alike enclave hart breaks watches start one other on_no_hart neither_enters =
+    subst (λ (target : Target). Alike enclave (schedule_executed hart breaks watches (after_schedule target one.did))
     (schedule_executed hart breaks watches other))
     (sym neither_enters.first_is)
-    (subst (λ (target : Target). Alike e (schedule_executed hart breaks watches (after_schedule (Monitored neither_enters.first_end) one.did))
+    (subst (λ (target : Target). Alike enclave (schedule_executed hart breaks watches (after_schedule (Monitored neither_enters.first_end) one.did))
     (schedule_executed hart breaks watches (after_schedule target other.did))) (sym neither_enters.second_is)
-    (equal_schedules_alike e hart breaks watches one.did other.did neither_enters.first_end neither_enters.second_end neither_enters.did
+    (equal_schedules_alike enclave hart breaks watches one.did other.did neither_enters.first_end neither_enters.second_end neither_enters.did
     neither_enters.state (neither_enters.on_no_hart on_no_hart)))
 
 -- ---- a run
@@ -172,25 +177,26 @@ same_access_reply m n same_size entries mode access address width = elim (cases_
 -- ---- monitored machines
 
 -- an enclave that runs on none of the n harts from `first` on does not run on hart j, if j is one of them
-not_on_hart_of_range : (e n first j : ℕ) (machine : MonitoredMachine) → RunsOnNone e (range_with_len first n) machine → first ≤ j → j < first + n
-    → runs_on e j machine ≡ false
-not_on_hart_of_range e zero first j machine runs_on_none at_or_above_first below_end = absurd (omega (arith, at_or_above_first, below_end))
-not_on_hart_of_range e (suc n) first j machine runs_on_none at_or_above_first below_end = elim (cases_eq j first) [
-  | inl is_first ↦ ap (λ (hart : ℕ). runs_on e hart machine) is_first ∙ runs_on_none.0
+not_on_hart_of_range : (enclave n first j : ℕ) (machine : MonitoredMachine) → RunsOnNone enclave (range_with_len first n) machine → first ≤ j
+    → j < first + n
+    → runs_on enclave j machine ≡ false
+not_on_hart_of_range enclave zero first j machine runs_on_none at_or_above_first below_end = absurd (omega (arith, at_or_above_first, below_end))
+not_on_hart_of_range enclave (suc n) first j machine runs_on_none at_or_above_first below_end = elim (cases_eq j first) [
+  | inl is_first ↦ ap (λ (hart : ℕ). runs_on enclave hart machine) is_first ∙ runs_on_none.0
   | inr is_not_first ↦
-      not_on_hart_of_range e n (first + 1) j machine runs_on_none.1 (omega (arith, at_or_above_first, is_not_first)) (omega (arith, below_end))
+      not_on_hart_of_range enclave n (first + 1) j machine runs_on_none.1 (omega (arith, at_or_above_first, is_not_first)) (omega (arith, below_end))
 ]
 
 -- an enclave that runs on none of the harts of the machine runs on no hart
-on_no_hart_of_machine : (e : ℕ) (machine : MonitoredMachine) → RunsOnNone e (range_with_len 0 (count_of machine)) machine
-    → (hart : ℕ) → runs_on e hart machine ≡ false
-on_no_hart_of_machine e machine runs_on_none hart = elim (cases_lt hart (count_of machine)) [
-  | inl in_range ↦ not_on_hart_of_range e (count_of machine) 0 hart machine runs_on_none (omega arith) (omega (arith, in_range))
-  | inr out_of_range ↦ ap (λ (hart_state : HartState). is_world_of e hart_state.world) (past_hart_state machine.hart_states hart out_of_range)
+on_no_hart_of_machine : (enclave : ℕ) (machine : MonitoredMachine) → RunsOnNone enclave (range_with_len 0 (count_of machine)) machine
+    → (hart : ℕ) → runs_on enclave hart machine ≡ false
+on_no_hart_of_machine enclave machine runs_on_none hart = elim (cases_lt hart (count_of machine)) [
+  | inl in_range ↦ not_on_hart_of_range enclave (count_of machine) 0 hart machine runs_on_none (omega arith) (omega (arith, in_range))
+  | inr out_of_range ↦ ap (λ (hart_state : HartState). is_world_of enclave hart_state.world) (past_hart_state machine.hart_states hart out_of_range)
 ]
 
 -- two equivalent machines `one` and `other` with hart `hart` selected, in benches with equal breakpoints and watchpoints
-module _ (e hart : ℕ) (one other : MonitoredMachine) (equiv : EquivExcept e one other) (breaks watches : List ℕ) where
+module _ (enclave hart : ℕ) (one other : MonitoredMachine) (equiv : EquivExcept enclave one other) (breaks watches : List ℕ) where
   -- the target with the given machine, and hart `hart` selected
   abbrev as_target : MonitoredMachine → Target
   as_target machine = selected_at hart machine
@@ -207,20 +213,20 @@ module _ (e hart : ℕ) (one other : MonitoredMachine) (equiv : EquivExcept e on
   abbrev second_bench : BenchState
   second_bench = bench_of (as_target other) breaks watches
 
-  -- the targets of the two benches are equivalent except for slot e
-  targets_equiv : TargetsEquivExcept e (as_target one) (as_target other)
+  -- the targets of the two benches are equivalent except for `enclave`
+  targets_equiv : TargetsEquivExcept enclave (as_target one) (as_target other)
   targets_equiv = record { hart = refl; state = equiv }
 
   -- a command that leaves both benches unchanged and has equal replies is executed alike
   unchanged_alike : (reply other_reply : List ℕ) → reply ≡ other_reply
-      → Alike e (executed_with (as_target one) breaks watches reply) (executed_with (as_target other) breaks watches other_reply)
+      → Alike enclave (executed_with (as_target one) breaks watches reply) (executed_with (as_target other) breaks watches other_reply)
   unchanged_alike reply other_reply same_reply =
-      equal_replies_alike e (as_target one) (as_target other) breaks watches reply other_reply targets_equiv same_reply
+      equal_replies_alike enclave (as_target one) (as_target other) breaks watches reply other_reply targets_equiv same_reply
 
   -- ---- replies about a hart that does not run the enclave
 
   -- if a command that shows the selected hart avoids the hart of the enclave, the state of the selected hart is equal in both machines
-  same_selected_hart : AvoidsHart e first_bench Regs → hart_state_of hart one ≡ hart_state_of hart other
+  same_selected_hart : AvoidsHart enclave first_bench Regs → hart_state_of hart one ≡ hart_state_of hart other
   same_selected_hart avoids_hart = let hart_equiv = equiv.hart_states hart in hart_equiv.same avoids_hart.0
 
   -- two equivalent machines have equal PMP entries in each hart
@@ -232,18 +238,18 @@ module _ (e hart : ℕ) (one other : MonitoredMachine) (equiv : EquivExcept e on
 
   -- ---- replies about memory
 
-  -- the memories are equal outside the region of e
-  abbrev memory_equiv : EqualOutside (is_private one.shared.table e) one.shared.memory other.shared.memory
+  -- the memories are equal outside the region of `enclave`
+  abbrev memory_equiv : EqualOutside (is_private one.shared.table enclave) one.shared.memory other.shared.memory
   memory_equiv = let shared = equiv.shared in shared.memory
 
   -- a read of a block that does not meet the region is equal in both memories
-  same_visible_read : (block : Block) → meets block (region one.shared.table e) ≡ false
+  same_visible_read : (block : Block) → meets block (region one.shared.table enclave) ≡ false
       → read one.shared.memory block.base block.size ≡ read other.shared.memory block.base block.size
   same_visible_read block meets_no_private =
       let memory = memory_equiv in
       elim (cases_Bool (is_inside one.shared.memory block.base block.size)) [
-        | inl in_ram ↦ same_read (is_private one.shared.table e) one.shared.memory other.shared.memory block.base block.size memory in_ram
-            (seen_block block (region one.shared.table e) meets_no_private)
+        | inl in_ram ↦ same_read (is_private one.shared.table enclave) one.shared.memory other.shared.memory block.base block.size memory in_ram
+            (seen_block block (region one.shared.table enclave) meets_no_private)
         | inr outside_ram ↦
             let same_size = memory.size in
             read-none one.shared.memory block.base block.size outside_ram
@@ -260,7 +266,8 @@ module _ (e hart : ℕ) (one other : MonitoredMachine) (equiv : EquivExcept e on
 
   -- equal pokes are alike in both benches
   poke_alike : (address byte : ℕ)
-      → Alike e (poke_execute one (write one.shared.memory address (byte ∷ []))) (poke_execute other (write other.shared.memory address (byte ∷ [])))
+      → Alike enclave (poke_execute one (write one.shared.memory address (byte ∷ [])))
+      (poke_execute other (write other.shared.memory address (byte ∷ [])))
   poke_alike address byte =
       let shared = equiv.shared in
       let memory = memory_equiv in
@@ -271,10 +278,11 @@ module _ (e hart : ℕ) (one other : MonitoredMachine) (equiv : EquivExcept e on
             let first_write = write-some one.shared.memory address bytes in_ram in
             let second_write = write-some other.shared.memory address bytes (rw (← same_size) in_ram) in
             let written_equal =
-            same_write (is_private one.shared.table e) one.shared.memory other.shared.memory address bytes _ _ memory first_write second_write in
-            rw (first_write, second_write) (equal_replies_alike e _ _ breaks watches ok_text ok_text (record {
+            same_write (is_private one.shared.table enclave) one.shared.memory other.shared.memory address bytes _ _ memory first_write
+            second_write in
+            rw (first_write, second_write) (equal_replies_alike enclave _ _ breaks watches ok_text ok_text (record {
               hart = refl;
-              state = shared_equiv e one other _ _ equiv (record {
+              state = shared_equiv enclave one other _ _ equiv (record {
                 table = shared.table;
                 memory = written_equal;
                 contexts = shared.contexts;
@@ -291,15 +299,15 @@ module _ (e hart : ℕ) (one other : MonitoredMachine) (equiv : EquivExcept e on
   -- ---- steps
 
   -- the command `step` or `run` is alike in both benches, if its two runs are alike
-  runs_executed_alike : (first second : AfterRun MonitoredMachine) → RunAlike e hart first second
-      → Alike e (steps_execute breaks watches (target_of (selected_at hart) first))
+  runs_executed_alike : (first second : AfterRun MonitoredMachine) → RunAlike enclave hart first second
+      → Alike enclave (steps_execute breaks watches (target_of (selected_at hart) first))
       (steps_execute breaks watches (target_of (selected_at hart) second))
   runs_executed_alike first second (inl both_enter) = record {
     entered = both_enter.first ∙ sym both_enter.second;
     passed = λ not_entered. let never : true ≡ false = sym both_enter.first ∙ not_entered in cc;
   }
   runs_executed_alike first second (inr neither_enters) = record {
-    entered = ap (λ (ran : Ran). is_entered e ran.entered) neither_enters.ran;
+    entered = ap (λ (ran : Ran). is_entered enclave ran.entered) neither_enters.ran;
     passed = λ not_entered. record {
       reply =
           let hart_equiv = (let state = neither_enters.state in state.hart_states hart) in
@@ -319,14 +327,15 @@ module _ (e hart : ℕ) (one other : MonitoredMachine) (equiv : EquivExcept e on
       ∙ ap (steps_execute breaks watches) (run_monitored hart at_breaks at_watches count (no_steps machine))
 
   -- the command `step` or `run` is alike in both benches, if it avoids the hart of the enclave
-  run_alike_executed : (at_breaks at_watches : List ℕ) (count : ℕ) → Invariant one → Invariant other → AvoidsHart e first_bench Regs
-      → Alike e (run_execute (as_target one) breaks watches at_breaks at_watches count)
+  run_alike_executed : (at_breaks at_watches : List ℕ) (count : ℕ) → Invariant one → Invariant other → AvoidsHart enclave first_bench Regs
+      → Alike enclave (run_execute (as_target one) breaks watches at_breaks at_watches count)
       (run_execute (as_target other) breaks watches at_breaks at_watches count)
   run_alike_executed at_breaks at_watches count invariant other_invariant avoids_hart =
-      subst (λ (first : Executed). Alike e first (run_execute (as_target other) breaks watches at_breaks at_watches count))
+      subst (λ (first : Executed). Alike enclave first (run_execute (as_target other) breaks watches at_breaks at_watches count))
       (sym (run_is_of_machine one at_breaks at_watches count))
-      (subst (Alike e (steps_execute breaks watches _)) (sym (run_is_of_machine other at_breaks at_watches count))
-      (runs_executed_alike _ _ (run-alike e hart at_breaks at_watches count (no_steps one) other invariant other_invariant equiv avoids_hart.0)))
+      (subst (Alike enclave (steps_execute breaks watches _)) (sym (run_is_of_machine other at_breaks at_watches count))
+      (runs_executed_alike _ _ (run-alike enclave hart at_breaks at_watches count (no_steps one) other invariant other_invariant equiv
+      avoids_hart.0)))
 
   -- ---- harts
 
@@ -341,10 +350,10 @@ module _ (e hart : ℕ) (one other : MonitoredMachine) (equiv : EquivExcept e on
         entered = entered_by
             (as_target machine) hart_effect;
       } in
-      Alike e (answers one exist) (answers other other_exist))
+      Alike enclave (answers one exist) (answers other other_exist))
   unfolding scheduled_steps
   hart_selection_alike number true true reply same_exist =
-      equal_replies_alike e _ _ breaks watches (reply true) (reply true) (record { hart = refl; state = equiv }) refl
+      equal_replies_alike enclave _ _ breaks watches (reply true) (reply true) (record { hart = refl; state = equiv }) refl
   hart_selection_alike number false false reply same_exist = unchanged_alike (reply false) (reply false) refl
   hart_selection_alike number _ _ reply same_exist = cc
 
@@ -360,16 +369,16 @@ module _ (e hart : ℕ) (one other : MonitoredMachine) (equiv : EquivExcept e on
 
   -- the command `sched` is alike in both benches, if the enclave runs on no hart
   sched_executed_alike : (harts : List ℕ) (exist other_exist : Bool) → exist ≡ other_exist
-      → Invariant one → Invariant other → RunsOnNoHart e (as_target one)
-      → Alike e (sched_executed one harts exist) (sched_executed other harts other_exist)
+      → Invariant one → Invariant other → RunsOnNoHart enclave (as_target one)
+      → Alike enclave (sched_executed one harts exist) (sched_executed other harts other_exist)
   sched_executed_alike harts true true same_exist invariant other_invariant on_no_hart =
-      elim (scheduled_steps_alike e harts (as_selected one) (as_selected other) _ invariant other_invariant targets_equiv
-      (on_none_of e harts one on_no_hart)) [
+      elim (scheduled_steps_alike enclave harts (as_selected one) (as_selected other) _ invariant other_invariant targets_equiv
+      (on_none_of enclave harts one on_no_hart)) [
         | inl both_enter ↦ record {
           entered = both_enter.first ∙ sym both_enter.second;
           passed = λ not_entered. let never : true ≡ false = sym both_enter.first ∙ not_entered in cc;
         }
-        | inr neither_enters ↦ unentered_schedules_alike e hart breaks watches (as_selected one) _ _ on_no_hart neither_enters
+        | inr neither_enters ↦ unentered_schedules_alike enclave hart breaks watches (as_selected one) _ _ on_no_hart neither_enters
       ]
   sched_executed_alike harts false false same_exist invariant other_invariant on_no_hart = unchanged_alike no_hart_text no_hart_text refl
   sched_executed_alike harts _ _ same_exist invariant other_invariant on_no_hart = cc
@@ -379,8 +388,8 @@ module _ (e hart : ℕ) (one other : MonitoredMachine) (equiv : EquivExcept e on
   -- both machines have the invariant
   module _ (invariant : Invariant one) (other_invariant : Invariant other) where
     -- each command that accesses no byte of the region (blind) and avoids the hart of the enclave is alike in both benches
-    command_alike : (command : Command) → is_blind e first_bench command ≡ true → AvoidsHart e first_bench command
-        → Alike e (execute first_bench command) (execute second_bench command)
+    command_alike : (command : Command) → is_blind enclave first_bench command ≡ true → AvoidsHart enclave first_bench command
+        → Alike enclave (execute first_bench command) (execute second_bench command)
     unfolding execute is_blind
     command_alike (Step count) blind avoids_hart = run_alike_executed [] [] count invariant other_invariant avoids_hart
     command_alike (Run count) blind avoids_hart = run_alike_executed breaks watches count invariant other_invariant avoids_hart
@@ -392,13 +401,13 @@ module _ (e hart : ℕ) (one other : MonitoredMachine) (equiv : EquivExcept e on
     command_alike (Csr number) blind avoids_hart =
         unchanged_alike _ _ (ap (λ (hart_state : HartState). if number == mhartid then csr_text number hart
         else result_case (read_result hart_state.hart.csrs number M) (csr_text number) (λ _. no_csr_text)) (same_selected_hart avoids_hart))
-    command_alike (SetReg number value) blind avoids_hart = equal_replies_alike e _ _ breaks watches ok_text ok_text (record {
+    command_alike (SetReg number value) blind avoids_hart = equal_replies_alike enclave _ _ breaks watches ok_text ok_text (record {
       hart = refl;
-      state = changed_equiv e hart (reg_set number value) one other (λ hart_state. refl) equiv;
+      state = changed_equiv enclave hart (reg_set number value) one other (λ hart_state. refl) equiv;
     }) refl
-    command_alike (Timer raised) blind avoids_hart = equal_replies_alike e _ _ breaks watches ok_text ok_text (record {
+    command_alike (Timer raised) blind avoids_hart = equal_replies_alike enclave _ _ breaks watches ok_text ok_text (record {
       hart = refl;
-      state = changed_equiv e hart (timer_line_set raised) one other (λ hart_state. refl) equiv;
+      state = changed_equiv enclave hart (timer_line_set raised) one other (λ hart_state. refl) equiv;
     }) refl
     command_alike (Mem address count) blind avoids_hart =
         unchanged_alike _ _ (ap (λ (bytes : Option (List ℕ)). option_case bytes outside_text (memory_text address))
@@ -413,7 +422,7 @@ module _ (e hart : ℕ) (one other : MonitoredMachine) (equiv : EquivExcept e on
     command_alike (Sched schedule) blind avoids_hart =
         let harts = harts_in schedule in
         sched_executed_alike harts (has_all (count_of one) harts) (has_all (count_of other) harts)
-        (ap (λ (n : ℕ). has_all n harts) equiv.harts) invariant other_invariant (on_no_hart_of_machine e one avoids_hart)
+        (ap (λ (n : ℕ). has_all n harts) equiv.harts) invariant other_invariant (on_no_hart_of_machine enclave one avoids_hart)
     command_alike (Access mode access address width) blind avoids_hart =
         let memory = memory_equiv in
         let same_size = memory.size in
@@ -423,19 +432,19 @@ module _ (e hart : ℕ) (one other : MonitoredMachine) (equiv : EquivExcept e on
     command_alike Pmp blind avoids_hart = unchanged_alike _ _ (ap pmp_text (same_entries invariant other_invariant))
     command_alike Enclaves blind avoids_hart =
         unchanged_alike _ _ (ap (λ (slots : Slots). table_text slots) (let shared = equiv.shared in shared.table))
-    command_alike _ blind avoids_hart = equal_replies_alike e _ _ _ _ _ _ targets_equiv refl
+    command_alike _ blind avoids_hart = equal_replies_alike enclave _ _ _ _ _ _ targets_equiv refl
 
 -- ---- any two benches
 
 -- a command that is blind to the enclave and avoids its hart is alike in two benches with monitored targets
-monitored-alike : (e : ℕ) (one other : Selected) (breaks watches : List ℕ) (command : Command) → Invariant one.state → Invariant other.state
-    → SelectedEquivExcept e one other
-    → is_blind e (bench_of (Monitored one) breaks watches) command ≡ true → AvoidsHart e (bench_of (Monitored one) breaks watches) command
-    → Alike e (execute (bench_of (Monitored one) breaks watches) command) (execute (bench_of (Monitored other) breaks watches) command)
-monitored-alike e one other breaks watches command invariant other_invariant equiv blind avoids_hart =
-    subst (λ (hart : ℕ). Alike e (execute (bench_of (Monitored one) breaks watches) command)
+monitored-alike : (enclave : ℕ) (one other : Selected) (breaks watches : List ℕ) (command : Command) → Invariant one.state → Invariant other.state
+    → SelectedEquivExcept enclave one other
+    → is_blind enclave (bench_of (Monitored one) breaks watches) command ≡ true → AvoidsHart enclave (bench_of (Monitored one) breaks watches) command
+    → Alike enclave (execute (bench_of (Monitored one) breaks watches) command) (execute (bench_of (Monitored other) breaks watches) command)
+monitored-alike enclave one other breaks watches command invariant other_invariant equiv blind avoids_hart =
+    subst (λ (hart : ℕ). Alike enclave (execute (bench_of (Monitored one) breaks watches) command)
     (execute (bench_of (selected_at hart other.state) breaks watches) command)) equiv.hart
-    (command_alike e one.hart one.state other.state equiv.state breaks watches invariant other_invariant command blind avoids_hart)
+    (command_alike enclave one.hart one.state other.state equiv.state breaks watches invariant other_invariant command blind avoids_hart)
 
 -- a bare machine stays bare
 bare-stays : (machine : Machine) (breaks watches : List ℕ) (command : Command)
@@ -444,57 +453,58 @@ unfolding execute
 bare-stays machine breaks watches command = effect_stays_bare machine (effect (bench_of (Bare machine) breaks watches) command)
 
 -- an execution that leaves a bare machine is alike to itself
-alike-itself : (e : ℕ) (after : Executed) → IsBare after.state.target → Alike e after after
-alike-itself e after bare =
-    let equiv_with_itself = bare_target (λ (target : Target). TargetsEquivExcept e target target) (λ alone. refl) after.state.target bare in
+alike-itself : (enclave : ℕ) (after : Executed) → IsBare after.state.target → Alike enclave after after
+alike-itself enclave after bare =
+    let equiv_with_itself = bare_target (λ (target : Target). TargetsEquivExcept enclave target target) (λ alone. refl) after.state.target bare in
     record {
       entered = refl;
       passed = λ not_entered. record { reply = refl; entered = refl; state = record { target = equiv_with_itself; breaks = refl; watches = refl } };
     }
 
 -- a command that is blind to the enclave and avoids its hart is alike in two benches with equal breakpoints and watchpoints
-targets-alike : (e : ℕ) (one other : Target) (breaks watches : List ℕ) (command : Command) → TargetInvariant one → TargetInvariant other
-    → TargetsEquivExcept e one other
-    → is_blind e (bench_of one breaks watches) command ≡ true → AvoidsHart e (bench_of one breaks watches) command
-    → Alike e (execute (bench_of one breaks watches) command) (execute (bench_of other breaks watches) command)
-targets-alike e (Monitored one) (Monitored other) breaks watches command invariant other_invariant equiv blind avoids_hart =
-    monitored-alike e one other breaks watches command invariant other_invariant equiv blind avoids_hart
-targets-alike e (Bare one) (Bare other) breaks watches command invariant other_invariant equiv blind avoids_hart =
-    subst (λ (machine : Machine). Alike e (execute (bench_of (Bare one) breaks watches) command)
+targets-alike : (enclave : ℕ) (one other : Target) (breaks watches : List ℕ) (command : Command) → TargetInvariant one → TargetInvariant other
+    → TargetsEquivExcept enclave one other
+    → is_blind enclave (bench_of one breaks watches) command ≡ true → AvoidsHart enclave (bench_of one breaks watches) command
+    → Alike enclave (execute (bench_of one breaks watches) command) (execute (bench_of other breaks watches) command)
+targets-alike enclave (Monitored one) (Monitored other) breaks watches command invariant other_invariant equiv blind avoids_hart =
+    monitored-alike enclave one other breaks watches command invariant other_invariant equiv blind avoids_hart
+targets-alike enclave (Bare one) (Bare other) breaks watches command invariant other_invariant equiv blind avoids_hart =
+    subst (λ (machine : Machine). Alike enclave (execute (bench_of (Bare one) breaks watches) command)
     (execute (bench_of (Bare machine) breaks watches) command)) equiv
-    (alike-itself e (execute (bench_of (Bare one) breaks watches) command) (bare-stays one breaks watches command))
-targets-alike e _ _ breaks watches command invariant other_invariant equiv blind avoids_hart = absurd equiv
+    (alike-itself enclave (execute (bench_of (Bare one) breaks watches) command) (bare-stays one breaks watches command))
+targets-alike enclave _ _ breaks watches command invariant other_invariant equiv blind avoids_hart = absurd equiv
 
 -- ---- the benches are equal once the enclave has ended
 
 -- two benches with equivalent targets and equal breakpoints and watchpoints are equal once the enclave has ended
-targets_remain_equiv : (e : ℕ) (one other : Target) (breaks watches : List ℕ) → TargetInvariant one → TargetsEquivExcept e one other
-    → RemainEquiv e (bench_of one breaks watches) (bench_of other breaks watches)
-targets_remain_equiv e (Bare one) (Bare other) breaks watches invariant equiv = record {
+targets_remain_equiv : (enclave : ℕ) (one other : Target) (breaks watches : List ℕ) → TargetInvariant one → TargetsEquivExcept enclave one other
+    → RemainEquiv enclave (bench_of one breaks watches) (bench_of other breaks watches)
+targets_remain_equiv enclave (Bare one) (Bare other) breaks watches invariant equiv = record {
   but = record { target = equiv; breaks = refl; watches = refl };
   gone = λ has_ended. ap (λ (machine : Machine). bench_of (Bare machine) breaks watches) equiv;
 }
-targets_remain_equiv e (Monitored one) (Monitored other) breaks watches invariant equiv = record {
+targets_remain_equiv enclave (Monitored one) (Monitored other) breaks watches invariant equiv = record {
   but = record { target = equiv; breaks = refl; watches = refl };
   gone = λ has_ended. ap₂ (λ (hart : ℕ) (machine : MonitoredMachine). bench_of (selected_at hart machine) breaks watches) equiv.hart
-      (gone_equal e one.state other.state invariant equiv.state has_ended);
+      (gone_equal enclave one.state other.state invariant equiv.state has_ended);
 }
-targets_remain_equiv e _ _ breaks watches invariant equiv = absurd equiv
+targets_remain_equiv enclave _ _ breaks watches invariant equiv = absurd equiv
 
 -- two equivalent benches are equal once the enclave has ended, if the first has the invariant
-pub equiv_again : (e : ℕ) (one other : BenchState) → TargetInvariant one.target → BenchesEquivExcept e one other → RemainEquiv e one other
-equiv_again e one other invariant equiv =
-    subst (λ (breaks : List ℕ). RemainEquiv e one (bench_of other.target breaks other.watches)) equiv.breaks
-    (subst (λ (watches : List ℕ). RemainEquiv e one (bench_of other.target one.breaks watches)) equiv.watches
-    (targets_remain_equiv e one.target other.target one.breaks one.watches invariant equiv.target))
+pub equiv_again : (enclave : ℕ) (one other : BenchState) → TargetInvariant one.target → BenchesEquivExcept enclave one other
+    → RemainEquiv enclave one other
+equiv_again enclave one other invariant equiv =
+    subst (λ (breaks : List ℕ). RemainEquiv enclave one (bench_of other.target breaks other.watches)) equiv.breaks
+    (subst (λ (watches : List ℕ). RemainEquiv enclave one (bench_of other.target one.breaks watches)) equiv.watches
+    (targets_remain_equiv enclave one.target other.target one.breaks one.watches invariant equiv.target))
 
 -- Proves the noninterference law for a command of each kind. The second bench is rewritten to the breakpoints and watchpoints of the first.
 pub noninterference : NoninterferenceLaw
-noninterference e first second command invariant other_invariant equiv blind avoids_hart =
+noninterference enclave first second command invariant other_invariant equiv blind avoids_hart =
     let alike_unless_entered =
-    subst (λ (breaks : List ℕ). Alike e (execute first command) (execute (bench_of second.target breaks second.watches) command)) equiv.breaks
-    (subst (λ (watches : List ℕ). Alike e (execute first command) (execute (bench_of second.target first.breaks watches) command)) equiv.watches
-    (targets-alike e first.target second.target first.breaks first.watches command invariant other_invariant equiv.target blind avoids_hart)) in
+    subst (λ (breaks : List ℕ). Alike enclave (execute first command) (execute (bench_of second.target breaks second.watches) command)) equiv.breaks
+    (subst (λ (watches : List ℕ). Alike enclave (execute first command) (execute (bench_of second.target first.breaks watches) command)) equiv.watches
+    (targets-alike enclave first.target second.target first.breaks first.watches command invariant other_invariant equiv.target blind avoids_hart)) in
     record {
       entered = alike_unless_entered.entered;
       passed = λ not_entered.
@@ -502,7 +512,7 @@ noninterference e first second command invariant other_invariant equiv blind avo
           record {
             reply = passed.reply;
             entered = passed.entered;
-            state = equiv_again e _ _
+            state = equiv_again enclave _ _
                 (command_keeps_invariant first command invariant) passed.state;
           };
     }

@@ -17,7 +17,7 @@ execute_line_prefix bench other line same_prefix =
     sym (execute_line-cut bench other) ∙ (ap (execute_line bench) same_prefix ∙ execute_line-cut bench line)
 
 -- lines that begin with the same significant bytes have the same effect and replies on two benches
-pub both_line-prefix : (e : ℕ) (one two : BenchState) (other line : List ℕ) → take significant_bytes other ≡ take significant_bytes line
-    → both_execute_line e one two other ≡ both_execute_line e one two line
-both_line-prefix e one two other line same_prefix =
-    ap (both_line_executed e one two) (sym (parse_of-cut other) ∙ (ap parse_of same_prefix ∙ parse_of-cut line))
+pub both_line-prefix : (enclave : ℕ) (one two : BenchState) (other line : List ℕ) → take significant_bytes other ≡ take significant_bytes line
+    → both_execute_line enclave one two other ≡ both_execute_line enclave one two line
+both_line-prefix enclave one two other line same_prefix =
+    ap (both_line_executed enclave one two) (sym (parse_of-cut other) ∙ (ap parse_of same_prefix ∙ parse_of-cut line))

@@ -80,25 +80,25 @@ actions_sound (action ∷ actions) machine sound = actions_sound actions (after_
 
 -- ---- what the debugger's writes leave
 
--- the enclave of slot k continues with the same context, and its table, the size of the memory and the bytes of its region are unchanged
-record Stays (k : ℕ) (context : Context) (before after : MonitoredMachine) : Type 0 where
-  continues : ContinuesWith k context after
+-- the enclave in `slot` continues with the same context, and its table, the size of the memory and the bytes of its region are unchanged
+record Stays (slot : ℕ) (context : Context) (before after : MonitoredMachine) : Type 0 where
+  continues : ContinuesWith slot context after
   table : after.shared.table ≡ before.shared.table
   size : length after.shared.memory ≡ length before.shared.memory
-  bytes : (i : ℕ) → not (has (region before.shared.table k) (ram_base + i)) ≡ false
+  bytes : (i : ℕ) → not (has (region before.shared.table slot) (ram_base + i)) ≡ false
       → slice_index after.shared.memory i ≡ slice_index before.shared.memory i
 
 -- a write of a register of a hart that does not run the enclave leaves the enclave as it is
-register_stays : (k hart number value : ℕ) (context : Context) (machine : MonitoredMachine) → ContinuesWith k context machine
-    → runs_on k hart machine ≡ false → Stays k context machine (with_reg hart machine number value)
-register_stays k hart number value context machine continues not_on_hart =
-    let same_world : (j : ℕ) → runs_on k j (with_reg hart machine number value) ≡ runs_on k j machine = λ j.
-    change_preserves (λ (s : HartState). is_world_of k s.world) (reg_set number value) (λ s. refl) hart j machine in
+register_stays : (slot hart number value : ℕ) (context : Context) (machine : MonitoredMachine) → ContinuesWith slot context machine
+    → runs_on slot hart machine ≡ false → Stays slot context machine (with_reg hart machine number value)
+register_stays slot hart number value context machine continues not_on_hart =
+    let same_world : (j : ℕ) → runs_on slot j (with_reg hart machine number value) ≡ runs_on slot j machine = λ j.
+    change_preserves (λ (s : HartState). is_world_of slot s.world) (reg_set number value) (λ s. refl) hart j machine in
     record {
       continues = record {
         running = λ j runs_on_it. elim (cases_eq j hart) [
           | inl is_written_hart ↦
-              absurd (both_ways _ not_on_hart (ap (λ (h : ℕ). runs_on k h machine) (sym is_written_hart) ∙ sym (same_world j) ∙ runs_on_it))
+              absurd (both_ways _ not_on_hart (ap (λ (h : ℕ). runs_on slot h machine) (sym is_written_hart) ∙ sym (same_world j) ∙ runs_on_it))
           | inr is_other_hart ↦ ap (λ (s : HartState). continuation s.hart)
               (get_or-set_other machine.hart_states hart j (reg_set number value (hart_state_of hart machine)) (hart_state_at_start 0) is_other_hart)
               ∙ continues.running j (sym (same_world j) ∙ runs_on_it)
@@ -111,10 +111,10 @@ register_stays k hart number value context machine continues not_on_hart =
     }
 
 -- a write of a byte outside the region leaves the enclave as it is
-byte_stays : (k address byte : ℕ) (context : Context) (machine : MonitoredMachine) → ContinuesWith k context machine
-    → has (region machine.shared.table k) address ≡ false → Stays k context machine (after_action (SetsByte address byte) machine)
-byte_stays k address byte context machine continues outside_region =
-    by_write (Stays k context machine) machine address byte
+byte_stays : (slot address byte : ℕ) (context : Context) (machine : MonitoredMachine) → ContinuesWith slot context machine
+    → has (region machine.shared.table slot) address ≡ false → Stays slot context machine (after_action (SetsByte address byte) machine)
+byte_stays slot address byte context machine continues outside_region =
+    by_write (Stays slot context machine) machine address byte
     (record { continues = continues; table = refl; size = refl; bytes = λ i in_region. refl }) (λ memory written.
     let old = machine.shared.memory in
     let written_is = write-is old address (byte ∷ []) memory written in
@@ -129,7 +129,7 @@ byte_stays k address byte context machine continues outside_region =
         | inr not_below_byte ↦ elim (cases_lt i (index + 1)) [
           | inl is_byte ↦
               let byte_address : ram_base + i ≡ address = omega (arith, written_is.0) in
-              let never : true ≡ false = sym (ap not (ap (has (region machine.shared.table k)) byte_address ∙ outside_region)) ∙ in_region in
+              let never : true ≡ false = sym (ap not (ap (has (region machine.shared.table slot)) byte_address ∙ outside_region)) ∙ in_region in
               cc
           | inr above_byte ↦ index-above old index (byte ∷ []) i within_memory above_byte
         ]

@@ -35,10 +35,10 @@ use Rattle.rv_debug.proofs.TargetRuns.{hart_pc, hart_stepped, run_monitored}
 -- ---- a low step of both machines
 
 -- the window shares no byte with the region, so it is equal in equivalent machines
-same_window : (e : ℕ) (one other : MonitoredMachine) → Invariant one → EquivToGuests e one other → SameWindow e one other
-same_window e one other invariant equiv =
-    let region_block = region one.shared.table e in
-    let window_block = window one.shared.table e in
+same_window : (enclave : ℕ) (one other : MonitoredMachine) → Invariant one → EquivToGuests enclave one other → SameWindow enclave one other
+same_window enclave one other invariant equiv =
+    let region_block = region one.shared.table enclave in
+    let window_block = window one.shared.table enclave in
     let memory = equiv.shared.memory in
     record {
       size = memory.size;
@@ -48,17 +48,17 @@ same_window e one other invariant equiv =
             let region_bounds =
             and_parts (nat_le region_block.base (ram_base + i)) (nat_lt (ram_base + i) (region_block.base + region_block.size)) in_region in
             let outside_window =
-            seen_block region_block window_block (invariant.shared.valid.windows_apart e e) (ram_base + i) (leb-true _ _ region_bounds.0)
+            seen_block region_block window_block (invariant.shared.valid.windows_apart enclave enclave) (ram_base + i) (leb-true _ _ region_bounds.0)
             (ltb-true _ _ region_bounds.1) in
             let never : not false ≡ false = sym (ap not outside_window) ∙ shown in cc
       ];
     }
 
 -- a step of a hart on which the enclave does not run is a low step
-low_step : (e hart : ℕ) (one other : MonitoredMachine) → Invariant one → EquivToGuests e one other
-    → runs_on e hart one ≡ false → IsLowStep e hart one other
-low_step e hart one other invariant equiv not_on_hart =
-    record { low = not_on_hart; window = λ running. window_read e hart one other (same_window e one other invariant equiv) }
+low_step : (enclave hart : ℕ) (one other : MonitoredMachine) → Invariant one → EquivToGuests enclave one other
+    → runs_on enclave hart one ≡ false → IsLowStep enclave hart one other
+low_step enclave hart one other invariant equiv not_on_hart =
+    record { low = not_on_hart; window = λ running. window_read enclave hart one other (same_window enclave one other invariant equiv) }
 
 -- `both` has the moves in which both machines step these harts, in order
 abbrev both : List ℕ → List Move
@@ -82,59 +82,68 @@ both_second (hart ∷ harts) = ap (λ (hs : List ℕ). hart ∷ hs) (both_second
 
 -- One step of each of these harts, in order. The steps are low in the first machine (`low`) and are moves of both machines (`moves`). They leave the
 -- machines equivalent in the guest view (`state`).
-pub record AreLowMoves (e : ℕ) (harts : List ℕ) (one other : MonitoredMachine) : Type 0 where
-  pub low : AreLowSteps e harts one
-  moves : AreMoves e (both harts) one other
-  state : EquivToGuests e (sched harts one).state (sched harts other).state
+pub record AreLowMoves (enclave : ℕ) (harts : List ℕ) (one other : MonitoredMachine) : Type 0 where
+  pub low : AreLowSteps enclave harts one
+  moves : AreMoves enclave (both harts) one other
+  state : EquivToGuests enclave (sched harts one).state (sched harts other).state
 
 -- an empty list of steps is low moves
-no_moves : (e : ℕ) (one other : MonitoredMachine) → EquivToGuests e one other → AreLowMoves e [] one other
-no_moves e one other equiv = record { low = tt; moves = tt; state = equiv }
+no_moves : (enclave : ℕ) (one other : MonitoredMachine) → EquivToGuests enclave one other → AreLowMoves enclave [] one other
+no_moves enclave one other equiv = record { low = tt; moves = tt; state = equiv }
 
 -- a low step followed by low moves is a list of low moves
-one_more_move : (e hart : ℕ) (harts : List ℕ) (one other : MonitoredMachine) → Invariant one → EquivToGuests e one other → runs_on e hart one ≡ false
-    → AreLowMoves e harts (step_of hart one).state (step_of hart other).state → AreLowMoves e (hart ∷ harts) one other
-one_more_move e hart harts one other invariant equiv not_on_hart rest =
-    record { low = (not_on_hart, rest.low); moves = (inl (low_step e hart one other invariant equiv not_on_hart), rest.moves); state = rest.state }
+one_more_move : (enclave hart : ℕ) (harts : List ℕ) (one other : MonitoredMachine) → Invariant one → EquivToGuests enclave one other
+    → runs_on enclave hart one ≡ false
+    → AreLowMoves enclave harts (step_of hart one).state (step_of hart other).state → AreLowMoves enclave (hart ∷ harts) one other
+one_more_move enclave hart harts one other invariant equiv not_on_hart rest =
+    record {
+      low = (not_on_hart, rest.low);
+      moves = (inl (low_step enclave hart one other invariant equiv not_on_hart), rest.moves);
+      state =
+          rest.state;
+    }
 
 -- low moves are moves
-low_moves_are_moves : (e : ℕ) (harts : List ℕ) (one other : MonitoredMachine) → AreLowMoves e harts one other → StepsAreMoves e one other harts harts
-low_moves_are_moves e harts one other low_moves =
+low_moves_are_moves : (enclave : ℕ) (harts : List ℕ) (one other : MonitoredMachine) → AreLowMoves enclave harts one other
+    → StepsAreMoves enclave one other harts harts
+low_moves_are_moves enclave harts one other low_moves =
     record { moves = both harts; steps = both_steps harts; first = both_first harts; second = both_second harts; are = low_moves.moves }
 
 -- ---- schedules
 
 -- The steps of a schedule are low moves, if the enclave runs on none of its harts and the schedule does not enter it. The proof is by induction over
 -- the harts: a step that entered the enclave would contradict the premise.
-low_schedule : (e : ℕ) (harts : List ℕ) (one other : Selected) (summary : Scheduled) → Invariant one.state → Invariant other.state
-    → EquivToGuests e one.state other.state → RunsOnNone e harts one.state
-    → is_entered e (scheduled_steps harts (after_schedule (Monitored one) summary)).did.entered ≡ false → AreLowMoves e harts one.state other.state
+low_schedule : (enclave : ℕ) (harts : List ℕ) (one other : Selected) (summary : Scheduled) → Invariant one.state → Invariant other.state
+    → EquivToGuests enclave one.state other.state → RunsOnNone enclave harts one.state
+    → is_entered enclave (scheduled_steps harts (after_schedule (Monitored one) summary)).did.entered ≡ false
+    → AreLowMoves enclave harts one.state other.state
 unfolding scheduled_steps
-low_schedule e [] one other summary invariant other_invariant equiv runs_on_none not_entered = no_moves e one.state other.state equiv
-low_schedule e (hart ∷ harts) one other summary invariant other_invariant equiv runs_on_none not_entered =
+low_schedule enclave [] one other summary invariant other_invariant equiv runs_on_none not_entered = no_moves enclave one.state other.state equiv
+low_schedule enclave (hart ∷ harts) one other summary invariant other_invariant equiv runs_on_none not_entered =
     let first_step = step_of hart one.state in
     let second_step = step_of hart other.state in
-    let alike_after = guest_step_equiv e hart one.state other.state invariant other_invariant equiv runs_on_none.0 in
-    elim (cases_Bool (enters e first_step.outcome.entered)) [
+    let alike_after = guest_step_equiv enclave hart one.state other.state invariant other_invariant equiv runs_on_none.0 in
+    elim (cases_Bool (enters enclave first_step.outcome.entered)) [
       | inl enters_slot ↦ absurd (both_ways _ not_entered
-          (schedule_enters e hart harts summary first_step.state first_step.outcome (entered_some e first_step.outcome.entered enters_slot)))
-      | inr does_not_enter ↦ one_more_move e hart harts one.state other.state invariant equiv runs_on_none.0
-          (low_schedule e harts (record { hart = hart; state = first_step.state }) (record { hart = hart; state = second_step.state }) _
+          (schedule_enters enclave hart harts summary first_step.state first_step.outcome
+          (entered_some enclave first_step.outcome.entered enters_slot)))
+      | inr does_not_enter ↦ one_more_move enclave hart harts one.state other.state invariant equiv runs_on_none.0
+          (low_schedule enclave harts (record { hart = hart; state = first_step.state }) (record { hart = hart; state = second_step.state }) _
           (invariant_law hart one.state invariant) (invariant_law hart other.state other_invariant) alike_after.state
-          (runs_on_none_after e hart harts one.state does_not_enter runs_on_none.1) not_entered)
+          (runs_on_none_after enclave hart harts one.state does_not_enter runs_on_none.1) not_entered)
     ]
 
 -- ---- runs
 
 -- Two runs a and b, which have executed `before` steps, execute `count` more. They end with equal summaries, and the steps are low moves.
-record IsLowRun (e hart before : ℕ) (one other : MonitoredMachine) (a b : AfterRun MonitoredMachine) : Type 0 where
+record IsLowRun (enclave hart before : ℕ) (one other : MonitoredMachine) (a b : AfterRun MonitoredMachine) : Type 0 where
   count : ℕ
   steps : a.ran.steps ≡ before + count
   ran : a.ran ≡ b.ran
-  low : AreLowMoves e (replicate count hart) one other
+  low : AreLowMoves enclave (replicate count hart) one other
 
 -- runs of hart `hart` in two machines that are equivalent in the guest view
-module _ (e hart : ℕ) (breaks watches : List ℕ) where
+module _ (enclave hart : ℕ) (breaks watches : List ℕ) where
   -- `run_from` is the run of a machine with `left` steps left, after the steps so far
   abbrev run_from : ℕ → AfterSteps MonitoredMachine → AfterRun MonitoredMachine
   run_from left before = run (hart_stepped hart) (hart_pc hart) breaks watches left before
@@ -155,42 +164,43 @@ module _ (e hart : ℕ) (breaks watches : List ℕ) where
 
   -- if the first run does not enter the enclave, then the two runs have equal summaries and their steps are low moves
   abbrev LowUnlessEntered : AfterSteps MonitoredMachine → MonitoredMachine → AfterRun MonitoredMachine → AfterRun MonitoredMachine → Type 0
-  LowUnlessEntered before other a b = is_entered e a.ran.entered ≡ false → IsLowRun e hart before.steps before.state other a b
+  LowUnlessEntered before other a b = is_entered enclave a.ran.entered ≡ false → IsLowRun enclave hart before.steps before.state other a b
 
   -- the pcs of the hart are equal in both machines, if the enclave does not run on the hart
-  pc_alike : (one other : MonitoredMachine) → EquivToGuests e one other → runs_on e hart one ≡ false → hart_pc hart one ≡ hart_pc hart other
+  pc_alike : (one other : MonitoredMachine) → EquivToGuests enclave one other → runs_on enclave hart one ≡ false
+      → hart_pc hart one ≡ hart_pc hart other
   pc_alike one other equiv not_on_hart =
       let pc : HartState → ℕ = λ s. s.hart.pc in
       let hart_equiv = equiv.hart_states hart in
       sym (ap pc (guest_hart_state hart one))
-      ∙ ap pc (hart_equiv.same (ap (λ (s : HartState). is_world_of e s.world) (guest_hart_state hart one) ∙ not_on_hart))
+      ∙ ap pc (hart_equiv.same (ap (λ (s : HartState). is_world_of enclave s.world) (guest_hart_state hart one) ∙ not_on_hart))
       ∙ ap pc (guest_hart_state hart other)
 
   -- A run of a hart on which the enclave does not run has the same summary in both machines, and its steps are low moves. The proof is by induction
   -- over the number of steps left.
   low-run : (left : ℕ) (before : AfterSteps MonitoredMachine) (other : MonitoredMachine) → Invariant before.state → Invariant other
-      → EquivToGuests e before.state other → runs_on e hart before.state ≡ false
+      → EquivToGuests enclave before.state other → runs_on enclave hart before.state ≡ false
       → LowUnlessEntered before other (run_from left before) (run_from left (with_state before other))
   unfolding run
   low-run zero before other invariant other_invariant equiv not_on_hart not_entered =
-      record { count = 0; steps = omega arith; ran = refl; low = no_moves e before.state other equiv }
+      record { count = 0; steps = omega arith; ran = refl; low = no_moves enclave before.state other equiv }
   low-run (suc left) before other invariant other_invariant equiv not_on_hart not_entered =
       let first_step = step_of hart before.state in
       let second_step = step_of hart other in
       let after = after_step before first_step.outcome first_step.state in
-      let alike_after = guest_step_equiv e hart before.state other invariant other_invariant equiv not_on_hart in
-      elim (cases_Bool (enters e first_step.outcome.entered)) [
+      let alike_after = guest_step_equiv enclave hart before.state other invariant other_invariant equiv not_on_hart in
+      elim (cases_Bool (enters enclave first_step.outcome.entered)) [
         | inl enters_slot ↦ absurd (both_ways _ not_entered
-            (run_enters e hart breaks watches left before first_step.outcome first_step.state
-            (entered_some e first_step.outcome.entered enters_slot)))
+            (run_enters enclave hart breaks watches left before first_step.outcome first_step.state
+            (entered_some enclave first_step.outcome.entered enters_slot)))
         | inr does_not_enter ↦
             -- the enclave does not run on the hart after the step, and the rest of the run is low by induction
-            let still_off = entry_law e hart hart before.state not_on_hart does_not_enter in
+            let still_off = entry_law enclave hart hart before.state not_on_hart does_not_enter in
             let rest_low = low-run left after second_step.state (invariant_law hart before.state invariant)
             (invariant_law hart other other_invariant) alike_after.state still_off in
-            let first_move : AreLowMoves e (hart ∷ []) before.state other =
-            one_more_move e hart [] before.state other invariant equiv not_on_hart
-            (no_moves e first_step.state second_step.state alike_after.state) in
+            let first_move : AreLowMoves enclave (hart ∷ []) before.state other =
+            one_more_move enclave hart [] before.state other invariant equiv not_on_hart
+            (no_moves enclave first_step.state second_step.state alike_after.state) in
             -- the run ends after this step in both machines, or continues in both
             let alike_in_both =
             next_cases (LowUnlessEntered before other) after (with_state after second_step.state) (run_from left after)
@@ -201,7 +211,7 @@ module _ (e hart : ℕ) (breaks watches : List ℕ) where
               count = suc rest.count;
               steps = rest.steps ∙ omega arith;
               ran = rest.ran;
-              low = one_more_move e hart (replicate rest.count hart) before.state other invariant equiv not_on_hart rest.low;
+              low = one_more_move enclave hart (replicate rest.count hart) before.state other invariant equiv not_on_hart rest.low;
             }) in
             -- the outcomes of the step are equal, and the next instruction is at a breakpoint in both machines or in neither
             let same_break = ap (λ (pc : ℕ). is_among pc breaks) (pc_alike first_step.state second_step.state alike_after.state still_off) in
@@ -216,9 +226,9 @@ module _ (e hart : ℕ) (breaks watches : List ℕ) where
 -- ---- commands
 
 -- two related machines `one` and `other` with hart `hart` selected; the windows of the enclave are equal while it runs
-module _ (e hart : ℕ) (one other : MonitoredMachine) (invariant : Invariant one) (other_invariant : Invariant other)
-    (related : AreRelated e one other)
-    (window_equal : runs one.shared.table e ≡ true → SameWindow e one other) (breaks watches : List ℕ) where
+module _ (enclave hart : ℕ) (one other : MonitoredMachine) (invariant : Invariant one) (other_invariant : Invariant other)
+    (related : AreRelated enclave one other)
+    (window_equal : runs one.shared.table enclave ≡ true → SameWindow enclave one other) (breaks watches : List ℕ) where
   -- the target with the given machine, and hart `hart` selected
   abbrev pub as_target : MonitoredMachine → Target
   as_target machine = selected_at hart machine
@@ -228,22 +238,22 @@ module _ (e hart : ℕ) (one other : MonitoredMachine) (invariant : Invariant on
   as_bench machine = bench_of (as_target machine) breaks watches
 
   -- both machines are equivalent in the guest view
-  equiv : EquivToGuests e one other
-  equiv = related_equiv e one other related window_equal
+  equiv : EquivToGuests enclave one other
+  equiv = related_equiv enclave one other related window_equal
 
   -- the windows of the enclave are equal in the benches over two targets
   abbrev SameWindowAfter : Target → Target → Type 0
-  SameWindowAfter first second = WindowsAreEqual e (bench_of first breaks watches) (bench_of second breaks watches)
+  SameWindowAfter first second = WindowsAreEqual enclave (bench_of first breaks watches) (bench_of second breaks watches)
 
   -- the windows are equal after low steps
-  same_window_after : (harts : List ℕ) (selected : ℕ) → AreLowMoves e harts one other
+  same_window_after : (harts : List ℕ) (selected : ℕ) → AreLowMoves enclave harts one other
       → SameWindowAfter (done (as_target one) (Steps harts selected)) (done (as_target other) (Steps harts selected))
   same_window_after harts selected low_moves =
       subst (λ (t : Target). SameWindowAfter t (done (as_target other) (Steps harts selected)))
       (sym (schedule_is_sched harts (record { hart = hart; state = one }) _ selected))
       (subst (SameWindowAfter (selected_at selected (sched harts one).state))
       (sym (schedule_is_sched harts (record { hart = hart; state = other }) _ selected))
-      (λ running. same_window e (sched harts one).state (sched harts other).state (sched_invariant harts one invariant) low_moves.state))
+      (λ running. same_window enclave (sched harts one).state (sched harts other).state (sched_invariant harts one invariant) low_moves.state))
 
   -- `ran_of` is the summary of a run of the machine
   abbrev pub ran_of : MonitoredMachine → List ℕ → List ℕ → ℕ → Ran
@@ -252,30 +262,32 @@ module _ (e hart : ℕ) (one other : MonitoredMachine) (invariant : Invariant on
   -- the two runs of a command have equal summaries, and their steps are low
   pub record LowRuns (at_breaks at_watches : List ℕ) (count : ℕ) : Type 0 where
     ran : ran_of one at_breaks at_watches count ≡ ran_of other at_breaks at_watches count
-    pub low : AreLowMoves e (replicate (ran_of one at_breaks at_watches count).steps hart) one other
+    pub low : AreLowMoves enclave (replicate (ran_of one at_breaks at_watches count).steps hart) one other
 
   -- a run that is low in the first machine and does not enter the enclave is the same in both, and its steps are low
-  pub low_runs : (at_breaks at_watches : List ℕ) (count : ℕ) → runs_on e hart one ≡ false
-      → is_entered e (entered_by (as_target one) (run_effect (as_target one) at_breaks at_watches count)) ≡ false → LowRuns at_breaks at_watches count
+  pub low_runs : (at_breaks at_watches : List ℕ) (count : ℕ) → runs_on enclave hart one ≡ false
+      → is_entered enclave (entered_by (as_target one) (run_effect (as_target one) at_breaks at_watches count)) ≡ false
+      → LowRuns at_breaks at_watches count
   low_runs at_breaks at_watches count not_on_hart not_entered =
       let ran : AfterRun Target → Ran = λ after. after.ran in
       let one_is = ap ran (run_monitored hart at_breaks at_watches count (no_steps one)) in
       let other_is = ap ran (run_monitored hart at_breaks at_watches count (no_steps other)) in
-      let run_not_entered = sym (ap (λ (r : Ran). is_entered e r.entered) one_is)
-      ∙ sym (ap (is_entered e) (run_entered (as_target one) at_breaks at_watches count)) ∙ not_entered in
-      let alike_after = low-run e hart at_breaks at_watches count (no_steps one) other invariant other_invariant equiv not_on_hart run_not_entered in
+      let run_not_entered = sym (ap (λ (r : Ran). is_entered enclave r.entered) one_is)
+      ∙ sym (ap (is_entered enclave) (run_entered (as_target one) at_breaks at_watches count)) ∙ not_entered in
+      let alike_after = low-run enclave hart at_breaks at_watches count (no_steps one) other invariant other_invariant equiv not_on_hart
+      run_not_entered in
       let same_count : (ran_of one at_breaks at_watches count).steps ≡ alike_after.count =
       ap (λ (r : Ran). r.steps) one_is ∙ alike_after.steps ∙ omega arith in
       record {
         ran = one_is ∙ alike_after.ran ∙ sym other_is;
-        low = subst (λ (n : ℕ). AreLowMoves e (replicate n hart) one other) (sym same_count) alike_after.low;
+        low = subst (λ (n : ℕ). AreLowMoves enclave (replicate n hart) one other) (sym same_count) alike_after.low;
       }
 
   -- the run command is low: its steps are moves, and the windows are equal after it
   abbrev LowRunCommand : List ℕ → List ℕ → ℕ → Type 0
   LowRunCommand at_breaks at_watches count =
       let numbers : MonitoredMachine → List ℕ = λ machine. replicate (ran_of machine at_breaks at_watches count).steps hart in
-      StepsAreMoves e one other (numbers one) (numbers other)
+      StepsAreMoves enclave one other (numbers one) (numbers other)
       × ((ran_of one at_breaks at_watches count).stop ≡ (ran_of other at_breaks at_watches count).stop)
       × SameWindowAfter (done (as_target one) (Steps (numbers one) hart)) (done (as_target other) (Steps (numbers other) hart))
 
@@ -283,7 +295,8 @@ module _ (e hart : ℕ) (one other : MonitoredMachine) (invariant : Invariant on
   low_runs_are_low : (at_breaks at_watches : List ℕ) (count : ℕ) → LowRuns at_breaks at_watches count → LowRunCommand at_breaks at_watches count
   low_runs_are_low at_breaks at_watches count runs =
       let harts = replicate (ran_of one at_breaks at_watches count).steps hart in (
-        subst (λ (ran : Ran). StepsAreMoves e one other harts (replicate ran.steps hart)) runs.ran (low_moves_are_moves e harts one other runs.low),
+        subst (λ (ran : Ran). StepsAreMoves enclave one other harts (replicate ran.steps hart)) runs.ran
+            (low_moves_are_moves enclave harts one other runs.low),
         ap (λ (ran : Ran). ran.stop) runs.ran,
         subst (λ (ran : Ran). SameWindowAfter (done (as_target one) (Steps harts hart))
             (done (as_target other) (Steps (replicate ran.steps hart) hart))) runs.ran
@@ -297,20 +310,20 @@ module _ (e hart : ℕ) (one other : MonitoredMachine) (invariant : Invariant on
   -- the schedule is low: its steps are moves, and the windows are equal after it
   abbrev LowSched : Effect → Effect → Type 0
   LowSched first second =
-      StepsAreMoves e one other (harts_stepped first) (harts_stepped second)
+      StepsAreMoves enclave one other (harts_stepped first) (harts_stepped second)
       × SameWindowAfter (done (as_target one) first) (done (as_target other) second)
 
   -- two empty lists of steps are an empty list of moves
-  no_steps_are_moves : StepsAreMoves e one other [] []
+  no_steps_are_moves : StepsAreMoves enclave one other [] []
   no_steps_are_moves = record { moves = []; steps = refl; first = refl; second = refl; are = tt }
 
   -- a schedule of harts without the enclave that does not enter it is low
-  low_sched : (harts : List ℕ) (exist other_exist : Bool) → exist ≡ other_exist → RunsOnNone e harts one
-      → is_entered e (entered_by (as_target one) (sched_of harts exist)) ≡ false → LowSched (sched_of harts exist) (sched_of harts other_exist)
+  low_sched : (harts : List ℕ) (exist other_exist : Bool) → exist ≡ other_exist → RunsOnNone enclave harts one
+      → is_entered enclave (entered_by (as_target one) (sched_of harts exist)) ≡ false → LowSched (sched_of harts exist) (sched_of harts other_exist)
   low_sched harts true true same_exist runs_on_none not_entered =
-      let low_moves = low_schedule e harts (record { hart = hart; state = one }) (record { hart = hart; state = other })
+      let low_moves = low_schedule enclave harts (record { hart = hart; state = one }) (record { hart = hart; state = other })
       _ invariant other_invariant equiv runs_on_none not_entered in
-      (low_moves_are_moves e harts one other low_moves, same_window_after harts hart low_moves)
+      (low_moves_are_moves enclave harts one other low_moves, same_window_after harts hart low_moves)
   low_sched harts false false same_exist runs_on_none not_entered = (no_steps_are_moves, window_equal)
   low_sched harts _ _ same_exist runs_on_none not_entered = cc
 
@@ -334,7 +347,7 @@ module _ (e hart : ℕ) (one other : MonitoredMachine) (invariant : Invariant on
             let first_write = write-some one.shared.memory address bytes in_ram in
             let second_write = write-some other.shared.memory address bytes (rw (← same_size) in_ram) in
             rw (first_write, second_write) (λ running.
-            same_write (λ (b : ℕ). not (has (window one.shared.table e) b)) one.shared.memory other.shared.memory address bytes _ _
+            same_write (λ (b : ℕ). not (has (window one.shared.table enclave) b)) one.shared.memory other.shared.memory address bytes _ _
             (window_equal running) first_write second_write)
         | inr outside_ram ↦
             let first_write = write-none one.shared.memory address bytes outside_ram in
@@ -344,11 +357,11 @@ module _ (e hart : ℕ) (one other : MonitoredMachine) (invariant : Invariant on
 
   -- the claim of `low_kind`: the command is low in the two benches
   abbrev IsLow : Command → Type 0
-  IsLow command = IsLowCommand e (as_bench one) (as_bench other) command
+  IsLow command = IsLowCommand enclave (as_bench one) (as_bench other) command
 
   -- each command that steps no hart of the enclave, and does not enter the enclave, is low
-  low_kind : (command : Command) → RunsOnNoneIn e (harts_named (as_target one) command) (as_target one)
-      → is_entered e (execute (as_bench one) command).entered ≡ false → IsLow command
+  low_kind : (command : Command) → RunsOnNoneIn enclave (harts_named (as_target one) command) (as_target one)
+      → is_entered enclave (execute (as_bench one) command).entered ≡ false → IsLow command
   unfolding execute
   low_kind (Step count) runs_on_none not_entered =
       let (steps, stop, after) = low_runs_are_low [] [] count (low_runs [] [] count runs_on_none.0 not_entered) in
@@ -371,37 +384,39 @@ module _ (e hart : ℕ) (one other : MonitoredMachine) (invariant : Invariant on
 -- ---- any two benches
 
 -- each command is low on a bare machine
-bare_low : (e : ℕ) (machine other : Machine) (breaks watches : List ℕ) (command : Command) → machine ≡ other
-    → IsLowCommand e (bench_of (Bare machine) breaks watches) (bench_of (Bare other) breaks watches) command
+bare_low : (enclave : ℕ) (machine other : Machine) (breaks watches : List ℕ) (command : Command) → machine ≡ other
+    → IsLowCommand enclave (bench_of (Bare machine) breaks watches) (bench_of (Bare other) breaks watches) command
 unfolding execute
-bare_low e machine other breaks watches command same_machine =
-    subst (λ (m : Machine). IsLowCommand e (bench_of (Bare machine) breaks watches) (bench_of (Bare m) breaks watches) command) same_machine
+bare_low enclave machine other breaks watches command same_machine =
+    subst (λ (m : Machine). IsLowCommand enclave (bench_of (Bare machine) breaks watches) (bench_of (Bare m) breaks watches) command) same_machine
     (record {
       same = record { same = refl; steps = tt; stop = refl };
-      window = bare_target (λ (t : Target). WindowsAreEqual e (bench_of t breaks watches) (bench_of t breaks watches)) (λ machine. tt) _
+      window = bare_target (λ (t : Target). WindowsAreEqual enclave (bench_of t breaks watches) (bench_of t breaks watches)) (λ machine. tt) _
           (effect_stays_bare machine (effect (bench_of (Bare machine) breaks watches) command));
     })
 
 -- a command that steps no hart of the enclave and does not enter it is low in two benches with related targets and equal windows
-targets_low : (e : ℕ) (one other : Target) (breaks watches : List ℕ) (command : Command) → TargetInvariant one → TargetInvariant other
-    → TargetsAreRelated e one other → WindowsAreEqual e (bench_of one breaks watches) (bench_of other breaks watches)
-    → RunsOnNoneIn e (harts_named one command) one → is_entered e (execute (bench_of one breaks watches) command).entered ≡ false
-    → IsLowCommand e (bench_of one breaks watches) (bench_of other breaks watches) command
-targets_low e (Monitored one) (Monitored other) breaks watches command invariant other_invariant related windows_equal runs_on_none not_entered =
-    subst (λ (h : ℕ). IsLowCommand e (bench_of (Monitored one) breaks watches)
+targets_low : (enclave : ℕ) (one other : Target) (breaks watches : List ℕ) (command : Command) → TargetInvariant one → TargetInvariant other
+    → TargetsAreRelated enclave one other → WindowsAreEqual enclave (bench_of one breaks watches) (bench_of other breaks watches)
+    → RunsOnNoneIn enclave (harts_named one command) one → is_entered enclave (execute (bench_of one breaks watches) command).entered ≡ false
+    → IsLowCommand enclave (bench_of one breaks watches) (bench_of other breaks watches) command
+targets_low enclave (Monitored one) (Monitored other) breaks watches command invariant other_invariant related windows_equal runs_on_none
+    not_entered =
+    subst (λ (h : ℕ). IsLowCommand enclave (bench_of (Monitored one) breaks watches)
     (bench_of (selected_at h other.state) breaks watches) command) related.hart
-    (low_kind e one.hart one.state other.state invariant other_invariant related.state windows_equal breaks watches command runs_on_none not_entered)
-targets_low e (Bare one) (Bare other) breaks watches command invariant other_invariant related windows_equal runs_on_none not_entered =
-    bare_low e one other breaks watches command related
-targets_low e (Bare one) (Monitored other) breaks watches command invariant other_invariant related windows_equal runs_on_none not_entered =
+    (low_kind enclave one.hart one.state other.state invariant other_invariant related.state windows_equal breaks watches command runs_on_none
+    not_entered)
+targets_low enclave (Bare one) (Bare other) breaks watches command invariant other_invariant related windows_equal runs_on_none not_entered =
+    bare_low enclave one other breaks watches command related
+targets_low enclave (Bare one) (Monitored other) breaks watches command invariant other_invariant related windows_equal runs_on_none not_entered =
     absurd related
-targets_low e (Monitored one) (Bare other) breaks watches command invariant other_invariant related windows_equal runs_on_none not_entered =
+targets_low enclave (Monitored one) (Bare other) breaks watches command invariant other_invariant related windows_equal runs_on_none not_entered =
     absurd related
 
 -- Proves the law of low commands. The second bench is rewritten to the breakpoints and watchpoints of the first.
 pub low_command : LowCommandLaw
-low_command e first second command invariant other_invariant related windows_equal runs_on_none not_entered =
-    subst (λ (breaks : List ℕ). IsLowCommand e first (bench_of second.target breaks second.watches) command) related.breaks
-    (subst (λ (watches : List ℕ). IsLowCommand e first (bench_of second.target first.breaks watches) command) related.watches
-    (targets_low e first.target second.target first.breaks first.watches command invariant other_invariant related.target windows_equal
+low_command enclave first second command invariant other_invariant related windows_equal runs_on_none not_entered =
+    subst (λ (breaks : List ℕ). IsLowCommand enclave first (bench_of second.target breaks second.watches) command) related.breaks
+    (subst (λ (watches : List ℕ). IsLowCommand enclave first (bench_of second.target first.breaks watches) command) related.watches
+    (targets_low enclave first.target second.target first.breaks first.watches command invariant other_invariant related.target windows_equal
     runs_on_none not_entered))

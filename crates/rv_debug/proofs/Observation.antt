@@ -25,23 +25,23 @@ use Rattle.rv_debug.proofs.RunSchedules.{run_done}
 -- ---- an enclave that does not run
 
 -- an enclave whose state is not Running runs on no hart
-off_every_hart : (e : ℕ) (machine : MonitoredMachine) → Invariant machine
-    → runs machine.shared.table e ≡ false → (hart : ℕ) → runs_on e hart machine ≡ false
-off_every_hart e machine invariant not_running hart = elim (cases_Bool (runs_on e hart machine)) [
-  | inl on_hart ↦ absurd (both_ways _ not_running (invariant.shared.running e ∙ runs_among e hart machine on_hart))
+off_every_hart : (enclave : ℕ) (machine : MonitoredMachine) → Invariant machine
+    → runs machine.shared.table enclave ≡ false → (hart : ℕ) → runs_on enclave hart machine ≡ false
+off_every_hart enclave machine invariant not_running hart = elim (cases_Bool (runs_on enclave hart machine)) [
+  | inl on_hart ↦ absurd (both_ways _ not_running (invariant.shared.running enclave ∙ runs_among enclave hart machine on_hart))
   | inr not_on_hart ↦ not_on_hart
 ]
 
 -- an enclave that runs on no hart is not on the selected hart
-not_selected : (e : ℕ) (target : Target) → RunsOnNoHart e target → is_selected e target ≡ false
-not_selected e (Bare machine) on_no_hart = refl
-not_selected e (Monitored selected) on_no_hart = on_no_hart selected.hart
+not_selected : (enclave : ℕ) (target : Target) → RunsOnNoHart enclave target → is_selected enclave target ≡ false
+not_selected enclave (Bare machine) on_no_hart = refl
+not_selected enclave (Monitored selected) on_no_hart = on_no_hart selected.hart
 
 -- whether an enclave runs on no hart does not depend on the selected hart
-on_no_hart_any_selected : (e hart other : ℕ) (target : Target) → RunsOnNoHart e (with_selected hart target)
-    → RunsOnNoHart e (with_selected other target)
-on_no_hart_any_selected e hart other (Bare machine) on_no_hart = tt
-on_no_hart_any_selected e hart other (Monitored selected) on_no_hart = on_no_hart
+on_no_hart_any_selected : (enclave hart other : ℕ) (target : Target) → RunsOnNoHart enclave (with_selected hart target)
+    → RunsOnNoHart enclave (with_selected other target)
+on_no_hart_any_selected enclave hart other (Bare machine) on_no_hart = tt
+on_no_hart_any_selected enclave hart other (Monitored selected) on_no_hart = on_no_hart
 
 -- a text that is not hidden is shown
 shown_whole : (hidden : Bool) (text : List ℕ) → hidden ≡ false → unless hidden text ≡ text
@@ -50,49 +50,52 @@ shown_whole hidden text not_hidden = rw not_hidden refl
 -- ---- runs
 
 -- the observed number of steps of a hart counts all of them, if they are low: the enclave runs on the hart before none of them
-all_steps_count : (e hart count : ℕ) (machine : MonitoredMachine) (ran : HartRan) → AreLowSteps e (replicate count hart) machine
-    → (observed_steps e hart (replicate count hart) machine ran).steps ≡ ran.steps + count
-all_steps_count e hart zero machine ran low_steps = omega arith
-all_steps_count e hart (suc count) machine ran low_steps =
+all_steps_count : (enclave hart count : ℕ) (machine : MonitoredMachine) (ran : HartRan) → AreLowSteps enclave (replicate count hart) machine
+    → (observed_steps enclave hart (replicate count hart) machine ran).steps ≡ ran.steps + count
+all_steps_count enclave hart zero machine ran low_steps = omega arith
+all_steps_count enclave hart (suc count) machine ran low_steps =
     let same_hart = eq-eqb hart hart refl in
-    let one_more : (with_observed_step e hart hart machine ran).steps ≡ ran.steps + 1 = rw (same_hart, low_steps.0) refl in
-    all_steps_count e hart count (step_of hart machine).state (with_observed_step e hart hart machine ran) low_steps.1 ∙ omega (arith, one_more)
+    let one_more : (with_observed_step enclave hart hart machine ran).steps ≡ ran.steps + 1 = rw (same_hart, low_steps.0) refl in
+    all_steps_count enclave hart count (step_of hart machine).state (with_observed_step enclave hart hart machine ran) low_steps.1
+    ∙ omega (arith, one_more)
 
 -- a run whose steps all count is observed as its reply
-run_observed_whole : (e : ℕ) (target : Target) (after : AfterRun Target)
-    → is_selected e after.state ≡ false → observed_count e target after.ran.steps ≡ after.ran.steps
-    → observed_run e target after ≡ ran_reply after
+run_observed_whole : (enclave : ℕ) (target : Target) (after : AfterRun Target)
+    → is_selected enclave after.state ≡ false → observed_count enclave target after.ran.steps ≡ after.ran.steps
+    → observed_run enclave target after ≡ ran_reply after
 unfolding ran_text
-run_observed_whole e target after not_on_selected all_counted = rw (not_on_selected, all_counted) refl
+run_observed_whole enclave target after not_on_selected all_counted = rw (not_on_selected, all_counted) refl
 
 -- ---- schedules
 
 -- the schedule begins with hart `hart` of the target selected
-module _ (e hart : ℕ) (target : Target) where
+module _ (enclave hart : ℕ) (target : Target) where
   -- the summary of a hart without the enclave is observed
-  summary_observed : (after : AfterSchedule) (own : ℕ) (ran : HartRan) → RunsOnNoHart e (with_selected hart after.state)
-      → observed_hart e after.state own ran ≡ hart_summary_text after.state own ran
+  summary_observed : (after : AfterSchedule) (own : ℕ) (ran : HartRan) → RunsOnNoHart enclave (with_selected hart after.state)
+      → observed_hart enclave after.state own ran ≡ hart_summary_text after.state own ran
   summary_observed after own ran on_no_hart =
-      shown_whole (is_selected e (with_selected own after.state)) (hart_summary_text after.state own ran)
-      (not_selected e (with_selected own after.state) (on_no_hart_any_selected e hart own after.state on_no_hart))
+      shown_whole (is_selected enclave (with_selected own after.state)) (hart_summary_text after.state own ran)
+      (not_selected enclave (with_selected own after.state) (on_no_hart_any_selected enclave hart own after.state on_no_hart))
 
   -- all summaries are observed, if the enclave runs on no hart
-  summaries_observed : (after : AfterSchedule) → RunsOnNoHart e (with_selected hart after.state) → observed_harts e after ≡ harts_summary_text after
+  summaries_observed : (after : AfterSchedule) → RunsOnNoHart enclave (with_selected hart after.state)
+      → observed_harts enclave after ≡ harts_summary_text after
   summaries_observed after on_no_hart =
       ap₂ (λ (first second : List ℕ). first ++ (if nat_lt 1 (harts_of after.state) then second else []))
       (summary_observed after 0 after.did.first on_no_hart) (summary_observed after 1 after.did.second on_no_hart)
 
   -- a schedule is observed as its reply, if the enclave runs on no hart after it
-  sched_observed : (harts : List ℕ) (exist : Bool) (refused : List ℕ) → RunsOnNoHart e (done target (if exist then Steps harts hart else Nothing))
+  sched_observed : (harts : List ℕ) (exist : Bool) (refused : List ℕ)
+      → RunsOnNoHart enclave (done target (if exist then Steps harts hart else Nothing))
       → (let after = scheduled_steps harts (schedule_start target) in
-      (if exist then observed_harts e after else refused) ≡ (if exist then harts_summary_text after else refused))
+      (if exist then observed_harts enclave after else refused) ≡ (if exist then harts_summary_text after else refused))
   sched_observed harts true refused on_no_hart = summaries_observed (scheduled_steps harts (schedule_start target)) on_no_hart
   sched_observed harts false refused on_no_hart = refl
 
 -- ---- a monitored bench
 
--- a machine in which the enclave of slot e does not run
-module _ (e hart : ℕ) (machine : MonitoredMachine) (invariant : Invariant machine) (not_running : runs machine.shared.table e ≡ false)
+-- a machine in which `enclave` does not run
+module _ (enclave hart : ℕ) (machine : MonitoredMachine) (invariant : Invariant machine) (not_running : runs machine.shared.table enclave ≡ false)
     (breaks watches : List ℕ) where
   -- `as_target` is the target of the bench
   abbrev as_target : Target
@@ -103,39 +106,41 @@ module _ (e hart : ℕ) (machine : MonitoredMachine) (invariant : Invariant mach
   bench = bench_of as_target breaks watches
 
   -- the enclave runs on no hart
-  on_no_hart_of_machine : (own : ℕ) → runs_on e own machine ≡ false
-  on_no_hart_of_machine = off_every_hart e machine invariant not_running
+  on_no_hart_of_machine : (own : ℕ) → runs_on enclave own machine ≡ false
+  on_no_hart_of_machine = off_every_hart enclave machine invariant not_running
 
   -- a run that does not enter the enclave is observed as its reply
   run_observed : (at_breaks at_watches : List ℕ) (count : ℕ)
-      → is_entered e (entered_by as_target (run_effect as_target at_breaks at_watches count)) ≡ false
-      → RunsOnNoHart e (done as_target (run_effect as_target at_breaks at_watches count))
-      → observed_run e as_target (steps_of as_target at_breaks at_watches count) ≡ ran_reply (steps_of as_target at_breaks at_watches count)
+      → is_entered enclave (entered_by as_target (run_effect as_target at_breaks at_watches count)) ≡ false
+      → RunsOnNoHart enclave (done as_target (run_effect as_target at_breaks at_watches count))
+      → observed_run enclave as_target (steps_of as_target at_breaks at_watches count) ≡ ran_reply (steps_of as_target at_breaks at_watches count)
   run_observed at_breaks at_watches count not_entered on_no_hart =
-      let low_steps = low_runs e hart machine machine invariant invariant (related_itself e machine)
+      let low_steps = low_runs enclave hart machine machine invariant invariant (related_itself enclave machine)
       (λ running. absurd (both_ways _ not_running running)) breaks watches
       at_breaks at_watches count (on_no_hart_of_machine hart) not_entered in
       let after = steps_of as_target at_breaks at_watches count in
-      run_observed_whole e as_target after
-      (not_selected e after.state (subst (RunsOnNoHart e) (run_done as_target at_breaks at_watches count) on_no_hart))
-      (all_steps_count e hart after.ran.steps machine nothing_ran low_steps.low.low ∙ omega arith)
+      run_observed_whole enclave as_target after
+      (not_selected enclave after.state (subst (RunsOnNoHart enclave) (run_done as_target at_breaks at_watches count) on_no_hart))
+      (all_steps_count enclave hart after.ran.steps machine nothing_ran low_steps.low.low ∙ omega arith)
 
   -- ---- every command
 
   -- a block that does not meet the region is not private, even if it meets the window, since the enclave does not run
-  not_private : (meets_region meets_window : Bool) → meets_region ≡ false → (meets_region || (runs machine.shared.table e && meets_window)) ≡ false
+  not_private : (meets_region meets_window : Bool) → meets_region ≡ false
+      → (meets_region || (runs machine.shared.table enclave && meets_window)) ≡ false
   not_private meets_region meets_window outside_region = rw (outside_region, not_running) refl
 
   -- each command that avoids the enclave is observed as its reply
-  command_observed : (command : Command) → AvoidsEnclave e bench command → IsObserved e bench command
+  command_observed : (command : Command) → AvoidsEnclave enclave bench command → IsObserved enclave bench command
   unfolding execute is_blind
   command_observed (Step count) avoids =
-      run_observed [] [] count avoids.past ((on_no_hart_law e bench (Step count) invariant on_no_hart_of_machine).not_running avoids.past)
+      run_observed [] [] count avoids.past ((on_no_hart_law enclave bench (Step count) invariant on_no_hart_of_machine).not_running avoids.past)
   command_observed (Run count) avoids =
-      run_observed breaks watches count avoids.past ((on_no_hart_law e bench (Run count) invariant on_no_hart_of_machine).not_running avoids.past)
+      run_observed breaks watches count avoids.past
+      ((on_no_hart_law enclave bench (Run count) invariant on_no_hart_of_machine).not_running avoids.past)
   command_observed (Sched schedule) avoids =
-      sched_observed e hart as_target (harts_in schedule) (has_all (count_of machine) (harts_in schedule)) _
-      ((on_no_hart_law e bench (Sched schedule) invariant on_no_hart_of_machine).not_running avoids.past)
+      sched_observed enclave hart as_target (harts_in schedule) (has_all (count_of machine) (harts_in schedule)) _
+      ((on_no_hart_law enclave bench (Sched schedule) invariant on_no_hart_of_machine).not_running avoids.past)
   command_observed (Reg number) avoids = shown_whole _ _ (on_no_hart_of_machine hart)
   command_observed Regs avoids = shown_whole _ _ (on_no_hart_of_machine hart)
   command_observed (Csr number) avoids = shown_whole _ _ (on_no_hart_of_machine hart)
@@ -146,28 +151,29 @@ module _ (e hart : ℕ) (machine : MonitoredMachine) (invariant : Invariant mach
 -- ---- a bare bench
 
 -- a bare machine, which has no enclave
-module _ (e : ℕ) (machine : Machine) (breaks watches : List ℕ) where
+module _ (enclave : ℕ) (machine : Machine) (breaks watches : List ℕ) where
   -- `bare` is the bench over the bare machine
   abbrev bare : BenchState
   bare = bench_of (Bare machine) breaks watches
 
   -- a run of a bare machine is observed as its reply
-  bare_run : (at_breaks at_watches : List ℕ) (count : ℕ) → RunsOnNoHart e (done (Bare machine) (run_effect (Bare machine) at_breaks at_watches count))
-      → observed_run e (Bare machine) (steps_of (Bare machine) at_breaks at_watches count)
+  bare_run : (at_breaks at_watches : List ℕ) (count : ℕ)
+      → RunsOnNoHart enclave (done (Bare machine) (run_effect (Bare machine) at_breaks at_watches count))
+      → observed_run enclave (Bare machine) (steps_of (Bare machine) at_breaks at_watches count)
       ≡ ran_reply (steps_of (Bare machine) at_breaks at_watches count)
   bare_run at_breaks at_watches count on_no_hart =
       let after = steps_of (Bare machine) at_breaks at_watches count in
-      run_observed_whole e (Bare machine) after
-      (not_selected e after.state (subst (RunsOnNoHart e) (run_done (Bare machine) at_breaks at_watches count) on_no_hart)) refl
+      run_observed_whole enclave (Bare machine) after
+      (not_selected enclave after.state (subst (RunsOnNoHart enclave) (run_done (Bare machine) at_breaks at_watches count) on_no_hart)) refl
 
   -- each command on a bare machine is observed as its reply
-  bare_observed : (command : Command) → AvoidsEnclave e bare command → IsObserved e bare command
+  bare_observed : (command : Command) → AvoidsEnclave enclave bare command → IsObserved enclave bare command
   unfolding execute
-  bare_observed (Step count) avoids = bare_run [] [] count ((on_no_hart_law e bare (Step count) tt tt).not_running avoids.past)
-  bare_observed (Run count) avoids = bare_run breaks watches count ((on_no_hart_law e bare (Run count) tt tt).not_running avoids.past)
+  bare_observed (Step count) avoids = bare_run [] [] count ((on_no_hart_law enclave bare (Step count) tt tt).not_running avoids.past)
+  bare_observed (Run count) avoids = bare_run breaks watches count ((on_no_hart_law enclave bare (Run count) tt tt).not_running avoids.past)
   bare_observed (Sched schedule) avoids =
-      sched_observed e 0 (Bare machine) (harts_in schedule) (has_all 1 (harts_in schedule)) _
-      ((on_no_hart_law e bare (Sched schedule) tt tt).not_running avoids.past)
+      sched_observed enclave 0 (Bare machine) (harts_in schedule) (has_all 1 (harts_in schedule)) _
+      ((on_no_hart_law enclave bare (Sched schedule) tt tt).not_running avoids.past)
   bare_observed (Reg number) avoids = refl
   bare_observed Regs avoids = refl
   bare_observed (Csr number) avoids = refl
@@ -178,12 +184,13 @@ module _ (e : ℕ) (machine : Machine) (breaks watches : List ℕ) where
 -- ---- any bench
 
 -- each command that avoids an enclave that does not run is observed as its reply, for each target
-any_observed : (e : ℕ) (target : Target) (breaks watches : List ℕ) (command : Command) → TargetInvariant target → DoesNotRun e target
-    → AvoidsEnclave e (bench_of target breaks watches) command → IsObserved e (bench_of target breaks watches) command
-any_observed e (Bare machine) breaks watches command invariant not_running avoids = bare_observed e machine breaks watches command avoids
-any_observed e (Monitored selected) breaks watches command invariant not_running avoids =
-    command_observed e selected.hart selected.state invariant not_running breaks watches command avoids
+any_observed : (enclave : ℕ) (target : Target) (breaks watches : List ℕ) (command : Command) → TargetInvariant target → DoesNotRun enclave target
+    → AvoidsEnclave enclave (bench_of target breaks watches) command → IsObserved enclave (bench_of target breaks watches) command
+any_observed enclave (Bare machine) breaks watches command invariant not_running avoids = bare_observed enclave machine breaks watches command avoids
+any_observed enclave (Monitored selected) breaks watches command invariant not_running avoids =
+    command_observed enclave selected.hart selected.state invariant not_running breaks watches command avoids
 
 -- proves that a whole reply is observed, if the enclave does not run and the command avoids it
 pub observation : ObservationLaw
-observation e bench command invariant not_running avoids = any_observed e bench.target bench.breaks bench.watches command invariant not_running avoids
+observation enclave bench command invariant not_running avoids =
+    any_observed enclave bench.target bench.breaks bench.watches command invariant not_running avoids

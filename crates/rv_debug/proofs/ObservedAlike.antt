@@ -25,16 +25,16 @@ use Rattle.rv_debug.proofs.TargetRuns.{hart_pc, hart_stepped, run_monitored}
 -- ---- the state of a hart that does not run the enclave
 
 -- a text about a hart, in the guest view, is equal in both, or hidden in both
-pub hart_texts : (e hart : ℕ) (one other : MonitoredMachine) → AreRelated e one other → (text : HartState → List ℕ)
-    → unless (runs_on e hart one) (text (guest_state (hart_state_of hart one)))
-    ≡ unless (runs_on e hart other) (text (guest_state (hart_state_of hart other)))
-hart_texts e hart one other related text =
+pub hart_texts : (enclave hart : ℕ) (one other : MonitoredMachine) → AreRelated enclave one other → (text : HartState → List ℕ)
+    → unless (runs_on enclave hart one) (text (guest_state (hart_state_of hart one)))
+    ≡ unless (runs_on enclave hart other) (text (guest_state (hart_state_of hart other)))
+hart_texts enclave hart one other related text =
     let hart_related = related.hart_states hart in
-    elim (cases_Bool (runs_on e hart one)) [
-      | inl on_hart ↦ let same_on_other : runs_on e hart other ≡ true = sym (ap (is_world_of e) hart_related.world) ∙ on_hart in
+    elim (cases_Bool (runs_on enclave hart one)) [
+      | inl on_hart ↦ let same_on_other : runs_on enclave hart other ≡ true = sym (ap (is_world_of enclave) hart_related.world) ∙ on_hart in
           rw (on_hart, same_on_other) refl
       | inr not_on_hart ↦
-          let same_on_other : runs_on e hart other ≡ false = sym (ap (is_world_of e) hart_related.world) ∙ not_on_hart in
+          let same_on_other : runs_on enclave hart other ≡ false = sym (ap (is_world_of enclave) hart_related.world) ∙ not_on_hart in
           rw (not_on_hart, same_on_other) (ap text (hart_related.same not_on_hart))
     ]
 
@@ -42,22 +42,22 @@ hart_texts e hart one other related text =
 
 -- `run_text` is what others observe of a run on a machine: its summary, or nothing if the enclave runs on the hart after it
 abbrev pub run_text : ℕ → ℕ → MonitoredMachine → AfterRun MonitoredMachine → List ℕ
-run_text e hart machine after =
+run_text enclave hart machine after =
     let hart_state = hart_state_of hart after.state in
-    unless (runs_on e hart after.state)
+    unless (runs_on enclave hart after.state)
     (ran_text hart_state.hart.pc hart_state.hart.mode (world_name hart_state.world) (record {
-      steps = (observed_steps e hart (replicate after.ran.steps hart) machine nothing_ran).steps;
+      steps = (observed_steps enclave hart (replicate after.ran.steps hart) machine nothing_ran).steps;
       trap = after.ran.trap;
       stop = after.ran.stop;
       entered = 0;
     }))
 
 -- what others observe of a run command on a target is `run_text` of the run of its machine
-observed_run_is : (e hart : ℕ) (breaks watches : List ℕ) (count : ℕ) (machine : MonitoredMachine)
-    → observed_run e (selected_at hart machine) (steps_of (selected_at hart machine) breaks watches count)
-    ≡ run_text e hart machine (run (hart_stepped hart) (hart_pc hart) breaks watches count (no_steps machine))
-observed_run_is e hart breaks watches count machine =
-    ap (observed_run e (selected_at hart machine)) (run_monitored hart breaks watches count (no_steps machine))
+observed_run_is : (enclave hart : ℕ) (breaks watches : List ℕ) (count : ℕ) (machine : MonitoredMachine)
+    → observed_run enclave (selected_at hart machine) (steps_of (selected_at hart machine) breaks watches count)
+    ≡ run_text enclave hart machine (run (hart_stepped hart) (hart_pc hart) breaks watches count (no_steps machine))
+observed_run_is enclave hart breaks watches count machine =
+    ap (observed_run enclave (selected_at hart machine)) (run_monitored hart breaks watches count (no_steps machine))
 
 -- `ran_with` is the summary with the observed steps and the observed trap
 abbrev ran_with : ℕ → Stop → HartRan → HartState → List ℕ
@@ -67,22 +67,24 @@ ran_with hart stop ran hart_state =
 
 -- Two runs whose steps are moves, and that stop alike, have the same observed text. If the enclave runs on the hart after them, both texts are empty.
 -- Otherwise the hart, the observed steps and the last trap are equal in both.
-run_texts : (e hart : ℕ) (one other : MonitoredMachine) (a b : AfterRun MonitoredMachine) → RunObserved e hart one a → RunObserved e hart other b
-    → Moved e hart (replicate a.ran.steps hart) (replicate b.ran.steps hart) one other nothing_ran nothing_ran → a.ran.stop ≡ b.ran.stop
-    → run_text e hart one a ≡ run_text e hart other b
-run_texts e hart one other a b first_observed second_observed both_moved stop =
-    let ran_a = observed_steps e hart (replicate a.ran.steps hart) one nothing_ran in
-    let ran_b = observed_steps e hart (replicate b.ran.steps hart) other nothing_ran in
-    let related : AreRelated e a.state b.state =
-    subst (λ (m : MonitoredMachine). AreRelated e m b.state) first_observed.state (subst (AreRelated e _) second_observed.state both_moved.state) in
-    let same_ran : runs_on e hart a.state ≡ false → ran_a ≡ ran_b =
-    λ not_on_hart. both_moved.ran (ap (runs_on e hart) first_observed.state ∙ not_on_hart) in
+run_texts : (enclave hart : ℕ) (one other : MonitoredMachine) (a b : AfterRun MonitoredMachine) → RunObserved enclave hart one a
+    → RunObserved enclave hart other b
+    → Moved enclave hart (replicate a.ran.steps hart) (replicate b.ran.steps hart) one other nothing_ran nothing_ran → a.ran.stop ≡ b.ran.stop
+    → run_text enclave hart one a ≡ run_text enclave hart other b
+run_texts enclave hart one other a b first_observed second_observed both_moved stop =
+    let ran_a = observed_steps enclave hart (replicate a.ran.steps hart) one nothing_ran in
+    let ran_b = observed_steps enclave hart (replicate b.ran.steps hart) other nothing_ran in
+    let related : AreRelated enclave a.state b.state =
+    subst (λ (m : MonitoredMachine). AreRelated enclave m b.state) first_observed.state
+    (subst (AreRelated enclave _) second_observed.state both_moved.state) in
+    let same_ran : runs_on enclave hart a.state ≡ false → ran_a ≡ ran_b =
+    λ not_on_hart. both_moved.ran (ap (runs_on enclave hart) first_observed.state ∙ not_on_hart) in
     let hart_related = related.hart_states hart in
-    elim (cases_Bool (runs_on e hart a.state)) [
-      | inl on_hart ↦ let same_on_other : runs_on e hart b.state ≡ true = sym (ap (is_world_of e) hart_related.world) ∙ on_hart in
+    elim (cases_Bool (runs_on enclave hart a.state)) [
+      | inl on_hart ↦ let same_on_other : runs_on enclave hart b.state ≡ true = sym (ap (is_world_of enclave) hart_related.world) ∙ on_hart in
           rw (on_hart, same_on_other) refl
       | inr not_on_hart ↦
-          let same_on_other : runs_on e hart b.state ≡ false = sym (ap (is_world_of e) hart_related.world) ∙ not_on_hart in
+          let same_on_other : runs_on enclave hart b.state ≡ false = sym (ap (is_world_of enclave) hart_related.world) ∙ not_on_hart in
           let trap : a.ran.trap ≡ b.ran.trap = sym first_observed.trap ∙ ap (λ (r : HartRan). r.trap) (same_ran not_on_hart) ∙ second_observed.trap in
           let steps : ran_a.steps ≡ ran_b.steps = ap (λ (r : HartRan). r.steps) (same_ran not_on_hart) in
           let text : HartState → ℕ → Option Trap → Stop → List ℕ = λ s n t w.
@@ -92,26 +94,27 @@ run_texts e hart one other a b first_observed second_observed both_moved stop =
     ]
 
 -- two runs of related machines whose steps are moves, and that stop alike, have equal observations
-pub runs_alike : (e hart : ℕ) (one other : MonitoredMachine) (breaks watches : List ℕ) (count : ℕ) → Invariant one → Invariant other
-    → AreRelated e one other → StepsAreMoves e one other (replicate (steps_of (selected_at hart one) breaks watches count).ran.steps hart)
+pub runs_alike : (enclave hart : ℕ) (one other : MonitoredMachine) (breaks watches : List ℕ) (count : ℕ) → Invariant one → Invariant other
+    → AreRelated enclave one other → StepsAreMoves enclave one other (replicate (steps_of (selected_at hart one) breaks watches count).ran.steps hart)
     (replicate (steps_of (selected_at hart other) breaks watches count).ran.steps hart)
     → (steps_of (selected_at hart one) breaks watches count).ran.stop ≡ (steps_of (selected_at hart other) breaks watches count).ran.stop
-    → observed_run e (selected_at hart one) (steps_of (selected_at hart one) breaks watches count)
-    ≡ observed_run e (selected_at hart other) (steps_of (selected_at hart other) breaks watches count)
-runs_alike e hart one other breaks watches count invariant other_invariant related steps stop =
+    → observed_run enclave (selected_at hart one) (steps_of (selected_at hart one) breaks watches count)
+    ≡ observed_run enclave (selected_at hart other) (steps_of (selected_at hart other) breaks watches count)
+runs_alike enclave hart one other breaks watches count invariant other_invariant related steps stop =
     let ran : MonitoredMachine
     → AfterRun MonitoredMachine = λ machine. run (hart_stepped hart) (hart_pc hart) breaks watches count (no_steps machine) in
     let one_is = run_monitored hart breaks watches count (no_steps one) in
     let other_is = run_monitored hart breaks watches count (no_steps other) in
     let harts_of_run : AfterRun Target → List ℕ = λ after. replicate after.ran.steps hart in
     let stops : AfterRun Target → Stop = λ after. after.ran.stop in
-    let machine_steps : StepsAreMoves e one other (replicate (ran one).ran.steps hart) (replicate (ran other).ran.steps hart) =
-    subst (λ (xs : List ℕ). StepsAreMoves e one other xs (replicate (ran other).ran.steps hart)) (ap harts_of_run one_is)
-    (subst (StepsAreMoves e one other _) (ap harts_of_run other_is) steps) in
-    observed_run_is e hart breaks watches count one
-    ∙ run_texts e hart one other (ran one) (ran other) (run_observed e hart breaks watches count one) (run_observed e hart breaks watches count other)
-    (moved_by e hart _ _ one other invariant other_invariant related machine_steps) (sym (ap stops one_is) ∙ stop ∙ ap stops other_is)
-    ∙ sym (observed_run_is e hart breaks watches count other)
+    let machine_steps : StepsAreMoves enclave one other (replicate (ran one).ran.steps hart) (replicate (ran other).ran.steps hart) =
+    subst (λ (xs : List ℕ). StepsAreMoves enclave one other xs (replicate (ran other).ran.steps hart)) (ap harts_of_run one_is)
+    (subst (StepsAreMoves enclave one other _) (ap harts_of_run other_is) steps) in
+    observed_run_is enclave hart breaks watches count one
+    ∙ run_texts enclave hart one other (ran one) (ran other) (run_observed enclave hart breaks watches count one)
+    (run_observed enclave hart breaks watches count other)
+    (moved_by enclave hart _ _ one other invariant other_invariant related machine_steps) (sym (ap stops one_is) ∙ stop ∙ ap stops other_is)
+    ∙ sym (observed_run_is enclave hart breaks watches count other)
 
 -- ---- schedules
 
@@ -133,47 +136,50 @@ schedule_state (hart ∷ harts) machine summary =
 
 -- `hart_line` is the observation of the summary of one hart
 abbrev hart_line : ℕ → MonitoredMachine → ℕ → HartRan → List ℕ
-hart_line e machine hart ran =
-    let s = hart_state_of hart machine in unless (runs_on e hart machine) (hart_text hart s.hart.pc s.hart.mode (world_name s.world) ran)
+hart_line enclave machine hart ran =
+    let s = hart_state_of hart machine in unless (runs_on enclave hart machine) (hart_text hart s.hart.pc s.hart.mode (world_name s.world) ran)
 
 -- `hart_lines` is the observation of the summaries of all harts
 abbrev hart_lines : ℕ → MonitoredMachine → HartRan → HartRan → List ℕ
-hart_lines e machine first second = hart_line e machine 0 first ++ (if nat_lt 1 (count_of machine) then hart_line e machine 1 second else [])
+hart_lines enclave machine first second = hart_line enclave machine 0 first
+    ++ (if nat_lt 1 (count_of machine) then hart_line enclave machine 1 second else [])
 
 -- what others observe of a schedule is `hart_lines` of its own steps on each hart
-observed_harts_are : (e : ℕ) (harts : List ℕ) (machine : Selected) (summary : Scheduled)
-    → observed_harts e (scheduled_steps harts (after_schedule (Monitored machine) summary))
-    ≡ hart_lines e (sched harts machine.state).state (own_steps 0 harts machine.state summary.first) (own_steps 1 harts machine.state summary.second)
-observed_harts_are e harts machine summary =
+observed_harts_are : (enclave : ℕ) (harts : List ℕ) (machine : Selected) (summary : Scheduled)
+    → observed_harts enclave (scheduled_steps harts (after_schedule (Monitored machine) summary))
+    ≡ hart_lines enclave (sched harts machine.state).state (own_steps 0 harts machine.state summary.first)
+    (own_steps 1 harts machine.state summary.second)
+observed_harts_are enclave harts machine summary =
     let after = scheduled_steps harts (after_schedule (Monitored machine) summary) in
     let state_after = schedule_state harts machine summary in
     let own_summaries = schedule_did harts machine summary in
     let lines : Target → HartRan → HartRan → List ℕ = λ target first second.
-    observed_hart e target 0 first ++ (if nat_lt 1 (harts_of target) then observed_hart e target 1 second else []) in
+    observed_hart enclave target 0 first ++ (if nat_lt 1 (harts_of target) then observed_hart enclave target 1 second else []) in
     ap (λ (target : Target). lines target after.did.first after.did.second) state_after.state_is
     ∙ ap₂ (lines (selected_at state_after.hart (sched harts machine.state).state)) own_summaries.0 own_summaries.1
 
 -- the steps of the harts are moves of both machines, for the observations of each hart
-module _ (e : ℕ) (harts : List ℕ) (one other : MonitoredMachine)
-    (moves : (own : ℕ) → Moved e own harts harts one other nothing_ran nothing_ran) where
+module _ (enclave : ℕ) (harts : List ℕ) (one other : MonitoredMachine)
+    (moves : (own : ℕ) → Moved enclave own harts harts one other nothing_ran nothing_ran) where
   -- the observed summaries of a hart are equal
-  same_hart_line : (own : ℕ) → hart_line e (sched harts one).state own (own_steps own harts one nothing_ran)
-      ≡ hart_line e (sched harts other).state own (own_steps own harts other nothing_ran)
+  same_hart_line : (own : ℕ) → hart_line enclave (sched harts one).state own (own_steps own harts one nothing_ran)
+      ≡ hart_line enclave (sched harts other).state own (own_steps own harts other nothing_ran)
   same_hart_line own =
       let moved_alike = moves own in
       let a = own_steps own harts one nothing_ran in
       let b = own_steps own harts other nothing_ran in
       let hart_related = moved_alike.state.hart_states own in
-      elim (cases_Bool (runs_on e own (sched harts one).state)) [
+      elim (cases_Bool (runs_on enclave own (sched harts one).state)) [
         | inl on_hart ↦
-            let same_on_other : runs_on e own (sched harts other).state ≡ true = sym (ap (is_world_of e) hart_related.world) ∙ on_hart in
+            let same_on_other : runs_on enclave own (sched harts other).state ≡ true = sym (ap (is_world_of enclave) hart_related.world) ∙ on_hart in
             rw (on_hart, same_on_other) refl
         | inr not_on_hart ↦
-            let same_on_other : runs_on e own (sched harts other).state ≡ false = sym (ap (is_world_of e) hart_related.world) ∙ not_on_hart in
+            let same_on_other : runs_on enclave own (sched harts other).state ≡ false = sym (ap (is_world_of enclave) hart_related.world)
+            ∙ not_on_hart in
             let steps : a.steps ≡ b.steps = same_numbers own harts one other nothing_ran nothing_ran refl in
-            let trap : a.trap ≡ b.trap = same_traps e own harts one nothing_ran nothing_ran refl
+            let trap : a.trap ≡ b.trap = same_traps enclave own harts one nothing_ran nothing_ran refl
             ∙ ap (λ (r : HartRan). r.trap) (moved_alike.ran not_on_hart)
-            ∙ sym (same_traps e own harts other nothing_ran nothing_ran refl) in
+            ∙ sym (same_traps enclave own harts other nothing_ran nothing_ran refl) in
             let text : HartState → ℕ → Option Trap → List ℕ = λ s n t.
             hart_text own s.hart.pc s.hart.mode (world_name s.world) (record { steps = n; trap = t }) in
             rw (not_on_hart, same_on_other) (ap (λ (s : HartState). text s a.steps a.trap) (hart_related.same not_on_hart)
@@ -181,39 +187,40 @@ module _ (e : ℕ) (harts : List ℕ) (one other : MonitoredMachine)
       ]
 
   -- the observed summaries of all harts are equal
-  same_hart_lines : hart_lines e (sched harts one).state (own_steps 0 harts one nothing_ran) (own_steps 1 harts one nothing_ran)
-      ≡ hart_lines e (sched harts other).state (own_steps 0 harts other nothing_ran) (own_steps 1 harts other nothing_ran)
+  same_hart_lines : hart_lines enclave (sched harts one).state (own_steps 0 harts one nothing_ran) (own_steps 1 harts one nothing_ran)
+      ≡ hart_lines enclave (sched harts other).state (own_steps 0 harts other nothing_ran) (own_steps 1 harts other nothing_ran)
   same_hart_lines =
       let moved_alike = moves 0 in
       ap₂ (λ (line lines : List ℕ). line ++ lines) (same_hart_line 0)
       (ap₂ (λ (n : ℕ) (line : List ℕ). if nat_lt 1 n then line else []) moved_alike.state.harts (same_hart_line 1))
 
 -- two schedules of related machines whose steps are moves have equal observations
-pub schedules_alike : (e hart : ℕ) (harts : List ℕ) (one other : MonitoredMachine) → Invariant one → Invariant other → AreRelated e one other
-    → StepsAreMoves e one other harts harts → observed_harts e (scheduled_steps harts (schedule_start (selected_at hart one)))
-    ≡ observed_harts e (scheduled_steps harts (schedule_start (selected_at hart other)))
-schedules_alike e hart harts one other invariant other_invariant related steps =
-    observed_harts_are e harts (record { hart = hart; state = one }) _
-    ∙ same_hart_lines e harts one other (λ own. moved_by e own harts harts one other invariant other_invariant related steps)
-    ∙ sym (observed_harts_are e harts (record { hart = hart; state = other }) _)
+pub schedules_alike : (enclave hart : ℕ) (harts : List ℕ) (one other : MonitoredMachine) → Invariant one → Invariant other
+    → AreRelated enclave one other
+    → StepsAreMoves enclave one other harts harts → observed_harts enclave (scheduled_steps harts (schedule_start (selected_at hart one)))
+    ≡ observed_harts enclave (scheduled_steps harts (schedule_start (selected_at hart other)))
+schedules_alike enclave hart harts one other invariant other_invariant related steps =
+    observed_harts_are enclave harts (record { hart = hart; state = one }) _
+    ∙ same_hart_lines enclave harts one other (λ own. moved_by enclave own harts harts one other invariant other_invariant related steps)
+    ∙ sym (observed_harts_are enclave harts (record { hart = hart; state = other }) _)
 
 -- ---- registers
 
 -- two related machines give the same observation of a CSR: none if the enclave runs on the hart, and else the reply to `csr`
-pub csrs_alike : (e hart : ℕ) (one other : MonitoredMachine) (number : ℕ) → AreRelated e one other
-    → unless (runs_on e hart one) (csr_reply (guest_target (selected_at hart one)) number)
-    ≡ unless (runs_on e hart other) (csr_reply (guest_target (selected_at hart other)) number)
-csrs_alike e hart one other number related =
+pub csrs_alike : (enclave hart : ℕ) (one other : MonitoredMachine) (number : ℕ) → AreRelated enclave one other
+    → unless (runs_on enclave hart one) (csr_reply (guest_target (selected_at hart one)) number)
+    ≡ unless (runs_on enclave hart other) (csr_reply (guest_target (selected_at hart other)) number)
+csrs_alike enclave hart one other number related =
     let text : HartState → List ℕ = λ s.
     if number == mhartid then csr_text number hart else result_case (read_result s.hart.csrs number M) (csr_text number) (λ _. no_csr_text) in
-    ap (λ (s : HartState). unless (runs_on e hart one) (text s)) (guest_hart_state hart one)
-    ∙ hart_texts e hart one other related text
-    ∙ sym (ap (λ (s : HartState). unless (runs_on e hart other) (text s)) (guest_hart_state hart other))
+    ap (λ (s : HartState). unless (runs_on enclave hart one) (text s)) (guest_hart_state hart one)
+    ∙ hart_texts enclave hart one other related text
+    ∙ sym (ap (λ (s : HartState). unless (runs_on enclave hart other) (text s)) (guest_hart_state hart other))
 
 -- two related machines have equal PMP entries in each hart
-pub entries_alike : (e hart : ℕ) (one other : MonitoredMachine) → Invariant one → Invariant other → AreRelated e one other
+pub entries_alike : (enclave hart : ℕ) (one other : MonitoredMachine) → Invariant one → Invariant other → AreRelated enclave one other
     → (hart_state_of hart one).hart.csrs.pmp ≡ (hart_state_of hart other).hart.csrs.pmp
-entries_alike e hart one other invariant other_invariant related =
+entries_alike enclave hart one other invariant other_invariant related =
     equal_entries hart one other invariant other_invariant related.harts related.table (related.hart_states hart).world
 
 -- ---- memory
@@ -224,22 +231,22 @@ both_parts_fail false b or_fails = (refl, or_fails)
 both_parts_fail true b or_fails = cc
 
 -- two related machines
-module _ (e : ℕ) (one other : MonitoredMachine) (related : AreRelated e one other) where
+module _ (enclave : ℕ) (one other : MonitoredMachine) (related : AreRelated enclave one other) where
   -- a block names private bytes of the enclave if it has bytes of the region, or bytes of the window while the enclave runs
   abbrev names_private_bytes : MonitoredMachine → Block → Bool
   names_private_bytes machine block =
-      meets block (region machine.shared.table e) || (runs machine.shared.table e && meets block (window machine.shared.table e))
+      meets block (region machine.shared.table enclave) || (runs machine.shared.table enclave && meets block (window machine.shared.table enclave))
 
   -- every byte of a block that names no private bytes must be equal in related memories
-  no_private_byte : (block : Block) → names_private_bytes one block ≡ false → IsSeen (may_differ one.shared.table e) block.base block.size
+  no_private_byte : (block : Block) → names_private_bytes one block ≡ false → IsSeen (may_differ one.shared.table enclave) block.base block.size
   no_private_byte block not_private b at_or_above_base below_end =
-      let outside_blocks = both_parts_fail (meets block (region one.shared.table e)) _ not_private in
-      let outside_region = seen_block block (region one.shared.table e) outside_blocks.0 b at_or_above_base below_end in
-      elim (cases_Bool (runs one.shared.table e)) [
+      let outside_blocks = both_parts_fail (meets block (region one.shared.table enclave)) _ not_private in
+      let outside_region = seen_block block (region one.shared.table enclave) outside_blocks.0 b at_or_above_base below_end in
+      elim (cases_Bool (runs one.shared.table enclave)) [
         | inr not_running ↦ rw (outside_region, not_running) refl
         | inl running ↦
-            let outside_window_block = ap (λ (r : Bool). r && meets block (window one.shared.table e)) (sym running) ∙ outside_blocks.1 in
-            let outside_window = seen_block block (window one.shared.table e) outside_window_block b at_or_above_base below_end in
+            let outside_window_block = ap (λ (r : Bool). r && meets block (window one.shared.table enclave)) (sym running) ∙ outside_blocks.1 in
+            let outside_window = seen_block block (window one.shared.table enclave) outside_window_block b at_or_above_base below_end in
             rw (outside_region, running, outside_window) refl
       ]
 
@@ -249,7 +256,7 @@ module _ (e : ℕ) (one other : MonitoredMachine) (related : AreRelated e one ot
   reads_alike block not_private =
       let memory = related.memory in
       elim (cases_Bool (is_inside one.shared.memory block.base block.size)) [
-        | inl in_ram ↦ same_read (may_differ one.shared.table e) one.shared.memory other.shared.memory block.base block.size memory in_ram
+        | inl in_ram ↦ same_read (may_differ one.shared.table enclave) one.shared.memory other.shared.memory block.base block.size memory in_ram
             (no_private_byte block not_private)
         | inr outside_ram ↦
             let same_size = memory.size in
@@ -263,7 +270,7 @@ module _ (e : ℕ) (one other : MonitoredMachine) (related : AreRelated e one ot
       ≡ unless (names_private_bytes other block) (text (read other.shared.memory block.base block.size))
   memory_texts block text =
       let same_names : names_private_bytes one block ≡ names_private_bytes other block =
-      ap (λ (t : Slots). meets block (region t e) || (runs t e && meets block (window t e))) related.table in
+      ap (λ (t : Slots). meets block (region t enclave) || (runs t enclave && meets block (window t enclave))) related.table in
       elim (cases_Bool (names_private_bytes one block)) [
         | inl is_private ↦ let same_in_other : names_private_bytes other block ≡ true = sym same_names ∙ is_private in
             rw (is_private, same_in_other) refl

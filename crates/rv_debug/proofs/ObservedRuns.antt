@@ -12,51 +12,52 @@ use Rattle.rv_debug.proofs.TargetRuns.{hart_pc, hart_stepped}
 -- ---- a run
 
 -- A run that continues from `before` executes `count` more steps. It ends in the state after these, and its last trap is the last observed one.
-record IsCounted (e hart : ℕ) (before : AfterSteps MonitoredMachine) (end : AfterRun MonitoredMachine) : Type 0 where
+record IsCounted (enclave hart : ℕ) (before : AfterSteps MonitoredMachine) (end : AfterRun MonitoredMachine) : Type 0 where
   count : ℕ
   steps : end.ran.steps ≡ before.steps + count
   state : (sched (replicate count hart) before.state).state ≡ end.state
-  trap : (ran : HartRan) → ran.trap ≡ before.trap → (observed_steps e hart (replicate count hart) before.state ran).trap ≡ end.ran.trap
+  trap : (ran : HartRan) → ran.trap ≡ before.trap → (observed_steps enclave hart (replicate count hart) before.state ran).trap ≡ end.ran.trap
 
 -- the trap of a step of the observed hart is the last trap
-own_trap : (e hart : ℕ) (machine : MonitoredMachine) (ran : HartRan)
-    → (with_observed_step e hart hart machine ran).trap ≡ option_or (step_of hart machine).outcome.step.trap ran.trap
-own_trap e hart machine ran = let same_hart = eq-eqb hart hart refl in rw same_hart refl
+own_trap : (enclave hart : ℕ) (machine : MonitoredMachine) (ran : HartRan)
+    → (with_observed_step enclave hart hart machine ran).trap ≡ option_or (step_of hart machine).outcome.step.trap ran.trap
+own_trap enclave hart machine ran = let same_hart = eq-eqb hart hart refl in rw same_hart refl
 
 -- if a run is counted from the state after a step, it is counted from the state before the step
-counted_more : (e hart : ℕ) (before : AfterSteps MonitoredMachine) (end : AfterRun MonitoredMachine)
-    → IsCounted e hart (with_step before (hart_stepped hart before.state)) end → IsCounted e hart before end
-counted_more e hart before end rest = record {
+counted_more : (enclave hart : ℕ) (before : AfterSteps MonitoredMachine) (end : AfterRun MonitoredMachine)
+    → IsCounted enclave hart (with_step before (hart_stepped hart before.state)) end → IsCounted enclave hart before end
+counted_more enclave hart before end rest = record {
   count = suc rest.count;
   steps = rest.steps ∙ omega arith;
   state = rest.state;
-  trap = λ ran last_trap. rest.trap (with_observed_step e hart hart before.state ran)
-      (own_trap e hart before.state ran ∙ ap (option_or (step_of hart before.state).outcome.step.trap) last_trap);
+  trap = λ ran last_trap. rest.trap (with_observed_step enclave hart hart before.state ran)
+      (own_trap enclave hart before.state ran ∙ ap (option_or (step_of hart before.state).outcome.step.trap) last_trap);
 }
 
 -- every run is counted, by induction over its steps
-is_counted : (e hart : ℕ) (breaks watches : List ℕ) (count : ℕ) (before : AfterSteps MonitoredMachine)
-    → IsCounted e hart before (run (hart_stepped hart) (hart_pc hart) breaks watches count before)
-is_counted e hart breaks watches =
-    run_induction (hart_stepped hart) (hart_pc hart) breaks watches (IsCounted e hart)
-    (λ after stop. record { count = 0; steps = omega arith; state = refl; trap = λ ran last_trap. last_trap }) (counted_more e hart)
+is_counted : (enclave hart : ℕ) (breaks watches : List ℕ) (count : ℕ) (before : AfterSteps MonitoredMachine)
+    → IsCounted enclave hart before (run (hart_stepped hart) (hart_pc hart) breaks watches count before)
+is_counted enclave hart breaks watches =
+    run_induction (hart_stepped hart) (hart_pc hart) breaks watches (IsCounted enclave hart)
+    (λ after stop. record { count = 0; steps = omega arith; state = refl; trap = λ ran last_trap. last_trap }) (counted_more enclave hart)
 
 -- the state after a run is that after as many steps of the hart, and the last trap of the run is the last observed one
-pub record RunObserved (e hart : ℕ) (machine : MonitoredMachine) (end : AfterRun MonitoredMachine) : Type 0 where
+pub record RunObserved (enclave hart : ℕ) (machine : MonitoredMachine) (end : AfterRun MonitoredMachine) : Type 0 where
   pub state : (sched (replicate end.ran.steps hart) machine).state ≡ end.state
-  pub trap : (observed_steps e hart (replicate end.ran.steps hart) machine nothing_ran).trap ≡ end.ran.trap
+  pub trap : (observed_steps enclave hart (replicate end.ran.steps hart) machine nothing_ran).trap ≡ end.ran.trap
 
 -- the observation of a run is that of its steps, one after another
-pub run_observed : (e hart : ℕ) (breaks watches : List ℕ) (count : ℕ) (machine : MonitoredMachine)
-    → RunObserved e hart machine (run (hart_stepped hart) (hart_pc hart) breaks watches count (no_steps machine))
-run_observed e hart breaks watches count machine =
-    let counted = is_counted e hart breaks watches count (no_steps machine) in
+pub run_observed : (enclave hart : ℕ) (breaks watches : List ℕ) (count : ℕ) (machine : MonitoredMachine)
+    → RunObserved enclave hart machine (run (hart_stepped hart) (hart_pc hart) breaks watches count (no_steps machine))
+run_observed enclave hart breaks watches count machine =
+    let counted = is_counted enclave hart breaks watches count (no_steps machine) in
     let count_is = counted.steps in
     let same_count : counted.count ≡ (run (hart_stepped hart) (hart_pc hart) breaks watches count (no_steps machine)).ran.steps =
     omega (arith, count_is) in
     record {
       state = ap (λ (n : ℕ). (sched (replicate n hart) machine).state) (sym same_count) ∙ counted.state;
-      trap = ap (λ (n : ℕ). (observed_steps e hart (replicate n hart) machine nothing_ran).trap) (sym same_count) ∙ counted.trap nothing_ran refl;
+      trap = ap (λ (n : ℕ). (observed_steps enclave hart (replicate n hart) machine nothing_ran).trap) (sym same_count)
+          ∙ counted.trap nothing_ran refl;
     }
 
 -- ---- a schedule
@@ -95,16 +96,16 @@ same_numbers own (hart ∷ harts) one other a b same_steps =
     (same_number own hart (step_of hart one).outcome.step.trap (step_of hart other).outcome.step.trap a b same_steps)
 
 -- the last trap of a hart stays equal to its observed trap after one more step
-same_trap : (e own hart : ℕ) (machine : MonitoredMachine) (a b : HartRan) → a.trap ≡ b.trap
-    → (with_own own hart (step_of hart machine).outcome.step.trap a).trap ≡ (with_observed_step e own hart machine b).trap
-same_trap e own hart machine a b same_last_trap = elim (cases_Bool (own == hart)) [
+same_trap : (enclave own hart : ℕ) (machine : MonitoredMachine) (a b : HartRan) → a.trap ≡ b.trap
+    → (with_own own hart (step_of hart machine).outcome.step.trap a).trap ≡ (with_observed_step enclave own hart machine b).trap
+same_trap enclave own hart machine a b same_last_trap = elim (cases_Bool (own == hart)) [
   | inl is_own ↦ rw is_own (ap (option_or (step_of hart machine).outcome.step.trap) same_last_trap)
   | inr is_other ↦ rw is_other same_last_trap
 ]
 
 -- the observed trap of a hart's steps is the last trap of these steps
-pub same_traps : (e own : ℕ) (harts : List ℕ) (machine : MonitoredMachine) (a b : HartRan) → a.trap ≡ b.trap
-    → (own_steps own harts machine a).trap ≡ (observed_steps e own harts machine b).trap
-same_traps e own [] machine a b same_last_trap = same_last_trap
-same_traps e own (hart ∷ harts) machine a b same_last_trap =
-    same_traps e own harts (step_of hart machine).state _ _ (same_trap e own hart machine a b same_last_trap)
+pub same_traps : (enclave own : ℕ) (harts : List ℕ) (machine : MonitoredMachine) (a b : HartRan) → a.trap ≡ b.trap
+    → (own_steps own harts machine a).trap ≡ (observed_steps enclave own harts machine b).trap
+same_traps enclave own [] machine a b same_last_trap = same_last_trap
+same_traps enclave own (hart ∷ harts) machine a b same_last_trap =
+    same_traps enclave own harts (step_of hart machine).state _ _ (same_trap enclave own hart machine a b same_last_trap)

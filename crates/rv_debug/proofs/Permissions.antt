@@ -39,9 +39,9 @@ module _ (hart byte : ℕ) (machine : MonitoredMachine) (invariant : Invariant m
   -- ---- the host
 
   -- two tests that are equal for each number hold of the same lists
-  same_any : (p q : ℕ → Bool) → ((k : ℕ) → p k ≡ q k) → (ks : List ℕ) → list_any p ks ≡ list_any q ks
+  same_any : (p q : ℕ → Bool) → ((slot : ℕ) → p slot ≡ q slot) → (ks : List ℕ) → list_any p ks ≡ list_any q ks
   same_any p q same_tests [] = refl
-  same_any p q same_tests (k ∷ ks) = ap₂ (λ (a b : Bool). a || b) (same_tests k) (same_any p q same_tests ks)
+  same_any p q same_tests (slot ∷ ks) = ap₂ (λ (a b : Bool). a || b) (same_tests slot) (same_any p q same_tests ks)
 
   -- a byte is in the region of a slot by the definition `has` if and only if it is by the definition `is_within`
   same_in_region : (o : Option SlotInfo) → has (region_of o) byte ≡ option_case o false (λ info. is_within info.region byte)
@@ -56,8 +56,9 @@ module _ (hart byte : ℕ) (machine : MonitoredMachine) (invariant : Invariant m
   host_accessible : is_accessible machine.shared.memory slots Host Write (byte ∷ []) ≡ host_stores slots byte
   unfolding is_accessible
   host_accessible =
-      let regions = same_any (λ k. has (region slots k) byte) (λ k. option_case (record_at slots k) false (λ info. is_within info.region byte))
-      (λ k. same_in_region (record_at slots k)) (range_with_len 0 slot_count) in
+      let regions = same_any (λ slot. has (region slots slot) byte)
+      (λ slot. option_case (record_at slots slot) false (λ info. is_within info.region byte))
+      (λ slot. same_in_region (record_at slots slot)) (range_with_len 0 slot_count) in
       rw (in_ram, past_monitor, regions) (drop_constants _) where
         -- a test with true and false added is the test
         drop_constants : (b : Bool) → ((b && true) || false) ≡ b
@@ -78,9 +79,9 @@ module _ (hart byte : ℕ) (machine : MonitoredMachine) (invariant : Invariant m
     drop_constants false false = refl
 
   -- what an enclave may store is the same in both definitions
-  enclave_accessible : (k : ℕ) → is_accessible machine.shared.memory slots (Enclave k) Write (byte ∷ []) ≡ enclave_stores slots k byte
+  enclave_accessible : (slot : ℕ) → is_accessible machine.shared.memory slots (Enclave slot) Write (byte ∷ []) ≡ enclave_stores slots slot byte
   unfolding is_accessible
-  enclave_accessible k = record_accessible (record_at slots k)
+  enclave_accessible slot = record_accessible (record_at slots slot)
 
 -- proves that the PMP permits exactly the stores that the world of the hart may make
 pub store_permission : StorePermissionLaw
@@ -89,8 +90,8 @@ store_permission = record {
       permitted_if_accessible hart byte machine invariant in_range in_ram_from in_ram_to
       ∙ ap (λ (w : World). is_accessible machine.shared.memory machine.shared.table w Write (byte ∷ [])) world
       ∙ host_accessible hart byte machine invariant in_range in_ram_from in_ram_to;
-  enclave = λ hart byte k machine invariant in_range in_ram_from in_ram_to world.
+  enclave = λ hart byte slot machine invariant in_range in_ram_from in_ram_to world.
       permitted_if_accessible hart byte machine invariant in_range in_ram_from in_ram_to
       ∙ ap (λ (w : World). is_accessible machine.shared.memory machine.shared.table w Write (byte ∷ [])) world
-      ∙ enclave_accessible hart byte machine invariant in_range in_ram_from in_ram_to k;
+      ∙ enclave_accessible hart byte machine invariant in_range in_ram_from in_ram_to slot;
 }

@@ -70,34 +70,36 @@ region_in_ram memory (Some info) address valid in_region =
     (le-leb (address + 1) (ram_base + length memory) (omega (arith, block_in_ram.1, below_end)))
 
 -- a poke into the region of an enclave is in RAM, and so succeeds
-pub poke_succeeds : (state : MonitoredMachine) (e address byte : ℕ) → Invariant state → has (region state.shared.table e) address ≡ true
+pub poke_succeeds : (state : MonitoredMachine) (enclave address byte : ℕ) → Invariant state → has (region state.shared.table enclave) address ≡ true
     → write state.shared.memory address (byte ∷ []) ≡ Some (write_bytes state.shared.memory (address - ram_base) (byte ∷ []))
-poke_succeeds state e address byte invariant in_region =
+poke_succeeds state enclave address byte invariant in_region =
     write-some state.shared.memory address (byte ∷ [])
-    (region_in_ram state.shared.memory (slot_at state.shared.table e) address (invariant.shared.valid.well_formed e) in_region)
+    (region_in_ram state.shared.memory (slot_at state.shared.table enclave) address (invariant.shared.valid.well_formed enclave) in_region)
 
 -- ---- machines
 
--- a byte is written into the region of slot e in each of two equivalent machines
-module _ (e : ℕ) (one other : Selected) (address other_address byte other_byte : ℕ) (equiv : SelectedEquivExcept e one other) (m n : List ℕ)
+-- a byte is written into the region of `enclave` in each of two equivalent machines
+module _ (enclave : ℕ) (one other : Selected) (address other_address byte other_byte : ℕ) (equiv : SelectedEquivExcept enclave one other)
+    (m n : List ℕ)
     (first_write : write one.state.shared.memory address (byte ∷ []) ≡ Some m)
     (second_write : write other.state.shared.memory other_address (other_byte ∷ []) ≡ Some n)
-    (in_region : has (region one.state.shared.table e) address ≡ true)
-    (other_in_region : has (region one.state.shared.table e) other_address ≡ true) where
+    (in_region : has (region one.state.shared.table enclave) address ≡ true)
+    (other_in_region : has (region one.state.shared.table enclave) other_address ≡ true) where
   -- two pokes into the region leave equivalent machines
-  machines_equiv : SelectedEquivExcept e (record one { state = with_memory one.state m }) (record other { state = with_memory other.state n })
+  machines_equiv : SelectedEquivExcept enclave (record one { state = with_memory one.state m }) (record other { state = with_memory other.state n })
   machines_equiv =
       let state = equiv.state in
       let shared = state.shared in
       record {
         hart = equiv.hart;
-        state = shared_equiv e one.state other.state _ _ state (record {
+        state = shared_equiv enclave one.state other.state _ _ state (record {
           table = shared.table;
-          memory = hidden_writes (is_private one.state.shared.table e) one.state.shared.memory other.state.shared.memory address other_address
+          memory = hidden_writes (is_private one.state.shared.table enclave) one.state.shared.memory other.state.shared.memory address other_address
               byte other_byte m n
               shared.memory first_write second_write in_region other_in_region;
           contexts = shared.contexts;
-          gone = λ not_live. let never : true ≡ false = sym (live_if_in_region (slot_at one.state.shared.table e) address in_region) ∙ not_live in cc;
+          gone = λ not_live. let never : true ≡ false = sym (live_if_in_region (slot_at one.state.shared.table enclave) address in_region)
+              ∙ not_live in cc;
         });
       }
 
@@ -105,52 +107,54 @@ module _ (e : ℕ) (one other : Selected) (address other_address byte other_byte
 
 -- Two pokes into the region, of any bytes to any addresses, are alike in two benches with equivalent targets. Both pokes succeed, since the region is
 -- in RAM, and change only private bytes.
-targets_alike : (e : ℕ) (one other : Target) (breaks watches : List ℕ) (address other_address byte other_byte : ℕ)
-    → TargetInvariant one → TargetInvariant other → TargetsEquivExcept e one other
-    → has (region_in e one) address ≡ true → has (region_in e other) other_address ≡ true
-    → CommandAlike e (execute (record { target = one; breaks = breaks; watches = watches }) (Poke address byte))
+targets_alike : (enclave : ℕ) (one other : Target) (breaks watches : List ℕ) (address other_address byte other_byte : ℕ)
+    → TargetInvariant one → TargetInvariant other → TargetsEquivExcept enclave one other
+    → has (region_in enclave one) address ≡ true → has (region_in enclave other) other_address ≡ true
+    → CommandAlike enclave (execute (record { target = one; breaks = breaks; watches = watches }) (Poke address byte))
     (execute (record { target = other; breaks = breaks; watches = watches }) (Poke other_address other_byte))
 unfolding execute
-targets_alike e (Monitored one) (Monitored other) breaks watches address other_address byte other_byte invariant other_invariant equiv
+targets_alike enclave (Monitored one) (Monitored other) breaks watches address other_address byte other_byte invariant other_invariant equiv
     in_region other_in_region =
-    let first_write = poke_succeeds one.state e address byte invariant in_region in
-    let second_write = poke_succeeds other.state e other_address other_byte other_invariant other_in_region in
+    let first_write = poke_succeeds one.state enclave address byte invariant in_region in
+    let second_write = poke_succeeds other.state enclave other_address other_byte other_invariant other_in_region in
     let same_table = (let state = equiv.state in state.shared.table) in
-    let alike_after = machines_equiv e one other address other_address byte other_byte equiv _ _ first_write second_write in_region
-    (ap (λ (slots : Slots). has (region slots e) other_address) same_table
+    let alike_after = machines_equiv enclave one other address other_address byte other_byte equiv _ _ first_write second_write in_region
+    (ap (λ (slots : Slots). has (region slots enclave) other_address) same_table
     ∙ other_in_region) in
     rw (first_write, second_write) (record {
       reply = refl;
       entered = refl;
       state = record {
         but = record { target = alike_after; breaks = refl; watches = refl };
-        gone = λ not_live. let never : true ≡ false = sym (live_if_in_region (slot_at one.state.shared.table e) address in_region) ∙ not_live in cc;
+        gone = λ not_live. let never : true ≡ false = sym (live_if_in_region (slot_at one.state.shared.table enclave) address in_region)
+            ∙ not_live in cc;
       };
     })
-targets_alike e (Bare one) other breaks watches address other_address byte other_byte invariant other_invariant equiv in_region
+targets_alike enclave (Bare one) other breaks watches address other_address byte other_byte invariant other_invariant equiv in_region
     other_in_region = let never = live_if_in_region None address in_region in cc
-targets_alike e (Monitored one) (Bare other) breaks watches address other_address byte other_byte invariant other_invariant equiv in_region
+targets_alike enclave (Monitored one) (Bare other) breaks watches address other_address byte other_byte invariant other_invariant equiv in_region
     other_in_region = absurd equiv
 
 -- Proves the law of pokes into the region. The second bench is rewritten to the breakpoints and watchpoints of the first.
 pub poke_law : PokeLaw
-poke_law e first second (Poke address byte) (Poke other_address other_byte) invariant other_invariant equiv in_region other_in_region =
-    subst (λ (breaks : List ℕ). CommandAlike e (execute first (Poke address byte))
+poke_law enclave first second (Poke address byte) (Poke other_address other_byte) invariant other_invariant equiv in_region other_in_region =
+    subst (λ (breaks : List ℕ). CommandAlike enclave (execute first (Poke address byte))
     (execute (record second { breaks = breaks }) (Poke other_address other_byte))) equiv.breaks
-    (subst (λ (watches : List ℕ). CommandAlike e (execute first (Poke address byte))
+    (subst (λ (watches : List ℕ). CommandAlike enclave (execute first (Poke address byte))
     (execute (record second { breaks = first.breaks; watches = watches }) (Poke other_address other_byte))) equiv.watches
-    (targets_alike e first.target second.target first.breaks first.watches address other_address byte other_byte invariant other_invariant
+    (targets_alike enclave first.target second.target first.breaks first.watches address other_address byte other_byte invariant other_invariant
     equiv.target in_region other_in_region))
-poke_law e first second (Poke address byte) _ invariant other_invariant equiv in_region other_in_region = absurd other_in_region
-poke_law e first second _ other_command invariant other_invariant equiv in_region other_in_region = absurd in_region
+poke_law enclave first second (Poke address byte) _ invariant other_invariant equiv in_region other_in_region = absurd other_in_region
+poke_law enclave first second _ other_command invariant other_invariant equiv in_region other_in_region = absurd in_region
 
 -- ---- a bench is equivalent to itself
 
 -- each target is equivalent to itself
-targets_itself : (e : ℕ) (target : Target) → TargetsEquivExcept e target target
-targets_itself e (Bare machine) = refl
-targets_itself e (Monitored selected) = record { hart = refl; state = equiv_itself e selected.state (itself e selected.state.shared) }
+targets_itself : (enclave : ℕ) (target : Target) → TargetsEquivExcept enclave target target
+targets_itself enclave (Bare machine) = refl
+targets_itself enclave (Monitored selected) =
+    record { hart = refl; state = equiv_itself enclave selected.state (itself enclave selected.state.shared) }
 
 -- each bench is equivalent to itself except for each slot
-pub equiv_with_itself : (e : ℕ) (bench : BenchState) → BenchesEquivExcept e bench bench
-equiv_with_itself e bench = record { target = targets_itself e bench.target; breaks = refl; watches = refl }
+pub equiv_with_itself : (enclave : ℕ) (bench : BenchState) → BenchesEquivExcept enclave bench bench
+equiv_with_itself enclave bench = record { target = targets_itself enclave bench.target; breaks = refl; watches = refl }

@@ -15,110 +15,114 @@ use Rattle.rv_debug.proofs.Prelude.{both_ways, cases_Bool, eq-eqb, invariant_law
 -- ---- one step of a hart
 
 -- a step of another hart does not change whether the enclave runs on this one
-other_step_keeps_world : (e own hart : ℕ) (machine : MonitoredMachine) → (own == hart) ≡ false
-    → runs_on e own (step_of hart machine).state ≡ runs_on e own machine
-other_step_keeps_world e own hart machine is_other =
-    other_harts_keep (λ (s : HartState). is_world_of e s.world) (λ slots hart_state. refl) hart own machine
+other_step_keeps_world : (enclave own hart : ℕ) (machine : MonitoredMachine) → (own == hart) ≡ false
+    → runs_on enclave own (step_of hart machine).state ≡ runs_on enclave own machine
+other_step_keeps_world enclave own hart machine is_other =
+    other_harts_keep (λ (s : HartState). is_world_of enclave s.world) (λ slots hart_state. refl) hart own machine
     (λ is_own. both_ways _ is_other (eq-eqb own hart is_own))
 
 -- the observed summaries a and b of hart `own` are equal, unless the enclave runs on this hart
 abbrev pub SameUnlessOnHart : ℕ → ℕ → MonitoredMachine → HartRan → HartRan → Type 0
-SameUnlessOnHart e own machine a b = runs_on e own machine ≡ false → a ≡ b
+SameUnlessOnHart enclave own machine a b = runs_on enclave own machine ≡ false → a ≡ b
 
 -- before a step of hart `hart`, the machines are related, and the observed summaries a and b of hart `own` are equal
-module _ (e own hart : ℕ) (one other : MonitoredMachine) (a b : HartRan) (related : AreRelated e one other)
-    (same_ran : SameUnlessOnHart e own one a b) where
+module _ (enclave own hart : ℕ) (one other : MonitoredMachine) (a b : HartRan) (related : AreRelated enclave one other)
+    (same_ran : SameUnlessOnHart enclave own one a b) where
   -- the observed summaries are equal after a step of the enclave in the first machine alone
-  same_after_first : IsInside e hart one → SameUnlessOnHart e own (step_of hart one).state (with_observed_step e own hart one a) b
+  same_after_first : IsInside enclave hart one → SameUnlessOnHart enclave own (step_of hart one).state (with_observed_step enclave own hart one a) b
   same_after_first stays_inside not_on_hart = elim (cases_Bool (own == hart)) [
     | inl is_own ↦ absurd
-        (both_ways _ not_on_hart (ap (λ (h : ℕ). runs_on e h (step_of hart one).state) (eqb-true own hart is_own) ∙ stays_inside.after))
-    | inr is_other ↦ rw is_other (same_ran (sym (other_step_keeps_world e own hart one is_other) ∙ not_on_hart))
+        (both_ways _ not_on_hart (ap (λ (h : ℕ). runs_on enclave h (step_of hart one).state) (eqb-true own hart is_own) ∙ stays_inside.after))
+    | inr is_other ↦ rw is_other (same_ran (sym (other_step_keeps_world enclave own hart one is_other) ∙ not_on_hart))
   ]
 
   -- the observed summaries are equal after a step of the enclave in the second machine alone
-  same_after_second : IsInside e hart other → SameUnlessOnHart e own one a (with_observed_step e own hart other b)
+  same_after_second : IsInside enclave hart other → SameUnlessOnHart enclave own one a (with_observed_step enclave own hart other b)
   same_after_second stays_inside not_on_hart = elim (cases_Bool (own == hart)) [
     | inl is_own ↦
-        let on_hart : runs_on e hart one ≡ true = ap (is_world_of e) (related.hart_states hart).world ∙ stays_inside.before in
-        absurd (both_ways _ not_on_hart (ap (λ (h : ℕ). runs_on e h one) (eqb-true own hart is_own) ∙ on_hart))
+        let on_hart : runs_on enclave hart one ≡ true = ap (is_world_of enclave) (related.hart_states hart).world ∙ stays_inside.before in
+        absurd (both_ways _ not_on_hart (ap (λ (h : ℕ). runs_on enclave h one) (eqb-true own hart is_own) ∙ on_hart))
     | inr is_other ↦ rw is_other (same_ran not_on_hart)
   ]
 
   -- the claim that the observed summaries are equal again after a step of hart `hart` in both machines
   abbrev SameAfterBoth : Type 0
-  SameAfterBoth = SameUnlessOnHart e own (step_of hart one).state (with_observed_step e own hart one a) (with_observed_step e own hart other b)
+  SameAfterBoth = SameUnlessOnHart enclave own (step_of hart one).state (with_observed_step enclave own hart one a)
+      (with_observed_step enclave own hart other b)
 
   -- the enclave runs on the hart in both machines or in neither
-  same_world : runs_on e hart one ≡ runs_on e hart other
-  same_world = ap (is_world_of e) (related.hart_states hart).world
+  same_world : runs_on enclave hart one ≡ runs_on enclave hart other
+  same_world = ap (is_world_of enclave) (related.hart_states hart).world
 
   -- `own_ran` is the observed summary of a hart after one more step of its own
   abbrev own_ran : MonitoredMachine → HartRan → HartRan
-  own_ran machine ran = one_more_observed (runs_on e hart machine) (step_of hart machine).outcome.step.trap ran
+  own_ran machine ran = one_more_observed (runs_on enclave hart machine) (step_of hart machine).outcome.step.trap ran
 
   -- the observed summaries are equal after a step of both machines, if they are in the case that the step is of hart `own`
   same_after_both : (own ≡ hart → own_ran one a ≡ own_ran other b) → SameAfterBoth
   same_after_both at_own not_on_hart = elim (cases_Bool (own == hart)) [
     | inl is_own ↦ rw is_own (at_own (eqb-true own hart is_own))
-    | inr is_other ↦ rw is_other (same_ran (sym (other_step_keeps_world e own hart one is_other) ∙ not_on_hart))
+    | inr is_other ↦ rw is_other (same_ran (sym (other_step_keeps_world enclave own hart one is_other) ∙ not_on_hart))
   ]
 
   -- the observed summaries are equal after a low step of both machines
-  same_after_low : runs_on e hart one ≡ false → (step_of hart one).outcome ≡ (step_of hart other).outcome → SameAfterBoth
+  same_after_low : runs_on enclave hart one ≡ false → (step_of hart one).outcome ≡ (step_of hart other).outcome → SameAfterBoth
   same_after_low not_on_hart outcomes = same_after_both (λ is_own.
       ap₂ (λ (is_own : Bool) (trap : Option Trap). one_more_observed is_own trap a) same_world (ap (λ (o : Outcome). o.step.trap) outcomes)
-      ∙ ap (one_more_observed (runs_on e hart other) (step_of hart other).outcome.step.trap)
-      (same_ran (ap (λ (h : ℕ). runs_on e h one) is_own ∙ not_on_hart)))
+      ∙ ap (one_more_observed (runs_on enclave hart other) (step_of hart other).outcome.step.trap)
+      (same_ran (ap (λ (h : ℕ). runs_on enclave h one) is_own ∙ not_on_hart)))
 
   -- the observed summaries are equal after a step that exits from both machines
-  same_after_exit : ExitsAlike e hart one other → SameAfterBoth
+  same_after_exit : ExitsAlike enclave hart one other → SameAfterBoth
   same_after_exit exits_alike = same_after_both (λ is_own.
-      let other_on_hart : runs_on e hart other ≡ true = sym same_world ∙ exits_alike.runs in
+      let other_on_hart : runs_on enclave hart other ≡ true = sym same_world ∙ exits_alike.runs in
       rw (exits_alike.runs, other_on_hart, exits_alike.first, exits_alike.second) refl)
 
 -- ---- all moves
 
 -- after moves that are steps, the machines are related, and hart `own` has equal observations in both
-pub record Moved (e own : ℕ) (harts others : List ℕ) (one other : MonitoredMachine) (a b : HartRan) : Type 0 where
-  pub state : AreRelated e (sched harts one).state (sched others other).state
-  pub ran : SameUnlessOnHart e own (sched harts one).state (observed_steps e own harts one a) (observed_steps e own others other b)
+pub record Moved (enclave own : ℕ) (harts others : List ℕ) (one other : MonitoredMachine) (a b : HartRan) : Type 0 where
+  pub state : AreRelated enclave (sched harts one).state (sched others other).state
+  pub ran : SameUnlessOnHart enclave own (sched harts one).state (observed_steps enclave own harts one a) (observed_steps enclave own others other b)
 
 -- Moves that are steps leave related machines and equal observations of hart `own`. The proof is by induction over the list of moves.
-moved : (e own : ℕ) (moves : List Move) (one other : MonitoredMachine) (a b : HartRan) → Invariant one → Invariant other → AreRelated e one other
-    → are_steps moves ≡ true → AreMoves e moves one other → SameUnlessOnHart e own one a b
-    → Moved e own (first_steps moves) (second_steps moves) one other a b
-moved e own [] one other a b invariant other_invariant related all_steps moves same_ran = record { state = related; ran = same_ran }
-moved e own (First hart ∷ rest_moves) one other a b invariant other_invariant related all_steps moves same_ran =
-    let next = (declassification_law e (First hart ∷ []) one other invariant other_invariant related (moves.0, tt)).state in
-    let rest = moved e own rest_moves (step_of hart one).state other (with_observed_step e own hart one a) b
+moved : (enclave own : ℕ) (moves : List Move) (one other : MonitoredMachine) (a b : HartRan) → Invariant one → Invariant other
+    → AreRelated enclave one other
+    → are_steps moves ≡ true → AreMoves enclave moves one other → SameUnlessOnHart enclave own one a b
+    → Moved enclave own (first_steps moves) (second_steps moves) one other a b
+moved enclave own [] one other a b invariant other_invariant related all_steps moves same_ran = record { state = related; ran = same_ran }
+moved enclave own (First hart ∷ rest_moves) one other a b invariant other_invariant related all_steps moves same_ran =
+    let next = (declassification_law enclave (First hart ∷ []) one other invariant other_invariant related (moves.0, tt)).state in
+    let rest = moved enclave own rest_moves (step_of hart one).state other (with_observed_step enclave own hart one a) b
     (invariant_law hart one invariant) other_invariant next all_steps moves.1
-    (same_after_first e own hart one other a b related same_ran moves.0) in
+    (same_after_first enclave own hart one other a b related same_ran moves.0) in
     record { state = rest.state; ran = rest.ran }
-moved e own (Second hart ∷ rest_moves) one other a b invariant other_invariant related all_steps moves same_ran =
-    let next = (declassification_law e (Second hart ∷ []) one other invariant other_invariant related (moves.0, tt)).state in
-    let rest = moved e own rest_moves one (step_of hart other).state a (with_observed_step e own hart other b) invariant
+moved enclave own (Second hart ∷ rest_moves) one other a b invariant other_invariant related all_steps moves same_ran =
+    let next = (declassification_law enclave (Second hart ∷ []) one other invariant other_invariant related (moves.0, tt)).state in
+    let rest = moved enclave own rest_moves one (step_of hart other).state a (with_observed_step enclave own hart other b) invariant
     (invariant_law hart other other_invariant) next all_steps moves.1
-    (same_after_second e own hart one other a b related same_ran moves.0) in
+    (same_after_second enclave own hart one other a b related same_ran moves.0) in
     record { state = rest.state; ran = rest.ran }
-moved e own (Both (LineOf hart raised) ∷ rest_moves) one other a b invariant other_invariant related all_steps moves same_ran = cc
-moved e own (Both (StepOf hart) ∷ rest_moves) one other a b invariant other_invariant related all_steps moves same_ran =
-    let alike = declassification_law e (Both (StepOf hart) ∷ []) one other invariant other_invariant related (moves.0, tt) in
-    let same_after : IsLowStep e hart one other ⊎ ExitsAlike e hart one other
-    → SameUnlessOnHart e own (step_of hart one).state (with_observed_step e own hart one a) (with_observed_step e own hart other b) =
+moved enclave own (Both (LineOf hart raised) ∷ rest_moves) one other a b invariant other_invariant related all_steps moves same_ran = cc
+moved enclave own (Both (StepOf hart) ∷ rest_moves) one other a b invariant other_invariant related all_steps moves same_ran =
+    let alike = declassification_law enclave (Both (StepOf hart) ∷ []) one other invariant other_invariant related (moves.0, tt) in
+    let same_after : IsLowStep enclave hart one other ⊎ ExitsAlike enclave hart one other
+    → SameUnlessOnHart enclave own (step_of hart one).state (with_observed_step enclave own hart one a)
+    (with_observed_step enclave own hart other b) =
     λ step_is. elim step_is [
-      | inl low_step ↦ same_after_low e own hart one other a b related same_ran low_step.low (alike.outcomes.0 low_step.low)
-      | inr exits_alike ↦ same_after_exit e own hart one other a b related same_ran exits_alike
+      | inl low_step ↦ same_after_low enclave own hart one other a b related same_ran low_step.low (alike.outcomes.0 low_step.low)
+      | inr exits_alike ↦ same_after_exit enclave own hart one other a b related same_ran exits_alike
     ] in
-    let rest = moved e own rest_moves (step_of hart one).state (step_of hart other).state (with_observed_step e own hart one a)
-    (with_observed_step e own hart other b)
+    let rest = moved enclave own rest_moves (step_of hart one).state (step_of hart other).state (with_observed_step enclave own hart one a)
+    (with_observed_step enclave own hart other b)
     (invariant_law hart one invariant) (invariant_law hart other other_invariant) alike.state all_steps moves.1 (same_after moves.0) in
     record { state = rest.state; ran = rest.ran }
 
 -- steps of two commands that are moves leave related machines and equal observations
-pub moved_by : (e own : ℕ) (harts others : List ℕ) (one other : MonitoredMachine) → Invariant one → Invariant other → AreRelated e one other
-    → StepsAreMoves e one other harts others → Moved e own harts others one other nothing_ran nothing_ran
-moved_by e own harts others one other invariant other_invariant related steps =
-    subst (λ (xs : List ℕ). Moved e own xs others one other nothing_ran nothing_ran) steps.first
-    (subst (λ (ys : List ℕ). Moved e own (first_steps steps.moves) ys one other nothing_ran nothing_ran) steps.second
-    (moved e own steps.moves one other nothing_ran nothing_ran invariant other_invariant related steps.steps steps.are (λ not_on_hart. refl)))
+pub moved_by : (enclave own : ℕ) (harts others : List ℕ) (one other : MonitoredMachine) → Invariant one → Invariant other
+    → AreRelated enclave one other
+    → StepsAreMoves enclave one other harts others → Moved enclave own harts others one other nothing_ran nothing_ran
+moved_by enclave own harts others one other invariant other_invariant related steps =
+    subst (λ (xs : List ℕ). Moved enclave own xs others one other nothing_ran nothing_ran) steps.first
+    (subst (λ (ys : List ℕ). Moved enclave own (first_steps steps.moves) ys one other nothing_ran nothing_ran) steps.second
+    (moved enclave own steps.moves one other nothing_ran nothing_ran invariant other_invariant related steps.steps steps.are (λ not_on_hart. refl)))

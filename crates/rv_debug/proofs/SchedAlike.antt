@@ -12,48 +12,51 @@ use Rattle.rv_debug.proofs.ScheduledSteps.{after_schedule}
 -- ---- an entered slot stays entered
 
 -- a slot that was entered stays among the entered slots
-stays_entered_in_schedule : (e : ℕ) (harts : List ℕ) (before : AfterSchedule) → is_entered e before.did.entered ≡ true
-    → is_entered e (scheduled_steps harts before).did.entered ≡ true
+stays_entered_in_schedule : (enclave : ℕ) (harts : List ℕ) (before : AfterSchedule) → is_entered enclave before.did.entered ≡ true
+    → is_entered enclave (scheduled_steps harts before).did.entered ≡ true
 unfolding scheduled_steps
-stays_entered_in_schedule e [] before has_entered = has_entered
-stays_entered_in_schedule e (hart ∷ harts) before has_entered =
+stays_entered_in_schedule enclave [] before has_entered = has_entered
+stays_entered_in_schedule enclave (hart ∷ harts) before has_entered =
     let last = target_stepped (with_selected hart before.state) in
-    stays_entered_in_schedule e harts (with_scheduled_step hart before last) (stays_entered_with e before.did.entered last.entered has_entered)
+    stays_entered_in_schedule enclave harts (with_scheduled_step hart before last)
+    (stays_entered_with enclave before.did.entered last.entered has_entered)
 
 -- ---- all steps
 
--- both schedules entered the enclave of slot e
-pub record BothEnter (e : ℕ) (one other : AfterSchedule) : Type 0 where
-  pub first : is_entered e one.did.entered ≡ true
-  pub second : is_entered e other.did.entered ≡ true
+-- both schedules entered `enclave`
+pub record BothEnter (enclave : ℕ) (one other : AfterSchedule) : Type 0 where
+  pub first : is_entered enclave one.did.entered ≡ true
+  pub second : is_entered enclave other.did.entered ≡ true
 
--- Neither schedule entered the enclave of slot e. Both have equal summaries (`did`), and end in monitored machines (`first_end`, `second_end`) that
--- are equivalent except for e. If the enclave ran on no hart of `start`, it runs on none at the end.
-pub record NeitherEnters (e : ℕ) (start : Selected) (one other : AfterSchedule) : Type 0 where
+-- Neither schedule entered `enclave`. Both have equal summaries (`did`), and end in monitored machines (`first_end`, `second_end`)
+-- that
+-- are equivalent except for `enclave`. If the enclave ran on no hart of `start`, it runs on none at the end.
+pub record NeitherEnters (enclave : ℕ) (start : Selected) (one other : AfterSchedule) : Type 0 where
   pub first_end : Selected
   pub second_end : Selected
   pub first_is : one.state ≡ Monitored first_end
   pub second_is : other.state ≡ Monitored second_end
   pub did : one.did ≡ other.did
-  pub state : SelectedEquivExcept e first_end second_end
-  pub on_no_hart : RunsOnNoHart e (Monitored start) → RunsOnNoHart e (Monitored first_end)
+  pub state : SelectedEquivExcept enclave first_end second_end
+  pub on_no_hart : RunsOnNoHart enclave (Monitored start) → RunsOnNoHart enclave (Monitored first_end)
 
--- either both schedules enter the enclave of slot e, or neither enters it and both have equal results
+-- either both schedules enter `enclave`, or neither enters it and both have equal results
 abbrev pub ScheduledStepsAlike : ℕ → Selected → AfterSchedule → AfterSchedule → Type 0
-ScheduledStepsAlike e start one other = BothEnter e one other ⊎ NeitherEnters e start one other
+ScheduledStepsAlike enclave start one other = BothEnter enclave one other ⊎ NeitherEnters enclave start one other
 
 -- an enclave that runs on no hart runs on none of the given harts
-pub on_none_of : (e : ℕ) (harts : List ℕ) (machine : MonitoredMachine) → ((hart : ℕ) → runs_on e hart machine ≡ false) → RunsOnNone e harts machine
-on_none_of e [] machine on_no_hart = tt
-on_none_of e (hart ∷ harts) machine on_no_hart = (on_no_hart hart, on_none_of e harts machine on_no_hart)
+pub on_none_of : (enclave : ℕ) (harts : List ℕ) (machine : MonitoredMachine) → ((hart : ℕ) → runs_on enclave hart machine ≡ false)
+    → RunsOnNone enclave harts machine
+on_none_of enclave [] machine on_no_hart = tt
+on_none_of enclave (hart ∷ harts) machine on_no_hart = (on_no_hart hart, on_none_of enclave harts machine on_no_hart)
 
 -- Two schedules that are alike from the state `later` are alike from the state `start`. The premise is that an enclave that runs on no hart of
 -- `start` runs on no hart of `later`.
-alike_from_earlier : (e : ℕ) (start later : Selected) (one other : AfterSchedule)
-    → (RunsOnNoHart e (Monitored start) → RunsOnNoHart e (Monitored later))
-    → ScheduledStepsAlike e later one other → ScheduledStepsAlike e start one other
-alike_from_earlier e start later one other stays_off (inl both_enter) = inl both_enter
-alike_from_earlier e start later one other stays_off (inr neither_enters) = inr (record {
+alike_from_earlier : (enclave : ℕ) (start later : Selected) (one other : AfterSchedule)
+    → (RunsOnNoHart enclave (Monitored start) → RunsOnNoHart enclave (Monitored later))
+    → ScheduledStepsAlike enclave later one other → ScheduledStepsAlike enclave start one other
+alike_from_earlier enclave start later one other stays_off (inl both_enter) = inl both_enter
+alike_from_earlier enclave start later one other stays_off (inr neither_enters) = inr (record {
   first_end = neither_enters.first_end;
   second_end = neither_enters.second_end;
   first_is = neither_enters.first_is;
@@ -64,11 +67,15 @@ alike_from_earlier e start later one other stays_off (inr neither_enters) = inr 
 })
 
 -- an enclave that a step does not enter runs on none of the given harts after the step, if it ran on none before
-pub runs_on_none_after : (e hart : ℕ) (harts : List ℕ) (machine : MonitoredMachine) → enters e (step_of hart machine).outcome.entered ≡ false
-    → RunsOnNone e harts machine → RunsOnNone e harts (step_of hart machine).state
-runs_on_none_after e hart [] machine does_not_enter runs_on_none = tt
-runs_on_none_after e hart (other_hart ∷ harts) machine does_not_enter runs_on_none =
-    (entry_law e hart other_hart machine runs_on_none.0 does_not_enter, runs_on_none_after e hart harts machine does_not_enter runs_on_none.1)
+pub runs_on_none_after : (enclave hart : ℕ) (harts : List ℕ) (machine : MonitoredMachine)
+    → enters enclave (step_of hart machine).outcome.entered ≡ false
+    → RunsOnNone enclave harts machine → RunsOnNone enclave harts (step_of hart machine).state
+runs_on_none_after enclave hart [] machine does_not_enter runs_on_none = tt
+runs_on_none_after enclave hart (other_hart ∷ harts) machine does_not_enter runs_on_none = (
+  entry_law enclave hart other_hart machine runs_on_none.0 does_not_enter,
+  runs_on_none_after enclave hart harts machine does_not_enter
+      runs_on_none.1,
+)
 
 -- the machines and the summary after one step of a hart, from its state and outcome
 abbrev next : ℕ → Scheduled → MonitoredMachine → Outcome → AfterSchedule
@@ -77,44 +84,45 @@ next hart summary state outcome =
     with_scheduled_step hart (after_schedule (Monitored machine) summary)
     (record { state = Monitored machine; outcome = outcome.step; entered = outcome.entered })
 
--- a step that enters e leaves e among the entered slots, whatever steps follow
-pub schedule_enters : (e hart : ℕ) (harts : List ℕ) (summary : Scheduled) (state : MonitoredMachine) (outcome : Outcome) → outcome.entered ≡ Some e
-    → is_entered e (scheduled_steps harts (next hart summary state outcome)).did.entered ≡ true
-schedule_enters e hart harts summary state outcome enters_slot =
-    stays_entered_in_schedule e harts (next hart summary state outcome) (entered_by_step e summary.entered outcome.entered enters_slot)
+-- a step that enters `enclave` leaves `enclave` among the entered slots, whatever steps follow
+pub schedule_enters : (enclave hart : ℕ) (harts : List ℕ) (summary : Scheduled) (state : MonitoredMachine) (outcome : Outcome)
+    → outcome.entered ≡ Some enclave
+    → is_entered enclave (scheduled_steps harts (next hart summary state outcome)).did.entered ≡ true
+schedule_enters enclave hart harts summary state outcome enters_slot =
+    stays_entered_in_schedule enclave harts (next hart summary state outcome) (entered_by_step enclave summary.entered outcome.entered enters_slot)
 
 -- Noninterference of a schedule: in two equivalent machines, a schedule of harts on which the enclave does not run enters it in both or in neither.
 -- If in neither, the summaries are equal and the machines stay equivalent. The proof is by induction over the list of harts.
-pub scheduled_steps_alike : (e : ℕ) (harts : List ℕ) (one other : Selected) (summary : Scheduled) → Invariant one.state → Invariant other.state
-    → SelectedEquivExcept e one other → RunsOnNone e harts one.state
-    → ScheduledStepsAlike e one (scheduled_steps harts (after_schedule (Monitored one) summary))
+pub scheduled_steps_alike : (enclave : ℕ) (harts : List ℕ) (one other : Selected) (summary : Scheduled) → Invariant one.state → Invariant other.state
+    → SelectedEquivExcept enclave one other → RunsOnNone enclave harts one.state
+    → ScheduledStepsAlike enclave one (scheduled_steps harts (after_schedule (Monitored one) summary))
     (scheduled_steps harts (after_schedule (Monitored other) summary))
 unfolding scheduled_steps
-scheduled_steps_alike e [] one other summary invariant other_invariant equiv runs_on_none =
+scheduled_steps_alike enclave [] one other summary invariant other_invariant equiv runs_on_none =
     inr (record { first_end = one; second_end = other; first_is = refl; second_is = refl; did = refl; state = equiv; on_no_hart = λ stays. stays })
-scheduled_steps_alike e (hart ∷ harts) one other summary invariant other_invariant equiv runs_on_none =
+scheduled_steps_alike enclave (hart ∷ harts) one other summary invariant other_invariant equiv runs_on_none =
     let first = step_of hart one.state in
     let second = step_of hart other.state in
-    let alike_after = noninterference hart one.state invariant e other.state other_invariant equiv.state runs_on_none.0 in
-    elim (cases_Bool (enters e first.outcome.entered)) [
+    let alike_after = noninterference hart one.state invariant enclave other.state other_invariant equiv.state runs_on_none.0 in
+    elim (cases_Bool (enters enclave first.outcome.entered)) [
       | inl enters_slot ↦
-          let entered_is = entered_some e first.outcome.entered enters_slot in
+          let entered_is = entered_some enclave first.outcome.entered enters_slot in
           inl (record {
-            first = schedule_enters e hart harts summary first.state first.outcome entered_is;
-            second = schedule_enters e hart harts summary second.state second.outcome
+            first = schedule_enters enclave hart harts summary first.state first.outcome entered_is;
+            second = schedule_enters enclave hart harts summary second.state second.outcome
                 (ap (λ (outcome : Outcome). outcome.entered) (sym alike_after.outcome) ∙ entered_is);
           })
       | inr does_not_enter ↦
           let first_next : Selected = record { hart = hart; state = first.state } in
           let second_next : Selected = record { hart = hart; state = second.state } in
           let after = (next hart summary first.state first.outcome).did in
-          let stays_off : RunsOnNoHart e (Monitored one) → RunsOnNoHart e (Monitored first_next) =
-          λ off_before other_hart. entry_law e hart other_hart one.state (off_before other_hart) does_not_enter in
-          let alike = scheduled_steps_alike e harts first_next second_next after (invariant_law hart one.state invariant)
+          let stays_off : RunsOnNoHart enclave (Monitored one) → RunsOnNoHart enclave (Monitored first_next) =
+          λ off_before other_hart. entry_law enclave hart other_hart one.state (off_before other_hart) does_not_enter in
+          let alike = scheduled_steps_alike enclave harts first_next second_next after (invariant_law hart one.state invariant)
           (invariant_law hart other.state other_invariant)
-          (record { hart = refl; state = alike_after.state }) (runs_on_none_after e hart harts one.state does_not_enter runs_on_none.1) in
-          alike_from_earlier e one first_next _ _ stays_off
-          (subst (λ (outcome : Outcome). ScheduledStepsAlike e first_next (scheduled_steps harts (next hart summary first.state first.outcome))
+          (record { hart = refl; state = alike_after.state }) (runs_on_none_after enclave hart harts one.state does_not_enter runs_on_none.1) in
+          alike_from_earlier enclave one first_next _ _ stays_off
+          (subst (λ (outcome : Outcome). ScheduledStepsAlike enclave first_next (scheduled_steps harts (next hart summary first.state first.outcome))
           (scheduled_steps harts (next hart summary second.state outcome)))
           alike_after.outcome alike)
     ]

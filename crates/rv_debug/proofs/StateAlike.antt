@@ -15,23 +15,23 @@ use Rattle.rv_script.specs.declared.schedule.Schedule.{Schedule}
 use Rattle.rv_debug.proofs.SchedAlike.{NeitherEnters, scheduled_steps_alike}
 use Rattle.rv_debug.proofs.ScheduledSteps.{after_schedule}
 
--- both executions enter slot e or neither does; if neither does, the benches after them are equivalent except for e
-record EquivUnlessEntered (e : ℕ) (first second : Executed) : Type 0 where
-  entered : is_entered e first.entered ≡ is_entered e second.entered
-  state : is_entered e first.entered ≡ false → BenchesEquivExcept e first.state second.state
+-- both executions enter `enclave` or neither does; if neither does, the benches after them are equivalent except for `enclave`
+record EquivUnlessEntered (enclave : ℕ) (first second : Executed) : Type 0 where
+  entered : is_entered enclave first.entered ≡ is_entered enclave second.entered
+  state : is_entered enclave first.entered ≡ false → BenchesEquivExcept enclave first.state second.state
 
 -- two schedules that do not enter the enclave leave equivalent benches
-past_equiv : (e hart : ℕ) (breaks watches : List ℕ) (start : Selected) (one other : AfterSchedule) → NeitherEnters e start one other
-    → EquivUnlessEntered e (schedule_executed hart breaks watches one) (schedule_executed hart breaks watches other)
-past_equiv e hart breaks watches start one other neither_enters =
-    subst (λ (target : Target). EquivUnlessEntered e (schedule_executed hart breaks watches (after_schedule target one.did))
+past_equiv : (enclave hart : ℕ) (breaks watches : List ℕ) (start : Selected) (one other : AfterSchedule) → NeitherEnters enclave start one other
+    → EquivUnlessEntered enclave (schedule_executed hart breaks watches one) (schedule_executed hart breaks watches other)
+past_equiv enclave hart breaks watches start one other neither_enters =
+    subst (λ (target : Target). EquivUnlessEntered enclave (schedule_executed hart breaks watches (after_schedule target one.did))
     (schedule_executed hart breaks watches other))
     (sym neither_enters.first_is)
     (subst (λ (target : Target).
-    EquivUnlessEntered e (schedule_executed hart breaks watches (after_schedule (Monitored neither_enters.first_end) one.did))
+    EquivUnlessEntered enclave (schedule_executed hart breaks watches (after_schedule (Monitored neither_enters.first_end) one.did))
     (schedule_executed hart breaks watches (after_schedule target other.did))) (sym neither_enters.second_is)
     (record {
-      entered = ap (λ (summary : Scheduled). is_entered e summary.entered) neither_enters.did;
+      entered = ap (λ (summary : Scheduled). is_entered enclave summary.entered) neither_enters.did;
       state = λ not_entered.
           record {
             target = record { hart = refl; state = let ends_equiv = neither_enters.state in ends_equiv.state };
@@ -41,8 +41,8 @@ past_equiv e hart breaks watches start one other neither_enters =
     }))
 
 -- two equivalent machines with hart `hart` selected
-module _ (e hart : ℕ) (one other : MonitoredMachine)
-    (equiv : SelectedEquivExcept e (record { hart = hart; state = one }) (record { hart = hart; state = other }))
+module _ (enclave hart : ℕ) (one other : MonitoredMachine)
+    (equiv : SelectedEquivExcept enclave (record { hart = hart; state = one }) (record { hart = hart; state = other }))
     (breaks watches : List ℕ) where
   -- `as_selected` is the given machine with the selected hart
   abbrev as_selected : MonitoredMachine → Selected
@@ -59,74 +59,77 @@ module _ (e hart : ℕ) (one other : MonitoredMachine)
       }
 
   -- a schedule of harts without the enclave leaves equivalent benches
-  sched_equiv : (harts : List ℕ) (exist other_exist : Bool) → exist ≡ other_exist → Invariant one → Invariant other → RunsOnNone e harts one
-      → EquivUnlessEntered e (sched_executed one harts exist) (sched_executed other harts other_exist)
+  sched_equiv : (harts : List ℕ) (exist other_exist : Bool) → exist ≡ other_exist → Invariant one → Invariant other → RunsOnNone enclave harts one
+      → EquivUnlessEntered enclave (sched_executed one harts exist) (sched_executed other harts other_exist)
   sched_equiv harts true true same_exist invariant other_invariant runs_on_none =
-      elim (scheduled_steps_alike e harts (as_selected one) (as_selected other) _ invariant other_invariant equiv runs_on_none) [
+      elim (scheduled_steps_alike enclave harts (as_selected one) (as_selected other) _ invariant other_invariant equiv runs_on_none) [
         | inl both_enter ↦ record {
           entered = both_enter.first ∙ sym both_enter.second;
           state = λ not_entered. let never : true ≡ false = sym both_enter.first ∙ not_entered in cc;
         }
-        | inr neither_enters ↦ past_equiv e hart breaks watches (as_selected one) _ _ neither_enters
+        | inr neither_enters ↦ past_equiv enclave hart breaks watches (as_selected one) _ _ neither_enters
       ]
   sched_equiv harts false false same_exist invariant other_invariant runs_on_none =
       record { entered = refl; state = λ not_entered. record { target = equiv; breaks = refl; watches = refl } }
   sched_equiv harts _ _ same_exist invariant other_invariant runs_on_none = cc
 
 -- a schedule of harts without the enclave leaves equivalent benches, for two targets
-sched_targets : (e : ℕ) (one other : Target) (breaks watches : List ℕ) (schedule : Schedule) → TargetInvariant one → TargetInvariant other
-    → TargetsEquivExcept e one other → is_blind e (bench_of one breaks watches) (Sched schedule) ≡ true → RunsOnNoneIn e (harts_in schedule) one
-    → EquivUnlessEntered e (execute (bench_of one breaks watches) (Sched schedule)) (execute (bench_of other breaks watches) (Sched schedule))
+sched_targets : (enclave : ℕ) (one other : Target) (breaks watches : List ℕ) (schedule : Schedule) → TargetInvariant one → TargetInvariant other
+    → TargetsEquivExcept enclave one other → is_blind enclave (bench_of one breaks watches) (Sched schedule) ≡ true
+    → RunsOnNoneIn enclave (harts_in schedule) one
+    → EquivUnlessEntered enclave (execute (bench_of one breaks watches) (Sched schedule)) (execute (bench_of other breaks watches) (Sched schedule))
 unfolding execute
-sched_targets e (Monitored one) (Monitored other) breaks watches schedule invariant other_invariant equiv blind runs_on_none =
+sched_targets enclave (Monitored one) (Monitored other) breaks watches schedule invariant other_invariant equiv blind runs_on_none =
     let harts = harts_in schedule in
     let state = equiv.state in
-    subst (λ (hart : ℕ). EquivUnlessEntered e (execute (bench_of (Monitored one) breaks watches) (Sched schedule))
+    subst (λ (hart : ℕ). EquivUnlessEntered enclave (execute (bench_of (Monitored one) breaks watches) (Sched schedule))
     (execute (bench_of (selected_at hart other.state) breaks watches) (Sched schedule))) equiv.hart
-    (sched_equiv e one.hart one.state other.state (record { hart = refl; state = state }) breaks watches harts (has_all (count_of one.state) harts)
+    (sched_equiv enclave one.hart one.state other.state (record { hart = refl; state = state }) breaks watches harts
+    (has_all (count_of one.state) harts)
     (has_all (count_of other.state) harts) (ap (λ (n : ℕ). has_all n harts) state.harts) invariant other_invariant runs_on_none)
-sched_targets e (Bare one) (Bare other) breaks watches schedule invariant other_invariant equiv blind runs_on_none =
+sched_targets enclave (Bare one) (Bare other) breaks watches schedule invariant other_invariant equiv blind runs_on_none =
     let alike_after =
-    noninterference e (bench_of (Bare one) breaks watches) (bench_of (Bare other) breaks watches) (Sched schedule) invariant other_invariant
+    noninterference enclave (bench_of (Bare one) breaks watches) (bench_of (Bare other) breaks watches) (Sched schedule) invariant other_invariant
     (record { target = equiv; breaks = refl; watches = refl }) blind tt in
     record {
       entered = alike_after.entered;
       state = λ not_entered. let after = alike_after.passed not_entered in
           let remain_equiv = after.state in remain_equiv.but;
     }
-sched_targets e _ _ breaks watches schedule invariant other_invariant equiv blind runs_on_none = absurd equiv
+sched_targets enclave _ _ breaks watches schedule invariant other_invariant equiv blind runs_on_none = absurd equiv
 
 -- ---- every command
 
 -- a command that is blind and avoids the hart of the enclave leaves equivalent benches, unless it enters the enclave
-by_noninterference : (e : ℕ) (first second : BenchState) (command : Command) → TargetInvariant first.target → TargetInvariant second.target
-    → BenchesEquivExcept e first second → is_blind e first command ≡ true → AvoidsHart e first command
-    → StateAlike e (execute first command) (execute second command)
-by_noninterference e first second command invariant other_invariant equiv blind avoids_hart =
-    let alike_after = noninterference e first second command invariant other_invariant equiv blind avoids_hart in
+by_noninterference : (enclave : ℕ) (first second : BenchState) (command : Command) → TargetInvariant first.target → TargetInvariant second.target
+    → BenchesEquivExcept enclave first second → is_blind enclave first command ≡ true → AvoidsHart enclave first command
+    → StateAlike enclave (execute first command) (execute second command)
+by_noninterference enclave first second command invariant other_invariant equiv blind avoids_hart =
+    let alike_after = noninterference enclave first second command invariant other_invariant equiv blind avoids_hart in
     record { entered = alike_after.entered; state = λ not_entered. let after = alike_after.passed not_entered in after.state }
 
 -- Proves that benches stay equivalent after commands that step no hart of the enclave. The commands that show the hart of the enclave have no effect,
 -- and a schedule is treated above; noninterference covers all others.
 pub equivalence : EquivalenceLaw
 unfolding execute
-equivalence e first second (Reg number) invariant other_invariant equiv blind runs_on_none =
-    record { entered = refl; state = λ not_entered. equiv_again e first second invariant equiv }
-equivalence e first second Regs invariant other_invariant equiv blind runs_on_none =
-    record { entered = refl; state = λ not_entered. equiv_again e first second invariant equiv }
-equivalence e first second (Csr number) invariant other_invariant equiv blind runs_on_none =
-    record { entered = refl; state = λ not_entered. equiv_again e first second invariant equiv }
-equivalence e first second (Sched schedule) invariant other_invariant equiv blind runs_on_none =
-    let states_equiv = subst (λ (breaks : List ℕ). EquivUnlessEntered e (execute first (Sched schedule))
+equivalence enclave first second (Reg number) invariant other_invariant equiv blind runs_on_none =
+    record { entered = refl; state = λ not_entered. equiv_again enclave first second invariant equiv }
+equivalence enclave first second Regs invariant other_invariant equiv blind runs_on_none =
+    record { entered = refl; state = λ not_entered. equiv_again enclave first second invariant equiv }
+equivalence enclave first second (Csr number) invariant other_invariant equiv blind runs_on_none =
+    record { entered = refl; state = λ not_entered. equiv_again enclave first second invariant equiv }
+equivalence enclave first second (Sched schedule) invariant other_invariant equiv blind runs_on_none =
+    let states_equiv = subst (λ (breaks : List ℕ). EquivUnlessEntered enclave (execute first (Sched schedule))
     (execute (bench_of second.target breaks second.watches) (Sched schedule)))
     equiv.breaks
-    (subst (λ (watches : List ℕ). EquivUnlessEntered e (execute first (Sched schedule))
+    (subst (λ (watches : List ℕ). EquivUnlessEntered enclave (execute first (Sched schedule))
     (execute (bench_of second.target first.breaks watches) (Sched schedule))) equiv.watches
-    (sched_targets e first.target second.target first.breaks first.watches schedule invariant other_invariant equiv.target blind runs_on_none)) in
+    (sched_targets enclave first.target second.target first.breaks first.watches schedule invariant other_invariant equiv.target blind
+    runs_on_none)) in
     record {
       entered = states_equiv.entered;
-      state = λ not_entered. equiv_again e _ _
+      state = λ not_entered. equiv_again enclave _ _
           (command_keeps_invariant first (Sched schedule) invariant) (states_equiv.state not_entered);
     }
-equivalence e first second command invariant other_invariant equiv blind runs_on_none =
-    by_noninterference e first second command invariant other_invariant equiv blind runs_on_none
+equivalence enclave first second command invariant other_invariant equiv blind runs_on_none =
+    by_noninterference enclave first second command invariant other_invariant equiv blind runs_on_none

@@ -15,47 +15,49 @@ use Rattle.rv_debug.proofs.Stepping.{next_cases, run_induction, next_of}
 -- ---- entered slots
 
 -- a slot among the entered slots stays among them if more slots are entered
-stays_entered_with_more : (e one other : ℕ) → is_entered e one ≡ true → is_entered e (bit_or one other) ≡ true
-stays_entered_with_more e one other has_entered =
-    eq-eqb _ 1 (bit_at_or one other e ∙ (let bit_is_set = eqb-true _ 1 has_entered in
-    let bit_below_2 = bit_at-lt other e in omega (arith, bit_is_set, bit_below_2)))
+stays_entered_with_more : (enclave one other : ℕ) → is_entered enclave one ≡ true → is_entered enclave (bit_or one other) ≡ true
+stays_entered_with_more enclave one other has_entered =
+    eq-eqb _ 1 (bit_at_or one other enclave ∙ (let bit_is_set = eqb-true _ 1 has_entered in
+    let bit_below_2 = bit_at-lt other enclave in omega (arith, bit_is_set, bit_below_2)))
 
 -- a slot that was entered stays among the entered slots
-pub stays_entered_with : (e slots : ℕ) (entered : Option ℕ) → is_entered e slots ≡ true → is_entered e (slots_with slots entered) ≡ true
-stays_entered_with e slots None has_entered = has_entered
-stays_entered_with e slots (Some k) has_entered = stays_entered_with_more e slots (2 ^ k) has_entered
+pub stays_entered_with : (enclave slots : ℕ) (entered : Option ℕ) → is_entered enclave slots ≡ true
+    → is_entered enclave (slots_with slots entered) ≡ true
+stays_entered_with enclave slots None has_entered = has_entered
+stays_entered_with enclave slots (Some slot) has_entered = stays_entered_with_more enclave slots (2 ^ slot) has_entered
 
 -- the slot that a step enters is among the entered slots
-pub entered_by_step : (e slots : ℕ) (entered : Option ℕ) → entered ≡ Some e → is_entered e (slots_with slots entered) ≡ true
-entered_by_step e slots entered entered_is =
-    let power_has_bit = bit_at-pow_same e in
-    let bit_below_2 = bit_at-lt slots e in
-    rw entered_is (eq-eqb _ 1 (bit_at_or slots (2 ^ e) e ∙ omega (arith, power_has_bit, bit_below_2)))
+pub entered_by_step : (enclave slots : ℕ) (entered : Option ℕ) → entered ≡ Some enclave → is_entered enclave (slots_with slots entered) ≡ true
+entered_by_step enclave slots entered entered_is =
+    let power_has_bit = bit_at-pow_same enclave in
+    let bit_below_2 = bit_at-lt slots enclave in
+    rw entered_is (eq-eqb _ 1 (bit_at_or slots (2 ^ enclave) enclave ∙ omega (arith, power_has_bit, bit_below_2)))
 
 -- ---- runs
 
--- both runs entered the enclave of slot e
-pub record BothEnter (e : ℕ) (one other : AfterRun MonitoredMachine) : Type 0 where
-  pub first : is_entered e one.ran.entered ≡ true
-  pub second : is_entered e other.ran.entered ≡ true
+-- both runs entered `enclave`
+pub record BothEnter (enclave : ℕ) (one other : AfterRun MonitoredMachine) : Type 0 where
+  pub first : is_entered enclave one.ran.entered ≡ true
+  pub second : is_entered enclave other.ran.entered ≡ true
 
--- Neither run entered the enclave of slot e. Both have equal summaries (`ran`) and end in machines that are equivalent except for e, and the enclave
+-- Neither run entered `enclave`. Both have equal summaries (`ran`) and end in machines that are equivalent except for `enclave`, and
+-- the enclave
 -- does not run on the hart of the run.
-pub record NeitherEnters (e hart : ℕ) (one other : AfterRun MonitoredMachine) : Type 0 where
+pub record NeitherEnters (enclave hart : ℕ) (one other : AfterRun MonitoredMachine) : Type 0 where
   pub ran : one.ran ≡ other.ran
-  pub state : EquivExcept e one.state other.state
-  pub not_on_hart : runs_on e hart one.state ≡ false
+  pub state : EquivExcept enclave one.state other.state
+  pub not_on_hart : runs_on enclave hart one.state ≡ false
 
--- either both runs enter the enclave of slot e, or neither enters it and both have equal results
+-- either both runs enter `enclave`, or neither enters it and both have equal results
 abbrev pub RunAlike : ℕ → ℕ → AfterRun MonitoredMachine → AfterRun MonitoredMachine → Type 0
-RunAlike e hart one other = BothEnter e one other ⊎ NeitherEnters e hart one other
+RunAlike enclave hart one other = BothEnter enclave one other ⊎ NeitherEnters enclave hart one other
 
 -- the number of steps and the outcomes so far are unchanged, with another machine
 abbrev with_state : AfterSteps MonitoredMachine → MonitoredMachine → AfterSteps MonitoredMachine
 with_state before state = record before { state = state }
 
--- runs of hart `hart` with these breakpoints and watchpoints, for the enclave of slot e
-module _ (e hart : ℕ) (breaks watches : List ℕ) where
+-- runs of hart `hart` with these breakpoints and watchpoints, for `enclave`
+module _ (enclave hart : ℕ) (breaks watches : List ℕ) where
   -- `run_from` is the run of a machine from the steps so far
   abbrev run_from : ℕ → AfterSteps MonitoredMachine → AfterRun MonitoredMachine
   run_from left before = run (hart_stepped hart) (hart_pc hart) breaks watches left before
@@ -70,33 +72,34 @@ module _ (e hart : ℕ) (breaks watches : List ℕ) where
       let after = after_step before outcome state in
       next_of after (run_from left after) (lowest_accessed watches outcome.step.touched) (left == 0) (is_among (hart_pc hart state) breaks)
 
-  -- The run has entered slot e at its end. The second run is there since `next_cases` takes two runs.
+  -- The run has entered `enclave` at its end. The second run is there since `next_cases` takes two runs.
   abbrev Enters : AfterRun MonitoredMachine → AfterRun MonitoredMachine → Type 0
-  Enters end _ = is_entered e end.ran.entered ≡ true
+  Enters end _ = is_entered enclave end.ran.entered ≡ true
 
-  -- a run that has entered e has entered e at its end
-  stays_entered_in_run : (left : ℕ) (before : AfterSteps MonitoredMachine) → is_entered e before.entered ≡ true
-      → is_entered e (run_from left before).ran.entered ≡ true
+  -- a run that has entered `enclave` has entered `enclave` at its end
+  stays_entered_in_run : (left : ℕ) (before : AfterSteps MonitoredMachine) → is_entered enclave before.entered ≡ true
+      → is_entered enclave (run_from left before).ran.entered ≡ true
   stays_entered_in_run =
-      run_induction (hart_stepped hart) (hart_pc hart) breaks watches (λ before end. is_entered e before.entered ≡ true → Enters end end)
+      run_induction (hart_stepped hart) (hart_pc hart) breaks watches (λ before end. is_entered enclave before.entered ≡ true → Enters end end)
       (λ after stop has_entered. has_entered)
-      (λ before end rest_enters has_entered. rest_enters (stays_entered_with e before.entered (hart_stepped hart before.state).entered has_entered))
+      (λ before end rest_enters has_entered. rest_enters
+      (stays_entered_with enclave before.entered (hart_stepped hart before.state).entered has_entered))
 
   -- a slot that this step enters stays among the entered slots
-  pub run_enters : (left : ℕ) (before : AfterSteps MonitoredMachine) (outcome : Outcome) (state : MonitoredMachine) → outcome.entered ≡ Some e
-      → is_entered e (next_run left before outcome state).ran.entered ≡ true
+  pub run_enters : (left : ℕ) (before : AfterSteps MonitoredMachine) (outcome : Outcome) (state : MonitoredMachine) → outcome.entered ≡ Some enclave
+      → is_entered enclave (next_run left before outcome state).ran.entered ≡ true
   run_enters left before outcome state enters_slot =
       let after = after_step before outcome state in
       let rest = run_from left after in
-      let entered_now = entered_by_step e before.entered outcome.entered enters_slot in
+      let entered_now = entered_by_step enclave before.entered outcome.entered enters_slot in
       next_cases Enters after after rest rest (lowest_accessed watches outcome.step.touched) (left == 0) (is_among (hart_pc hart state) breaks)
       (λ stop. entered_now) (stays_entered_in_run left after entered_now)
 
   -- Noninterference of a run: in two equivalent machines, a run of a hart on which the enclave does not run is alike. The proof is by induction over
   -- the number of steps left.
   pub run-alike : (left : ℕ) (before : AfterSteps MonitoredMachine) (other : MonitoredMachine) → Invariant before.state → Invariant other
-      → EquivExcept e before.state other → runs_on e hart before.state ≡ false
-      → RunAlike e hart (run_from left before) (run_from left (with_state before other))
+      → EquivExcept enclave before.state other → runs_on enclave hart before.state ≡ false
+      → RunAlike enclave hart (run_from left before) (run_from left (with_state before other))
   unfolding run
   run-alike zero before other invariant other_invariant equiv not_on_hart = inr (record { ran = refl; state = equiv; not_on_hart = not_on_hart })
   run-alike (suc left) before other invariant other_invariant equiv not_on_hart =
@@ -104,10 +107,10 @@ module _ (e hart : ℕ) (breaks watches : List ℕ) where
       let second_step = step_of hart other in
       let after = after_step before first_step.outcome first_step.state in
       let watch_hit = lowest_accessed watches first_step.outcome.step.touched in
-      let alike_after = noninterference hart before.state invariant e other other_invariant equiv not_on_hart in
-      elim (cases_Bool (enters e first_step.outcome.entered)) [
+      let alike_after = noninterference hart before.state invariant enclave other other_invariant equiv not_on_hart in
+      elim (cases_Bool (enters enclave first_step.outcome.entered)) [
         | inl enters_slot ↦
-            let entered_is = entered_some e first_step.outcome.entered enters_slot in
+            let entered_is = entered_some enclave first_step.outcome.entered enters_slot in
             inl (record {
               first = run_enters left before first_step.outcome first_step.state entered_is;
               second = run_enters left (with_state before other) second_step.outcome second_step.state
@@ -115,18 +118,18 @@ module _ (e hart : ℕ) (breaks watches : List ℕ) where
             })
         | inr does_not_enter ↦
             -- the enclave does not run on the hart after the step, and the rest of the run is alike by induction
-            let still_off = entry_law e hart hart before.state not_on_hart does_not_enter in
+            let still_off = entry_law enclave hart hart before.state not_on_hart does_not_enter in
             let rest_alike = run-alike left after second_step.state (invariant_law hart before.state invariant)
             (invariant_law hart other other_invariant) alike_after.state still_off in
             let alike_at_stop = λ (stop : Stop). inr (record { ran = refl; state = alike_after.state; not_on_hart = still_off }) in
-            let alike = next_cases (RunAlike e hart) after (with_state after second_step.state) _ _ watch_hit (left == 0)
+            let alike = next_cases (RunAlike enclave hart) after (with_state after second_step.state) _ _ watch_hit (left == 0)
             (is_among (hart_pc hart first_step.state) breaks) alike_at_stop rest_alike in
             -- the outcomes of the step are equal, and the next instruction is at a breakpoint in both machines or in neither
             let hart_states = (let state = alike_after.state in state.hart_states hart) in
             let same_break = ap (λ (hart_state : HartState). is_among hart_state.hart.pc breaks) (hart_states.same still_off) in
-            subst (λ (outcome : Outcome). RunAlike e hart (next_run left before first_step.outcome first_step.state)
+            subst (λ (outcome : Outcome). RunAlike enclave hart (next_run left before first_step.outcome first_step.state)
             (next_run left (with_state before other) outcome second_step.state)) alike_after.outcome
-            (subst (λ (at_break : Bool). RunAlike e hart (next_run left before first_step.outcome first_step.state)
+            (subst (λ (at_break : Bool). RunAlike enclave hart (next_run left before first_step.outcome first_step.state)
             (next_of (with_state after second_step.state) (run_from left (with_state after second_step.state)) watch_hit
             (left == 0) at_break)) same_break alike)
       ]

@@ -19,33 +19,33 @@ use Rattle.rv_debug.specs.declared.both.BothLine.TheVariants.{Faulty, Given}
 
 -- ---- equivalence of two benches
 
--- The selected hart is the same, and the machines are equivalent except for the enclave of slot e, wherever it runs. They are equal except for
+-- The selected hart is the same, and the machines are equivalent except for `enclave`, wherever it runs. They are equal except for
 -- the bytes of its region, its context, and the hart on which it runs, if it runs. A bare machine has no enclave.
-pub record SelectedEquivExcept (e : ℕ) (one other : Selected) : Type 0 where
+pub record SelectedEquivExcept (enclave : ℕ) (one other : Selected) : Type 0 where
   pub hart : one.hart ≡ other.hart
-  pub state : EquivExcept e one.state other.state
+  pub state : EquivExcept enclave one.state other.state
 
--- two targets are bare and equal, or monitored and equivalent except for slot e
+-- two targets are bare and equal, or monitored and equivalent except for `enclave`
 abbrev pub TargetsEquivExcept : ℕ → Target → Target → Type 0
-TargetsEquivExcept e (Bare one) (Bare other) = one ≡ other
-TargetsEquivExcept e (Monitored one) (Monitored other) = SelectedEquivExcept e one other
-TargetsEquivExcept e _ _ = ⊥
+TargetsEquivExcept enclave (Bare one) (Bare other) = one ≡ other
+TargetsEquivExcept enclave (Monitored one) (Monitored other) = SelectedEquivExcept enclave one other
+TargetsEquivExcept enclave _ _ = ⊥
 
--- two benches have targets that are equivalent except for slot e, the same breakpoints and the same watchpoints
-pub record BenchesEquivExcept (e : ℕ) (one other : BenchState) : Type 0 where
-  pub target : TargetsEquivExcept e one.target other.target
+-- two benches have targets that are equivalent except for `enclave`, the same breakpoints and the same watchpoints
+pub record BenchesEquivExcept (enclave : ℕ) (one other : BenchState) : Type 0 where
+  pub target : TargetsEquivExcept enclave one.target other.target
   pub breaks : one.breaks ≡ other.breaks
   pub watches : one.watches ≡ other.watches
 
 -- ---- what a command shows, and what it enters
 
--- `region_in` is the region of slot e, which is empty if its enclave is not live
+-- `region_in` is the region of `enclave`, which is empty if its enclave is not live
 abbrev pub region_in : ℕ → Target → Block
-region_in e target = option_case (machine_in target) no_block (λ machine. region machine.shared.table e)
+region_in enclave target = option_case (machine_in target) no_block (λ machine. region machine.shared.table enclave)
 
--- the command is not a mem, dis or poke with a byte in the region of slot e
+-- the command is not a mem, dis or poke with a byte in the region of `enclave`
 unfoldable pub is_blind : ℕ → BenchState → Command → Bool
-is_blind e bench command = not (meets (bytes_named command) (region_in e bench.target))
+is_blind enclave bench command = not (meets (bytes_named command) (region_in enclave bench.target))
 
 -- the harts that a command steps, or whose registers, pc, mode or world it shows; `sched` shows the pc, mode and world of each hart
 abbrev pub harts_shown : Target → Command → List ℕ
@@ -57,21 +57,21 @@ harts_shown target (Csr number) = selected_of target ∷ []
 harts_shown target (Sched schedule) = range_with_len 0 (harts_of target)
 harts_shown target _ = []
 
--- the enclave of slot e runs on none of these harts
+-- `enclave` runs on none of these harts
 abbrev pub RunsOnNoneIn : ℕ → List ℕ → Target → Type 0
-RunsOnNoneIn e harts target = IfSome (machine_in target) (RunsOnNone e harts)
+RunsOnNoneIn enclave harts target = IfSome (machine_in target) (RunsOnNone enclave harts)
 
--- the enclave of slot e runs on no hart
+-- `enclave` runs on no hart
 abbrev pub RunsOnNoHart : ℕ → Target → Type 0
-RunsOnNoHart e target = IfSome (machine_in target) (λ machine. (hart : ℕ) → runs_on e hart machine ≡ false)
+RunsOnNoHart enclave target = IfSome (machine_in target) (λ machine. (hart : ℕ) → runs_on enclave hart machine ≡ false)
 
 -- the command neither steps nor shows a hart on which the enclave runs
 abbrev pub AvoidsHart : ℕ → BenchState → Command → Type 0
-AvoidsHart e bench command = RunsOnNoneIn e (harts_shown bench.target command) bench.target
+AvoidsHart enclave bench command = RunsOnNoneIn enclave (harts_shown bench.target command) bench.target
 
--- slot e is in a set of slots, given as bits
+-- `enclave` is in a set of slots, given as bits
 abbrev pub is_entered : ℕ → ℕ → Bool
-is_entered e slots = bit_at slots e == 1
+is_entered enclave slots = bit_at slots enclave == 1
 
 -- ---- one command for both
 
@@ -83,20 +83,20 @@ pub record BothExecuted : Type 0 where
   pub second_reply : List ℕ
   pub why : BothWhy
 
--- both benches execute the command; a command that enters slot e in either bench is the last
+-- both benches execute the command; a command that enters `enclave` in either bench is the last
 abbrev pub both_do : ℕ → Executed → Executed → BothExecuted
-both_do e first second = record {
+both_do enclave first second = record {
   first = first.state;
   second = second.state;
   first_reply = first.reply;
   second_reply = second.reply;
-  why = if is_entered e first.entered || is_entered e second.entered then Entered else All;
+  why = if is_entered enclave first.entered || is_entered enclave second.entered then Entered else All;
 }
 
 -- neither executes a command that is not blind in both
 unfoldable pub both_execute : ℕ → BenchState → BenchState → Command → BothExecuted
-both_execute e first second command =
-    if is_blind e first command && is_blind e second command then both_do e (execute first command) (execute second command)
+both_execute enclave first second command =
+    if is_blind enclave first command && is_blind enclave second command then both_do enclave (execute first command) (execute second command)
     else record { first = first; second = second; first_reply = []; second_reply = []; why = NotBlind }
 
 -- ---- one line for both
@@ -116,8 +116,8 @@ pub record BothLineExecuted : Type 0 where
 
 -- both benches execute the command of the line; a line with an error has one reply, and changes neither bench
 abbrev pub both_line_executed : ℕ → BenchState → BenchState → Result Command CommandFault → BothLineExecuted
-both_line_executed e first second (Ok command) =
-    let after = both_execute e first second command in
+both_line_executed enclave first second (Ok command) =
+    let after = both_execute enclave first second command in
     record {
       first = after.first;
       second = after.second;
@@ -125,31 +125,31 @@ both_line_executed e first second (Ok command) =
       second_reply = after.second_reply;
       line = Given after.why (has_no_command command);
     }
-both_line_executed e first second (Err fault) =
+both_line_executed enclave first second (Err fault) =
     record { first = first; second = second; first_reply = command_fault_text fault; second_reply = []; line = Faulty }
 
 -- both benches execute the command of one line
 abbrev pub both_execute_line : ℕ → BenchState → BenchState → List ℕ → BothLineExecuted
-both_execute_line e first second line = both_line_executed e first second (parse_of line)
+both_execute_line enclave first second line = both_line_executed enclave first second (parse_of line)
 
 -- ---- a second, equivalent bench
 
 -- an enclave is live in the slot, and does not run
 abbrev pub can_scramble_in : ℕ → Target → Bool
-can_scramble_in e target = option_case (machine_in target) false (λ machine. can_scramble_of machine.shared.table e)
+can_scramble_in enclave target = option_case (machine_in target) false (λ machine. can_scramble_of machine.shared.table enclave)
 
--- an enclave is live in slot e of the bench, and does not run
+-- an enclave is live in slot `enclave` of the bench, and does not run
 abbrev pub can_scramble : ℕ → BenchState → Bool
-can_scramble e bench = can_scramble_in e bench.target
+can_scramble enclave bench = can_scramble_in enclave bench.target
 
 -- the bench with each byte of the region and each saved register of the slot complemented; a bare machine is unchanged
 abbrev pub scrambled_in : ℕ → Target → Target
-scrambled_in e (Bare machine) = Bare machine
-scrambled_in e (Monitored selected) = selected_at selected.hart (scrambled_of selected.state e)
+scrambled_in enclave (Bare machine) = Bare machine
+scrambled_in enclave (Monitored selected) = selected_at selected.hart (scrambled_of selected.state enclave)
 
--- `scrambled` is the bench with its target scrambled in slot e
+-- `scrambled` is the bench with its target scrambled in slot `enclave`
 abbrev pub scrambled : ℕ → BenchState → BenchState
-scrambled e bench = record bench { target = scrambled_in e bench.target }
+scrambled enclave bench = record bench { target = scrambled_in enclave bench.target }
 
 -- ---- a list of commands for both
 
@@ -170,9 +170,9 @@ go_on All after rest = one_more_ran rest
 go_on Entered after rest = record { first = after.first; second = after.second; ran = 1; why = Entered }
 go_on NotBlind after rest = record { first = after.first; second = after.second; ran = 0; why = NotBlind }
 
--- both benches execute the commands in turn, up to the first that is not blind, and up to and including one that enters slot e
+-- both benches execute the commands in turn, up to the first that is not blind, and up to and including one that enters `enclave`
 unfoldable pub both_run : ℕ → BenchState → BenchState → List Command → BothRan
-both_run e first second [] = record { first = first; second = second; ran = 0; why = All }
-both_run e first second (command ∷ commands) =
-    let after = both_execute e first second command in
-    go_on after.why after (both_run e after.first after.second commands)
+both_run enclave first second [] = record { first = first; second = second; ran = 0; why = All }
+both_run enclave first second (command ∷ commands) =
+    let after = both_execute enclave first second command in
+    go_on after.why after (both_run enclave after.first after.second commands)

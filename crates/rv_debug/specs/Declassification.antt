@@ -19,19 +19,19 @@ use Rattle.rv_debug.specs.Targets.{TargetInvariant, machine_in}
 -- ---- two benches that are equivalent except for an enclave, whether it runs or not
 
 -- The selected hart is the same, and the machines are related. A bare machine has no enclave.
-pub record SelectedAreRelated (e : ℕ) (one other : Selected) : Type 0 where
+pub record SelectedAreRelated (enclave : ℕ) (one other : Selected) : Type 0 where
   pub hart : one.hart ≡ other.hart
-  pub state : AreRelated e one.state other.state
+  pub state : AreRelated enclave one.state other.state
 
--- two targets are bare and equal, or monitored and related for slot e
+-- two targets are bare and equal, or monitored and related for `enclave`
 abbrev pub TargetsAreRelated : ℕ → Target → Target → Type 0
-TargetsAreRelated e (Bare one) (Bare other) = one ≡ other
-TargetsAreRelated e (Monitored one) (Monitored other) = SelectedAreRelated e one other
-TargetsAreRelated e _ _ = ⊥
+TargetsAreRelated enclave (Bare one) (Bare other) = one ≡ other
+TargetsAreRelated enclave (Monitored one) (Monitored other) = SelectedAreRelated enclave one other
+TargetsAreRelated enclave _ _ = ⊥
 
 -- two benches have related targets, the same breakpoints and the same watchpoints
-pub record BenchesAreRelated (e : ℕ) (one other : BenchState) : Type 0 where
-  pub target : TargetsAreRelated e one.target other.target
+pub record BenchesAreRelated (enclave : ℕ) (one other : BenchState) : Type 0 where
+  pub target : TargetsAreRelated enclave one.target other.target
   pub breaks : one.breaks ≡ other.breaks
   pub watches : one.watches ≡ other.watches
 
@@ -60,18 +60,18 @@ second_steps (Both (StepOf hart) ∷ moves) = hart ∷ second_steps moves
 second_steps (Both (LineOf hart raised) ∷ moves) = second_steps moves
 
 -- Steps of two machines are those of a list of moves: the enclave takes any number of steps in each, and hands over the same at each exit.
-pub record StepsAreMoves (e : ℕ) (one other : MonitoredMachine) (harts others : List ℕ) : Type 0 where
+pub record StepsAreMoves (enclave : ℕ) (one other : MonitoredMachine) (harts others : List ℕ) : Type 0 where
   pub moves : List Move
   pub steps : are_steps moves ≡ true
   pub first : first_steps moves ≡ harts
   pub second : second_steps moves ≡ others
-  pub are : AreMoves e moves one other
+  pub are : AreMoves enclave moves one other
 
 -- the steps of a command in two benches; a command without steps has no condition
 abbrev pub HandsOverAlike : ℕ → BenchState → BenchState → Command → Type 0
-HandsOverAlike e first second command =
+HandsOverAlike enclave first second command =
     IfSome (machine_in first.target) (λ one. IfSome (machine_in second.target) (λ other.
-    StepsAreMoves e one other (harts_stepped (effect first command)) (harts_stepped (effect second command))))
+    StepsAreMoves enclave one other (harts_stepped (effect first command)) (harts_stepped (effect second command))))
 
 -- `stop_of` is what ends the steps of a command
 abbrev pub stop_of : BenchState → Command → Stop
@@ -81,109 +81,112 @@ stop_of bench _ = Done
 
 -- ---- a command of each bench
 
--- the command sets a register of a hart on which the enclave of slot e runs
+-- the command sets a register of a hart on which `enclave` runs
 abbrev pub SetsOwnRegister : ℕ → BenchState → Command → Type 0
-SetsOwnRegister e bench (SetReg number value) = is_selected e bench.target ≡ true
-SetsOwnRegister e bench _ = ⊥
+SetsOwnRegister enclave bench (SetReg number value) = is_selected enclave bench.target ≡ true
+SetsOwnRegister enclave bench _ = ⊥
 
 -- both benches execute one command, whose steps hand over the same, and end for the same reason
-pub record IsSameCommand (e : ℕ) (first second : BenchState) (here there : Command) : Type 0 where
+pub record IsSameCommand (enclave : ℕ) (first second : BenchState) (here there : Command) : Type 0 where
   pub same : here ≡ there
-  pub steps : HandsOverAlike e first second here
+  pub steps : HandsOverAlike enclave first second here
   pub stop : stop_of first here ≡ stop_of second here
 
 -- the bytes of the window are equal, if the enclave runs
 abbrev pub WindowsAreEqual : ℕ → BenchState → BenchState → Type 0
-WindowsAreEqual e first second =
+WindowsAreEqual enclave first second =
     IfSome (machine_in first.target) (λ one. IfSome (machine_in second.target) (λ other.
-    runs one.shared.table e ≡ true → SameWindow e one other))
+    runs one.shared.table enclave ≡ true → SameWindow enclave one other))
 
 -- both benches execute one command, which in the first bench steps no hart on which the enclave runs, and does not enter the enclave
-pub record IsSameLowCommand (e : ℕ) (first second : BenchState) (here there : Command) : Type 0 where
+pub record IsSameLowCommand (enclave : ℕ) (first second : BenchState) (here there : Command) : Type 0 where
   pub same : here ≡ there
-  pub window : WindowsAreEqual e first second
-  pub none : RunsOnNoneIn e (harts_named first.target here) first.target
-  pub past : is_entered e (execute first here).entered ≡ false
+  pub window : WindowsAreEqual enclave first second
+  pub none : RunsOnNoneIn enclave (harts_named first.target here) first.target
+  pub past : is_entered enclave (execute first here).entered ≡ false
 
 -- Both benches execute the same command, which hands over the same or is low. Or both poke a secret into the region of the enclave, or both set a
 -- register of the hart on which it runs to a secret.
 abbrev pub CommandsAlike : ℕ → BenchState → BenchState → Command → Command → Type 0
-CommandsAlike e first second here there =
-    (IsSameCommand e first second here there ⊎ IsSameLowCommand e first second here there)
-    ⊎ ((PokesInto e first here × PokesInto e second there) ⊎ (SetsOwnRegister e first here × SetsOwnRegister e second there))
+CommandsAlike enclave first second here there =
+    (IsSameCommand enclave first second here there ⊎ IsSameLowCommand enclave first second here there)
+    ⊎ ((PokesInto enclave first here × PokesInto enclave second there) ⊎ (SetsOwnRegister enclave first here × SetsOwnRegister enclave second there))
 
 -- the observations are equal, and the benches are related again
-pub record ObservedAlike (e : ℕ) (first second : BenchState) (here there : Command) : Type 0 where
-  pub observed : observed e first here ≡ observed e second there
-  pub state : BenchesAreRelated e (execute first here).state (execute second there).state
+pub record ObservedAlike (enclave : ℕ) (first second : BenchState) (here there : Command) : Type 0 where
+  pub observed : observed enclave first here ≡ observed enclave second there
+  pub state : BenchesAreRelated enclave (execute first here).state (execute second there).state
 
 -- two commands that are alike have equal observations on related benches, and leave them related
 abbrev pub CommandDeclassificationLaw : Type 0
 CommandDeclassificationLaw =
-    (e : ℕ) (first second : BenchState) (here there : Command) → TargetInvariant first.target → TargetInvariant second.target
-    → BenchesAreRelated e first second → CommandsAlike e first second here there → ObservedAlike e first second here there
+    (enclave : ℕ) (first second : BenchState) (here there : Command) → TargetInvariant first.target → TargetInvariant second.target
+    → BenchesAreRelated enclave first second → CommandsAlike enclave first second here there → ObservedAlike enclave first second here there
 
 -- ---- a command that executes no step of the enclave
 
 -- both benches execute equal steps of the command, and the windows are equal afterwards
-pub record IsLowCommand (e : ℕ) (first second : BenchState) (command : Command) : Type 0 where
-  pub same : IsSameCommand e first second command command
-  pub window : WindowsAreEqual e (execute first command).state (execute second command).state
+pub record IsLowCommand (enclave : ℕ) (first second : BenchState) (command : Command) : Type 0 where
+  pub same : IsSameCommand enclave first second command command
+  pub window : WindowsAreEqual enclave (execute first command).state (execute second command).state
 
 -- A command steps no hart on which the enclave runs, and does not enter it in the first bench. The condition on its steps then holds.
 abbrev pub LowCommandLaw : Type 0
 LowCommandLaw =
-    (e : ℕ) (first second : BenchState) (command : Command) → TargetInvariant first.target → TargetInvariant second.target
-    → BenchesAreRelated e first second → WindowsAreEqual e first second → RunsOnNoneIn e (harts_named first.target command) first.target
-    → is_entered e (execute first command).entered ≡ false → IsLowCommand e first second command
+    (enclave : ℕ) (first second : BenchState) (command : Command) → TargetInvariant first.target → TargetInvariant second.target
+    → BenchesAreRelated enclave first second → WindowsAreEqual enclave first second
+    → RunsOnNoneIn enclave (harts_named first.target command) first.target
+    → is_entered enclave (execute first command).entered ≡ false → IsLowCommand enclave first second command
 
 -- ---- lists of commands
 
 -- two lists of commands, one for each bench, are alike command by command
 abbrev pub AllCommandsAlike : ℕ → BenchState → BenchState → List Command → List Command → Type 0
-AllCommandsAlike e first second [] [] = Unit {0}
-AllCommandsAlike e first second (here ∷ commands) (there ∷ others) =
-    CommandsAlike e first second here there × AllCommandsAlike e (execute first here).state (execute second there).state commands others
-AllCommandsAlike e first second _ _ = ⊥
+AllCommandsAlike enclave first second [] [] = Unit {0}
+AllCommandsAlike enclave first second (here ∷ commands) (there ∷ others) =
+    CommandsAlike enclave first second here there × AllCommandsAlike enclave (execute first here).state (execute second there).state commands others
+AllCommandsAlike enclave first second _ _ = ⊥
 
 -- `all_observed` has the observations of commands, one after another
 abbrev pub all_observed : ℕ → BenchState → List Command → List (List ℕ)
-all_observed e bench [] = []
-all_observed e bench (command ∷ commands) = observed e bench command ∷ all_observed e (execute bench command).state commands
+all_observed enclave bench [] = []
+all_observed enclave bench (command ∷ commands) = observed enclave bench command ∷ all_observed enclave (execute bench command).state commands
 
 -- all observations of two lists of commands are equal, and the benches are related after them
-pub record AllObservedAlike (e : ℕ) (first second : BenchState) (commands others : List Command) : Type 0 where
-  pub observed : all_observed e first commands ≡ all_observed e second others
-  pub state : BenchesAreRelated e (after_commands first commands) (after_commands second others)
+pub record AllObservedAlike (enclave : ℕ) (first second : BenchState) (commands others : List Command) : Type 0 where
+  pub observed : all_observed enclave first commands ≡ all_observed enclave second others
+  pub state : BenchesAreRelated enclave (after_commands first commands) (after_commands second others)
 
 -- two lists of commands that are alike have equal observations on related benches, and leave them related
 abbrev pub ListDeclassificationLaw : Type 0
 ListDeclassificationLaw =
-    (e : ℕ) (first second : BenchState) (commands others : List Command) → TargetInvariant first.target → TargetInvariant second.target
-    → BenchesAreRelated e first second → AllCommandsAlike e first second commands others → AllObservedAlike e first second commands others
+    (enclave : ℕ) (first second : BenchState) (commands others : List Command) → TargetInvariant first.target → TargetInvariant second.target
+    → BenchesAreRelated enclave first second → AllCommandsAlike enclave first second commands others
+    → AllObservedAlike enclave first second commands others
 
 -- ---- the observation of a command that has nothing to do with the enclave
 
--- the enclave of slot e does not run
+-- `enclave` does not run
 abbrev pub DoesNotRun : ℕ → Target → Type 0
-DoesNotRun e target = IfSome (machine_in target) (λ machine. runs machine.shared.table e ≡ false)
+DoesNotRun enclave target = IfSome (machine_in target) (λ machine. runs machine.shared.table enclave ≡ false)
 
 -- what others observe of the command is its whole reply; for `csr` it is the reply in the guest view
 abbrev pub IsObserved : ℕ → BenchState → Command → Type 0
-IsObserved e bench (Csr number) = observed e bench (Csr number) ≡ csr_reply (guest_target bench.target) number
-IsObserved e bench command = observed e bench command ≡ (execute bench command).reply
+IsObserved enclave bench (Csr number) = observed enclave bench (Csr number) ≡ csr_reply (guest_target bench.target) number
+IsObserved enclave bench command = observed enclave bench command ≡ (execute bench command).reply
 
 -- The whole reply is observed if the enclave does not run, and the command neither enters it nor accesses a byte of its region.
 abbrev pub ObservationLaw : Type 0
 ObservationLaw =
-    (e : ℕ) (bench : BenchState) (command : Command) → TargetInvariant bench.target → DoesNotRun e bench.target → AvoidsEnclave e bench command
-    → IsObserved e bench command
+    (enclave : ℕ) (bench : BenchState) (command : Command) → TargetInvariant bench.target → DoesNotRun enclave bench.target
+    → AvoidsEnclave enclave bench command
+    → IsObserved enclave bench command
 
 -- ---- after the enclave has ended
 
--- the enclave of slot e is not live
+-- `enclave` is not live
 abbrev pub EnclaveHasEnded : ℕ → Target → Type 0
-EnclaveHasEnded e target = IfSome (machine_in target) (λ machine. is_live machine.shared.table e ≡ false)
+EnclaveHasEnded enclave target = IfSome (machine_in target) (λ machine. is_live machine.shared.table enclave ≡ false)
 
 -- the benches are related for every slot, so that no secret is left
 abbrev pub AreRelatedForAll : BenchState → BenchState → Type 0
@@ -192,7 +195,8 @@ AreRelatedForAll first second = (k : ℕ) → BenchesAreRelated k first second
 -- After an enclave has ended, related benches are related for every slot. The same command then satisfies the condition on its steps for every slot,
 -- even if it runs another enclave, and the benches are related for every slot again.
 pub record EndedLaw : Type 0 where
-  pub ended : (e : ℕ) (first second : BenchState) → TargetInvariant first.target → BenchesAreRelated e first second → EnclaveHasEnded e first.target
+  pub ended : (enclave : ℕ) (first second : BenchState) → TargetInvariant first.target → BenchesAreRelated enclave first second
+      → EnclaveHasEnded enclave first.target
       → AreRelatedForAll first second
   pub same : (k : ℕ) (first second : BenchState) (command : Command) → TargetInvariant first.target → TargetInvariant second.target
       → AreRelatedForAll first second → IsSameCommand k first second command command
@@ -203,6 +207,6 @@ pub record EndedLaw : Type 0 where
 
 -- A bench is related to itself. Benches that are equivalent except for an enclave are related, if it runs on no hart.
 pub record BenchRelationLaw : Type 0 where
-  pub itself : (e : ℕ) (bench : BenchState) → BenchesAreRelated e bench bench
-  pub begins : (e : ℕ) (first second : BenchState)
-      → BenchesEquivExcept e first second → RunsOnNoHart e first.target → BenchesAreRelated e first second
+  pub itself : (enclave : ℕ) (bench : BenchState) → BenchesAreRelated enclave bench bench
+  pub begins : (enclave : ℕ) (first second : BenchState)
+      → BenchesEquivExcept enclave first second → RunsOnNoHart enclave first.target → BenchesAreRelated enclave first second

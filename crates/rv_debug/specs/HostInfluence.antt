@@ -17,9 +17,9 @@ use Rattle.rv_debug.specs.Targets.{TargetInvariant, machine_in}
 -- An event of the others, a write of a register of a hart that does not run the enclave, or a write of a byte outside its region. The byte may be in
 -- its window.
 abbrev pub IsForeignAction : ℕ → Action → MonitoredMachine → Type 0
-IsForeignAction k (Occurs event) machine = IsForeign k event machine
-IsForeignAction k (SetsRegister hart number value) machine = runs_on k hart machine ≡ false
-IsForeignAction k (SetsByte address byte) machine = has (region machine.shared.table k) address ≡ false
+IsForeignAction slot (Occurs event) machine = IsForeign slot event machine
+IsForeignAction slot (SetsRegister hart number value) machine = runs_on slot hart machine ≡ false
+IsForeignAction slot (SetsByte address byte) machine = has (region machine.shared.table slot) address ≡ false
 
 -- ---- two lives
 

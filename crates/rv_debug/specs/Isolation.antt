@@ -33,38 +33,40 @@ ReportsAccess _ _ = Unit {0}
 
 -- ---- integrity
 
--- The enclave of slot k is undisturbed by an effect on a machine: it is live, the steps leave it undisturbed, and no byte of its region is
+-- the enclave in `slot` is undisturbed by an effect on a machine: it is live, the steps leave it undisturbed, and no byte of its region is
 -- poked. It may run on a hart that does not step.
 abbrev pub UndisturbedByEffect : ℕ → MonitoredMachine → Effect → Type 0
-UndisturbedByEffect k machine (Steps harts selected) = IsUndisturbed k harts machine
-UndisturbedByEffect k machine (OneByte address byte) =
-    (is_live machine.shared.table k ≡ true) × (has (region machine.shared.table k) address ≡ false)
-UndisturbedByEffect k machine _ = is_live machine.shared.table k ≡ true
+UndisturbedByEffect slot machine (Steps harts selected) = IsUndisturbed slot harts machine
+UndisturbedByEffect slot machine (OneByte address byte) =
+    (is_live machine.shared.table slot ≡ true) × (has (region machine.shared.table slot) address ≡ false)
+UndisturbedByEffect slot machine _ = is_live machine.shared.table slot ≡ true
 
--- the enclave of slot k is undisturbed by the effect of a command on a monitored bench
+-- the enclave in `slot` is undisturbed by the effect of a command on a monitored bench
 abbrev pub UndisturbedBy : ℕ → BenchState → Command → Type 0
-UndisturbedBy k bench command = IsSomeAnd (machine_in bench.target) (λ machine. UndisturbedByEffect k machine (effect bench command))
+UndisturbedBy slot bench command = IsSomeAnd (machine_in bench.target) (λ machine. UndisturbedByEffect slot machine (effect bench command))
 
--- both targets are monitored, and the record, the bytes of the region and the saved context of slot k are as before
+-- both targets are monitored, and the record, the bytes of the region and the saved context of `slot` are as before
 abbrev pub IsPreservedIn : ℕ → Target → Target → Type 0
-IsPreservedIn k before after = IsSomeAnd (machine_in before) (λ one. IsSomeAnd (machine_in after) (λ other. IsPreserved k one.shared other.shared))
+IsPreservedIn slot before after = IsSomeAnd (machine_in before)
+    (λ one. IsSomeAnd (machine_in after) (λ other. IsPreserved slot one.shared other.shared))
 
--- the effect pokes no byte of the region of slot k
+-- the effect pokes no byte of the region of `slot`
 abbrev pub PokesNone : ℕ → MonitoredMachine → Effect → Type 0
-PokesNone k machine (OneByte address byte) = has (region machine.shared.table k) address ≡ false
-PokesNone k machine _ = Unit {0}
+PokesNone slot machine (OneByte address byte) = has (region machine.shared.table slot) address ≡ false
+PokesNone slot machine _ = Unit {0}
 
 -- an enclave that runs on a hart is undisturbed by every command that does not step that hart and pokes no byte of its region
 abbrev pub RunningLaw : Type 0
 RunningLaw =
-    (k own : ℕ) (bench : BenchState) (command : Command) → TargetInvariant bench.target
+    (slot own : ℕ) (bench : BenchState) (command : Command) → TargetInvariant bench.target
     → IfSome (machine_in bench.target) (λ machine.
     let does = effect bench command in
-    runs_on k own machine ≡ true → RunsOnNone k (harts_stepped does) machine → PokesNone k machine does → UndisturbedByEffect k machine does)
+    runs_on slot own machine ≡ true → RunsOnNone slot (harts_stepped does) machine → PokesNone slot machine does
+    → UndisturbedByEffect slot machine does)
 
 -- a command preserves each enclave that it leaves undisturbed
 abbrev pub PreservesUndisturbed : BenchState → Command → BenchState → Type 0
-PreservesUndisturbed before command after = (k : ℕ) → UndisturbedBy k before command → IsPreservedIn k before.target after.target
+PreservesUndisturbed before command after = (slot : ℕ) → UndisturbedBy slot before command → IsPreservedIn slot before.target after.target
 
 -- an effect may change a byte that one of its steps changes, or that it pokes
 abbrev pub MayChange : MonitoredMachine → Effect → ℕ → Type 0
@@ -102,9 +104,9 @@ PreservesHarts before command after =
 
 -- the enclave is undisturbed by commands, one after another
 abbrev pub UndisturbedByAll : ℕ → BenchState → List Command → Type 0
-UndisturbedByAll k bench [] = IsSomeAnd (machine_in bench.target) (λ machine. is_live machine.shared.table k ≡ true)
-UndisturbedByAll k bench (command ∷ commands) =
-    UndisturbedBy k bench command × UndisturbedByAll k (execute bench command).state commands
+UndisturbedByAll slot bench [] = IsSomeAnd (machine_in bench.target) (λ machine. is_live machine.shared.table slot ≡ true)
+UndisturbedByAll slot bench (command ∷ commands) =
+    UndisturbedBy slot bench command × UndisturbedByAll slot (execute bench command).state commands
 
 -- `after_commands` is the bench after the commands
 abbrev pub after_commands : BenchState → List Command → BenchState
@@ -114,5 +116,5 @@ after_commands bench (command ∷ commands) = after_commands (execute bench comm
 -- every list of commands preserves each enclave that it leaves undisturbed
 abbrev pub IntegrityLaw : Type 0
 IntegrityLaw =
-    (k : ℕ) (bench : BenchState) (commands : List Command) → TargetInvariant bench.target → UndisturbedByAll k bench commands
-    → IsPreservedIn k bench.target (after_commands bench commands).target
+    (slot : ℕ) (bench : BenchState) (commands : List Command) → TargetInvariant bench.target → UndisturbedByAll slot bench commands
+    → IsPreservedIn slot bench.target (after_commands bench commands).target

@@ -16,10 +16,10 @@ use Rattle.rv_debug.specs.ScheduledSteps.{AfterSchedule, nothing_ran, schedule_s
 use Rattle.rv_debug.specs.Steps.{AfterRun}
 use Rattle.rv_debug.specs.Targets.{hart_of, harts_of, machine_in, pc_of, selected_at, selected_of, with_selected, world_text}
 
--- `is_selected` states whether the enclave of slot e runs on the selected hart
+-- `is_selected` states whether `enclave` runs on the selected hart
 abbrev pub is_selected : ℕ → Target → Bool
-is_selected e (Bare machine) = false
-is_selected e (Monitored selected) = runs_on e selected.hart selected.state
+is_selected enclave (Bare machine) = false
+is_selected enclave (Monitored selected) = runs_on enclave selected.hart selected.state
 
 -- `unless` is a text, or nothing if it is hidden
 abbrev pub unless : Bool → List ℕ → List ℕ
@@ -33,43 +33,43 @@ one_more_observed is_own trap ran = record { steps = if is_own then 0 else ran.s
 
 -- `with_observed_step` has the observed steps of hart `own` after a step of any hart
 abbrev pub with_observed_step : ℕ → ℕ → ℕ → MonitoredMachine → HartRan → HartRan
-with_observed_step e own hart machine ran =
-    if own == hart then one_more_observed (runs_on e hart machine) (step_of hart machine).outcome.step.trap ran else ran
+with_observed_step enclave own hart machine ran =
+    if own == hart then one_more_observed (runs_on enclave hart machine) (step_of hart machine).outcome.step.trap ran else ran
 
 -- `observed_steps` has the steps of hart `own` among one step of each of these harts, in order: their number after the last step of the enclave, and
 -- the last trap
 abbrev pub observed_steps : ℕ → ℕ → List ℕ → MonitoredMachine → HartRan → HartRan
-observed_steps e own [] machine ran = ran
-observed_steps e own (hart ∷ harts) machine ran =
-    observed_steps e own harts (step_of hart machine).state (with_observed_step e own hart machine ran)
+observed_steps enclave own [] machine ran = ran
+observed_steps enclave own (hart ∷ harts) machine ran =
+    observed_steps enclave own harts (step_of hart machine).state (with_observed_step enclave own hart machine ran)
 
 -- `observed_count` is the number of steps of the selected hart after the last step of the enclave, among `count` steps
 abbrev pub observed_count : ℕ → Target → ℕ → ℕ
-observed_count e target count =
+observed_count enclave target count =
     let hart = selected_of target in
-    option_case (machine_in target) count (λ machine. (observed_steps e hart (replicate count hart) machine nothing_ran).steps)
+    option_case (machine_in target) count (λ machine. (observed_steps enclave hart (replicate count hart) machine nothing_ran).steps)
 
 -- `observed_run` is the summary of a run, with this number of steps, or nothing if the enclave runs on the hart after it
 abbrev pub observed_run : ℕ → Target → AfterRun Target → List ℕ
-observed_run e before after =
-    unless (is_selected e after.state)
+observed_run enclave before after =
+    unless (is_selected enclave after.state)
     (ran_text (pc_of after.state) (hart_of after.state).mode (world_text after.state)
-    (record { steps = observed_count e before after.ran.steps; trap = after.ran.trap; stop = after.ran.stop; entered = 0 }))
+    (record { steps = observed_count enclave before after.ran.steps; trap = after.ran.trap; stop = after.ran.stop; entered = 0 }))
 
 -- `observed_hart` is the summary of a hart after a schedule, or nothing if the enclave runs on the hart
 abbrev pub observed_hart : ℕ → Target → ℕ → HartRan → List ℕ
-observed_hart e target hart ran = unless (is_selected e (with_selected hart target)) (hart_summary_text target hart ran)
+observed_hart enclave target hart ran = unless (is_selected enclave (with_selected hart target)) (hart_summary_text target hart ran)
 
--- what is observed of a schedule: the summaries of the harts, without what an enclave e on them decides
+-- what is observed of a schedule: the summaries of the harts, without what `enclave` on them decides
 abbrev pub observed_harts : ℕ → AfterSchedule → List ℕ
-observed_harts e after =
-    observed_hart e after.state 0 after.did.first
-    ++ (if nat_lt 1 (harts_of after.state) then observed_hart e after.state 1 after.did.second else [])
+observed_harts enclave after =
+    observed_hart enclave after.state 0 after.did.first
+    ++ (if nat_lt 1 (harts_of after.state) then observed_hart enclave after.state 1 after.did.second else [])
 
 -- what is observed of sched, or the error if a hart of the schedule does not exist
 abbrev pub observed_sched : ℕ → Target → List ℕ → List ℕ
-observed_sched e target harts =
-    if has_all (harts_of target) harts then observed_harts e (scheduled_steps harts (schedule_start target)) else no_hart_text
+observed_sched enclave target harts =
+    if has_all (harts_of target) harts then observed_harts enclave (scheduled_steps harts (schedule_start target)) else no_hart_text
 
 -- ---- what a command shows
 
@@ -80,21 +80,21 @@ guest_target (Monitored selected) = selected_at selected.hart (guest_view select
 
 -- the command names a byte of the region, or of the window while the enclave runs
 abbrev pub names_private : ℕ → Target → Command → Bool
-names_private e target command =
+names_private enclave target command =
     option_case (machine_in target) false (λ machine.
-    meets (bytes_named command) (region machine.shared.table e)
-    || (runs machine.shared.table e && meets (bytes_named command) (window machine.shared.table e)))
+    meets (bytes_named command) (region machine.shared.table enclave)
+    || (runs machine.shared.table enclave && meets (bytes_named command) (window machine.shared.table enclave)))
 
 -- ---- every command
 
--- what is observed of the reply to each command: the reply without what the private state of enclave e decides
+-- what is observed of the reply to each command: the reply without what the private state of `enclave` decides
 abbrev pub observed : ℕ → BenchState → Command → List ℕ
-observed e bench (Step count) = observed_run e bench.target (steps_of bench.target [] [] count)
-observed e bench (Run count) = observed_run e bench.target (steps_of bench.target bench.breaks bench.watches count)
-observed e bench (Sched schedule) = observed_sched e bench.target (harts_in schedule)
-observed e bench (Reg number) = unless (is_selected e bench.target) (reply_to bench (Reg number))
-observed e bench Regs = unless (is_selected e bench.target) (reply_to bench Regs)
-observed e bench (Csr number) = unless (is_selected e bench.target) (csr_reply (guest_target bench.target) number)
-observed e bench (Mem address count) = unless (names_private e bench.target (Mem address count)) (reply_to bench (Mem address count))
-observed e bench (Dis address) = unless (names_private e bench.target (Dis address)) (reply_to bench (Dis address))
-observed e bench command = reply_to bench command
+observed enclave bench (Step count) = observed_run enclave bench.target (steps_of bench.target [] [] count)
+observed enclave bench (Run count) = observed_run enclave bench.target (steps_of bench.target bench.breaks bench.watches count)
+observed enclave bench (Sched schedule) = observed_sched enclave bench.target (harts_in schedule)
+observed enclave bench (Reg number) = unless (is_selected enclave bench.target) (reply_to bench (Reg number))
+observed enclave bench Regs = unless (is_selected enclave bench.target) (reply_to bench Regs)
+observed enclave bench (Csr number) = unless (is_selected enclave bench.target) (csr_reply (guest_target bench.target) number)
+observed enclave bench (Mem address count) = unless (names_private enclave bench.target (Mem address count)) (reply_to bench (Mem address count))
+observed enclave bench (Dis address) = unless (names_private enclave bench.target (Dis address)) (reply_to bench (Dis address))
+observed enclave bench command = reply_to bench command

@@ -16,11 +16,11 @@ is_within block byte = nat_le block.base byte && nat_lt byte (block.base + block
 abbrev pub host_stores : Slots → ℕ → Bool
 host_stores slots byte =
     nat_le 0x80010000 byte
-    && not (list_any (λ k. option_case (record_at slots k) false (λ info. is_within info.region byte)) (range_with_len 0 13))
+    && not (list_any (λ slot. option_case (record_at slots slot) false (λ info. is_within info.region byte)) (range_with_len 0 13))
 
--- the enclave of slot k may store a byte of its region or its window
+-- the enclave in `slot` may store a byte of its region or its window
 abbrev pub enclave_stores : Slots → ℕ → ℕ → Bool
-enclave_stores slots k byte = option_case (record_at slots k) false (λ info. is_within info.region byte || is_within info.window byte)
+enclave_stores slots slot byte = option_case (record_at slots slot) false (λ info. is_within info.region byte || is_within info.window byte)
 
 -- the PMP of a hart permits S to store a byte of the memory
 abbrev pub permits_store : ℕ → MonitoredMachine → ℕ → Bool
@@ -31,6 +31,6 @@ pub record StorePermissionLaw : Type 0 where
   pub host : (hart byte : ℕ) (machine : MonitoredMachine) → Invariant machine → hart < count_of machine → 0x80000000 ≤ byte
       → byte + 1 ≤ 0x80000000 + length machine.shared.memory → (hart_state_of hart machine).world ≡ Host
       → permits_store hart machine byte ≡ host_stores machine.shared.table byte
-  pub enclave : (hart byte k : ℕ) (machine : MonitoredMachine) → Invariant machine → hart < count_of machine → 0x80000000 ≤ byte
-      → byte + 1 ≤ 0x80000000 + length machine.shared.memory → (hart_state_of hart machine).world ≡ Enclave k
-      → permits_store hart machine byte ≡ enclave_stores machine.shared.table k byte
+  pub enclave : (hart byte slot : ℕ) (machine : MonitoredMachine) → Invariant machine → hart < count_of machine → 0x80000000 ≤ byte
+      → byte + 1 ≤ 0x80000000 + length machine.shared.memory → (hart_state_of hart machine).world ≡ Enclave slot
+      → permits_store hart machine byte ≡ enclave_stores machine.shared.table slot byte

@@ -45,9 +45,9 @@ world_text (Monitored selected) = world_name (selected_hart_state selected).worl
 abbrev pub enclaves_text : Target → List ℕ
 enclaves_text target = option_case (machine_in target) [] (λ machine. table_text machine.shared.table)
 
--- `is_live_in` states whether the enclave of slot e is live
+-- `is_live_in` states whether `enclave` is live
 abbrev pub is_live_in : ℕ → Target → Bool
-is_live_in e target = option_case (machine_in target) false (λ machine. is_live machine.shared.table e)
+is_live_in enclave target = option_case (machine_in target) false (λ machine. is_live machine.shared.table enclave)
 
 -- `pc_of` is the address of the next instruction
 abbrev pub pc_of : Target → ℕ

@@ -32,18 +32,18 @@ has_nothing b = empty_has 0 0 b refl
 
 -- no byte is in two regions, in a region and a window, or in the monitor's range and a region or window
 pub record IsApart (slots : Slots) : Type 0 where
-  pub regions_apart : (j k b : ℕ) → j ≢ k → has (region slots j) b ≡ true → has (region slots k) b ≡ false
-  pub windows_apart : (j k b : ℕ) → has (region slots j) b ≡ true → has (window slots k) b ≡ false
-  pub regions_free : (k b : ℕ) → has (region slots k) b ≡ true → has monitor_block b ≡ false
-  pub windows_free : (k b : ℕ) → has (window slots k) b ≡ true → has monitor_block b ≡ false
+  pub regions_apart : (j slot b : ℕ) → j ≢ slot → has (region slots j) b ≡ true → has (region slots slot) b ≡ false
+  pub windows_apart : (j slot b : ℕ) → has (region slots j) b ≡ true → has (window slots slot) b ≡ false
+  pub regions_free : (slot b : ℕ) → has (region slots slot) b ≡ true → has monitor_block b ≡ false
+  pub windows_free : (slot b : ℕ) → has (window slots slot) b ≡ true → has monitor_block b ≡ false
 
 -- the regions of a valid table share no byte with each other, with a window or with the monitor's range
 pub apart : (memory : List ℕ) (slots : Slots) → IsValid memory slots → IsApart slots
 apart memory slots table_valid = record {
-  regions_apart = λ j k b distinct. apart_at (region slots j) (region slots k) b (table_valid.regions_apart j k distinct);
-  windows_apart = λ j k b. apart_at (region slots j) (window slots k) b (table_valid.windows_apart j k);
-  regions_free = λ k b. apart_from monitor_block (region slots k) b (table_valid.regions_free k);
-  windows_free = λ k b. apart_from monitor_block (window slots k) b (table_valid.windows_free k);
+  regions_apart = λ j slot b distinct. apart_at (region slots j) (region slots slot) b (table_valid.regions_apart j slot distinct);
+  windows_apart = λ j slot b. apart_at (region slots j) (window slots slot) b (table_valid.windows_apart j slot);
+  regions_free = λ slot b. apart_from monitor_block (region slots slot) b (table_valid.regions_free slot);
+  windows_free = λ slot b. apart_from monitor_block (window slots slot) b (table_valid.windows_free slot);
 }
 
 -- ---- the bytes that an entry for a block covers
@@ -62,7 +62,7 @@ valid_block memory block is_valid =
     let parts = and_parts (is_block_size block.size) _ is_valid in
     let rest = and_parts (block.base % block.size == 0) _ parts.1 in
     let inside = and_parts (nat_le ram_base block.base) _ rest.1 in
-    let power = some_from_any (λ k. block.size == 2 ^ k) 12 20 parts.0 in
+    let power = some_from_any (λ slot. block.size == 2 ^ slot) 12 20 parts.0 in
     record {
       power = (power.0, power.1, omega (arith, power.2), eqb-true _ _ power.3);
       aligned = eqb-true _ _ rest.0;
@@ -83,13 +83,13 @@ block_covers memory block before b ram_size is_valid =
     napot_matches block.base block.size (m - 3) before b (omega arith) power is_block_of-passes.aligned (omega (arith, is_block_of-passes.high))
 
 -- the PMP entry of a slot matches exactly the bytes of the slot's region
-region_covers : (memory : List ℕ) (w : World) (k : ℕ) (o : Option SlotInfo) (before b : ℕ) → length memory ≤ 0x1000000
+region_covers : (memory : List ℕ) (w : World) (slot : ℕ) (o : Option SlotInfo) (before b : ℕ) → length memory ≤ 0x1000000
     → IfSome o (IsValidSlot memory)
-    → matches (matching_of (region_entry w k o).cfg) before (region_entry w k o).addr b ≡ has (region_of o) b
-region_covers memory w k None before b ram_size slot_valid = sym (has_nothing b)
-region_covers memory w k (Some info) before b ram_size slot_valid =
+    → matches (matching_of (region_entry w slot o).cfg) before (region_entry w slot o).addr b ≡ has (region_of o) b
+region_covers memory w slot None before b ram_size slot_valid = sym (has_nothing b)
+region_covers memory w slot (Some info) before b ram_size slot_valid =
     let covered = block_covers memory info.region before b ram_size slot_valid.region in
-    elim (cases_Bool (is_world_of k w)) [
+    elim (cases_Bool (is_world_of slot w)) [
       | inl runs_enclave ↦ rw runs_enclave covered
       | inr runs_other ↦ rw runs_other covered
     ]
@@ -132,13 +132,13 @@ unfolding covers
 covers-layout t w i b in_range =
     ap₂ (λ cfg addr. matches (matching_of cfg) (addr_before (layout t w) i) addr b) (cfg_of-layout t w i in_range) (addr_of-layout t w i in_range)
 
--- entry k + 1 of the layout is the entry for the region of slot k
-pub entry_at-slot : (t : Slots) (w : World) (k : ℕ) → k < slot_count → entry_at t w (k + 1) ≡ region_entry w k (slot_at t k)
+-- entry `slot` + 1 of the layout is the entry for the region of `slot`
+pub entry_at-slot : (t : Slots) (w : World) (slot : ℕ) → slot < slot_count → entry_at t w (slot + 1) ≡ region_entry w slot (slot_at t slot)
 unfolding entry_at
-entry_at-slot t w k in_range =
-    let same : k + 1 - 1 ≡ k = omega arith in
-    cond-false _ _ _ (ne_eqb (k + 1) 0 (λ e. omega arith))
-    ∙ cond-true _ _ _ (lt-ltb (k + 1) 14 (omega arith))
+entry_at-slot t w slot in_range =
+    let same : slot + 1 - 1 ≡ slot = omega arith in
+    cond-false _ _ _ (ne_eqb (slot + 1) 0 (λ e. omega arith))
+    ∙ cond-true _ _ _ (lt-ltb (slot + 1) 14 (omega arith))
     ∙ ap (λ j. region_entry w j (slot_at t j)) same
 
 -- entry 0 of the layout is the entry for the monitor's range, without permissions
@@ -159,13 +159,14 @@ entry_at-host t w = refl
 -- the window of the world
 abbrev pub world_window : Slots → World → Block
 world_window t Host = no_block
-world_window t (Enclave k) = window t k
+world_window t (Enclave slot) = window t slot
 
 -- the PMP entry for the window of a world matches exactly the bytes of this window
 window_owned : (memory : List ℕ) (t : Slots) (w : World) (before b : ℕ) → length memory ≤ 0x1000000 → IsValid memory t
     → matches (matching_of (window_entry t w).cfg) before (window_entry t w).addr b ≡ has (world_window t w) b
 window_owned memory t Host before b ram_size table_valid = sym (has_nothing b)
-window_owned memory t (Enclave k) before b ram_size table_valid = window_covers memory (slot_at t k) before b ram_size (table_valid.well_formed k)
+window_owned memory t (Enclave slot) before b ram_size table_valid =
+    window_covers memory (slot_at t slot) before b ram_size (table_valid.well_formed slot)
 
 -- a NAPOT entry whose pmpaddr value has only ones matches 2 ^ 35 bytes
 all_ones_size : napot_size 0xffffffff ≡ 2 ^ 35
@@ -174,7 +175,7 @@ all_ones_size = refl
 
 -- PMP entry 15 matches each byte below 2 ^ 35 while the host runs, and no byte while an enclave runs
 host_owned : (w : World) (before b : ℕ) → b < 2 ^ 35 → matches (matching_of (host_entry w).cfg) before (host_entry w).addr b ≡ is_host w
-host_owned (Enclave k) before b below = refl
+host_owned (Enclave slot) before b below = refl
 host_owned Host before b below =
     rw all_ones_size (eq-eqb _ _ (div-eq_of_lt below))
 
@@ -193,11 +194,11 @@ module _ (memory : List ℕ) (t : Slots) (w : World) (ram_size : length memory �
   covers_monitor =
       at_entry 0 _ _ (lit< tt) (entry_at-monitor t w) (λ before. napot_matches ram_base 0x10000 13 before b (lit< tt) refl refl (lit≤ tt))
 
-  -- entry k + 1 of the layout covers exactly the bytes of the region of slot k
-  pub covers_slot : (k : ℕ) → k < slot_count → covers (layout t w) (k + 1) b ≡ has (region t k) b
-  covers_slot k in_range =
-      at_entry (k + 1) _ _ (omega arith) (entry_at-slot t w k in_range)
-      (λ before. region_covers memory w k (slot_at t k) before b ram_size (table_valid.well_formed k))
+  -- entry `slot` + 1 of the layout covers exactly the bytes of the region of `slot`
+  pub covers_slot : (slot : ℕ) → slot < slot_count → covers (layout t w) (slot + 1) b ≡ has (region t slot) b
+  covers_slot slot in_range =
+      at_entry (slot + 1) _ _ (omega arith) (entry_at-slot t w slot in_range)
+      (λ before. region_covers memory w slot (slot_at t slot) before b ram_size (table_valid.well_formed slot))
 
   -- entry 14 of the layout covers exactly the bytes of the world's window
   pub covers_window : covers (layout t w) 14 b ≡ has (world_window t w) b

@@ -62,11 +62,11 @@ goes_on_after (Some context) can_continue = can_continue
 
 -- ---- the slot
 
--- slot k has a live enclave that does not run, and is a slot of the table
-record MayScramble (shared : Shared) (k : ℕ) : Type 0 where
-  pub live : is_live shared.table k ≡ true
-  pub not_running : runs shared.table k ≡ false
-  pub in_range : k < slot_count
+-- `slot` has a live enclave that does not run, and is a slot of the table
+record MayScramble (shared : Shared) (slot : ℕ) : Type 0 where
+  pub live : is_live shared.table slot ≡ true
+  pub not_running : runs shared.table slot ≡ false
+  pub in_range : slot < slot_count
 
 -- a slot with a saved context has a live enclave that does not run
 pub slot_rests : (o : Option SlotInfo) → is_held o ≡ true → (is_some o ≡ true) × (option_case o false (λ info. is_running info.state) ≡ false)
@@ -74,78 +74,78 @@ slot_rests None has_context = cc
 slot_rests (Some info) has_context = (refl, not-true (is_running info.state) has_context)
 
 -- a slot with a saved context is a slot of the table
-in_range : (shared : Shared) (k : ℕ) (o : Option SlotInfo) → slot_at shared.table k ≡ o → length shared.table ≡ slot_count → is_held o ≡ true
-    → k < slot_count
-in_range shared k None slot_is table_length has_context = cc
-in_range shared k (Some info) slot_is table_length has_context = live_in_range shared.table k info table_length slot_is
+in_range : (shared : Shared) (slot : ℕ) (o : Option SlotInfo) → slot_at shared.table slot ≡ o → length shared.table ≡ slot_count → is_held o ≡ true
+    → slot < slot_count
+in_range shared slot None slot_is table_length has_context = cc
+in_range shared slot (Some info) slot_is table_length has_context = live_in_range shared.table slot info table_length slot_is
 
--- slot k of a shared state with the invariant may be scrambled
-module _ (shared : Shared) (worlds : List World) (k : ℕ) (shared_invariant : SharedInvariant shared worlds)
-    (may_scramble : can_scramble shared.table k ≡ true) where
+-- `slot` of a shared state with the invariant may be scrambled
+module _ (shared : Shared) (worlds : List World) (slot : ℕ) (shared_invariant : SharedInvariant shared worlds)
+    (may_scramble : can_scramble shared.table slot ≡ true) where
   -- a slot that may be scrambled has a live enclave that does not run
-  may_be : MayScramble shared k
+  may_be : MayScramble shared slot
   may_be =
-      let parts = slot_rests (slot_at shared.table k) may_scramble in
+      let parts = slot_rests (slot_at shared.table slot) may_scramble in
       record {
         live = parts.0;
         not_running = parts.1;
-        in_range = in_range shared k (slot_at shared.table k) refl shared_invariant.valid.count may_scramble;
+        in_range = in_range shared slot (slot_at shared.table slot) refl shared_invariant.valid.count may_scramble;
       }
 
-  -- the saved context of slot k before the scramble
+  -- the saved context of `slot` before the scramble
   abbrev kept_one : Option Context
-  kept_one = context_at shared.contexts k
+  kept_one = context_at shared.contexts slot
 
-  -- the saved contexts after the scramble: the context of slot k is complemented
+  -- the saved contexts after the scramble: the context of `slot` is complemented
   abbrev new_contexts : Contexts
-  new_contexts = with_context shared.contexts k (option_map complemented_context kept_one)
+  new_contexts = with_context shared.contexts slot (option_map complemented_context kept_one)
 
-  -- the context of slot k after the scramble is the complement of the old context
-  context_of_k : context_at new_contexts k ≡ option_map complemented_context kept_one
+  -- the context of `slot` after the scramble is the complement of the old context
+  context_of_k : context_at new_contexts slot ≡ option_map complemented_context kept_one
   context_of_k =
-      at_written_slot shared.contexts k (option_map complemented_context kept_one)
+      at_written_slot shared.contexts slot (option_map complemented_context kept_one)
       (let range = may_be.in_range in omega (arith, shared_invariant.contexts.count, range))
 
   -- the scrambled shared state satisfies the invariant
-  pub scrambled_sound : SharedInvariant (scrambled_shared shared k) worlds
+  pub scrambled_sound : SharedInvariant (scrambled_shared shared slot) worlds
   unfolding scrambled_shared
   scrambled_sound = record {
-    valid = valid_by_size shared.memory (complemented_block shared.memory (region shared.table k)) shared.table
-        (block_agrees shared.memory (region shared.table k)).size shared_invariant.valid;
+    valid = valid_by_size shared.memory (complemented_block shared.memory (region shared.table slot)) shared.table
+        (block_agrees shared.memory (region shared.table slot)).size shared_invariant.valid;
     contexts = record {
-      count = length-set shared.contexts k (option_map complemented_context kept_one) ∙ shared_invariant.contexts.count;
-      kept = λ j. elim (cases_eq j k) [
-        | inl equal ↦ rw equal (ap (λ (x : Option Context). is_some x) context_of_k ∙ some_after kept_one ∙ shared_invariant.contexts.kept k)
-        | inr distinct ↦ ap (λ (x : Option Context). is_some x) (at_other_slot shared.contexts k j _ distinct) ∙ shared_invariant.contexts.kept j
+      count = length-set shared.contexts slot (option_map complemented_context kept_one) ∙ shared_invariant.contexts.count;
+      kept = λ j. elim (cases_eq j slot) [
+        | inl equal ↦ rw equal (ap (λ (x : Option Context). is_some x) context_of_k ∙ some_after kept_one ∙ shared_invariant.contexts.kept slot)
+        | inr distinct ↦ ap (λ (x : Option Context). is_some x) (at_other_slot shared.contexts slot j _ distinct) ∙ shared_invariant.contexts.kept j
       ];
       held = λ j.
           let P : Option Context → Type 0 = λ x. IfSome x (λ context. can_go_on context ≡ true) in
-          elim (cases_eq j k) [
-            | inl equal ↦ rw equal (subst P (sym context_of_k) (goes_on_after kept_one (shared_invariant.contexts.held k)))
-            | inr distinct ↦ subst P (sym (at_other_slot shared.contexts k j _ distinct)) (shared_invariant.contexts.held j)
+          elim (cases_eq j slot) [
+            | inl equal ↦ rw equal (subst P (sym context_of_k) (goes_on_after kept_one (shared_invariant.contexts.held slot)))
+            | inr distinct ↦ subst P (sym (at_other_slot shared.contexts slot j _ distinct)) (shared_invariant.contexts.held j)
           ];
     };
     running = shared_invariant.running;
     apart = shared_invariant.apart;
   }
 
-  -- the scrambled shared state is equivalent except k to the state before the scramble
-  pub scrambled_agrees : SharedEquivExcept k shared (scrambled_shared shared k)
+  -- the scrambled shared state is equivalent except `slot` to the state before the scramble
+  pub scrambled_agrees : SharedEquivExcept slot shared (scrambled_shared shared slot)
   unfolding scrambled_shared
   scrambled_agrees = record {
     table = refl;
-    memory = block_agrees shared.memory (region shared.table k);
+    memory = block_agrees shared.memory (region shared.table slot);
     contexts = record {
-      size = sym (length-set shared.contexts k (option_map complemented_context kept_one));
-      others = λ j distinct. sym (at_other_slot shared.contexts k j _ distinct);
+      size = sym (length-set shared.contexts slot (option_map complemented_context kept_one));
+      others = λ j distinct. sym (at_other_slot shared.contexts slot j _ distinct);
     };
     gone = λ dead. let contradiction : true ≡ false = sym may_be.live ∙ dead in cc;
   }
 
--- proves that scramble preserves the invariant and changes only what is private to slot k
+-- proves that scramble preserves the invariant and changes only what is private to `slot`
 pub scrambled_law : ScrambledLaw
-scrambled_law shared worlds k shared_invariant may_scramble = record {
-  not_running = (slot_rests (slot_at shared.table k) may_scramble).1;
-  sound = scrambled_sound shared worlds k shared_invariant may_scramble;
-  equivalent = scrambled_agrees shared worlds k shared_invariant may_scramble;
+scrambled_law shared worlds slot shared_invariant may_scramble = record {
+  not_running = (slot_rests (slot_at shared.table slot) may_scramble).1;
+  sound = scrambled_sound shared worlds slot shared_invariant may_scramble;
+  equivalent = scrambled_agrees shared worlds slot shared_invariant may_scramble;
 }

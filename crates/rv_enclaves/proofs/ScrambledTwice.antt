@@ -29,12 +29,13 @@ context_twice : (o : Option Context) → IfSome o (λ context. (n : ℕ) → sli
 context_twice None are_words = refl
 context_twice (Some context) are_words = ap (λ regs. Some (record context { regs = regs })) (registers_twice context.regs are_words)
 
--- if f applied twice to the element at index k gives this element, then two writes of f of the element at index k restore the list
-place_twice : {X : Type 0} (f : Option X → Option X) (xs : List (Option X)) (k : ℕ) → f (f (slice_index_or xs k None)) ≡ slice_index_or xs k None
-    → (let once = slice_set xs k (f (slice_index_or xs k None)) in slice_set once k (f (slice_index_or once k None))) ≡ xs
-place_twice f [] k restores = refl
+-- if f applied twice to the element at index `slot` gives this element, then two writes of f of the element at index `slot` restore the list
+place_twice : {X : Type 0} (f : Option X → Option X) (xs : List (Option X)) (slot : ℕ)
+    → f (f (slice_index_or xs slot None)) ≡ slice_index_or xs slot None
+    → (let once = slice_set xs slot (f (slice_index_or xs slot None)) in slice_set once slot (f (slice_index_or once slot None))) ≡ xs
+place_twice f [] slot restores = refl
 place_twice f (x ∷ xs) zero restores = ap (λ y. y ∷ xs) restores
-place_twice f (x ∷ xs) (suc k) restores = ap (λ ys. x ∷ ys) (place_twice f xs k restores)
+place_twice f (x ∷ xs) (suc slot) restores = ap (λ ys. x ∷ ys) (place_twice f xs slot restores)
 
 -- two complements of a block of bytes restore the memory
 block_twice : (memory : List ℕ) (block : Block) → ((i : ℕ) → get_or memory i 0 < 2 ^ 8)
@@ -55,7 +56,7 @@ block_twice memory block bytes = elim (cases_Bool (is_inside memory block.base b
 -- proves that two scrambles restore the shared state
 pub shared_twice : ScrambledTwiceLaw
 unfolding scrambled_shared
-shared_twice shared k bytes words =
-    let memory = block_twice shared.memory (region shared.table k) bytes in
-    let contexts = place_twice (option_map complemented_context) shared.contexts k (context_twice (context_at shared.contexts k) words) in
+shared_twice shared slot bytes words =
+    let memory = block_twice shared.memory (region shared.table slot) bytes in
+    let contexts = place_twice (option_map complemented_context) shared.contexts slot (context_twice (context_at shared.contexts slot) words) in
     ap₂ (λ m cs. record shared { memory = m; contexts = cs }) memory contexts

@@ -13,14 +13,15 @@ use Rattle.rv_enclaves.proofs.Prelude.{CreateArgs, SlotInfo, Slots, meets, monit
 
 -- ---- lists of options
 
--- after a write to slot k of a list, slot k has the new entry
-pub at_written_slot : {A : Type 0} (xs : List (Option A)) (k : ℕ) (x : Option A) → k < length xs → slice_index_or (slice_set xs k x) k None ≡ x
-at_written_slot {A} xs k x inside = get_or-set_same {A = Option A} xs k x None inside
+-- after a write to `slot` of a list, `slot` has the new entry
+pub at_written_slot : {A : Type 0} (xs : List (Option A)) (slot : ℕ) (x : Option A) → slot < length xs
+    → slice_index_or (slice_set xs slot x) slot None ≡ x
+at_written_slot {A} xs slot x inside = get_or-set_same {A = Option A} xs slot x None inside
 
 -- after a write to another slot of a list, slot j has its old entry
-pub at_other_slot : {A : Type 0} (xs : List (Option A)) (k j : ℕ) (x : Option A) → j ≢ k
-    → slice_index_or (slice_set xs k x) j None ≡ slice_index_or xs j None
-at_other_slot {A} xs k j x distinct = get_or-set_other {A = Option A} xs k j x None distinct
+pub at_other_slot : {A : Type 0} (xs : List (Option A)) (slot j : ℕ) (x : Option A) → j ≢ slot
+    → slice_index_or (slice_set xs slot x) j None ≡ slice_index_or xs j None
+at_other_slot {A} xs slot j x distinct = get_or-set_other {A = Option A} xs slot j x None distinct
 
 -- a new state for the number after the last slot leaves the table unchanged
 pub state_past : (slots : Slots) (state : EnclaveState) → length slots ≡ slot_count → with_state slots slot_count state ≡ slots
@@ -40,11 +41,11 @@ none_past slots number table_length not_a_slot = elim (cases_lt number slot_coun
 ]
 
 -- if a test holds for no entry of a list, then it fails for the entry at each index, and for None after the end of the list
-pub none_at : {A : Type 0} (p : Option A → Bool) (xs : List (Option A)) (k : ℕ) → p None ≡ false → list_any p xs ≡ false
-    → p (slice_index_or xs k None) ≡ false
-none_at p [] k none_fails none_holds = none_fails
+pub none_at : {A : Type 0} (p : Option A → Bool) (xs : List (Option A)) (slot : ℕ) → p None ≡ false → list_any p xs ≡ false
+    → p (slice_index_or xs slot None) ≡ false
+none_at p [] slot none_fails none_holds = none_fails
 none_at p (x ∷ xs) zero none_fails none_holds = (or_parts (p x) (list_any p xs) none_holds).0
-none_at p (x ∷ xs) (suc k) none_fails none_holds = none_at p xs k none_fails (or_parts (p x) (list_any p xs) none_holds).1
+none_at p (x ∷ xs) (suc slot) none_fails none_holds = none_at p xs slot none_fails (or_parts (p x) (list_any p xs) none_holds).1
 
 -- ---- the checks of create
 
@@ -67,7 +68,7 @@ pub record IsFree (slots : Slots) (new : CreateArgs) : Type 0 where
   pub region : meets monitor_block new.region ≡ false
   pub window : meets monitor_block new.window ≡ false
   pub own : meets new.region new.window ≡ false
-  pub others : (k : ℕ) → AreApart new (slot_at slots k)
+  pub others : (slot : ℕ) → AreApart new (slot_at slots slot)
 
 -- a create that overlaps no block meets no other block, as `IsFree` says
 pub free_from : (slots : Slots) (new : CreateArgs) → overlaps slots new ≡ false → IsFree slots new
@@ -80,5 +81,5 @@ free_from slots new no_overlap =
       region = region.0;
       window = window.0;
       own = own_blocks.0;
-      others = λ k. apart_from new (slot_at slots k) (none_at (collides new) slots k refl own_blocks.1);
+      others = λ slot. apart_from new (slot_at slots slot) (none_at (collides new) slots slot refl own_blocks.1);
     }

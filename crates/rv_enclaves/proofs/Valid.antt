@@ -8,50 +8,50 @@ use Rattle.rv_memory.proofs.BlockLaws.{meets_symmetric, meets_nothing, nothing_m
 use Rattle.rv_enclaves.proofs.Slots.{at_written_slot, at_other_slot}
 use Rattle.rv_enclaves.specs.SlotNumbers.{slot_count}
 
--- a record fits into slot k if it is valid, and its region and window do not meet the blocks of other slots that they must not meet
-pub record FitsInSlot (memory : List ℕ) (slots : Slots) (k : ℕ) (o : Option SlotInfo) : Type 0 where
+-- a record fits into `slot` if it is valid, and its region and window do not meet the blocks of other slots that they must not meet
+pub record FitsInSlot (memory : List ℕ) (slots : Slots) (slot : ℕ) (o : Option SlotInfo) : Type 0 where
   pub well_formed : IfSome o (IsValidSlot memory)
-  pub regions : (j : ℕ) → j ≢ k → meets (region_of o) (region slots j) ≡ false
-  pub windows : (j : ℕ) → j ≢ k → meets (region_of o) (window slots j) ≡ false
-  pub window : (j : ℕ) → j ≢ k → meets (window_of o) (region slots j) ≡ false
+  pub regions : (j : ℕ) → j ≢ slot → meets (region_of o) (region slots j) ≡ false
+  pub windows : (j : ℕ) → j ≢ slot → meets (region_of o) (window slots j) ≡ false
+  pub window : (j : ℕ) → j ≢ slot → meets (window_of o) (region slots j) ≡ false
   pub own : meets (region_of o) (window_of o) ≡ false
   pub region_free : meets monitor_block (region_of o) ≡ false
   pub window_free : meets monitor_block (window_of o) ≡ false
 
--- slot k of a valid table gets the record o, which fits
-module _ (memory : List ℕ) (slots : Slots) (k : ℕ) (o : Option SlotInfo) (table_valid : IsValid memory slots) (inside : k < slot_count)
-    (fits : FitsInSlot memory slots k o) where
-  -- the table after the change: slot k has the new record
+-- `slot` of a valid table gets the record o, which fits
+module _ (memory : List ℕ) (slots : Slots) (slot : ℕ) (o : Option SlotInfo) (table_valid : IsValid memory slots) (inside : slot < slot_count)
+    (fits : FitsInSlot memory slots slot o) where
+  -- the table after the change: `slot` has the new record
   abbrev after : Slots
-  after = with_slot slots k o
+  after = with_slot slots slot o
 
-  -- slot k of the new table has the new record
-  slot_k_after : slot_at after k ≡ o
-  slot_k_after = at_written_slot slots k o (omega (arith, table_valid.count))
+  -- `slot` of the new table has the new record
+  slot_k_after : slot_at after slot ≡ o
+  slot_k_after = at_written_slot slots slot o (omega (arith, table_valid.count))
 
   -- each other slot of the new table is unchanged
-  other_slot_after : (j : ℕ) → j ≢ k → slot_at after j ≡ slot_at slots j
-  other_slot_after j distinct = at_other_slot slots k j o distinct
+  other_slot_after : (j : ℕ) → j ≢ slot → slot_at after j ≡ slot_at slots j
+  other_slot_after j distinct = at_other_slot slots slot j o distinct
 
-  -- the region of slot k of the new table is the region of the new record
-  region_here : region after k ≡ region_of o
+  -- the region of `slot` of the new table is the region of the new record
+  region_here : region after slot ≡ region_of o
   region_here = ap region_of slot_k_after
 
-  -- the window of slot k of the new table is the window of the new record
-  window_here : window after k ≡ window_of o
+  -- the window of `slot` of the new table is the window of the new record
+  window_here : window after slot ≡ window_of o
   window_here = ap window_of slot_k_after
 
   -- the region of each other slot is unchanged
-  region_there : (j : ℕ) → j ≢ k → region after j ≡ region slots j
+  region_there : (j : ℕ) → j ≢ slot → region after j ≡ region slots j
   region_there j distinct = ap region_of (other_slot_after j distinct)
 
   -- the window of each other slot is unchanged
-  window_there : (j : ℕ) → j ≢ k → window after j ≡ window slots j
+  window_there : (j : ℕ) → j ≢ slot → window after j ≡ window slots j
   window_there j distinct = ap window_of (other_slot_after j distinct)
 
   -- each record of the new table is valid
   well_formed_after : (j : ℕ) → IfSome (slot_at after j) (IsValidSlot memory)
-  well_formed_after j = elim (cases_eq j k) [
+  well_formed_after j = elim (cases_eq j slot) [
     | inl equal ↦ let P : Option SlotInfo → Type 0 = λ x. IfSome x (IsValidSlot memory) in rw equal (subst P (sym slot_k_after) fits.well_formed)
     | inr distinct ↦
         let P : Option SlotInfo → Type 0 = λ x. IfSome x (IsValidSlot memory) in
@@ -60,16 +60,16 @@ module _ (memory : List ℕ) (slots : Slots) (k : ℕ) (o : Option SlotInfo) (ta
 
   -- no two regions of the new table meet
   regions_after : (i j : ℕ) → i ≢ j → meets (region after i) (region after j) ≡ false
-  regions_after i j distinct = elim (cases_eq i k) [
-    | inl equal ↦ elim (cases_eq j k) [
+  regions_after i j distinct = elim (cases_eq i slot) [
+    | inl equal ↦ elim (cases_eq j slot) [
       | inl j_is_k ↦ absurd (distinct (equal ∙ sym j_is_k))
       | inr distinct ↦
           rw equal (ap (λ b. meets b (region after j)) region_here ∙ ap (meets (region_of o)) (region_there j distinct) ∙ fits.regions j distinct)
     ]
-    | inr other ↦ elim (cases_eq j k) [
+    | inr other ↦ elim (cases_eq j slot) [
       | inl equal ↦
           rw equal
-          (ap (λ b. meets b (region after k)) (region_there i other) ∙ ap (meets (region slots i)) region_here
+          (ap (λ b. meets b (region after slot)) (region_there i other) ∙ ap (meets (region slots i)) region_here
           ∙ meets_symmetric (region slots i) (region_of o) ∙ fits.regions i other)
       | inr j_is_not_k ↦ ap (λ b. meets b (region after j)) (region_there i other) ∙ ap (meets (region slots i)) (region_there j j_is_not_k)
           ∙ table_valid.regions_apart i j distinct
@@ -78,16 +78,16 @@ module _ (memory : List ℕ) (slots : Slots) (k : ℕ) (o : Option SlotInfo) (ta
 
   -- no region of the new table meets a window
   windows_after : (i j : ℕ) → meets (region after i) (window after j) ≡ false
-  windows_after i j = elim (cases_eq i k) [
-    | inl equal ↦ elim (cases_eq j k) [
-      | inl j_is_k ↦ rw (equal, j_is_k) (ap (λ b. meets b (window after k)) region_here ∙ ap (meets (region_of o)) window_here ∙ fits.own)
+  windows_after i j = elim (cases_eq i slot) [
+    | inl equal ↦ elim (cases_eq j slot) [
+      | inl j_is_k ↦ rw (equal, j_is_k) (ap (λ b. meets b (window after slot)) region_here ∙ ap (meets (region_of o)) window_here ∙ fits.own)
       | inr distinct ↦
           rw equal (ap (λ b. meets b (window after j)) region_here ∙ ap (meets (region_of o)) (window_there j distinct) ∙ fits.windows j distinct)
     ]
-    | inr other ↦ elim (cases_eq j k) [
+    | inr other ↦ elim (cases_eq j slot) [
       | inl equal ↦
           rw equal
-          (ap (λ b. meets b (window after k)) (region_there i other) ∙ ap (meets (region slots i)) window_here
+          (ap (λ b. meets b (window after slot)) (region_there i other) ∙ ap (meets (region slots i)) window_here
           ∙ meets_symmetric (region slots i) (window_of o) ∙ fits.window i other)
       | inr distinct ↦ ap (λ b. meets b (window after j)) (region_there i other) ∙ ap (meets (region slots i)) (window_there j distinct)
           ∙ table_valid.windows_apart i j
@@ -96,23 +96,23 @@ module _ (memory : List ℕ) (slots : Slots) (k : ℕ) (o : Option SlotInfo) (ta
 
   -- no region of the new table meets the monitor's range
   free_after : (j : ℕ) → meets monitor_block (region after j) ≡ false
-  free_after j = elim (cases_eq j k) [
+  free_after j = elim (cases_eq j slot) [
     | inl equal ↦ rw equal (ap (meets monitor_block) region_here ∙ fits.region_free)
     | inr distinct ↦ ap (meets monitor_block) (region_there j distinct) ∙ table_valid.regions_free j
   ]
 
   -- no window of the new table meets the monitor's range
   window_free_after : (j : ℕ) → meets monitor_block (window after j) ≡ false
-  window_free_after j = elim (cases_eq j k) [
+  window_free_after j = elim (cases_eq j slot) [
     | inl equal ↦ rw equal (ap (meets monitor_block) window_here ∙ fits.window_free)
     | inr distinct ↦ ap (meets monitor_block) (window_there j distinct) ∙ table_valid.windows_free j
   ]
 
-  -- a valid table stays valid if slot k gets a record that fits
-  pub valid_with : IsValid memory (with_slot slots k o)
+  -- a valid table stays valid if `slot` gets a record that fits
+  pub valid_with : IsValid memory (with_slot slots slot o)
   valid_with = record {
     ram = table_valid.ram;
-    count = length-set slots k o ∙ table_valid.count;
+    count = length-set slots slot o ∙ table_valid.count;
     well_formed = well_formed_after;
     regions_apart = regions_after;
     windows_apart = windows_after;
@@ -121,8 +121,8 @@ module _ (memory : List ℕ) (slots : Slots) (k : ℕ) (o : Option SlotInfo) (ta
   }
 
 -- the absence of a record fits into each slot
-pub nothing_fits : (memory : List ℕ) (slots : Slots) (k : ℕ) → FitsInSlot memory slots k None
-nothing_fits memory slots k = record {
+pub nothing_fits : (memory : List ℕ) (slots : Slots) (slot : ℕ) → FitsInSlot memory slots slot None
+nothing_fits memory slots slot = record {
   well_formed = tt;
   regions = λ j distinct. nothing_meets (region slots j);
   windows = λ j distinct. nothing_meets (window slots j);
@@ -133,13 +133,14 @@ nothing_fits memory slots k = record {
 }
 
 -- the record of a live enclave fits into its own slot with any state
-pub own_fits : (memory : List ℕ) (slots : Slots) (k : ℕ) (info : SlotInfo) (state : EnclaveState) → IsValid memory slots → slot_at slots k ≡ Some info
-    → FitsInSlot memory slots k (Some (record info { state = state }))
-own_fits memory slots k info state table_valid slot_is =
-    let region_is : region slots k ≡ info.region = ap region_of slot_is in
-    let window_is : window slots k ≡ info.window = ap window_of slot_is in
+pub own_fits : (memory : List ℕ) (slots : Slots) (slot : ℕ) (info : SlotInfo) (state : EnclaveState) → IsValid memory slots
+    → slot_at slots slot ≡ Some info
+    → FitsInSlot memory slots slot (Some (record info { state = state }))
+own_fits memory slots slot info state table_valid slot_is =
+    let region_is : region slots slot ≡ info.region = ap region_of slot_is in
+    let window_is : window slots slot ≡ info.window = ap window_of slot_is in
     let P : Option SlotInfo → Type 0 = λ x. IfSome x (IsValidSlot memory) in
-    let slot_valid = subst P slot_is (table_valid.well_formed k) in
+    let slot_valid = subst P slot_is (table_valid.well_formed slot) in
     record {
       well_formed = record {
         region = slot_valid.region;
@@ -148,14 +149,14 @@ own_fits memory slots k info state table_valid slot_is =
         entry = slot_valid.entry;
         measured = slot_valid.measured;
       };
-      regions = λ j distinct. ap (λ b. meets b (region slots j)) (sym region_is) ∙ table_valid.regions_apart k j (λ same. distinct (sym same));
-      windows = λ j distinct. ap (λ b. meets b (window slots j)) (sym region_is) ∙ table_valid.windows_apart k j;
+      regions = λ j distinct. ap (λ b. meets b (region slots j)) (sym region_is) ∙ table_valid.regions_apart slot j (λ same. distinct (sym same));
+      windows = λ j distinct. ap (λ b. meets b (window slots j)) (sym region_is) ∙ table_valid.windows_apart slot j;
       window =
-          λ j other. ap (λ b. meets b (region slots j)) (sym window_is) ∙ meets_symmetric (window slots k) (region slots j)
-          ∙ table_valid.windows_apart j k;
-      own = ap (λ b. meets b info.window) (sym region_is) ∙ ap (meets (region slots k)) (sym window_is) ∙ table_valid.windows_apart k k;
-      region_free = ap (meets monitor_block) (sym region_is) ∙ table_valid.regions_free k;
-      window_free = ap (meets monitor_block) (sym window_is) ∙ table_valid.windows_free k;
+          λ j other. ap (λ b. meets b (region slots j)) (sym window_is) ∙ meets_symmetric (window slots slot) (region slots j)
+          ∙ table_valid.windows_apart j slot;
+      own = ap (λ b. meets b info.window) (sym region_is) ∙ ap (meets (region slots slot)) (sym window_is) ∙ table_valid.windows_apart slot slot;
+      region_free = ap (meets monitor_block) (sym region_is) ∙ table_valid.regions_free slot;
+      window_free = ap (meets monitor_block) (sym window_is) ∙ table_valid.windows_free slot;
     }
 
 -- ---- memory of the same size
@@ -187,7 +188,7 @@ pub valid_by_size : (m n : List ℕ) (slots : Slots) → length m ≡ length n �
 valid_by_size m n slots same_length table_valid = record {
   ram = sym (ap is_ram_size same_length) ∙ table_valid.ram;
   count = table_valid.count;
-  well_formed = λ k. slot_by_size m n (slot_at slots k) same_length (table_valid.well_formed k);
+  well_formed = λ slot. slot_by_size m n (slot_at slots slot) same_length (table_valid.well_formed slot);
   regions_apart = table_valid.regions_apart;
   windows_apart = table_valid.windows_apart;
   regions_free = table_valid.regions_free;

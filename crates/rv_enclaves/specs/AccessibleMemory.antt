@@ -23,14 +23,14 @@ host_has memory slots byte =
 
 -- an enclave accesses its window by loads and stores
 abbrev pub windows_accessible : Slots → ℕ → Access → List (ℕ → Bool)
-windows_accessible slots k Fetch = []
-windows_accessible slots k Read = has (window slots k) ∷ []
-windows_accessible slots k Write = has (window slots k) ∷ []
+windows_accessible slots slot Fetch = []
+windows_accessible slots slot Read = has (window slots slot) ∷ []
+windows_accessible slots slot Write = has (window slots slot) ∷ []
 
 -- the sets of bytes that a world can access
 abbrev pub sets_accessible : List ℕ → Slots → World → Access → List (ℕ → Bool)
 sets_accessible memory slots Host access = host_has memory slots ∷ []
-sets_accessible memory slots (Enclave k) access = has (region slots k) ∷ windows_accessible slots k access
+sets_accessible memory slots (Enclave slot) access = has (region slots slot) ∷ windows_accessible slots slot access
 
 -- an access is accessible if all its bytes are in one of the sets
 unfoldable pub is_accessible : List ℕ → Slots → World → Access → List ℕ → Bool
@@ -47,7 +47,7 @@ LayoutAccessLaw =
 -- no permitted access of S or U has a byte in the region of an enclave other than the one that runs
 abbrev pub ApartLaw : Type 0
 ApartLaw =
-    (memory : List ℕ) (slots : Slots) (world : World) (mode : Mode) (access : Access) (address : ℕ) (width : Width) (k byte : ℕ)
+    (memory : List ℕ) (slots : Slots) (world : World) (mode : Mode) (access : Access) (address : ℕ) (width : Width) (slot byte : ℕ)
     → IsValid memory slots → mode ≢ M → is_inside memory address (bytes_in width) ≡ true
-    → is_world_of k world ≡ false → permits (verdict (layout slots world) mode access (bytes_from address (bytes_in width))) ≡ true
-    → address ≤ byte → byte < address + bytes_in width → has (region slots k) byte ≡ false
+    → is_world_of slot world ≡ false → permits (verdict (layout slots world) mode access (bytes_from address (bytes_in width))) ≡ true
+    → address ≤ byte → byte < address + bytes_in width → has (region slots slot) byte ≡ false

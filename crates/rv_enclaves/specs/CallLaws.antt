@@ -18,40 +18,42 @@ use Rattle.rv_enclaves.specs.declared.world.World.{World}
 -- a call that is not refused preserves the invariant
 pub record CallsKeep (shared : Shared) (worlds : List World) : Type 0 where
   pub creates : (new : CreateArgs) → first_refusal (create_refusals shared new) ≡ None → SharedInvariant (created shared new) worlds
-  pub destroys : (k : ℕ) → first_refusal (state_refusals shared.table Destroy k) ≡ None → SharedInvariant (destroyed shared k) worlds
-  pub measures : (k address : ℕ) → SharedInvariant (measured shared k address) worlds
+  pub destroys : (slot : ℕ) → first_refusal (state_refusals shared.table Destroy slot) ≡ None → SharedInvariant (destroyed shared slot) worlds
+  pub measures : (slot address : ℕ) → SharedInvariant (measured shared slot address) worlds
 
 -- each call that is not refused preserves the invariant of the shared state
 abbrev pub CallsKeepLaw : Type 0
 CallsKeepLaw = (shared : Shared) (worlds : List World) → SharedInvariant shared worlds → CallsKeep shared worlds
 
--- the effect of a call does not depend on what is private to slot e
-pub record CallsAlike (e : ℕ) (one other : Shared) : Type 0 where
-  pub creates : (new : CreateArgs) → first_refusal (create_refusals one new) ≡ None → SharedEquivExcept e (created one new) (created other new)
-  pub destroys : (k : ℕ) → first_refusal (state_refusals one.table Destroy k) ≡ None → SharedEquivExcept e (destroyed one k) (destroyed other k)
-  pub measures : (k address : ℕ) → SharedEquivExcept e (measured one k address) (measured other k address)
+-- the effect of a call does not depend on what is private to `enclave`
+pub record CallsAlike (enclave : ℕ) (one other : Shared) : Type 0 where
+  pub creates : (new : CreateArgs) → first_refusal (create_refusals one new) ≡ None → SharedEquivExcept enclave (created one new) (created other new)
+  pub destroys : (slot : ℕ) → first_refusal (state_refusals one.table Destroy slot) ≡ None
+      → SharedEquivExcept enclave (destroyed one slot) (destroyed other slot)
+  pub measures : (slot address : ℕ) → SharedEquivExcept enclave (measured one slot address) (measured other slot address)
 
--- on two shared states that are equivalent except for e, a call has equivalent effects
+-- on two shared states that are equivalent except for `enclave`, a call has equivalent effects
 abbrev pub CallsAlikeLaw : Type 0
 CallsAlikeLaw =
-    (e : ℕ) (one other : Shared) (worlds : List World) → SharedInvariant one worlds → SharedInvariant other worlds → SharedEquivExcept e one other
-    → CallsAlike e one other
+    (enclave : ℕ) (one other : Shared) (worlds : List World) → SharedInvariant one worlds → SharedInvariant other worlds
+    → SharedEquivExcept enclave one other
+    → CallsAlike enclave one other
 
 -- only an enclave that does not run is scrambled, and only what is private to it changes
-pub record IsScrambled (shared : Shared) (worlds : List World) (k : ℕ) : Type 0 where
-  pub not_running : runs shared.table k ≡ false
-  pub sound : SharedInvariant (scrambled_shared shared k) worlds
-  pub equivalent : SharedEquivExcept k shared (scrambled_shared shared k)
+pub record IsScrambled (shared : Shared) (worlds : List World) (slot : ℕ) : Type 0 where
+  pub not_running : runs shared.table slot ≡ false
+  pub sound : SharedInvariant (scrambled_shared shared slot) worlds
+  pub equivalent : SharedEquivExcept slot shared (scrambled_shared shared slot)
 
--- a scramble that is permitted preserves the invariant, and changes only what is private to slot k
+-- a scramble that is permitted preserves the invariant, and changes only what is private to `slot`
 abbrev pub ScrambledLaw : Type 0
 ScrambledLaw =
-    (shared : Shared) (worlds : List World) (k : ℕ) → SharedInvariant shared worlds → can_scramble shared.table k ≡ true
-    → IsScrambled shared worlds k
+    (shared : Shared) (worlds : List World) (slot : ℕ) → SharedInvariant shared worlds → can_scramble shared.table slot ≡ true
+    → IsScrambled shared worlds slot
 
 -- scrambling twice restores the state, if memory holds bytes and the context's registers hold 32-bit words
 abbrev pub ScrambledTwiceLaw : Type 0
 ScrambledTwiceLaw =
-    (shared : Shared) (k : ℕ) → ((i : ℕ) → slice_index shared.memory i < 2 ^ 8)
-    → IfSome (context_at shared.contexts k) (λ context. (n : ℕ) → slice_index context.regs n < 2 ^ 32)
-    → scrambled_shared (scrambled_shared shared k) k ≡ shared
+    (shared : Shared) (slot : ℕ) → ((i : ℕ) → slice_index shared.memory i < 2 ^ 8)
+    → IfSome (context_at shared.contexts slot) (λ context. (n : ℕ) → slice_index context.regs n < 2 ^ 32)
+    → scrambled_shared (scrambled_shared shared slot) slot ≡ shared

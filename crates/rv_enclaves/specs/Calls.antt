@@ -36,10 +36,10 @@ abbrev pub is_offered : World → Call → Bool
 is_offered Host Stop = false
 is_offered Host Exit = false
 is_offered Host _ = true
-is_offered (Enclave k) Measure = true
-is_offered (Enclave k) Stop = true
-is_offered (Enclave k) Exit = true
-is_offered (Enclave k) _ = false
+is_offered (Enclave slot) Measure = true
+is_offered (Enclave slot) Stop = true
+is_offered (Enclave slot) Exit = true
+is_offered (Enclave slot) _ = false
 
 -- the call that a world requests with a7 and a6, if there is one
 unfoldable pub call_requested : World → ℕ → ℕ → Option Call

@@ -63,14 +63,14 @@ Contexts = List (Option Context)
 abbrev pub no_contexts : Contexts
 no_contexts = replicate slot_count None
 
--- the saved context of slot k, if it has one
+-- the saved context of `slot`, if it has one
 abbrev pub context_at : Contexts → ℕ → Option Context
-context_at contexts k = slice_index_or contexts k None
+context_at contexts slot = slice_index_or contexts slot None
 
 -- the saved context of a slot, or the empty one if there is none; each enclave that run or resume accepts has one
 abbrev pub saved_context : Contexts → ℕ → Context
-saved_context contexts k = option_case (context_at contexts k) exited_context (λ context. context)
+saved_context contexts slot = option_case (context_at contexts slot) exited_context (λ context. context)
 
--- the saved contexts with a new one for slot k, or with none
+-- the saved contexts with a new one for `slot`, or with none
 abbrev pub with_context : Contexts → ℕ → Option Context → Contexts
-with_context contexts k context = slice_set contexts k context
+with_context contexts slot context = slice_set contexts slot context

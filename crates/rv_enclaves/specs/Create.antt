@@ -71,11 +71,11 @@ recorded memory new = record {
   state = Fresh;
 }
 
--- the shared state with a record and its first context in slot k
+-- the shared state with a record and its first context in `slot`
 abbrev pub with_enclave : Shared → ℕ → SlotInfo → Shared
-with_enclave shared k info = record shared {
-  table = with_slot shared.table k (Some info);
-  contexts = with_context shared.contexts k (Some (first_context info));
+with_enclave shared slot info = record shared {
+  table = with_slot shared.table slot (Some info);
+  contexts = with_context shared.contexts slot (Some (first_context info));
 }
 
 -- the conditions that refuse a create, in the order in which they are checked
@@ -90,7 +90,7 @@ create_refusals shared new =
 
 -- the lowest free slot, or the number of slots if there is none, which the refusal NoSlot excludes
 abbrev pub new_slot : Slots → ℕ
-new_slot slots = option_case (free_slot slots) slot_count (λ k. k)
+new_slot slots = option_case (free_slot slots) slot_count (λ slot. slot)
 
 -- the shared state after a create that is not refused; no byte of memory changes
 unfoldable pub created : Shared → CreateArgs → Shared

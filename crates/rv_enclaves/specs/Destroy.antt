@@ -14,12 +14,12 @@ zeroed memory block = option_case (write memory block.base (replicate block.size
 
 -- the shared state without the enclave of a slot with this region
 abbrev pub without : Shared → ℕ → Block → Shared
-without shared k block = record {
+without shared slot block = record {
   memory = zeroed shared.memory block;
-  table = with_slot shared.table k None;
-  contexts = with_context shared.contexts k None;
+  table = with_slot shared.table slot None;
+  contexts = with_context shared.contexts slot None;
 }
 
 -- the shared state after a destroy that is not refused
 unfoldable pub destroyed : Shared → ℕ → Shared
-destroyed shared k = without shared k (region shared.table k)
+destroyed shared slot = without shared slot (region shared.table slot)

@@ -35,10 +35,10 @@ read_write = 0x1B
 abbrev pub all : ℕ
 all = 0x1F
 
--- the PMP entry for the region of slot k, which grants every access while the enclave of slot k runs, and no access otherwise
+-- the PMP entry for the region of `slot`, which grants every access while the enclave in `slot` runs, and no access otherwise
 abbrev pub region_entry : World → ℕ → Option SlotInfo → Entry
-region_entry world k None = unused
-region_entry world k (Some info) = napot (if is_world_of k world then all else no_permission) info.region
+region_entry world slot None = unused
+region_entry world slot (Some info) = napot (if is_world_of slot world then all else no_permission) info.region
 
 -- the PMP entry for the window of a record
 abbrev pub window_entry_of : Option SlotInfo → Entry
@@ -48,14 +48,14 @@ window_entry_of (Some info) = if info.window.size == 0 then unused else napot re
 -- PMP entry 14, for the window of the enclave that runs. It is off for the host.
 abbrev pub window_entry : Slots → World → Entry
 window_entry slots Host = unused
-window_entry slots (Enclave k) = window_entry_of (slot_at slots k)
+window_entry slots (Enclave slot) = window_entry_of (slot_at slots slot)
 
 -- PMP entry 15, which grants every access while the host runs, and is off while an enclave runs
 abbrev pub host_entry : World → Entry
 host_entry Host = record { cfg = all; addr = 0xFFFFFFFF }
-host_entry (Enclave k) = unused
+host_entry (Enclave slot) = unused
 
--- entry 0: the monitor's range; k + 1: the region of slot k; 14: the window; 15: everything
+-- entry 0: the monitor's range; `slot` + 1: the region of `slot`; 14: the window; 15: everything
 unfoldable pub entry_at : Slots → World → ℕ → Entry
 entry_at slots world i =
     if i == 0 then napot no_permission monitor_block
@@ -73,4 +73,4 @@ layout slots world = record {
 -- the value of mie for a world: MTIE is set while an enclave runs
 abbrev pub mie_of : World → ℕ
 mie_of Host = 0x00000000
-mie_of (Enclave k) = 0x00000080
+mie_of (Enclave slot) = 0x00000080

@@ -18,7 +18,7 @@ use Rattle.rv_enclaves.specs.declared.world.World.TheVariants.{Host, Enclave}
 -- the slot that a measure is about: the slot that the host names, or the slot of the calling enclave
 abbrev pub measured_slot : World → ℕ → ℕ
 measured_slot Host named = named
-measured_slot (Enclave k) named = k
+measured_slot (Enclave slot) named = slot
 
 -- whether S-mode may store one byte
 abbrev pub may_store : List ℕ → Entries → ℕ → Bool
@@ -35,15 +35,15 @@ with_bytes_at memory address bytes = option_case (write memory address bytes) me
 
 -- the recorded measurement of the enclave of a slot, or [] if no enclave is live there, which the refusal NoEnclave excludes
 abbrev pub measurement_at : Slots → ℕ → List ℕ
-measurement_at slots k = option_case (slot_at slots k) [] (λ info. info.measurement)
+measurement_at slots slot = option_case (slot_at slots slot) [] (λ info. info.measurement)
 
 -- the conditions that refuse a measure, in the order in which they are checked
 unfoldable pub measure_refusals : Shared → Entries → ℕ → ℕ → List (Bool × Refusal)
-measure_refusals shared entries k address =
-    (not (is_live shared.table k), NoEnclave)
+measure_refusals shared entries slot address =
+    (not (is_live shared.table slot), NoEnclave)
     ∷ (not (may_store_all shared.memory entries address), BadAddress)
     ∷ []
 
 -- the shared state after a measure that is not refused
 unfoldable pub measured : Shared → ℕ → ℕ → Shared
-measured shared k address = record shared { memory = with_bytes_at shared.memory address (measurement_at shared.table k) }
+measured shared slot address = record shared { memory = with_bytes_at shared.memory address (measurement_at shared.table slot) }

@@ -13,7 +13,7 @@ use Rattle.rv_enclaves.specs.declared.shared.Shared.{Shared}
 
 -- the slots with a saved context: the enclave is live and does not run
 abbrev pub can_scramble : Slots → ℕ → Bool
-can_scramble slots k = is_held (slot_at slots k)
+can_scramble slots slot = is_held (slot_at slots slot)
 
 -- the registers x1 to x31 complemented; x0 stays 0
 abbrev pub complemented_registers : List ℕ → List ℕ
@@ -28,9 +28,9 @@ complemented_context context = record context { regs = complemented_registers co
 abbrev pub complemented_block : List ℕ → Block → List ℕ
 complemented_block memory block = option_case (complemented memory block.base block.size) memory (λ after. after)
 
--- the shared state with the region and the saved registers of slot k complemented
+-- the shared state with the region and the saved registers of `slot` complemented
 unfoldable pub scrambled_shared : Shared → ℕ → Shared
-scrambled_shared shared k = record shared {
-  memory = complemented_block shared.memory (region shared.table k);
-  contexts = with_context shared.contexts k (option_map complemented_context (context_at shared.contexts k));
+scrambled_shared shared slot = record shared {
+  memory = complemented_block shared.memory (region shared.table slot);
+  contexts = with_context shared.contexts slot (option_map complemented_context (context_at shared.contexts slot));
 }

@@ -7,23 +7,23 @@ use Rattle.rv_enclaves.specs.Contexts.{Contexts, context_at}
 use Rattle.rv_enclaves.specs.Table.{Slots, region, is_live}
 use Rattle.rv_enclaves.specs.declared.shared.Shared.{Shared}
 
--- the addresses that are private to slot e
+-- the addresses that are private to `enclave`
 abbrev pub is_private : Slots → ℕ → ℕ → Bool
-is_private slots e = has (region slots e)
+is_private slots enclave = has (region slots enclave)
 
 -- two memories of one size have the same byte at each address that is not hidden
 pub record EqualOutside (hidden : ℕ → Bool) (m n : List ℕ) : Type 0 where
   pub size : length m ≡ length n
   pub bytes : (i : ℕ) → hidden (ram_base + i) ≡ false → slice_index m i ≡ slice_index n i
 
--- the contexts are the same, except for that of slot e
-pub record SameContexts (e : ℕ) (one other : Contexts) : Type 0 where
+-- the contexts are the same, except for that of `enclave`
+pub record SameContexts (enclave : ℕ) (one other : Contexts) : Type 0 where
   pub size : length one ≡ length other
-  pub others : (k : ℕ) → k ≢ e → context_at one k ≡ context_at other k
+  pub others : (slot : ℕ) → slot ≢ enclave → context_at one slot ≡ context_at other slot
 
--- the shared states are equal except for what is private to slot e; if its enclave is not live, they are equal
-pub record SharedEquivExcept (e : ℕ) (one other : Shared) : Type 0 where
+-- the shared states are equal except for what is private to `enclave`; if its enclave is not live, they are equal
+pub record SharedEquivExcept (enclave : ℕ) (one other : Shared) : Type 0 where
   pub table : one.table ≡ other.table
-  pub memory : EqualOutside (is_private one.table e) one.memory other.memory
-  pub contexts : SameContexts e one.contexts other.contexts
-  pub gone : is_live one.table e ≡ false → one ≡ other
+  pub memory : EqualOutside (is_private one.table enclave) one.memory other.memory
+  pub contexts : SameContexts enclave one.contexts other.contexts
+  pub gone : is_live one.table enclave ≡ false → one ≡ other

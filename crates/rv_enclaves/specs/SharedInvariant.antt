@@ -21,18 +21,18 @@ is_held (Some info) = not (is_running info.state)
 -- a slot has a saved context if and only if its enclave is live and does not run, and a hart can continue with each
 pub record SavedContextsInvariant (shared : Shared) : Type 0 where
   pub count : length shared.contexts ≡ slot_count
-  pub kept : (k : ℕ) → is_some (context_at shared.contexts k) ≡ is_held (slot_at shared.table k)
-  pub held : (k : ℕ) → IfSome (context_at shared.contexts k) (λ context. can_go_on context ≡ true)
+  pub kept : (slot : ℕ) → is_some (context_at shared.contexts slot) ≡ is_held (slot_at shared.table slot)
+  pub held : (slot : ℕ) → IfSome (context_at shared.contexts slot) (λ context. can_go_on context ≡ true)
 
 -- a slot runs if and only if it is the world of some hart
 abbrev pub RunningMatchesWorlds : Slots → List World → Type 0
-RunningMatchesWorlds slots worlds = (k : ℕ) → runs slots k ≡ list_any (is_world_of k) worlds
+RunningMatchesWorlds slots worlds = (slot : ℕ) → runs slots slot ≡ list_any (is_world_of slot) worlds
 
 -- no slot is the world of two harts
 abbrev pub AreApart : List World → Type 0
 AreApart [] = Unit {0}
 AreApart (world ∷ worlds) =
-    ((k : ℕ) → is_world_of k world ≡ true → list_any (is_world_of k) worlds ≡ false) × AreApart worlds
+    ((slot : ℕ) → is_world_of slot world ≡ true → list_any (is_world_of slot) worlds ≡ false) × AreApart worlds
 
 -- the invariant, given the list of the worlds
 pub record SharedInvariant (shared : Shared) (worlds : List World) : Type 0 where

@@ -26,15 +26,15 @@ no_slots = replicate slot_count None
 
 -- the record in a slot, if its enclave is live; there is none past the last slot
 abbrev pub slot_at : Slots → ℕ → Option SlotInfo
-slot_at slots k = slice_index_or slots k None
+slot_at slots slot = slice_index_or slots slot None
 
--- the table with a new record in slot k, or with none
+-- the table with a new record in `slot`, or with none
 abbrev pub with_slot : Slots → ℕ → Option SlotInfo → Slots
-with_slot slots k info = slice_set slots k info
+with_slot slots slot info = slice_set slots slot info
 
 -- the lowest slot without an enclave, if there is one
 unfoldable pub free_slot : Slots → Option ℕ
-free_slot slots = find (λ k. is_none (slot_at slots k)) (range_with_len 0 slot_count)
+free_slot slots = find (λ slot. is_none (slot_at slots slot)) (range_with_len 0 slot_count)
 
 -- the region and the window of a slot, or the empty block if there is none
 abbrev pub region_of : Option SlotInfo → Block
@@ -46,21 +46,21 @@ abbrev pub window_of : Option SlotInfo → Block
 window_of None = no_block
 window_of (Some info) = info.window
 
--- the region of slot k, empty if no enclave is live there
+-- the region of `slot`, empty if no enclave is live there
 abbrev pub region : Slots → ℕ → Block
-region slots k = region_of (slot_at slots k)
+region slots slot = region_of (slot_at slots slot)
 
--- the window of slot k, empty if no enclave is live there
+-- the window of `slot`, empty if no enclave is live there
 abbrev pub window : Slots → ℕ → Block
-window slots k = window_of (slot_at slots k)
+window slots slot = window_of (slot_at slots slot)
 
 -- whether the enclave of a slot is live
 abbrev pub is_live : Slots → ℕ → Bool
-is_live slots k = is_some (slot_at slots k)
+is_live slots slot = is_some (slot_at slots slot)
 
 -- whether an address is in the region of some live enclave
 abbrev pub is_in_region : Slots → ℕ → Bool
-is_in_region slots byte = list_any (λ k. has (region slots k) byte) (range_with_len 0 slot_count)
+is_in_region slots byte = list_any (λ slot. has (region slots slot) byte) (range_with_len 0 slot_count)
 
 -- ---- the state of an enclave
 
@@ -69,29 +69,29 @@ abbrev pub is_running : EnclaveState → Bool
 is_running Running = true
 is_running _ = false
 
--- whether an enclave in slot k is live and Running
+-- whether an enclave in `slot` is live and Running
 abbrev pub runs : Slots → ℕ → Bool
-runs slots k = option_case (slot_at slots k) false (λ info. is_running info.state)
+runs slots slot = option_case (slot_at slots slot) false (λ info. is_running info.state)
 
--- the table with another state of slot k; a slot without an enclave is unchanged
+-- the table with another state of `slot`; a slot without an enclave is unchanged
 abbrev pub with_state : Slots → ℕ → EnclaveState → Slots
-with_state slots k state =
-    option_case (slot_at slots k) slots (λ info. with_slot slots k (Some (record info { state = state })))
+with_state slots slot state =
+    option_case (slot_at slots slot) slots (λ info. with_slot slots slot (Some (record info { state = state })))
 
 -- whether the world is the host
 abbrev pub is_host : World → Bool
 is_host Host = true
-is_host (Enclave k) = false
+is_host (Enclave slot) = false
 
--- whether the world is the enclave of slot k
+-- whether the world is the enclave in `slot`
 abbrev pub is_world_of : ℕ → World → Bool
-is_world_of k Host = false
-is_world_of k (Enclave j) = j == k
+is_world_of slot Host = false
+is_world_of slot (Enclave j) = j == slot
 
 -- the slot of the enclave that runs; for the host, a number that is not the number of a slot
 abbrev pub running_slot : World → ℕ
 running_slot Host = slot_count
-running_slot (Enclave k) = k
+running_slot (Enclave slot) = slot
 
 -- ---- the invariant
 
@@ -111,8 +111,8 @@ pub record IsValidSlot (memory : List ℕ) (info : SlotInfo) : Type 0 where
 pub record IsValid (memory : List ℕ) (slots : Slots) : Type 0 where
   pub ram : is_ram_size (length memory) ≡ true
   pub count : length slots ≡ slot_count
-  pub well_formed : (k : ℕ) → IfSome (slot_at slots k) (IsValidSlot memory)
-  pub regions_apart : (j k : ℕ) → j ≢ k → meets (region slots j) (region slots k) ≡ false
-  pub windows_apart : (j k : ℕ) → meets (region slots j) (window slots k) ≡ false
-  pub regions_free : (k : ℕ) → meets monitor_block (region slots k) ≡ false
-  pub windows_free : (k : ℕ) → meets monitor_block (window slots k) ≡ false
+  pub well_formed : (slot : ℕ) → IfSome (slot_at slots slot) (IsValidSlot memory)
+  pub regions_apart : (j slot : ℕ) → j ≢ slot → meets (region slots j) (region slots slot) ≡ false
+  pub windows_apart : (j slot : ℕ) → meets (region slots j) (window slots slot) ≡ false
+  pub regions_free : (slot : ℕ) → meets monitor_block (region slots slot) ≡ false
+  pub windows_free : (slot : ℕ) → meets monitor_block (window slots slot) ≡ false

@@ -29,22 +29,22 @@ takes_timer state pending_is = rw pending_is refl
 -- a world that passes the test `is_host` is the host
 pub host_is : (world : World) → is_host world ≡ true → world ≡ Host
 host_is Host host_runs = refl
-host_is (Enclave k) host_runs = cc
+host_is (Enclave slot) host_runs = cc
 
 -- the monitor does not refuse a destroy of a live enclave with the state Stopped
-stopped_ends : (slots : Slots) (k : ℕ) (o : Option SlotInfo) → length slots ≡ slot_count → slot_at slots k ≡ o → is_some o ≡ true
-    → first_refusal (state_refusals (option_case o slots (λ info. with_slot slots k (Some (record info { state = Stopped })))) Destroy k) ≡ None
+stopped_ends : (slots : Slots) (slot : ℕ) (o : Option SlotInfo) → length slots ≡ slot_count → slot_at slots slot ≡ o → is_some o ≡ true
+    → first_refusal (state_refusals (option_case o slots (λ info. with_slot slots slot (Some (record info { state = Stopped })))) Destroy slot) ≡ None
 unfolding state_refusals
-stopped_ends slots k None table_length slot_is is_present = cc
-stopped_ends slots k (Some info) table_length slot_is is_present =
-    let slot_in_range = live_in_range slots k info table_length slot_is in
-    let at_k = at_written_slot slots k (Some (record info { state = Stopped })) (omega (arith, table_length, slot_in_range)) in
+stopped_ends slots slot None table_length slot_is is_present = cc
+stopped_ends slots slot (Some info) table_length slot_is is_present =
+    let slot_in_range = live_in_range slots slot info table_length slot_is in
+    let at_k = at_written_slot slots slot (Some (record info { state = Stopped })) (omega (arith, table_length, slot_in_range)) in
     rw at_k refl
 
 -- proves that an enclave exits by the timer interrupt if the timer line of its hart is set
 pub timer_exits : (hart : ℕ) (machine : MonitoredMachine) → Invariant machine → TimerExits hart machine (step_of hart machine)
-timer_exits hart machine invariant k host runs host_is_saved timer_set =
-    let in_range = runs_here k hart machine runs in
+timer_exits hart machine invariant slot host runs host_is_saved timer_set =
+    let in_range = runs_here slot hart machine runs in
     let state = hart_view hart machine in
     let view_invariant = hart_view_invariant hart machine invariant in_range in
     let enabled : state.hart_state.hart.csrs.mie ≡ 0x80 = view_invariant.hart.layout.mie ∙ ap mie_of runs in
@@ -53,17 +53,18 @@ timer_exits hart machine invariant k host runs host_is_saved timer_set =
     let trap_is : (step_of hart machine).outcome.step.trap ≡ Some timer_trap =
     ap (λ (after : HartViewStepped). after.outcome.step.trap) (step_of_view hart machine in_range)
     ∙ ap (λ (o : StepOutcome). o.trap) (same_outcome state) ∙ bare in
-    let world = host_is _ ((exits_law hart machine invariant k runs).exits timer_trap trap_is) in
-    let both = leave_law hart machine invariant k host timer_trap runs host_is_saved trap_is world in
+    let world = host_is _ ((exits_law hart machine invariant slot runs).exits timer_trap trap_is) in
+    let both = leave_law hart machine invariant slot host timer_trap runs host_is_saved trap_is world in
     let left = both.0 in
-    let live : is_live machine.shared.table k ≡ true = running_is_live k hart machine invariant (ap (is_world_of k) runs ∙ eq-eqb k k refl) in
+    let live : is_live machine.shared.table slot ≡ true =
+    running_is_live slot hart machine invariant (ap (is_world_of slot) runs ∙ eq-eqb slot slot refl) in
     record {
       trapped = trap_is;
       left = (left, both.1);
       result =
           ap (λ (m : MonitoredMachine). (hart_state_of hart m).hart.regs) left
-          ∙ ap (λ (s : HartState). s.hart.regs) (left_hart_state hart machine k timer_trap host in_range);
+          ∙ ap (λ (s : HartState). s.hart.regs) (left_hart_state hart machine slot timer_trap host in_range);
       world = world;
-      destroyable = ap (λ (m : MonitoredMachine). first_refusal (state_refusals m.shared.table Destroy k)) left
-          ∙ stopped_ends machine.shared.table k (slot_at machine.shared.table k) view_invariant.valid.count refl live;
+      destroyable = ap (λ (m : MonitoredMachine). first_refusal (state_refusals m.shared.table Destroy slot)) left
+          ∙ stopped_ends machine.shared.table slot (slot_at machine.shared.table slot) view_invariant.valid.count refl live;
     }

@@ -58,20 +58,21 @@ module _ (hidden : ℕ → Bool) (state : HartView) (view_invariant : HartViewIn
 
 -- ---- the hidden bytes are the region of an enclave other than the running world
 
--- the hart of the view does not run enclave e
-module _ (e : ℕ) (state : HartView) (view_invariant : HartViewInvariant state) (runs_other : is_world_of e state.hart_state.world ≡ false) where
+-- the hart of the view does not run `enclave`
+module _ (enclave : ℕ) (state : HartView) (view_invariant : HartViewInvariant state)
+    (runs_other : is_world_of enclave state.hart_state.world ≡ false) where
   -- a permitted access of the running world has no byte in the region of another enclave
   unseen : (mode : Mode) (access : Access) (span : Span) → is_machine mode ≡ false → MayTouch (bare_machine state) mode access (Some span)
-      → IsSeen (is_private state.shared.table e) span.addr (bytes_in span.len)
+      → IsSeen (is_private state.shared.table enclave) span.addr (bytes_in span.len)
   unseen mode access span mode_below_m may_touch byte low high =
       let entries = view_invariant.hart.layout.entries in
       let outside_other_regions =
       permitted_apart state.shared.memory state.shared.table state.hart_state.world mode access span.addr (bytes_in span.len)
       (small_ram state.shared.memory view_invariant.valid.ram) view_invariant.valid (below_M mode mode_below_m) (some_bytes span.len)
       (inside-bounds state.shared.memory span.addr (bytes_in span.len) may_touch.0) in
-      outside_other_regions e runs_other (rw (← entries) may_touch.1) byte low high
+      outside_other_regions enclave runs_other (rw (← entries) may_touch.1) byte low high
 
 -- proves the bare law: a bare step depends on no byte in the region of another enclave
 pub bare_law : BareLaw
-bare_law e state memory view_invariant runs_other equiv =
-    bare_step_alike (is_private state.shared.table e) state view_invariant (unseen e state view_invariant runs_other) memory equiv
+bare_law enclave state memory view_invariant runs_other equiv =
+    bare_step_alike (is_private state.shared.table enclave) state view_invariant (unseen enclave state view_invariant runs_other) memory equiv

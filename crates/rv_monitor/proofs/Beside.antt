@@ -11,21 +11,21 @@ use Rattle.rv_monitor.proofs.InvariantLemmas.{beside, has_world, world_at, world
 use Rattle.rv_monitor.proofs.HartCases.{past_hart_state, step_programmed}
 
 -- a hart that runs an enclave is a hart of the machine
-pub runs_inside : (k j : ℕ) (machine : MonitoredMachine) → runs_on k j machine ≡ true → j < count_of machine
-runs_inside k j machine runs_on_hart = elim (cases_lt j (count_of machine)) [
+pub runs_inside : (slot j : ℕ) (machine : MonitoredMachine) → runs_on slot j machine ≡ true → j < count_of machine
+runs_inside slot j machine runs_on_hart = elim (cases_lt j (count_of machine)) [
   | inl in_range ↦ in_range
   | inr past_last ↦
       let contradiction : false ≡ true =
-      sym (ap (λ (s : HartState). is_world_of k s.world) (past_hart_state machine.hart_states j past_last)) ∙ runs_on_hart in
+      sym (ap (λ (s : HartState). is_world_of slot s.world) (past_hart_state machine.hart_states j past_last)) ∙ runs_on_hart in
       cc
 ]
 
 -- an enclave that runs on some hart is among the worlds of the machine
-pub runs_among : (k j : ℕ) (machine : MonitoredMachine) → runs_on k j machine ≡ true → list_any (is_world_of k) (worlds machine) ≡ true
-runs_among k j machine runs_on_hart =
-    let in_range = runs_inside k j machine runs_on_hart in
-    list_any_at (is_world_of k) (worlds machine) j Host (has_world j machine in_range)
-    (ap (is_world_of k) (world_at j machine in_range) ∙ runs_on_hart)
+pub runs_among : (slot j : ℕ) (machine : MonitoredMachine) → runs_on slot j machine ≡ true → list_any (is_world_of slot) (worlds machine) ≡ true
+runs_among slot j machine runs_on_hart =
+    let in_range = runs_inside slot j machine runs_on_hart in
+    list_any_at (is_world_of slot) (worlds machine) j Host (has_world j machine in_range)
+    (ap (is_world_of slot) (world_at j machine in_range) ∙ runs_on_hart)
 
 -- a slot whose record has the state Running is live
 pub live_if_running : (o : Option SlotInfo) → option_case o false (λ info. is_running info.state) ≡ true → is_some o ≡ true
@@ -33,28 +33,30 @@ live_if_running None runs = runs
 live_if_running (Some info) runs = refl
 
 -- an enclave that runs on some hart is live
-pub running_is_live : (k j : ℕ) (machine : MonitoredMachine) → Invariant machine → runs_on k j machine ≡ true → is_live machine.shared.table k ≡ true
-running_is_live k j machine invariant runs_on_hart =
-    live_if_running (slot_at machine.shared.table k) (invariant.shared.running k ∙ runs_among k j machine runs_on_hart)
+pub running_is_live : (slot j : ℕ) (machine : MonitoredMachine) → Invariant machine → runs_on slot j machine ≡ true
+    → is_live machine.shared.table slot ≡ true
+running_is_live slot j machine invariant runs_on_hart =
+    live_if_running (slot_at machine.shared.table slot) (invariant.shared.running slot ∙ runs_among slot j machine runs_on_hart)
 
 -- ---- the other harts
 
 -- an enclave that runs on some hart, and not on the hart that steps, is among the worlds of the other harts
-pub runs_beside : (k hart own : ℕ) (machine : MonitoredMachine) → hart < count_of machine → runs_on k own machine ≡ true
-    → runs_on k hart machine ≡ false → list_any (is_world_of k) (beside hart machine) ≡ true
-runs_beside k hart own machine in_range runs_on_hart not_running =
-    right_if_not_left (runs_on k hart machine) _
-    (sym (any_prefix (is_world_of k) (worlds machine) hart (hart_state_of hart machine).world (has_world hart machine in_range))
-    ∙ ap (list_any (is_world_of k)) (worlds_are hart machine in_range) ∙ runs_among k own machine runs_on_hart)
+pub runs_beside : (slot hart own : ℕ) (machine : MonitoredMachine) → hart < count_of machine → runs_on slot own machine ≡ true
+    → runs_on slot hart machine ≡ false → list_any (is_world_of slot) (beside hart machine) ≡ true
+runs_beside slot hart own machine in_range runs_on_hart not_running =
+    right_if_not_left (runs_on slot hart machine) _
+    (sym (any_prefix (is_world_of slot) (worlds machine) hart (hart_state_of hart machine).world (has_world hart machine in_range))
+    ∙ ap (list_any (is_world_of slot)) (worlds_are hart machine in_range) ∙ runs_among slot own machine runs_on_hart)
     not_running
 
 -- if an enclave runs on hart j and not on the hart that steps, then j is another hart
-pub is_other_hart : (k hart j : ℕ) (machine : MonitoredMachine) → runs_on k hart machine ≡ false → runs_on k j machine ≡ true → j ≢ hart
-is_other_hart k hart j machine not_running runs_on_hart same = both_ways _ not_running (ap (λ (i : ℕ). runs_on k i machine) (sym same) ∙ runs_on_hart)
+pub is_other_hart : (slot hart j : ℕ) (machine : MonitoredMachine) → runs_on slot hart machine ≡ false → runs_on slot j machine ≡ true → j ≢ hart
+is_other_hart slot hart j machine not_running runs_on_hart same =
+    both_ways _ not_running (ap (λ (i : ℕ). runs_on slot i machine) (sym same) ∙ runs_on_hart)
 
--- a step of a hart that does not run enclave k changes only the PMP entries and mie of a hart that runs enclave k
-pub hart_state_preserved : (k hart : ℕ) (machine : MonitoredMachine) → Invariant machine → runs_on k hart machine ≡ false → (j : ℕ)
-    → runs_on k j machine ≡ true
+-- a step of a hart that does not run enclave `slot` changes only the PMP entries and mie of a hart that runs enclave `slot`
+pub hart_state_preserved : (slot hart : ℕ) (machine : MonitoredMachine) → Invariant machine → runs_on slot hart machine ≡ false → (j : ℕ)
+    → runs_on slot j machine ≡ true
     → hart_state_of j (step_of hart machine).state ≡ reprogrammed (step_of hart machine).state.shared.table (hart_state_of j machine)
-hart_state_preserved k hart machine invariant not_running j runs_on_hart =
-    step_programmed hart j machine invariant (is_other_hart k hart j machine not_running runs_on_hart) (runs_inside k j machine runs_on_hart)
+hart_state_preserved slot hart machine invariant not_running j runs_on_hart =
+    step_programmed hart j machine invariant (is_other_hart slot hart j machine not_running runs_on_hart) (runs_inside slot j machine runs_on_hart)

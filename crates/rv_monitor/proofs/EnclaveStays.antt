@@ -45,8 +45,8 @@ rest_parts : (c : CsrState) → rest (machine_parts c) ≡ rest c
 unfolding machine_parts
 rest_parts c = refl
 
--- the hart of the view runs enclave k
-module _ (k : ℕ) (state : HartView) (view_invariant : HartViewInvariant state) (runs_enclave : state.hart_state.world ≡ Enclave k) where
+-- the hart of the view runs the enclave in `slot`
+module _ (slot : ℕ) (state : HartView) (view_invariant : HartViewInvariant state) (runs_enclave : state.hart_state.world ≡ Enclave slot) where
   -- a step of an enclave without a trap leaves unchanged what `StaysBehind` names
   quiet_stays : (step (bare_machine state)).outcome.trap ≡ None → StaysBehind state (view_without_trap state)
   quiet_stays no_trap =
@@ -82,13 +82,13 @@ module _ (k : ℕ) (state : HartView) (view_invariant : HartViewInvariant state)
         handler_cases hart_state trap state.shared Stays (record {
           answers = λ status result enclave_runs_after. (refl, rw mprv refl, refl, refl);
           creates =
-              λ requests no_refusal. no_create _ k hart_state.world runs_enclave
+              λ requests no_refusal. no_create _ slot hart_state.world runs_enclave
               (requested-is_offered hart_state.world hart_state.hart.regs _ requests.asked).1;
           destroys =
-              λ requests is_taken. no_destroy _ k hart_state.world runs_enclave
+              λ requests is_taken. no_destroy _ slot hart_state.world runs_enclave
               (requested-is_offered hart_state.world hart_state.hart.regs _ requests.asked).1;
           measures = λ requests no_refusal enclave_runs_after. (refl, rw mprv refl, refl, refl);
-          enters = λ call requests is_entry_call from_host is_taken. not_host _ k hart_state.world runs_enclave from_host;
+          enters = λ call requests is_entry_call from_host is_taken. not_host _ slot hart_state.world runs_enclave from_host;
           leaves = λ enclave_runs_after. cc;
           redirects = λ enclave_runs_after. (refl, rw mprv refl, refl, refl);
         })
@@ -103,7 +103,7 @@ module _ (k : ℕ) (state : HartView) (view_invariant : HartViewInvariant state)
           rest = stays.1;
           table = stays.2;
           contexts = stays.3;
-          size = sym (handled_keeps k hart_state runs_enclave trap state.shared view_invariant.valid.count).1;
+          size = sym (handled_keeps slot hart_state runs_enclave trap state.shared view_invariant.valid.count).1;
         }
 
   -- each step after which an enclave still runs leaves unchanged what `StaysBehind` names
@@ -112,20 +112,21 @@ module _ (k : ℕ) (state : HartView) (view_invariant : HartViewInvariant state)
       (λ no_trap enclave_runs_after. quiet_stays no_trap) (λ trap trapped. trapped_stays trap (step (bare_machine state)).outcome)
 
   -- a byte is not both within the enclave's memory and beyond it
-  not_within_and_beyond : (byte : ℕ) → is_beyond state.shared.table k byte ≡ false → is_beyond state.shared.table k byte ≡ true → (P : Type 0) → P
+  not_within_and_beyond : (byte : ℕ) → is_beyond state.shared.table slot byte ≡ false → is_beyond state.shared.table slot byte ≡ true
+      → (P : Type 0) → P
   not_within_and_beyond byte byte_within byte_beyond P = let contradiction : false ≡ true = sym byte_within ∙ byte_beyond in cc
 
   -- each byte that the enclave may write is in its region or window
   writes_within : (address n byte : ℕ)
       → is_accessible state.shared.memory state.shared.table state.hart_state.world Write (bytes_from address n) ≡ true
-      → address ≤ byte → byte < address + n → is_beyond state.shared.table k byte ≡ false
+      → address ≤ byte → byte < address + n → is_beyond state.shared.table slot byte ≡ false
   writes_within address n byte may_write from_start before_end =
-      own_seen state.shared.memory state.shared.table k Write address n
+      own_seen state.shared.memory state.shared.table slot Write address n
       (subst (λ (w : World). is_accessible state.shared.memory state.shared.table w Write
       (bytes_from address n) ≡ true) runs_enclave may_write) byte from_start before_end
 
   -- a byte that the step leaves unchanged, or changes as the enclave may, is unchanged if it is beyond the enclave's memory
-  unchanged_beyond : (byte : ℕ) → is_beyond state.shared.table k byte ≡ true
+  unchanged_beyond : (byte : ℕ) → is_beyond state.shared.table slot byte ≡ true
       → byte_at (monitored_step state).state.shared.memory byte ≡ byte_at state.shared.memory byte ⊎ IsChanged state (monitored_step state) byte
       → byte_at (monitored_step state).state.shared.memory byte ≡ byte_at state.shared.memory byte
   unchanged_beyond byte byte_beyond (inl same) = same
@@ -134,43 +135,43 @@ module _ (k : ℕ) (state : HartView) (view_invariant : HartViewInvariant state)
       (writes_within stored.span.addr (bytes_in stored.span.len) byte stored.accessible stored.low stored.high) byte_beyond _
   unchanged_beyond byte byte_beyond (inr (inr call)) = elim call.change [
     | inl cleared ↦
-        no_destroy _ k state.hart_state.world runs_enclave
+        no_destroy _ slot state.hart_state.world runs_enclave
         (requested-is_offered state.hart_state.world state.hart_state.hart.regs _ cleared.asked).1
     | inr put ↦ not_within_and_beyond byte (writes_within byte 1 byte put.accessible (omega arith) (omega arith)) byte_beyond _
   ]
 
   -- a step after which the enclave still runs changes no byte outside its region and window
-  pub own_bytes : (byte : ℕ) → is_beyond state.shared.table k byte ≡ true
+  pub own_bytes : (byte : ℕ) → is_beyond state.shared.table slot byte ≡ true
       → byte_at (monitored_step state).state.shared.memory byte ≡ byte_at state.shared.memory byte
   own_bytes byte byte_beyond = unchanged_beyond byte byte_beyond (changes state view_invariant byte)
 
 -- ---- a step of the machine
 
 -- the machine after the step differs only in the hart of the enclave and in the bytes of its region and window
-pub record Unchanged (e hart : ℕ) (before after : MonitoredMachine) : Type 0 where
+pub record Unchanged (enclave hart : ℕ) (before after : MonitoredMachine) : Type 0 where
   pub harts : count_of before ≡ count_of after
   pub others : (j : ℕ) → j ≢ hart → hart_state_of j before ≡ hart_state_of j after
   pub behind : SameHostOn hart before after
   pub table : before.shared.table ≡ after.shared.table
   pub contexts : before.shared.contexts ≡ after.shared.contexts
   pub size : length before.shared.memory ≡ length after.shared.memory
-  pub bytes : (byte : ℕ) → is_beyond before.shared.table e byte ≡ true → byte_at after.shared.memory byte ≡ byte_at before.shared.memory byte
+  pub bytes : (byte : ℕ) → is_beyond before.shared.table enclave byte ≡ true → byte_at after.shared.memory byte ≡ byte_at before.shared.memory byte
 
 -- a step of an enclave after which the enclave still runs changes only its hart, its region and its window
-pub one_unchanged : (e hart : ℕ) (machine : MonitoredMachine) → Invariant machine → runs_on e hart machine ≡ true
-    → runs_on e hart (step_of hart machine).state ≡ true
-    → Unchanged e hart machine (step_of hart machine).state
-one_unchanged e hart machine invariant runs_on_hart runs_after =
-    let in_range = runs_inside e hart machine runs_on_hart in
+pub one_unchanged : (enclave hart : ℕ) (machine : MonitoredMachine) → Invariant machine → runs_on enclave hart machine ≡ true
+    → runs_on enclave hart (step_of hart machine).state ≡ true
+    → Unchanged enclave hart machine (step_of hart machine).state
+one_unchanged enclave hart machine invariant runs_on_hart runs_after =
+    let in_range = runs_inside enclave hart machine runs_on_hart in
     let state = hart_view hart machine in
     let view_invariant = hart_view_invariant hart machine invariant in_range in
-    let world = world_is_enclave e state.hart_state.world runs_on_hart in
+    let world = world_is_enclave enclave state.hart_state.world runs_on_hart in
     let step_is = step_of_view hart machine in_range in
     let after = monitored_step state in
     let enclave_runs_after : is_host after.state.hart_state.world ≡ false =
     ap (λ (a : HartViewStepped). is_host a.state.hart_state.world) (sym step_is)
-    ∙ not_host_by e (hart_state_of hart (step_of hart machine).state).world runs_after in
-    let stays = stays_behind e state view_invariant world enclave_runs_after in
+    ∙ not_host_by enclave (hart_state_of hart (step_of hart machine).state).world runs_after in
+    let stays = stays_behind enclave state view_invariant world enclave_runs_after in
     let shared = ap (λ (a : HartViewStepped). a.state.shared) step_is in
     let hart_state = ap (λ (a : HartViewStepped). a.state.hart_state) step_is in
     let table = stays.table ∙ sym (ap (λ (s : Shared). s.table) shared) in
@@ -193,7 +194,7 @@ one_unchanged e hart machine invariant runs_on_hart runs_after =
       table = table;
       contexts = stays.contexts ∙ sym (ap (λ (s : Shared). s.contexts) shared);
       size = stays.size ∙ sym (ap (λ (s : Shared). length s.memory) shared);
-      bytes = λ byte is_beyond_e. ap (λ (s : Shared). byte_at s.memory byte) shared ∙ own_bytes e state view_invariant world byte is_beyond_e;
+      bytes = λ byte is_beyond_e. ap (λ (s : Shared). byte_at s.memory byte) shared ∙ own_bytes enclave state view_invariant world byte is_beyond_e;
     }
 
 -- ---- bytes of equal memories

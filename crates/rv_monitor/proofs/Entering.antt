@@ -17,9 +17,9 @@ use Rattle.rv_monitor.proofs.Switched.{aligned_again}
 use Rattle.rv_monitor.proofs.TrapSteps.{hart_state_after, quiet_world, trapped_step}
 use Rattle.rv_monitor.proofs.HandlerCases.{handler_cases, entering}
 
--- the host has a trap, and slot k has the saved context `context`
-module _ (before : HartView) (k : ℕ) (context : Context) (from_host : before.hart_state.world ≡ Host)
-    (has_context : context_at before.shared.contexts k ≡ Some context) (trap : Trap) where
+-- the host has a trap, and `slot` has the saved context `context`
+module _ (before : HartView) (slot : ℕ) (context : Context) (from_host : before.hart_state.world ≡ Host)
+    (has_context : context_at before.shared.contexts slot ≡ Some context) (trap : Trap) where
   -- the hart state at the trap, before the trap handler
   abbrev hart_state : HartState
   hart_state = hart_state_after before.hart_state trap
@@ -47,26 +47,26 @@ module _ (before : HartView) (k : ℕ) (context : Context) (from_host : before.h
 
   -- ---- the step
 
-  -- the view after an entry of slot k
+  -- the view after an entry of `slot`
   abbrev entered_state : HartView
   entered_state =
-      let slots = slots_with_state before.shared.table k Running in
+      let slots = slots_with_state before.shared.table slot Running in
       let hart = before.hart_state.hart in
       record {
         hart_state = record {
-          hart = switched_hart hart trap context slots (Enclave k);
+          hart = switched_hart hart trap context slots (Enclave slot);
           host_context = Some (saved hart (past_ecall hart) S);
-          world = Enclave k;
+          world = Enclave slot;
         };
-        shared = record before.shared { table = slots; contexts = slice_set before.shared.contexts k None };
+        shared = record before.shared { table = slots; contexts = slice_set before.shared.contexts slot None };
       }
 
-  -- the view after the step is the view after an entry of slot k, and the step reports this entry
+  -- the view after the step is the view after an entry of `slot`, and the step reports this entry
   abbrev Entered : HartViewStepped → Type 0
-  Entered after = (after.state ≡ entered_state) × (after.outcome.entered ≡ Some k)
+  Entered after = (after.state ≡ entered_state) × (after.outcome.entered ≡ Some slot)
 
-  -- the return from an entry of slot k gives the view after the entry
-  returned_entered : (outcome : StepOutcome) → HartViewInvariant before → can_go_on context ≡ true → a0 hart_state ≡ k
+  -- the return from an entry of `slot` gives the view after the entry
+  returned_entered : (outcome : StepOutcome) → HartViewInvariant before → can_go_on context ≡ true → a0 hart_state ≡ slot
       → Entered (returned outcome (with_reprogrammed_hart entering_now))
   unfolding entered_slot
   returned_entered outcome view_invariant can_continue named =
@@ -74,30 +74,30 @@ module _ (before : HartView) (k : ℕ) (context : Context) (from_host : before.h
       let mprv = view_invariant.hart.layout.mprv in
       rw (named, has_context, aligned, or-false (is_set before.hart_state.hart.csrs.mcountinhibit 0), mprv) (refl, refl)
 
-  -- if an entry leaves the hart in slot k, then a0 names slot k
-  a0_names_k : (h : Handled) → h ≡ with_reprogrammed_hart entering_now → h.hart_state.world ≡ Enclave k → a0 hart_state ≡ k
+  -- if an entry leaves the hart in `slot`, then a0 names `slot`
+  a0_names_k : (h : Handled) → h ≡ with_reprogrammed_hart entering_now → h.hart_state.world ≡ Enclave slot → a0 hart_state ≡ slot
   unfolding entered_slot
   a0_names_k h same enclave_runs_after =
-      let worlds : Enclave (a0 hart_state) ≡ Enclave k = sym (ap (λ (x : Handled). x.hart_state.world) same) ∙ enclave_runs_after in
-      let slots : a0 hart_state ≡ k = cc in
+      let worlds : Enclave (a0 hart_state) ≡ Enclave slot = sym (ap (λ (x : Handled). x.hart_state.world) same) ∙ enclave_runs_after in
+      let slots : a0 hart_state ≡ slot = cc in
       slots
 
-  -- if the result of the trap handler is in slot k, then the return from it gives the view after the entry
+  -- if the result of the trap handler is in `slot`, then the return from it gives the view after the entry
   entered_or_not : (outcome : StepOutcome) (h : Handled) → HartViewInvariant before → can_go_on context ≡ true → HostOrEntry h
-      → h.hart_state.world ≡ Enclave k
+      → h.hart_state.world ≡ Enclave slot
       → Entered (returned outcome h)
   entered_or_not outcome h view_invariant can_continue (inl host_stays) enclave_runs_after =
-      let contradiction : Host ≡ Enclave k = sym host_stays ∙ enclave_runs_after in cc
+      let contradiction : Host ≡ Enclave slot = sym host_stays ∙ enclave_runs_after in cc
   entered_or_not outcome h view_invariant can_continue (inr is_entry) enclave_runs_after =
       subst (λ (x : Handled). Entered (returned outcome x)) (sym is_entry)
       (returned_entered outcome view_invariant can_continue (a0_names_k h is_entry enclave_runs_after))
 
-  -- a step with a trap after which the hart is in slot k is an entry of slot k
+  -- a step with a trap after which the hart is in `slot` is an entry of `slot`
   step_is_entry : HartViewInvariant before → can_go_on context ≡ true → (monitored_step before).outcome.step.trap ≡ Some trap
-      → (monitored_step before).state.hart_state.world ≡ Enclave k → Entered (monitored_step before)
+      → (monitored_step before).state.hart_state.world ≡ Enclave slot → Entered (monitored_step before)
   step_is_entry view_invariant can_continue trapped enclave_runs_after =
       let step_is = trapped_step before trap trapped in
-      let handled_enclave = subst (λ (after : HartViewStepped). after.state.hart_state.world ≡ Enclave k) step_is enclave_runs_after in
+      let handled_enclave = subst (λ (after : HartViewStepped). after.state.hart_state.world ≡ Enclave slot) step_is enclave_runs_after in
       subst Entered (sym step_is)
       (entered_or_not (step (bare_machine before)).outcome _ view_invariant can_continue handled_host_or_entry handled_enclave)
 
@@ -107,17 +107,17 @@ module _ (before : HartView) (k : ℕ) (context : Context) (from_host : before.h
 module _ (before : HartView) (saves : SavedContextsInvariant before.shared) (runs : before.hart_state.world ≡ Host) (trap : Trap) where
   -- each slot that runs after the trap handler had a saved context before it
   abbrev HadContext : Handled → Type 0
-  HadContext h = (k : ℕ) → h.hart_state.world ≡ Enclave k → is_some (context_at before.shared.contexts k) ≡ true
+  HadContext h = (slot : ℕ) → h.hart_state.world ≡ Enclave slot → is_some (context_at before.shared.contexts slot) ≡ true
 
   -- the host is not an enclave, so nothing is to show for a result in which the host runs
-  no_entry : (world : World) → world ≡ Host → (k : ℕ) → world ≡ Enclave k → is_some (context_at before.shared.contexts k) ≡ true
-  no_entry world from_host k enclave_runs_after = let contradiction : Host ≡ Enclave k = sym from_host ∙ enclave_runs_after in cc
+  no_entry : (world : World) → world ≡ Host → (slot : ℕ) → world ≡ Enclave slot → is_some (context_at before.shared.contexts slot) ≡ true
+  no_entry world from_host slot enclave_runs_after = let contradiction : Host ≡ Enclave slot = sym from_host ∙ enclave_runs_after in cc
 
   -- a slot with an enclave in a state that the call accepts has a saved context
-  named_had : (call : Call) (j : ℕ) → SlotIsAccepted before.shared.table call j → (k : ℕ) → Enclave j ≡ Enclave k
-      → is_some (context_at before.shared.contexts k) ≡ true
-  named_had call j is_taken k same_enclave =
-      let same : j ≡ k = cc in
+  named_had : (call : Call) (j : ℕ) → SlotIsAccepted before.shared.table call j → (slot : ℕ) → Enclave j ≡ Enclave slot
+      → is_some (context_at before.shared.contexts slot) ≡ true
+  named_had call j is_taken slot same_enclave =
+      let same : j ≡ slot = cc in
       subst (λ (i : ℕ). is_some (context_at before.shared.contexts i) ≡ true) same
       (saves.kept j ∙ ap is_held is_taken.is ∙ ap not (takes_rests call is_taken.info.state is_taken.taken))
 
@@ -135,40 +135,40 @@ module _ (before : HartView) (saves : SavedContextsInvariant before.shared) (run
   })
 
   -- the slot that a step enters had a saved context before the step
-  had_context : (monitored_step before).outcome.step.trap ≡ Some trap → (k : ℕ) → (monitored_step before).state.hart_state.world ≡ Enclave k
-      → is_some (context_at before.shared.contexts k) ≡ true
-  had_context trapped k enclave_runs_after =
-      handled_had_context k
-      (subst (λ (after : HartViewStepped). after.state.hart_state.world ≡ Enclave k) (trapped_step before trap trapped) enclave_runs_after)
+  had_context : (monitored_step before).outcome.step.trap ≡ Some trap → (slot : ℕ) → (monitored_step before).state.hart_state.world ≡ Enclave slot
+      → is_some (context_at before.shared.contexts slot) ≡ true
+  had_context trapped slot enclave_runs_after =
+      handled_had_context slot
+      (subst (λ (after : HartViewStepped). after.state.hart_state.world ≡ Enclave slot) (trapped_step before trap trapped) enclave_runs_after)
 
 -- ---- the law
 
--- a step of the host after which the hart is in slot k leaves the machine after an entry by a call
-enters_from : (hart : ℕ) (machine : MonitoredMachine) → Invariant machine → (k : ℕ) (context : Context) (trap : Trap)
-    → (hart_state_of hart machine).world ≡ Host → context_at machine.shared.contexts k ≡ Some context
-    → (step_of hart machine).outcome.step.trap ≡ Some trap → (hart_state_of hart (step_of hart machine).state).world ≡ Enclave k
-    → ((step_of hart machine).state ≡ entered_by_call hart machine k trap context) × ((step_of hart machine).outcome.entered ≡ Some k)
-enters_from hart machine invariant k context trap from_host kept_one trapped enclave_runs_after =
+-- a step of the host after which the hart is in `slot` leaves the machine after an entry by a call
+enters_from : (hart : ℕ) (machine : MonitoredMachine) → Invariant machine → (slot : ℕ) (context : Context) (trap : Trap)
+    → (hart_state_of hart machine).world ≡ Host → context_at machine.shared.contexts slot ≡ Some context
+    → (step_of hart machine).outcome.step.trap ≡ Some trap → (hart_state_of hart (step_of hart machine).state).world ≡ Enclave slot
+    → ((step_of hart machine).state ≡ entered_by_call hart machine slot trap context) × ((step_of hart machine).outcome.entered ≡ Some slot)
+enters_from hart machine invariant slot context trap from_host kept_one trapped enclave_runs_after =
     let trapping = is_trapping hart machine trap trapped in
     let view_ends_in_k =
     sym (ap (λ (after : HartViewStepped). after.state.hart_state.world) (step_of_view hart machine trapping.has)) ∙ enclave_runs_after in
     let P : Option Context → Type 0 = λ o. IfSome o (λ c. can_go_on c ≡ true) in
-    let can_continue : can_go_on context ≡ true = subst P kept_one (invariant.shared.contexts.held k) in
+    let can_continue : can_go_on context ≡ true = subst P kept_one (invariant.shared.contexts.held slot) in
     let view_enters =
-    step_is_entry (hart_view hart machine) k context from_host kept_one trap
+    step_is_entry (hart_view hart machine) slot context from_host kept_one trap
     (hart_view_invariant hart machine invariant trapping.has) can_continue trapping.trapped view_ends_in_k in
     (trapping.state ∙ ap (programmed_by hart machine) view_enters.0, ap (λ (outcome : Outcome). outcome.entered) trapping.outcome ∙ view_enters.1)
 
--- the hart runs the host before its step, and enclave k after it
-module _ (hart k : ℕ) (machine : MonitoredMachine) (invariant : Invariant machine) (from_host : (hart_state_of hart machine).world ≡ Host)
-    (enclave_runs_after : (hart_state_of hart (step_of hart machine).state).world ≡ Enclave k) where
-  -- the step of the hart's view ends in slot k
-  view_ends_in_k : hart < count_of machine → (monitored_step (hart_view hart machine)).state.hart_state.world ≡ Enclave k
+-- the hart runs the host before its step, and enclave `slot` after it
+module _ (hart slot : ℕ) (machine : MonitoredMachine) (invariant : Invariant machine) (from_host : (hart_state_of hart machine).world ≡ Host)
+    (enclave_runs_after : (hart_state_of hart (step_of hart machine).state).world ≡ Enclave slot) where
+  -- the step of the hart's view ends in `slot`
+  view_ends_in_k : hart < count_of machine → (monitored_step (hart_view hart machine)).state.hart_state.world ≡ Enclave slot
   view_ends_in_k in_range =
       sym (ap (λ (after : HartViewStepped). after.state.hart_state.world) (step_of_view hart machine in_range)) ∙ enclave_runs_after
 
-  -- if a step without a trap ended in slot k, then the host would be an enclave
-  never_quiet : (step_of hart machine).outcome.step.trap ≡ None → Host ≡ Enclave k
+  -- if a step without a trap ended in `slot`, then the host would be an enclave
+  never_quiet : (step_of hart machine).outcome.step.trap ≡ None → Host ≡ Enclave slot
   never_quiet no_trap = elim (cases_lt hart (count_of machine)) [
     | inr past_last ↦
         sym (ap (λ (after : MonitoredStepped). (hart_state_of hart after.state).world) (outside hart machine past_last) ∙ from_host)
@@ -179,24 +179,24 @@ module _ (hart k : ℕ) (machine : MonitoredMachine) (invariant : Invariant mach
         sym from_host ∙ sym (quiet_world (hart_view hart machine) quiet) ∙ view_ends_in_k in_range
   ]
 
-  -- a step with a trap that ends in slot k enters slot k with the saved context of slot k
+  -- a step with a trap that ends in `slot` enters `slot` with the saved context of `slot`
   entered_with : (trap : Trap) → (step_of hart machine).outcome.step.trap ≡ Some trap → (o : Option Context)
-      → context_at machine.shared.contexts k ≡ o → HasEntered hart k machine (step_of hart machine)
+      → context_at machine.shared.contexts slot ≡ o → HasEntered hart slot machine (step_of hart machine)
   entered_with trap trapped None no_context =
       let trapping = is_trapping hart machine trap trapped in
-      let had = had_context (hart_view hart machine) invariant.shared.contexts from_host trap trapping.trapped k (view_ends_in_k trapping.has) in
+      let had = had_context (hart_view hart machine) invariant.shared.contexts from_host trap trapping.trapped slot (view_ends_in_k trapping.has) in
       let contradiction : false ≡ true = ap (λ (o : Option Context). is_some o) (sym no_context) ∙ had in
       cc
   entered_with trap is (Some context) has_context =
-      let entered_both = enters_from hart machine invariant k context trap from_host has_context is enclave_runs_after in
+      let entered_both = enters_from hart machine invariant slot context trap from_host has_context is enclave_runs_after in
       record { trap = trap; trapped = is; call = record { context = context; kept = has_context; state = entered_both.0; entered = entered_both.1 } }
 
-  -- a step that ends in slot k has a trap, and enters slot k with its saved context
-  entered_by : (o : Option Trap) → (step_of hart machine).outcome.step.trap ≡ o → HasEntered hart k machine (step_of hart machine)
+  -- a step that ends in `slot` has a trap, and enters `slot` with its saved context
+  entered_by : (o : Option Trap) → (step_of hart machine).outcome.step.trap ≡ o → HasEntered hart slot machine (step_of hart machine)
   entered_by None no_trap = let contradiction = never_quiet no_trap in cc
-  entered_by (Some trap) trapped = entered_with trap trapped (context_at machine.shared.contexts k) refl
+  entered_by (Some trap) trapped = entered_with trap trapped (context_at machine.shared.contexts slot) refl
 
 -- proves that a hart which enters an enclave continues with exactly the saved context of this enclave
 pub enter_law : (hart : ℕ) (machine : MonitoredMachine) → Invariant machine → EntersOnly hart machine (step_of hart machine)
-enter_law hart machine invariant k from_host enclave_runs_after =
-    entered_by hart k machine invariant from_host enclave_runs_after (step_of hart machine).outcome.step.trap refl
+enter_law hart machine invariant slot from_host enclave_runs_after =
+    entered_by hart slot machine invariant from_host enclave_runs_after (step_of hart machine).outcome.step.trap refl

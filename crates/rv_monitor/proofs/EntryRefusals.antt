@@ -9,24 +9,24 @@ use Rattle.rv_monitor.specs.Prelude.{Context, Enclave, Host, Running, context_at
 use Rattle.rv_monitor.proofs.Prelude.{Invariant, MonitoredMachine, MonitoredStepped, SlotInfo, hart_state_of}
 
 -- a free slot has no saved context
-free_has_none : (k : ℕ) (machine : MonitoredMachine) → Invariant machine → slot_at machine.shared.table k ≡ None
-    → is_some (context_at machine.shared.contexts k) ≡ false
-free_has_none k machine invariant slot_is_free = invariant.shared.contexts.kept k ∙ ap is_held slot_is_free
+free_has_none : (slot : ℕ) (machine : MonitoredMachine) → Invariant machine → slot_at machine.shared.table slot ≡ None
+    → is_some (context_at machine.shared.contexts slot) ≡ false
+free_has_none slot machine invariant slot_is_free = invariant.shared.contexts.kept slot ∙ ap is_held slot_is_free
 
 -- no step of the host that obeys the law of the entry enters a slot that is free before the step
-pub never_enters_new : (hart k : ℕ) (before : MonitoredMachine) (after : MonitoredStepped) → Invariant before → EntersOnly hart before after
-    → slot_at before.shared.table k ≡ None → (hart_state_of hart before).world ≡ Host → (hart_state_of hart after.state).world ≡ Enclave k → ⊥
-never_enters_new hart k before after invariant_before enters_only slot_is_free from_host enclave_runs_after =
-    let entry = enters_only k from_host enclave_runs_after in
+pub never_enters_new : (hart slot : ℕ) (before : MonitoredMachine) (after : MonitoredStepped) → Invariant before → EntersOnly hart before after
+    → slot_at before.shared.table slot ≡ None → (hart_state_of hart before).world ≡ Host → (hart_state_of hart after.state).world ≡ Enclave slot → ⊥
+never_enters_new hart slot before after invariant_before enters_only slot_is_free from_host enclave_runs_after =
+    let entry = enters_only slot from_host enclave_runs_after in
     let contradiction : false ≡ true =
-    sym (free_has_none k before invariant_before slot_is_free) ∙ ap (λ (o : Option Context). is_some o) entry.call.kept in
+    sym (free_has_none slot before invariant_before slot_is_free) ∙ ap (λ (o : Option Context). is_some o) entry.call.kept in
     cc
 
 -- no step that obeys the law of a new enclave leaves this enclave with the state Running
-pub never_runs_new : (k : ℕ) (info : SlotInfo) (before : MonitoredMachine) (after : MonitoredStepped) → KeepsAsCreated before after
-    → slot_at before.shared.table k ≡ None → slot_at after.state.shared.table k ≡ Some info → info.state ≡ Running → ⊥
-never_runs_new k info before after as_created slot_is_free slot_is runs =
-    let new = as_created.creates k (ap (λ (o : Option SlotInfo). is_some o) slot_is_free) (ap (λ (o : Option SlotInfo). is_some o) slot_is) in
+pub never_runs_new : (slot : ℕ) (info : SlotInfo) (before : MonitoredMachine) (after : MonitoredStepped) → KeepsAsCreated before after
+    → slot_at before.shared.table slot ≡ None → slot_at after.state.shared.table slot ≡ Some info → info.state ≡ Running → ⊥
+never_runs_new slot info before after as_created slot_is_free slot_is runs =
+    let new = as_created.creates slot (ap (λ (o : Option SlotInfo). is_some o) slot_is_free) (ap (λ (o : Option SlotInfo). is_some o) slot_is) in
     let equal : Some new.info ≡ Some info = sym new.is ∙ slot_is in
     let same : new.info ≡ info = cc in
     let contradiction : Fresh ≡ Running = sym new.fresh ∙ ap (λ (i : SlotInfo). i.state) same ∙ runs in

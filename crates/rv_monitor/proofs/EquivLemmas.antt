@@ -1,34 +1,35 @@
--- Two machines that are equivalent except e stay equivalent except e if the same part of each is changed alike.
+-- Two machines that are equivalent except `enclave` stay equivalent except `enclave` if the same part of each is changed alike.
 use Rattle.std.proofs.Common.{◌≡◌, ◌<◌, ℕ, refl, sym, ◌∙◌, ap, subst, inl, inr, arith}
 use Rattle.rv_monitor.specs.Prelude.{HartState, Shared, SharedEquivExcept, is_world_of}
 use Rattle.rv_monitor.proofs.Prelude.{EquivExcept, MonitoredMachine, HartStatesEquivExcept, cases_lt, changed, count_of, length-set, hart_state_of}
 use Rattle.rv_monitor.proofs.InvariantLemmas.{past_as_is}
 use Rattle.rv_monitor.proofs.HartCases.{hart_cases_of_both}
 
--- hart states are equivalent except e, if they are equal to hart states that are equivalent except e
-pub hart_states_equiv : (e : ℕ) (a b c d : HartState) → a ≡ b → c ≡ d → HartStatesEquivExcept e b d → HartStatesEquivExcept e a c
-hart_states_equiv e a b c d a_is_b c_is_d equiv =
-    subst (λ (s : HartState). HartStatesEquivExcept e s c) (sym a_is_b) (subst (HartStatesEquivExcept e b) (sym c_is_d) equiv)
+-- hart states are equivalent except `enclave`, if they are equal to hart states that are equivalent except `enclave`
+pub hart_states_equiv : (enclave : ℕ) (a b c d : HartState) → a ≡ b → c ≡ d → HartStatesEquivExcept enclave b d → HartStatesEquivExcept enclave a c
+hart_states_equiv enclave a b c d a_is_b c_is_d equiv =
+    subst (λ (s : HartState). HartStatesEquivExcept enclave s c) (sym a_is_b) (subst (HartStatesEquivExcept enclave b) (sym c_is_d) equiv)
 
--- equal hart states are equivalent except e
-pub same_hart_states : (e : ℕ) (one other : HartState) → one ≡ other → HartStatesEquivExcept e one other
-same_hart_states e one other one_is = record { world = ap (λ (s : HartState). s.world) one_is; same = λ not_running. one_is }
+-- equal hart states are equivalent except `enclave`
+pub same_hart_states : (enclave : ℕ) (one other : HartState) → one ≡ other → HartStatesEquivExcept enclave one other
+same_hart_states enclave one other one_is = record { world = ap (λ (s : HartState). s.world) one_is; same = λ not_running. one_is }
 
--- two equivalent machines stay equivalent if both get shared states that are equivalent except e
-pub shared_equiv : (e : ℕ) (one other : MonitoredMachine) (x y : Shared) → EquivExcept e one other → SharedEquivExcept e x y
-    → EquivExcept e (record one { shared = x }) (record other { shared = y })
-shared_equiv e one other x y equiv shared = record { harts = equiv.harts; hart_states = equiv.hart_states; shared = shared }
+-- two equivalent machines stay equivalent if both get shared states that are equivalent except `enclave`
+pub shared_equiv : (enclave : ℕ) (one other : MonitoredMachine) (x y : Shared) → EquivExcept enclave one other → SharedEquivExcept enclave x y
+    → EquivExcept enclave (record one { shared = x }) (record other { shared = y })
+shared_equiv enclave one other x y equiv shared = record { harts = equiv.harts; hart_states = equiv.hart_states; shared = shared }
 
--- a machine is equivalent except e to itself, if its shared state is
-pub equiv_itself : (e : ℕ) (machine : MonitoredMachine) → SharedEquivExcept e machine.shared machine.shared → EquivExcept e machine machine
-equiv_itself e machine shared =
+-- a machine is equivalent except `enclave` to itself, if its shared state is
+pub equiv_itself : (enclave : ℕ) (machine : MonitoredMachine) → SharedEquivExcept enclave machine.shared machine.shared
+    → EquivExcept enclave machine machine
+equiv_itself enclave machine shared =
     record { harts = refl; hart_states = λ hart. record { world = refl; same = λ not_running. refl }; shared = shared }
 
 -- the same change of a hart of two equivalent machines leaves them equivalent, if the change keeps the world of the hart
-changed_in : (e hart : ℕ) (change : HartState → HartState) (one other : MonitoredMachine)
+changed_in : (enclave hart : ℕ) (change : HartState → HartState) (one other : MonitoredMachine)
     → ((hart_state : HartState) → (change hart_state).world ≡ hart_state.world)
-    → hart < count_of one → EquivExcept e one other → EquivExcept e (changed hart change one) (changed hart change other)
-changed_in e hart change one other keeps_world in_range equiv =
+    → hart < count_of one → EquivExcept enclave one other → EquivExcept enclave (changed hart change one) (changed hart change other)
+changed_in enclave hart change one other keeps_world in_range equiv =
     let changed_one = change (hart_state_of hart one) in
     let changed_other = change (hart_state_of hart other) in
     let same_harts = equiv.harts in
@@ -37,19 +38,19 @@ changed_in e hart change one other keeps_world in_range equiv =
       harts = length-set one.hart_states hart changed_one ∙ equiv.harts ∙ sym (length-set other.hart_states hart changed_other);
       hart_states =
           hart_cases_of_both one.hart_states other.hart_states hart changed_one changed_other
-          (λ j s t. HartStatesEquivExcept e s t) same_harts in_range (record {
+          (λ j s t. HartStatesEquivExcept enclave s t) same_harts in_range (record {
             world = keeps_world (hart_state_of hart one) ∙ same_hart.world ∙ sym (keeps_world (hart_state_of hart other));
-            same = λ not_running. ap change (same_hart.same (sym (ap (is_world_of e) (keeps_world (hart_state_of hart one))) ∙ not_running));
+            same = λ not_running. ap change (same_hart.same (sym (ap (is_world_of enclave) (keeps_world (hart_state_of hart one))) ∙ not_running));
           }) (λ j distinct. equiv.hart_states j);
       shared = equiv.shared;
     }
 
 -- the same change of the state at any hart number leaves two equivalent machines equivalent, if the change keeps the world
-pub changed_equiv : (e hart : ℕ) (change : HartState → HartState) (one other : MonitoredMachine)
+pub changed_equiv : (enclave hart : ℕ) (change : HartState → HartState) (one other : MonitoredMachine)
     → ((hart_state : HartState) → (change hart_state).world ≡ hart_state.world)
-    → EquivExcept e one other → EquivExcept e (changed hart change one) (changed hart change other)
-changed_equiv e hart change one other keeps_world equiv = elim (cases_lt hart (count_of one)) [
-  | inl in_range ↦ changed_in e hart change one other keeps_world in_range equiv
+    → EquivExcept enclave one other → EquivExcept enclave (changed hart change one) (changed hart change other)
+changed_equiv enclave hart change one other keeps_world equiv = elim (cases_lt hart (count_of one)) [
+  | inl in_range ↦ changed_in enclave hart change one other keeps_world in_range equiv
   | inr past_last ↦
       let same_harts = equiv.harts in
       let one_unchanged = past_as_is hart (change (hart_state_of hart one)) one past_last in

@@ -37,9 +37,9 @@ events_invariant (event ∷ more) machine invariant = events_invariant more (eve
 -- ---- noninterference
 
 -- the timer line of the same hart changes in two machines
-module _ (e hart : ℕ) (raised : Bool) (one other : MonitoredMachine) where
+module _ (enclave hart : ℕ) (raised : Bool) (one other : MonitoredMachine) where
   -- the same change of a timer line leaves equivalent machines equivalent
-  line_equiv : EquivExcept e one other → EquivExcept e (with_timer hart one raised) (with_timer hart other raised)
+  line_equiv : EquivExcept enclave one other → EquivExcept enclave (with_timer hart one raised) (with_timer hart other raised)
   line_equiv equiv =
       let changed_one = timer_line_set raised (hart_state_of hart one) in
       let changed_other = timer_line_set raised (hart_state_of hart other) in
@@ -50,7 +50,7 @@ module _ (e hart : ℕ) (raised : Bool) (one other : MonitoredMachine) where
           harts = length-set one.hart_states hart changed_one ∙ same_harts ∙ sym (length-set other.hart_states hart changed_other);
           hart_states =
               hart_cases_of_both one.hart_states other.hart_states hart changed_one changed_other
-              (λ j s t. HartStatesEquivExcept e s t) same_harts in_range
+              (λ j s t. HartStatesEquivExcept enclave s t) same_harts in_range
               (record { world = same_hart.world; same = λ low. ap (timer_line_set raised) (same_hart.same low) }) (λ j distinct. equiv.hart_states j);
           shared = equiv.shared;
         }
@@ -58,8 +58,8 @@ module _ (e hart : ℕ) (raised : Bool) (one other : MonitoredMachine) where
       ]
 
   -- the same change of a timer line leaves related machines related
-  pub line_related : AreRelated e one other → AreRelated e (with_timer hart one raised) (with_timer hart other raised)
-  line_related related = changed_related e hart (timer_line_set raised) (timer_line_set raised) one other related (record {
+  pub line_related : AreRelated enclave one other → AreRelated enclave (with_timer hart one raised) (with_timer hart other raised)
+  line_related related = changed_related enclave hart (timer_line_set raised) (timer_line_set raised) one other related (record {
     world = refl;
     state = λ parts. record { world = parts.world; same = λ low. ap (timer_line_set raised) (parts.same low) };
     host = λ parts. record { host = parts.host; rest = ap (λ (c : CsrState). record c { timer = raised }) parts.rest };
@@ -67,17 +67,17 @@ module _ (e hart : ℕ) (raised : Bool) (one other : MonitoredMachine) where
 
 -- proves the noninterference law for events, by induction on the list
 pub event_law : EventLaw
-event_law e [] one other invariant_one invariant_other equiv low_steps = record { outcomes = refl; state = equiv }
-event_law e (StepOf hart ∷ more) one other invariant_one invariant_other equiv low_steps =
-    let first = noninterference hart one invariant_one e other invariant_other equiv low_steps.0 in
+event_law enclave [] one other invariant_one invariant_other equiv low_steps = record { outcomes = refl; state = equiv }
+event_law enclave (StepOf hart ∷ more) one other invariant_one invariant_other equiv low_steps =
+    let first = noninterference hart one invariant_one enclave other invariant_other equiv low_steps.0 in
     let rest =
-    event_law e more (step_of hart one).state (step_of hart other).state (invariant_law hart one invariant_one)
+    event_law enclave more (step_of hart one).state (step_of hart other).state (invariant_law hart one invariant_one)
     (invariant_law hart other invariant_other)
     first.state low_steps.1 in
     record { outcomes = ap₂ (λ (x : Outcome) (xs : List Outcome). x ∷ xs) first.outcome rest.outcomes; state = rest.state }
-event_law e (LineOf hart raised ∷ more) one other invariant_one invariant_other equiv low_steps =
-    let rest = event_law e more (with_timer hart one raised) (with_timer hart other raised) (line_invariant hart raised one invariant_one)
-    (line_invariant hart raised other invariant_other) (line_equiv e hart raised one other equiv) low_steps.1 in
+event_law enclave (LineOf hart raised ∷ more) one other invariant_one invariant_other equiv low_steps =
+    let rest = event_law enclave more (with_timer hart one raised) (with_timer hart other raised) (line_invariant hart raised one invariant_one)
+    (line_invariant hart raised other invariant_other) (line_equiv enclave hart raised one other equiv) low_steps.1 in
     record { outcomes = ap (λ (xs : List Outcome). (event_of (LineOf hart raised) one).outcome ∷ xs) rest.outcomes; state = rest.state }
 
 -- ---- integrity

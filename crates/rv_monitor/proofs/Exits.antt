@@ -27,8 +27,8 @@ use Rattle.rv_monitor.proofs.Alignment.{aligned_twice}
 
 -- ---- the world after the trap handler
 
--- the hart runs enclave k at the trap
-module _ (k : ℕ) (hart_state : HartState) (shared : Shared) (runs_enclave : hart_state.world ≡ Enclave k) where
+-- the hart runs the enclave in `slot` at the trap
+module _ (slot : ℕ) (hart_state : HartState) (shared : Shared) (runs_enclave : hart_state.world ≡ Enclave slot) where
   -- an enclave still runs after a measure, refused or not
   measure_stays : (o : Option Refusal) (call : Call)
       → is_host (option_case o (performed hart_state shared Measure) (refused hart_state shared)).hart_state.world ≡ false
@@ -37,9 +37,9 @@ module _ (k : ℕ) (hart_state : HartState) (shared : Shared) (runs_enclave : ha
   measure_stays (Some refusal) call = ap is_host runs_enclave
 
   -- a claim about a call that is not offered to the enclave holds, because such a call is not requested
-  not_offered : (P : Type 0) (call : Call) → is_offered (Enclave k) call ≡ false → is_offered hart_state.world call ≡ true → P
+  not_offered : (P : Type 0) (call : Call) → is_offered (Enclave slot) call ≡ false → is_offered hart_state.world call ≡ true → P
   not_offered P call not_offered_here offered =
-      let offered_here : is_offered (Enclave k) call ≡ true = sym (ap (λ (w : World). is_offered w call) runs_enclave) ∙ offered in
+      let offered_here : is_offered (Enclave slot) call ≡ true = sym (ap (λ (w : World). is_offered w call) runs_enclave) ∙ offered in
       let contradiction : false ≡ true = sym not_offered_here ∙ offered_here in
       cc
 
@@ -141,14 +141,14 @@ redirects_step hart machine invariant trap trapped is_redirection =
       ap (λ (outcome : Outcome). outcome.entered) trapping.outcome ∙ view_is.1,
     )
 
--- the hart of the view runs enclave k, and its step has this trap
-module _ (k : ℕ) (state : HartView) (runs_enclave : state.hart_state.world ≡ Enclave k) (trap : Trap) where
+-- the hart of the view runs the enclave in `slot`, and its step has this trap
+module _ (slot : ℕ) (state : HartView) (runs_enclave : state.hart_state.world ≡ Enclave slot) (trap : Trap) where
   -- after a step with a trap, the host runs if and only if the cause is one that exits
   exits_by_cause : (monitored_step state).outcome.step.trap ≡ Some trap
       → is_host (monitored_step state).state.hart_state.world ≡ causes_exit state.hart_state trap.cause
   unfolding handled
   exits_by_cause trapped = subst (λ (after : HartViewStepped). is_host after.state.hart_state.world ≡ causes_exit state.hart_state trap.cause)
-      (sym (trapped_step state trap trapped)) (by_cause k (hart_state_after state.hart_state trap) state.shared runs_enclave trap trap.cause)
+      (sym (trapped_step state trap trapped)) (by_cause slot (hart_state_after state.hart_state trap) state.shared runs_enclave trap trap.cause)
 
 -- ---- the interrupt that the hart of an enclave takes
 
@@ -181,8 +181,8 @@ timer_only false interrupt timer_or_none_is = cc
 -- ---- the step
 
 -- a hart that runs an enclave is a hart of the machine
-pub runs_here : (k hart : ℕ) (machine : MonitoredMachine) → (hart_state_of hart machine).world ≡ Enclave k → hart < count_of machine
-runs_here k hart machine runs = runs_inside k hart machine (ap (is_world_of k) runs ∙ eq-eqb k k refl)
+pub runs_here : (slot hart : ℕ) (machine : MonitoredMachine) → (hart_state_of hart machine).world ≡ Enclave slot → hart < count_of machine
+runs_here slot hart machine runs = runs_inside slot hart machine (ap (is_world_of slot) runs ∙ eq-eqb slot slot refl)
 
 -- the world of the hart after the step is the world in the hart's view after its step
 seen_world : (hart : ℕ) (machine : MonitoredMachine) → hart < count_of machine
@@ -191,9 +191,9 @@ seen_world hart machine in_range = ap (λ (after : HartViewStepped). after.state
 
 -- proves that an enclave exits only by stop, by exit or by the timer interrupt
 pub exits_law : (hart : ℕ) (machine : MonitoredMachine) → Invariant machine → ExitsOnRequest hart machine (step_of hart machine)
-exits_law hart machine invariant k runs = record {
+exits_law hart machine invariant slot runs = record {
   quiet = λ no_trap.
-      let in_range = runs_here k hart machine runs in
+      let in_range = runs_here slot hart machine runs in
       seen_world hart machine in_range
       ∙ quiet_world (hart_view hart machine)
       (sym (ap (λ (after : HartViewStepped). after.outcome.step.trap) (step_of_view hart machine in_range)) ∙ no_trap) ∙ runs;
@@ -201,7 +201,7 @@ exits_law hart machine invariant k runs = record {
       let trapping = is_trapping hart machine trap trapped in
       let state = hart_view hart machine in
       ap is_host (seen_world hart machine trapping.has)
-      ∙ exits_by_cause k state runs trap trapping.trapped;
+      ∙ exits_by_cause slot state runs trap trapping.trapped;
   timer = λ trap interrupt trapped cause_is.
       let trapping = is_trapping hart machine trap trapped in
       let state = hart_view hart machine in

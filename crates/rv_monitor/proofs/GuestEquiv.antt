@@ -1,5 +1,6 @@
--- Low steps of two machines whose guest views are equivalent except e have equal outcomes, and leave machines whose guest views are equivalent except
--- e.
+-- Low steps of two machines whose guest views are equivalent except `enclave` have equal outcomes, and leave machines whose guest views are
+-- equivalent except
+-- `enclave`.
 use Rattle.std.proofs.Common.{◌≡◌, ◌≢◌, ◌<◌, ℕ, true, false, List, length, Some, None, refl, sym, ◌∙◌, ap}
 use Rattle.std.proofs.Common.{subst, inl, inr, arith}
 use Rattle.std.proofs.lemmas.Simd.{map-map}
@@ -56,49 +57,50 @@ guest_invariant machine invariant =
           (guest_hart_invariant machine.shared.table (hart_state_of j machine) (invariant.hart_states j (omega (arith, same_length, in_range))));
     }
 
--- two machines that are equivalent except e have guest views that are equivalent except e
-pub guest_equiv : (e : ℕ) (one other : MonitoredMachine) → EquivExcept e one other → EquivToGuests e one other
-guest_equiv e one other equiv = record {
+-- two machines that are equivalent except `enclave` have guest views that are equivalent except `enclave`
+pub guest_equiv : (enclave : ℕ) (one other : MonitoredMachine) → EquivExcept enclave one other → EquivToGuests enclave one other
+guest_equiv enclave one other equiv = record {
   harts = length-map one.hart_states guest_state ∙ equiv.harts ∙ sym (length-map other.hart_states guest_state);
   hart_states = λ j.
       let hart_states = equiv.hart_states j in
-      hart_states_equiv e (hart_state_of j (guest_view one)) (guest_state (hart_state_of j one)) (hart_state_of j (guest_view other))
+      hart_states_equiv enclave (hart_state_of j (guest_view one)) (guest_state (hart_state_of j one)) (hart_state_of j (guest_view other))
       (guest_state (hart_state_of j other))
       (guest_hart_state j one) (guest_hart_state j other) (record { world = hart_states.world; same = λ low. ap guest_state (hart_states.same low) });
   shared = equiv.shared;
 }
 
 -- the same harts run the same enclaves in the guest view
-pub runs_too : (e hart : ℕ) (machine : MonitoredMachine) → runs_on e hart (guest_view machine) ≡ runs_on e hart machine
-runs_too e hart machine = ap (λ (s : HartState). is_world_of e s.world) (guest_hart_state hart machine)
+pub runs_too : (enclave hart : ℕ) (machine : MonitoredMachine) → runs_on enclave hart (guest_view machine) ≡ runs_on enclave hart machine
+runs_too enclave hart machine = ap (λ (s : HartState). is_world_of enclave s.world) (guest_hart_state hart machine)
 
 -- if the steps of two guest views leave equivalent machines, then the steps of the machines leave machines that are equivalent in the guest view
-pub equiv_from_guests : (e hart : ℕ) (one other : MonitoredMachine) → Invariant one → Invariant other
-    → EquivExcept e (step_of hart (guest_view one)).state (step_of hart (guest_view other)).state
-    → EquivToGuests e (step_of hart one).state (step_of hart other).state
-equiv_from_guests e hart one other invariant_one invariant_other equiv =
+pub equiv_from_guests : (enclave hart : ℕ) (one other : MonitoredMachine) → Invariant one → Invariant other
+    → EquivExcept enclave (step_of hart (guest_view one)).state (step_of hart (guest_view other)).state
+    → EquivToGuests enclave (step_of hart one).state (step_of hart other).state
+equiv_from_guests enclave hart one other invariant_one invariant_other equiv =
     let guest_one = (guest_step_of hart one invariant_one).state in
     let guest_other = (guest_step_of hart other invariant_other).state in
-    let guest_views_equiv = guest_equiv e (step_of hart (guest_view one)).state (step_of hart (guest_view other)).state equiv in
-    subst (λ (m : MonitoredMachine). EquivExcept e m (guest_view (step_of hart other).state)) (sym guest_one)
-    (subst (EquivExcept e (guest_view (step_of hart (guest_view one)).state)) (sym guest_other) guest_views_equiv)
+    let guest_views_equiv = guest_equiv enclave (step_of hart (guest_view one)).state (step_of hart (guest_view other)).state equiv in
+    subst (λ (m : MonitoredMachine). EquivExcept enclave m (guest_view (step_of hart other).state)) (sym guest_one)
+    (subst (EquivExcept enclave (guest_view (step_of hart (guest_view one)).state)) (sym guest_other) guest_views_equiv)
 
 -- two steps have equal outcomes, and leave machines that are equivalent in the guest view
-pub record GuestStepEquiv (e : ℕ) (one other : MonitoredStepped) : Type 0 where
+pub record GuestStepEquiv (enclave : ℕ) (one other : MonitoredStepped) : Type 0 where
   pub outcome : one.outcome ≡ other.outcome
-  pub state : EquivToGuests e one.state other.state
+  pub state : EquivToGuests enclave one.state other.state
 
 -- low steps of two machines that are equivalent in the guest view have equal outcomes, and leave machines that are equivalent in the guest view
-pub guest_step_equiv : (e hart : ℕ) (one other : MonitoredMachine) → Invariant one → Invariant other → EquivToGuests e one other
-    → runs_on e hart one ≡ false → GuestStepEquiv e (step_of hart one) (step_of hart other)
-guest_step_equiv e hart one other invariant_one invariant_other equiv not_running =
+pub guest_step_equiv : (enclave hart : ℕ) (one other : MonitoredMachine) → Invariant one → Invariant other → EquivToGuests enclave one other
+    → runs_on enclave hart one ≡ false → GuestStepEquiv enclave (step_of hart one) (step_of hart other)
+guest_step_equiv enclave hart one other invariant_one invariant_other equiv not_running =
     let invariant_guest_one = guest_invariant one invariant_one in
     let invariant_guest_other = guest_invariant other invariant_other in
     let step =
-    noninterference hart (guest_view one) invariant_guest_one e (guest_view other) invariant_guest_other equiv (runs_too e hart one ∙ not_running) in
+    noninterference hart (guest_view one) invariant_guest_one enclave (guest_view other) invariant_guest_other equiv
+    (runs_too enclave hart one ∙ not_running) in
     record {
       outcome = (guest_step_of hart one invariant_one).outcome ∙ step.outcome ∙ sym (guest_step_of hart other invariant_other).outcome;
-      state = equiv_from_guests e hart one other invariant_one invariant_other step.state;
+      state = equiv_from_guests enclave hart one other invariant_one invariant_other step.state;
     }
 
 -- the CSRs in the guest view, without those that a context switch replaces
@@ -136,10 +138,10 @@ on hart_state shared = record { hart_state = hart_state; shared = shared }
 abbrev SameHostAfter : HartViewStepped → HartViewStepped → Type 0
 SameHostAfter a b = SameHost (guest_state a.state.hart_state) (guest_state b.state.hart_state)
 
--- the hart does not run enclave e, and makes a step over two shared states that are equivalent except e
-module _ (e : ℕ) (hart_state : HartState) (one two : Shared) (view_invariant_one : HartViewInvariant (on hart_state one))
-    (runs_other : is_world_of e hart_state.world ≡ false)
-    (shared_equiv : SharedEquivExcept e one two) where
+-- the hart does not run `enclave`, and makes a step over two shared states that are equivalent except `enclave`
+module _ (enclave : ℕ) (hart_state : HartState) (one two : Shared) (view_invariant_one : HartViewInvariant (on hart_state one))
+    (runs_other : is_world_of enclave hart_state.world ≡ false)
+    (shared_equiv : SharedEquivExcept enclave one two) where
   -- a step with a trap leaves the same host over both shared states
   trapped_host : (trap : Trap) → SameHostAfter (view_after_trap (on hart_state one) trap) (view_after_trap (on hart_state two) trap)
   trapped_host trap =
@@ -154,7 +156,7 @@ module _ (e : ℕ) (hart_state : HartState) (one two : Shared) (view_invariant_o
   -- a step leaves the same host over both shared states
   step_host : SameHostAfter (monitored_step (on hart_state one)) (monitored_step (on hart_state two))
   step_host =
-      let bare_steps_alike = bare_law e (on hart_state one) two.memory view_invariant_one runs_other shared_equiv.memory in
+      let bare_steps_alike = bare_law enclave (on hart_state one) two.memory view_invariant_one runs_other shared_equiv.memory in
       let traps = ap (λ (o : StepOutcome). o.trap) bare_steps_alike.outcome in
       step_cases (on hart_state one) (λ after. SameHostAfter after (monitored_step (on hart_state two)))
       (λ no_trap. step_cases (on hart_state two) (λ after. SameHostAfter (view_without_trap (on hart_state one)) after)
@@ -196,17 +198,18 @@ same_host_chain j a one other b same_at_one same_between same_at_b = record {
 }
 
 -- an enclave that runs on hart j after a step of another hart ran on hart j before the step
-pub runs_before : (e hart j : ℕ) (machine : MonitoredMachine) → j ≢ hart → runs_on e j (step_of hart machine).state ≡ true
-    → runs_on e j machine ≡ true
-runs_before e hart j machine distinct runs_after =
-    sym (other_harts_keep (λ (s : HartState). is_world_of e s.world) (λ slots hart_state. refl) hart j machine distinct) ∙ runs_after
+pub runs_before : (enclave hart j : ℕ) (machine : MonitoredMachine) → j ≢ hart → runs_on enclave j (step_of hart machine).state ≡ true
+    → runs_on enclave j machine ≡ true
+runs_before enclave hart j machine distinct runs_after =
+    sym (other_harts_keep (λ (s : HartState). is_world_of enclave s.world) (λ slots hart_state. refl) hart j machine distinct) ∙ runs_after
 
--- Two machines are equivalent except e in the guest view, and each hart that runs e has the same saved host in both. A hart that does not run e makes
+-- Two machines are equivalent except `enclave` in the guest view, and each hart that runs `enclave` has the same saved host in both. A hart that
+-- does not run `enclave` makes
 -- a step in both.
-module _ (e hart : ℕ) (one other : MonitoredMachine) (invariant_one : Invariant one) (invariant_other : Invariant other)
-    (equiv : EquivToGuests e one other)
-    (hosts : (j : ℕ) → runs_on e j one ≡ true → SameHostOn j one other)
-    (not_running : runs_on e hart one ≡ false) where
+module _ (enclave hart : ℕ) (one other : MonitoredMachine) (invariant_one : Invariant one) (invariant_other : Invariant other)
+    (equiv : EquivToGuests enclave one other)
+    (hosts : (j : ℕ) → runs_on enclave j one ≡ true → SameHostOn j one other)
+    (not_running : runs_on enclave hart one ≡ false) where
   -- the hart that steps has the same host in both machines after the step
   stepped_hart_keeps_host : hart < count_of one → SameHostOn hart (step_of hart one).state (step_of hart other).state
   stepped_hart_keeps_host in_range =
@@ -215,12 +218,12 @@ module _ (e hart : ℕ) (one other : MonitoredMachine) (invariant_one : Invarian
       let size_one = length-map one.hart_states guest_state in
       let size_b = length-map other.hart_states guest_state in
       let related_harts = equiv.harts in
-      let not_running_one : runs_on e hart view_one ≡ false =
-      ap (λ (s : HartState). is_world_of e s.world) (guest_hart_state hart one) ∙ not_running in
+      let not_running_one : runs_on enclave hart view_one ≡ false =
+      ap (λ (s : HartState). is_world_of enclave s.world) (guest_hart_state hart one) ∙ not_running in
       let hart_states = (equiv.hart_states hart).same not_running_one in
       let view_invariant = hart_view_invariant hart view_one (guest_invariant one invariant_one) (omega (arith, size_one, in_range)) in
       let same_over_shared =
-      step_host e (hart_state_of hart view_one) view_one.shared view_other.shared view_invariant not_running_one equiv.shared in
+      step_host enclave (hart_state_of hart view_one) view_one.shared view_other.shared view_invariant not_running_one equiv.shared in
       let same_host_after : SameHostAfter (monitored_step (hart_view hart view_one)) (monitored_step (hart_view hart view_other)) =
       subst
       (λ (s : HartState). SameHostAfter (monitored_step (hart_view hart view_one))
@@ -231,13 +234,13 @@ module _ (e hart : ℕ) (one other : MonitoredMachine) (invariant_one : Invarian
       (sym (guest_state_after hart other invariant_other (omega (arith, size_one, size_b, related_harts, in_range)))) same_host_after)
 
   -- after low steps, each hart that runs the enclave has the same saved host in both machines
-  pub hosts_after : (j : ℕ) → runs_on e j (step_of hart one).state ≡ true → SameHostOn j (step_of hart one).state (step_of hart other).state
+  pub hosts_after : (j : ℕ) → runs_on enclave j (step_of hart one).state ≡ true → SameHostOn j (step_of hart one).state (step_of hart other).state
   hosts_after j runs_after =
-      let in_range = runs_inside e j (step_of hart one).state runs_after in
+      let in_range = runs_inside enclave j (step_of hart one).state runs_after in
       let count = step_count hart one in
       elim (cases_eq j hart) [
         | inl equal ↦ rw equal (stepped_hart_keeps_host (omega (arith, in_range, count, equal)))
         | inr distinct ↦
             same_host_chain j (step_of hart one).state one other (step_of hart other).state (beside_same hart j one distinct)
-            (hosts j (runs_before e hart j one distinct runs_after)) (beside_same hart j other distinct)
+            (hosts j (runs_before enclave hart j one distinct runs_after)) (beside_same hart j other distinct)
       ]

@@ -1,5 +1,6 @@
--- The trap handler of one hart, over two shared states that are equivalent except e, gives results that are equivalent except e. If the trap handler
--- enters e, then the results are equivalent except for the hart that runs e.
+-- The trap handler of one hart, over two shared states that are equivalent except `enclave`, gives results that are equivalent except `enclave`. If
+-- the trap handler
+-- enters `enclave`, then the results are equivalent except for the hart that runs `enclave`.
 use Rattle.std.proofs.Common.{◌≡◌, ℕ, List, length, Some, None, refl, sym, ap, subst, inl, inr}
 use Rattle.rv_enclaves.specs.declared.slot_info.EnclaveState.TheVariants as states
 use Rattle.rv_enclaves.proofs.WorksAlike.{WorksAlike, works_alike}
@@ -11,9 +12,9 @@ use Rattle.rv_monitor.proofs.HandlerCases.{handler_cases_of_both, entering, cont
 
 -- ---- the trap handler
 
--- each effect of the trap handler leaves the two shared states equivalent except e
-module _ (e : ℕ) (table : Slots) (m n : List ℕ) (contexts_m contexts_n : Contexts)
-    (cases : WorksAlike e (over table m contexts_m) (over table n contexts_n))
+-- each effect of the trap handler leaves the two shared states equivalent except `enclave`
+module _ (enclave : ℕ) (table : Slots) (m n : List ℕ) (contexts_m contexts_n : Contexts)
+    (cases : WorksAlike enclave (over table m contexts_m) (over table n contexts_n))
     (hart_state : HartState) (trap : Trap) where
   -- the shared state with the memory m and the saved contexts `contexts_m`
   abbrev shared_m : Shared
@@ -23,9 +24,9 @@ module _ (e : ℕ) (table : Slots) (m n : List ℕ) (contexts_m contexts_n : Con
   abbrev shared_n : Shared
   shared_n = over table n contexts_n
 
-  -- a return to the caller gives equivalent results, if the shared states after the call are equivalent except e
-  returned_alike : (one other : Shared) (status result : ℕ) → SharedEquivExcept e one other
-      → HandledAlike e (with_reprogrammed_hart (returned_to_caller hart_state one status result))
+  -- a return to the caller gives equivalent results, if the shared states after the call are equivalent except `enclave`
+  returned_alike : (one other : Shared) (status result : ℕ) → SharedEquivExcept enclave one other
+      → HandledAlike enclave (with_reprogrammed_hart (returned_to_caller hart_state one status result))
       (with_reprogrammed_hart (returned_to_caller hart_state other status result))
   returned_alike one other status result shared_equiv = record {
     entered = refl;
@@ -38,9 +39,9 @@ module _ (e : ℕ) (table : Slots) (m n : List ℕ) (contexts_m contexts_n : Con
     shared = shared_equiv;
   }
 
-  -- an entry of a slot other than e gives equivalent results
-  enters_other : (a0 hart_state ≡ e → ⊥)
-      → HandledAlike e (with_reprogrammed_hart (entering hart_state shared_m)) (with_reprogrammed_hart (entering hart_state shared_n))
+  -- an entry of a slot other than `enclave` gives equivalent results
+  enters_other : (a0 hart_state ≡ enclave → ⊥)
+      → HandledAlike enclave (with_reprogrammed_hart (entering hart_state shared_m)) (with_reprogrammed_hart (entering hart_state shared_n))
   unfolding entered_slot
   enters_other a0_is_not_e =
       let same = cases.contexts (a0 hart_state) a0_is_not_e in
@@ -50,22 +51,22 @@ module _ (e : ℕ) (table : Slots) (m n : List ℕ) (contexts_m contexts_n : Con
         shared = cases.switches (a0 hart_state) states.Running None;
       })
 
-  -- an entry of slot e gives equivalent results
-  enters_own : a0 hart_state ≡ e
-      → HandledAlike e (with_reprogrammed_hart (entering hart_state shared_m)) (with_reprogrammed_hart (entering hart_state shared_n))
+  -- an entry of `enclave` gives equivalent results
+  enters_own : a0 hart_state ≡ enclave
+      → HandledAlike enclave (with_reprogrammed_hart (entering hart_state shared_m)) (with_reprogrammed_hart (entering hart_state shared_n))
   unfolding entered_slot
   enters_own a0_is_e = record {
     entered = refl;
-    hart_state = record { world = refl; same = λ not_running. absurd (both_ways _ not_running (eq-eqb (a0 hart_state) e a0_is_e)) };
+    hart_state = record { world = refl; same = λ not_running. absurd (both_ways _ not_running (eq-eqb (a0 hart_state) enclave a0_is_e)) };
     shared = cases.switches (a0 hart_state) states.Running None;
   }
 
   -- an entry of the slot in a0 gives equivalent results
-  enters_alike : HandledAlike e (with_reprogrammed_hart (entering hart_state shared_m)) (with_reprogrammed_hart (entering hart_state shared_n))
-  enters_alike = elim (cases_eq (a0 hart_state) e) [ inl own ↦ enters_own own | inr other ↦ enters_other other ]
+  enters_alike : HandledAlike enclave (with_reprogrammed_hart (entering hart_state shared_m)) (with_reprogrammed_hart (entering hart_state shared_n))
+  enters_alike = elim (cases_eq (a0 hart_state) enclave) [ inl own ↦ enters_own own | inr other ↦ enters_other other ]
 
   -- an exit of the running enclave gives equivalent results
-  leaves_alike : HandledAlike e (with_reprogrammed_hart (leaving trap.cause hart_state shared_m))
+  leaves_alike : HandledAlike enclave (with_reprogrammed_hart (leaving trap.cause hart_state shared_m))
       (with_reprogrammed_hart (leaving trap.cause hart_state shared_n))
   unfolding left
   leaves_alike = record {
@@ -77,8 +78,8 @@ module _ (e : ℕ) (table : Slots) (m n : List ℕ) (contexts_m contexts_n : Con
   }
 
   -- the trap handler gives equivalent results over both shared states
-  handled_alike : length m ≡ length n → HandledAlike e (handled hart_state shared_m trap) (handled hart_state shared_n trap)
-  handled_alike = handler_cases_of_both hart_state trap table m n contexts_m contexts_n (HandledAlike e) (record {
+  handled_alike : length m ≡ length n → HandledAlike enclave (handled hart_state shared_m trap) (handled hart_state shared_n trap)
+  handled_alike = handler_cases_of_both hart_state trap table m n contexts_m contexts_n (HandledAlike enclave) (record {
     answers = λ status result. returned_alike shared_m shared_n status result cases.before;
     creates = λ requests no_refusal. returned_alike _ _ 0 (new_slot table) (cases.creates (create_args_of hart_state.hart.regs) no_refusal);
     destroys = λ requests is_taken. returned_alike _ _ 0 0 (cases.destroys (a0 hart_state) is_taken);
@@ -90,9 +91,9 @@ module _ (e : ℕ) (table : Slots) (m n : List ℕ) (contexts_m contexts_n : Con
 
 -- proves the noninterference of the trap handler, by case analysis
 pub handler_law : HandlerLaw
-handler_law e worlds hart_state one other trap shared_invariant_one shared_invariant_other not_running equiv =
+handler_law enclave worlds hart_state one other trap shared_invariant_one shared_invariant_other not_running equiv =
     let tables = equiv.table in
-    let cases = works_alike e one other worlds shared_invariant_one shared_invariant_other equiv in
-    let cases_over_table = subst (λ (t : Slots). WorksAlike e one (over t other.memory other.contexts)) (sym tables) cases in
-    subst (λ (t : Slots). HandledAlike e (handled hart_state one trap) (handled hart_state (over t other.memory other.contexts) trap)) tables
-    (handled_alike e one.table one.memory other.memory one.contexts other.contexts cases_over_table hart_state trap equiv.memory.size)
+    let cases = works_alike enclave one other worlds shared_invariant_one shared_invariant_other equiv in
+    let cases_over_table = subst (λ (t : Slots). WorksAlike enclave one (over t other.memory other.contexts)) (sym tables) cases in
+    subst (λ (t : Slots). HandledAlike enclave (handled hart_state one trap) (handled hart_state (over t other.memory other.contexts) trap)) tables
+    (handled_alike enclave one.table one.memory other.memory one.contexts other.contexts cases_over_table hart_state trap equiv.memory.size)

@@ -47,9 +47,9 @@ requested-is_offered world regs call requested = found-call world (register regs
 -- A call that enters an enclave is offered only to the host. Each case holds by computation, or has a false premise.
 pub entered-by-host : (world : World) (call : Call) → is_entering (Some call) ≡ true → is_offered world call ≡ true → world ≡ Host
 entered-by-host Host call is_entry_call offered = refl
-entered-by-host (Enclave k) Run is_entry_call offered = cc
-entered-by-host (Enclave k) Resume is_entry_call offered = cc
-entered-by-host (Enclave k) _ is_entry_call offered = cc
+entered-by-host (Enclave slot) Run is_entry_call offered = cc
+entered-by-host (Enclave slot) Resume is_entry_call offered = cc
+entered-by-host (Enclave slot) _ is_entry_call offered = cc
 
 -- if a6 has the number of stop, then a6 does not have the number of exit
 not_exit : (a6 : ℕ) → (call_number Stop == a6) ≡ true → (a6 == call_number Exit) ≡ false

@@ -55,12 +55,17 @@ module _ (table : Slots) (m n : List ℕ) (contexts_m contexts_n : Contexts) (sa
 
   -- bytes and contexts that are equal stay equal if nothing changes
   same_if_unchanged : Same shared_m shared_n
-  same_if_unchanged = record { table = refl; bytes = λ i same. same; contexts = λ k same. same }
+  same_if_unchanged = record { table = refl; bytes = λ i same. same; contexts = λ slot same. same }
 
   -- equal bytes and contexts stay equal after the same write to both memories
   with_put : (after : Slots) (address : ℕ) (bytes : List ℕ)
       → Same (over after (or_unchanged m (write m address bytes)) contexts_m) (over after (or_unchanged n (write n address bytes)) contexts_n)
-  with_put after address bytes = record { table = refl; bytes = λ i same. same_byte m n address bytes i same_length same; contexts = λ k same. same }
+  with_put after address bytes = record {
+    table = refl;
+    bytes = λ i same. same_byte m n address bytes i same_length same;
+    contexts =
+        λ slot same. same;
+  }
 
   -- equal bytes and contexts stay equal after the same new context in both lists
   with_kept : (after : Slots) (j : ℕ) (c : Option Context)
@@ -68,7 +73,7 @@ module _ (table : Slots) (m n : List ℕ) (contexts_m contexts_n : Contexts) (sa
   with_kept after j c = record {
     table = refl;
     bytes = λ i same. same;
-    contexts = λ k same. same_after_set contexts_m contexts_n j k c None contexts_length same;
+    contexts = λ slot same. same_after_set contexts_m contexts_n j slot c None contexts_length same;
   }
 
   -- a create makes the same record from both memories, if the bytes of the region are equal
@@ -81,22 +86,22 @@ module _ (table : Slots) (m n : List ℕ) (contexts_m contexts_n : Contexts) (sa
   unfolding created
   created_same new bytes =
       let info = same_record new bytes in
-      let k = new_slot table in
-      rw (← info) (with_kept (with_slot table k (Some (recorded m new))) k (Some (first_context (recorded m new))))
+      let slot = new_slot table in
+      rw (← info) (with_kept (with_slot table slot (Some (recorded m new))) slot (Some (first_context (recorded m new))))
 
   -- equal bytes and contexts stay equal after a destroy
-  destroyed_same : (k : ℕ) → Same (destroyed shared_m k) (destroyed shared_n k)
+  destroyed_same : (slot : ℕ) → Same (destroyed shared_m slot) (destroyed shared_n slot)
   unfolding destroyed
-  destroyed_same k =
-      let block = region table k in
-      let put = with_put (with_slot table k None) block.base (replicate block.size 0) in
-      let kept = with_kept table k None in
+  destroyed_same slot =
+      let block = region table slot in
+      let put = with_put (with_slot table slot None) block.base (replicate block.size 0) in
+      let kept = with_kept table slot None in
       record { table = refl; bytes = put.bytes; contexts = kept.contexts }
 
   -- equal bytes and contexts stay equal after a measure
-  measured_same : (k address : ℕ) → Same (measured shared_m k address) (measured shared_n k address)
+  measured_same : (slot address : ℕ) → Same (measured shared_m slot address) (measured shared_n slot address)
   unfolding measured
-  measured_same k address = with_put table address (measurement_at table k)
+  measured_same slot address = with_put table address (measurement_at table slot)
 
   -- the trap handler reads the same from both shared states
   module _ (hart_state : HartState) (trap : Trap) (same_read : SameRead hart_state trap.cause shared_m shared_n) where
@@ -146,9 +151,9 @@ module _ (table : Slots) (m n : List ℕ) (contexts_m contexts_n : Contexts) (sa
       measures = λ requests no_refusal. caller_same _ _ 0 0 (measured_same (measured_slot hart_state.world (a0 hart_state)) (a1 hart_state));
       enters = λ call requests is_entry_call from_host is_taken. enters_same (same_read.entered (entering_call call is_entry_call requests));
       leaves =
-          let k = running_slot hart_state.world in
-          let after = with_state table k (enclave_state_after trap.cause hart_state.hart.regs) in
-          record { hart_state = refl; next = refl; shared = with_kept after k (Some (context_saved_by trap.cause hart_state)) };
+          let slot = running_slot hart_state.world in
+          let after = with_state table slot (enclave_state_after trap.cause hart_state.hart.regs) in
+          record { hart_state = refl; next = refl; shared = with_kept after slot (Some (context_saved_by trap.cause hart_state)) };
       redirects = record { hart_state = refl; next = refl; shared = same_if_unchanged };
     }) same_length
 

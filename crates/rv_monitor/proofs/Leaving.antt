@@ -16,8 +16,8 @@ use Rattle.rv_monitor.proofs.Prelude.{get_or-set_at, hart_state_at_start, hart_s
 
 -- ---- the trap handler
 
--- the trap of a hart that runs enclave k, with a saved context of the host
-module _ (before : HartView) (k : ℕ) (host : Context) (runs_enclave : before.hart_state.world ≡ Enclave k)
+-- the trap of a hart that runs the enclave in `slot`, with a saved context of the host
+module _ (before : HartView) (slot : ℕ) (host : Context) (runs_enclave : before.hart_state.world ≡ Enclave slot)
     (host_is_saved : before.hart_state.host_context ≡ Some host)
     (trap : Trap) where
   -- the hart state at the trap, before the trap handler
@@ -39,11 +39,11 @@ module _ (before : HartView) (k : ℕ) (host : Context) (runs_enclave : before.h
 
   -- the enclave continues, or exits
   abbrev StaysOrExits : Handled → Type 0
-  StaysOrExits h = (h.hart_state.world ≡ Enclave k) ⊎ (h ≡ with_reprogrammed_hart leaving_now)
+  StaysOrExits h = (h.hart_state.world ≡ Enclave slot) ⊎ (h ≡ with_reprogrammed_hart leaving_now)
 
   -- a claim about a hart that runs both an enclave and the host holds, because there is no such hart
   enters_never : before.hart_state.world ≡ Host → (P : Type 0) → P
-  enters_never from_host P = let contradiction : Host ≡ Enclave k = sym from_host ∙ runs_enclave in cc
+  enters_never from_host P = let contradiction : Host ≡ Enclave slot = sym from_host ∙ runs_enclave in cc
 
   -- the trap handler exits the enclave, or leaves the enclave running
   handled_stays_or_exits : StaysOrExits (handled hart_state before.shared trap)
@@ -62,7 +62,7 @@ module _ (before : HartView) (k : ℕ) (host : Context) (runs_enclave : before.h
   -- the view after an exit
   abbrev left_state : HartView
   left_state =
-      let shared = left_shared before.shared k trap.cause before.hart_state.hart in
+      let shared = left_shared before.shared slot trap.cause before.hart_state.hart in
       record {
         hart_state = record { hart = left_hart before.hart_state.hart shared.table trap host; host_context = None; world = Host };
         shared = shared;
@@ -84,7 +84,7 @@ module _ (before : HartView) (k : ℕ) (host : Context) (runs_enclave : before.h
   -- if the host runs after the trap handler, then the return from it gives the view after an exit
   left_or_not : (outcome : StepOutcome) (h : Handled) → HartViewInvariant before → StaysOrExits h → h.hart_state.world ≡ Host
       → Left (returned outcome h)
-  left_or_not outcome h view_invariant (inl stays) host_runs_after = let contradiction : Enclave k ≡ Host = sym stays ∙ host_runs_after in cc
+  left_or_not outcome h view_invariant (inl stays) host_runs_after = let contradiction : Enclave slot ≡ Host = sym stays ∙ host_runs_after in cc
   left_or_not outcome h view_invariant (inr same) host_runs_after =
       subst (λ (x : Handled). Left (returned outcome x)) (sym same) (returned_left outcome view_invariant)
 
@@ -98,27 +98,27 @@ module _ (before : HartView) (k : ℕ) (host : Context) (runs_enclave : before.h
       subst Left (sym step_is) (left_or_not (step (bare_machine before)).outcome _ view_invariant handled_stays_or_exits handled_host)
 
 -- a step of an enclave with a trap after which the host runs leaves the machine after an exit, and enters no slot
-pub leave_law : (hart : ℕ) (machine : MonitoredMachine) → Invariant machine → (k : ℕ) (host : Context) (trap : Trap)
-    → (hart_state_of hart machine).world ≡ Enclave k → (hart_state_of hart machine).host_context ≡ Some host
+pub leave_law : (hart : ℕ) (machine : MonitoredMachine) → Invariant machine → (slot : ℕ) (host : Context) (trap : Trap)
+    → (hart_state_of hart machine).world ≡ Enclave slot → (hart_state_of hart machine).host_context ≡ Some host
     → (step_of hart machine).outcome.step.trap ≡ Some trap → (hart_state_of hart (step_of hart machine).state).world ≡ Host
-    → ((step_of hart machine).state ≡ left_machine hart machine k trap host) × ((step_of hart machine).outcome.entered ≡ None)
-leave_law hart machine invariant k host trap runs saved_host trapped host_runs_after =
+    → ((step_of hart machine).state ≡ left_machine hart machine slot trap host) × ((step_of hart machine).outcome.entered ≡ None)
+leave_law hart machine invariant slot host trap runs saved_host trapped host_runs_after =
     let trapping = is_trapping hart machine trap trapped in
     let view_host = sym (ap (λ (after : HartViewStepped). after.state.hart_state.world) (step_of_view hart machine trapping.has)) ∙ host_runs_after in
     let one =
-    step_is_exit (hart_view hart machine) k host runs saved_host trap
+    step_is_exit (hart_view hart machine) slot host runs saved_host trap
     (hart_view_invariant hart machine invariant trapping.has) trapping.trapped view_host in
     (trapping.state ∙ ap (programmed_by hart machine) one.0, ap (λ (outcome : Outcome). outcome.entered) trapping.outcome ∙ one.1)
 
 -- the state of the hart after an exit is the state that `left_hart` gives
-pub left_hart_state : (hart : ℕ) (machine : MonitoredMachine) (k : ℕ) (trap : Trap) (host : Context) → hart < count_of machine
+pub left_hart_state : (hart : ℕ) (machine : MonitoredMachine) (slot : ℕ) (trap : Trap) (host : Context) → hart < count_of machine
     → (let hart_before = (hart_state_of hart machine).hart in
-    let shared = left_shared machine.shared k trap.cause hart_before in
+    let shared = left_shared machine.shared slot trap.cause hart_before in
     let hart_state : HartState = record { hart = left_hart hart_before shared.table trap host; host_context = None; world = Host } in
-    hart_state_of hart (left_machine hart machine k trap host) ≡ hart_state)
-left_hart_state hart machine k trap host in_range =
+    hart_state_of hart (left_machine hart machine slot trap host) ≡ hart_state)
+left_hart_state hart machine slot trap host in_range =
     let hart_before = (hart_state_of hart machine).hart in
-    let shared = left_shared machine.shared k trap.cause hart_before in
+    let shared = left_shared machine.shared slot trap.cause hart_before in
     let same_length = length-map machine.hart_states (reprogrammed shared.table) in
     get_or-set_at (map (reprogrammed shared.table) machine.hart_states) hart hart _ (hart_state_at_start 0) refl
     (omega (arith, same_length, in_range))

@@ -26,11 +26,11 @@ abbrev pub saved_after : Cause → Hart → Context
 saved_after (causes.Interrupt interrupt) hart = saved hart (aligned_to_4 hart.pc) hart.mode
 saved_after (causes.Exception exception) hart = if register hart.regs 16 == call_number Exit then exited_context else stopped_at hart
 
--- the shared state after an exit of slot k, with its new state and its saved context
+-- the shared state after an exit of `slot`, with its new state and its saved context
 abbrev pub left_shared : Shared → ℕ → Cause → Hart → Shared
-left_shared shared k cause hart = record shared {
-  table = with_state shared.table k (enclave_state_after cause hart.regs);
-  contexts = with_context shared.contexts k (Some (saved_after cause hart));
+left_shared shared slot cause hart = record shared {
+  table = with_state shared.table slot (enclave_state_after cause hart.regs);
+  contexts = with_context shared.contexts slot (Some (saved_after cause hart));
 }
 
 -- ---- the host's hart
@@ -62,9 +62,9 @@ left_hart hart slots trap host = record {
 
 -- the machine after an exit: no byte changes, and on every other hart only the PMP entries and mie change
 abbrev pub left_machine : ℕ → MonitoredMachine → ℕ → Trap → Context → MonitoredMachine
-left_machine own before k trap host =
+left_machine own before slot trap host =
     let hart = (hart_state_of own before).hart in
-    let shared = left_shared before.shared k trap.cause hart in
+    let shared = left_shared before.shared slot trap.cause hart in
     record {
       hart_states = slice_set (map (reprogrammed shared.table) before.hart_states) own
           (record { hart = left_hart hart shared.table trap host; host_context = None; world = Host });

@@ -34,20 +34,20 @@ Legal c = IsLegal (s_context c)
 
 -- every saved context is legal
 abbrev AllLegal : Contexts → Type 0
-AllLegal saved_contexts = (k : ℕ) → IfSome (context_at saved_contexts k) (λ context. IsLegal context.supervisor)
+AllLegal saved_contexts = (slot : ℕ) → IfSome (context_at saved_contexts slot) (λ context. IsLegal context.supervisor)
 
 -- every saved context stays legal after a write of a legal context to one slot
 legal_set : (saved_contexts : Contexts) (j : ℕ) (o : Option Context) → AllLegal saved_contexts → IfSome o (λ context. IsLegal context.supervisor)
     → AllLegal (with_context saved_contexts j o)
-legal_set saved_contexts j o all_legal legal k =
+legal_set saved_contexts j o all_legal legal slot =
     let P : Option Context → Type 0 = λ x. IfSome x (λ context. IsLegal context.supervisor) in
     elim (cases_lt j (length saved_contexts)) [
-      | inr past_last ↦ subst (λ (x : Contexts). P (context_at x k)) (sym (set_past saved_contexts j o past_last)) (all_legal k)
-      | inl in_range ↦ elim (cases_eq k j) [
+      | inr past_last ↦ subst (λ (x : Contexts). P (context_at x slot)) (sym (set_past saved_contexts j o past_last)) (all_legal slot)
+      | inl in_range ↦ elim (cases_eq slot j) [
         | inl equal ↦
             subst (λ (i : ℕ). P (context_at (with_context saved_contexts j o) i)) (sym equal)
             (subst P (sym (at_written_slot saved_contexts j o in_range)) legal)
-        | inr distinct ↦ subst P (sym (at_other_slot saved_contexts j k o distinct)) (all_legal k)
+        | inr distinct ↦ subst P (sym (at_other_slot saved_contexts j slot o distinct)) (all_legal slot)
       ]
     ]
 
@@ -189,15 +189,15 @@ reset_stored entry aligned = record {
 }
 
 -- no slot has a saved context at reset
-no_context : (k : ℕ) → context_at no_contexts k ≡ None
-no_context k = elim (cases_lt k slot_count) [
-  | inl in_range ↦ get_or-replicate {A = Option Context} slot_count k None None in_range
-  | inr past_last ↦ get_or_past {X = Option Context} no_contexts k None past_last
+no_context : (slot : ℕ) → context_at no_contexts slot ≡ None
+no_context slot = elim (cases_lt slot slot_count) [
+  | inl in_range ↦ get_or-replicate {A = Option Context} slot_count slot None None in_range
+  | inr past_last ↦ get_or_past {X = Option Context} no_contexts slot None past_last
 ]
 
 -- the saved contexts at reset are legal, because there are none
-none_legal : (k : ℕ) → IfSome (context_at no_contexts k) (λ context. IsLegal context.supervisor)
-none_legal k = subst (λ (o : Option Context). IfSome o (λ context. IsLegal context.supervisor)) (sym (no_context k)) tt
+none_legal : (slot : ℕ) → IfSome (context_at no_contexts slot) (λ context. IsLegal context.supervisor)
+none_legal slot = subst (λ (o : Option Context). IfSome o (λ context. IsLegal context.supervisor)) (sym (no_context slot)) tt
 
 -- the machine at reset is legal, if the entry point is a multiple of 4
 starts_stored : (memory : List ℕ) (entry harts : ℕ) → aligned_to_4 entry ≡ entry → IsLegalMachine (at_start memory entry harts)

@@ -52,42 +52,43 @@ equal_outside_differing m n same_length = record {
 
 -- ---- a hart on which a running enclave runs
 
--- enclave e runs on this hart
-pub record RunsSomewhere (e : ℕ) (machine : MonitoredMachine) : Type 0 where
+-- `enclave` runs on this hart
+pub record RunsSomewhere (enclave : ℕ) (machine : MonitoredMachine) : Type 0 where
   pub hart : ℕ
-  pub runs : runs_on e hart machine ≡ true
+  pub runs : runs_on enclave hart machine ≡ true
 
 -- if some hart state of a list runs the enclave, then the hart state at some index runs the enclave
-some_index : (e : ℕ) (states : List HartState) → list_any (is_world_of e) (map (λ s. s.world) states) ≡ true
-    → (j : ℕ) × (is_world_of e (hart_state_in states j).world ≡ true)
-some_index e [] some_runs = cc
-some_index e (s ∷ states) some_runs = elim (cases_Bool (is_world_of e s.world)) [
+some_index : (enclave : ℕ) (states : List HartState) → list_any (is_world_of enclave) (map (λ s. s.world) states) ≡ true
+    → (j : ℕ) × (is_world_of enclave (hart_state_in states j).world ≡ true)
+some_index enclave [] some_runs = cc
+some_index enclave (s ∷ states) some_runs = elim (cases_Bool (is_world_of enclave s.world)) [
   | inl runs_enclave ↦ (zero, runs_enclave)
-  | inr runs_other ↦ let rest = some_index e states (rw runs_other at some_runs) in (suc rest.0, rest.1)
+  | inr runs_other ↦ let rest = some_index enclave states (rw runs_other at some_runs) in (suc rest.0, rest.1)
 ]
 
 -- an enclave with the state Running runs on some hart
-pub runs_somewhere : (e : ℕ) (machine : MonitoredMachine) → Invariant machine → runs machine.shared.table e ≡ true → RunsSomewhere e machine
-runs_somewhere e machine invariant running =
-    let index_is = some_index e machine.hart_states (sym (invariant.shared.running e) ∙ running) in
+pub runs_somewhere : (enclave : ℕ) (machine : MonitoredMachine) → Invariant machine → runs machine.shared.table enclave ≡ true
+    → RunsSomewhere enclave machine
+runs_somewhere enclave machine invariant running =
+    let index_is = some_index enclave machine.hart_states (sym (invariant.shared.running enclave) ∙ running) in
     record { hart = index_is.0; runs = index_is.1 }
 
 -- ---- the bytes that a step reads
 
--- bytes that are accessible to another world are not in the region of enclave e
-span_apart : (e : ℕ) (machine : MonitoredMachine) (hart : ℕ) (access : Access) (o : Option Span) → Invariant machine → hart < count_of machine
-    → runs_on e hart machine ≡ false → SpanIsAccessible (hart_view hart machine) access o → (byte : ℕ) → in_span o byte ≡ true
-    → has (region machine.shared.table e) byte ≡ false
-span_apart e machine hart access None invariant in_range not_running is_accessible_span byte byte_in_span = cc
-span_apart e machine hart access (Some span) invariant in_range not_running is_accessible_span byte byte_in_span =
+-- bytes that are accessible to another world are not in the region of `enclave`
+span_apart : (enclave : ℕ) (machine : MonitoredMachine) (hart : ℕ) (access : Access) (o : Option Span) → Invariant machine → hart < count_of machine
+    → runs_on enclave hart machine ≡ false → SpanIsAccessible (hart_view hart machine) access o → (byte : ℕ) → in_span o byte ≡ true
+    → has (region machine.shared.table enclave) byte ≡ false
+span_apart enclave machine hart access None invariant in_range not_running is_accessible_span byte byte_in_span = cc
+span_apart enclave machine hart access (Some span) invariant in_range not_running is_accessible_span byte byte_in_span =
     let parts = and_parts _ _ byte_in_span in
-    accessible_apart machine.shared.memory machine.shared.table (hart_state_of hart machine).world access span.addr (bytes_in span.len) e
+    accessible_apart machine.shared.memory machine.shared.table (hart_state_of hart machine).world access span.addr (bytes_in span.len) enclave
     invariant.shared.valid not_running is_accessible_span byte (leb-true _ _ parts.0) (ltb-true _ _ parts.1)
 
 -- a low step reads no byte in the region of the enclave
-pub reads_apart : (e hart : ℕ) (machine : MonitoredMachine) → Invariant machine → runs_on e hart machine ≡ false → (byte : ℕ)
-    → reads_byte (step_of hart machine).outcome.step.touched byte ≡ true → has (region machine.shared.table e) byte ≡ false
-reads_apart e hart machine invariant not_running byte byte_read = elim (cases_lt hart (count_of machine)) [
+pub reads_apart : (enclave hart : ℕ) (machine : MonitoredMachine) → Invariant machine → runs_on enclave hart machine ≡ false → (byte : ℕ)
+    → reads_byte (step_of hart machine).outcome.step.touched byte ≡ true → has (region machine.shared.table enclave) byte ≡ false
+reads_apart enclave hart machine invariant not_running byte byte_read = elim (cases_lt hart (count_of machine)) [
   | inr past_last ↦
       let contradiction : false ≡ true =
       sym (ap (λ (a : MonitoredStepped). reads_byte a.outcome.step.touched byte) (outside hart machine past_last)) ∙ byte_read in
@@ -99,9 +100,9 @@ reads_apart e hart machine invariant not_running byte byte_read = elim (cases_lt
       let accessed = subst (IsTouchedAccessible state) (sym step_is) (touch_law state (hart_view_invariant hart machine invariant in_range)) in
       let touched = (step_of hart machine).outcome.step.touched in
       elim (cases_Bool (in_span touched.fetched byte)) [
-        | inl is_fetched ↦ span_apart e machine hart Fetch touched.fetched invariant in_range not_running accessed.fetched byte is_fetched
+        | inl is_fetched ↦ span_apart enclave machine hart Fetch touched.fetched invariant in_range not_running accessed.fetched byte is_fetched
         | inr not_fetched ↦
-            span_apart e machine hart Read touched.loaded invariant in_range not_running accessed.loaded byte
+            span_apart enclave machine hart Read touched.loaded invariant in_range not_running accessed.loaded byte
             (right_if_not_left _ _ byte_read not_fetched)
       ]
 ]
@@ -114,10 +115,10 @@ may_not_differ : (in_region runs_now in_window : Bool) → in_region ≡ false �
 may_not_differ in_region true in_window outside_region outside_window = rw (outside_region, outside_window refl) refl
 may_not_differ in_region false in_window outside_region outside_window = rw outside_region refl
 
--- two machines are related, and the same hart makes a low step in both while enclave e runs on another hart
-module _ (e hart : ℕ) (one other : MonitoredMachine) (invariant_one : Invariant one) (invariant_other : Invariant other)
-    (related : AreRelated e one other)
-    (low : IsLowStep e hart one other) (running : runs one.shared.table e ≡ true) where
+-- two machines are related, and the same hart makes a low step in both while `enclave` runs on another hart
+module _ (enclave hart : ℕ) (one other : MonitoredMachine) (invariant_one : Invariant one) (invariant_other : Invariant other)
+    (related : AreRelated enclave one other)
+    (low : IsLowStep enclave hart one other) (running : runs one.shared.table enclave ≡ true) where
   -- The second machine with the memory of the first one. Below, this machine is called the machine in between.
   abbrev mid : MonitoredMachine
   mid = over_bytes other one.shared.memory
@@ -127,7 +128,7 @@ module _ (e hart : ℕ) (one other : MonitoredMachine) (invariant_one : Invarian
   mid_kept = invariant_by_size other one.shared.memory invariant_other (sym related.memory.size)
 
   -- the first machine is related to the machine in between
-  mid_related : AreRelated e one mid
+  mid_related : AreRelated enclave one mid
   mid_related = record {
     harts = related.harts;
     hart_states = related.hart_states;
@@ -138,28 +139,28 @@ module _ (e hart : ℕ) (one other : MonitoredMachine) (invariant_one : Invarian
     gone = λ dead. ap (λ (s : Shared). record s { memory = one.shared.memory }) (related.gone dead);
   }
 
-  -- the first machine and the machine in between are equivalent except e in the guest view
-  mid_equiv : EquivToGuests e one mid
-  mid_equiv = related_equiv e one mid mid_related (λ runs_too. record { size = refl; bytes = λ i shown. refl })
+  -- the first machine and the machine in between are equivalent except `enclave` in the guest view
+  mid_equiv : EquivToGuests enclave one mid
+  mid_equiv = related_equiv enclave one mid mid_related (λ runs_too. record { size = refl; bytes = λ i shown. refl })
 
   -- the low steps of the first machine and of the machine in between have equal outcomes, and leave machines that are equivalent in the guest view
-  first_step : GuestStepEquiv e (step_of hart one) (step_of hart mid)
-  first_step = guest_step_equiv e hart one mid invariant_one mid_kept mid_equiv low.low
+  first_step : GuestStepEquiv enclave (step_of hart one) (step_of hart mid)
+  first_step = guest_step_equiv enclave hart one mid invariant_one mid_kept mid_equiv low.low
 
   -- the first machine and the machine in between are related after the step
-  first_after : AreRelated e (step_of hart one).state (step_of hart mid).state
+  first_after : AreRelated enclave (step_of hart one).state (step_of hart mid).state
   first_after =
-      equiv_related e (step_of hart one).state (step_of hart mid).state first_step.state
-      (hosts_after e hart one mid invariant_one mid_kept mid_equiv mid_related.hosts low.low)
+      equiv_related enclave (step_of hart one).state (step_of hart mid).state first_step.state
+      (hosts_after enclave hart one mid invariant_one mid_kept mid_equiv mid_related.hosts low.low)
 
   -- each byte that the step reads is equal in the memories of both machines
   read_same : (i : ℕ) → reads_byte (step_of hart one).outcome.step.touched (ram_base + i) ≡ true
       → slice_index one.shared.memory i ≡ slice_index other.shared.memory i
-  read_same i byte_read = elim (cases_Bool (has (window one.shared.table e) (ram_base + i))) [
+  read_same i byte_read = elim (cases_Bool (has (window one.shared.table enclave) (ram_base + i))) [
     | inl in_window ↦ (low.window running).bytes i (nand_fails _ _ in_window byte_read)
     | inr outside_window ↦
         related.memory.bytes i
-        (may_not_differ _ _ _ (reads_apart e hart one invariant_one low.low (ram_base + i) byte_read) (λ runs_too. outside_window))
+        (may_not_differ _ _ _ (reads_apart enclave hart one invariant_one low.low (ram_base + i) byte_read) (λ runs_too. outside_window))
   ]
 
   -- the step reads no byte in which the memories of both machines differ
@@ -171,14 +172,14 @@ module _ (e hart : ℕ) (one other : MonitoredMachine) (invariant_one : Invarian
   -- the step measures no byte in which the memories of both machines differ
   measures_seen : MeasuresSeen (differs one.shared.memory other.shared.memory) (hart_state_of hart mid).world mid.shared.table mid.shared.contexts
   measures_seen host memory new no_refusal i in_new_region =
-      let new_is_apart = (free_from other.shared.table new no_refusal.apart).others e in
+      let new_is_apart = (free_from other.shared.table new no_refusal.apart).others enclave in
       let table = related.table in
-      let outside_region : has (region other.shared.table e) (ram_base + i) ≡ false =
-      apart_at new.region (region other.shared.table e) (ram_base + i) new_is_apart.regions in_new_region in
-      let outside_window : has (window other.shared.table e) (ram_base + i) ≡ false =
-      apart_at new.region (window other.shared.table e) (ram_base + i) new_is_apart.window in_new_region in
+      let outside_region : has (region other.shared.table enclave) (ram_base + i) ≡ false =
+      apart_at new.region (region other.shared.table enclave) (ram_base + i) new_is_apart.regions in_new_region in
+      let outside_window : has (window other.shared.table enclave) (ram_base + i) ≡ false =
+      apart_at new.region (window other.shared.table enclave) (ram_base + i) new_is_apart.window in_new_region in
       same_does_not_differ one.shared.memory other.shared.memory i
-      (related.memory.bytes i (ap (λ (t : Slots). may_differ t e (ram_base + i)) table
+      (related.memory.bytes i (ap (λ (t : Slots). may_differ t enclave (ram_base + i)) table
       ∙ may_not_differ _ _ _ outside_region (λ runs_too. outside_window)))
 
   -- the steps of the machine in between and of the second machine differ only in bytes that the step does not change
@@ -188,17 +189,17 @@ module _ (e hart : ℕ) (one other : MonitoredMachine) (invariant_one : Invarian
       (equal_outside_differing one.shared.memory other.shared.memory related.memory.size) reads_seen measures_seen
 
   -- the record of the enclave is unchanged after the step, because the enclave runs on another hart
-  slot_kept : (slot_at (step_of hart one).state.shared.table e ≡ slot_at one.shared.table e)
-      × (is_live (step_of hart one).state.shared.table e ≡ true)
+  slot_kept : (slot_at (step_of hart one).state.shared.table enclave ≡ slot_at one.shared.table enclave)
+      × (is_live (step_of hart one).state.shared.table enclave ≡ true)
   slot_kept =
-      let somewhere = runs_somewhere e one invariant_one running in
-      let continues = go_on_law hart one invariant_one e somewhere.hart somewhere.runs low.low in
-      let live = running_is_live e somewhere.hart one invariant_one somewhere.runs in
-      ((integrity hart one invariant_one e low.low live continues.passes continues.live).preserved.slot, continues.live)
+      let somewhere = runs_somewhere enclave one invariant_one running in
+      let continues = go_on_law hart one invariant_one enclave somewhere.hart somewhere.runs low.low in
+      let live = running_is_live enclave somewhere.hart one invariant_one somewhere.runs in
+      ((integrity hart one invariant_one enclave low.low live continues.passes continues.live).preserved.slot, continues.live)
 
   -- a low step of two related machines, while the enclave runs on another hart, has equal outcomes and leaves the machines related
   pub low_while_running : ((step_of hart one).outcome ≡ (step_of hart other).outcome)
-      × AreRelated e (step_of hart one).state (step_of hart other).state
+      × AreRelated enclave (step_of hart one).state (step_of hart other).state
   low_while_running =
       let after_one = (step_of hart one).state in
       let states = last_step.hart_states in
@@ -209,7 +210,8 @@ module _ (e hart : ℕ) (one other : MonitoredMachine) (invariant_one : Invarian
           harts = first_after.harts ∙ ap (λ (hs : List HartState). length hs) states;
           hart_states = λ j.
               subst
-              (λ (hs : List HartState). HartStatesEquivExcept e (guest_state (hart_state_of j after_one)) (guest_state (hart_state_in hs j))) states
+              (λ (hs : List HartState). HartStatesEquivExcept enclave (guest_state (hart_state_of j after_one))
+              (guest_state (hart_state_in hs j))) states
               (first_after.hart_states j);
           hosts = λ j runs_there.
               subst (λ (hs : List HartState). SameHost (guest_state (hart_state_of j after_one)) (guest_state (hart_state_in hs j))) states
@@ -236,5 +238,5 @@ module _ (e hart : ℕ) (one other : MonitoredMachine) (invariant_one : Invarian
 -- ---- equal windows
 
 -- if all bytes of the window are equal in two machines, then so are the bytes of the window that a step reads
-pub window_read : (e hart : ℕ) (one other : MonitoredMachine) → SameWindow e one other → SameWindowRead e hart one other
-window_read e hart one other same = record { size = same.size; bytes = λ i shown. same.bytes i (left_if_nand_fails _ _ shown) }
+pub window_read : (enclave hart : ℕ) (one other : MonitoredMachine) → SameWindow enclave one other → SameWindowRead enclave hart one other
+window_read enclave hart one other same = record { size = same.size; bytes = λ i shown. same.bytes i (left_if_nand_fails _ _ shown) }

@@ -15,53 +15,54 @@ use Rattle.rv_monitor.proofs.TrapSteps.{step_cases, hart_state_after}
 use Rattle.rv_monitor.proofs.HandlerCases.{handler_cases}
 
 -- a new state of slot j leaves the record of each other slot unchanged
-pub state_other : (slots : Slots) (k j : ℕ) (o : Option SlotInfo) (state : EnclaveState) → k ≢ j
-    → slot_at (option_case o slots (λ info. with_slot slots j (Some (record info { state = state })))) k ≡ slot_at slots k
-state_other slots k j None state distinct = refl
-state_other slots k j (Some info) state distinct = at_other_slot slots j k (Some (record info { state = state })) distinct
+pub state_other : (slots : Slots) (slot j : ℕ) (o : Option SlotInfo) (state : EnclaveState) → slot ≢ j
+    → slot_at (option_case o slots (λ info. with_slot slots j (Some (record info { state = state })))) slot ≡ slot_at slots slot
+state_other slots slot j None state distinct = refl
+state_other slots slot j (Some info) state distinct = at_other_slot slots j slot (Some (record info { state = state })) distinct
 
--- a new state of slot k leaves the identity of slot k unchanged
-state_same : (slots : Slots) (k : ℕ) (o : Option SlotInfo) (state : EnclaveState) → length slots ≡ slot_count → slot_at slots k ≡ o
-    → identity_at (option_case o slots (λ info. with_slot slots k (Some (record info { state = state })))) k ≡ identity_at slots k
-state_same slots k None state table_length slot_is = refl
-state_same slots k (Some info) state table_length slot_is =
-    let slot_in_range = live_in_range slots k info table_length slot_is in
-    let at_k = at_written_slot slots k (Some (record info { state = state })) (omega (arith, table_length, slot_in_range)) in
+-- a new state of `slot` leaves the identity of `slot` unchanged
+state_same : (slots : Slots) (slot : ℕ) (o : Option SlotInfo) (state : EnclaveState) → length slots ≡ slot_count → slot_at slots slot ≡ o
+    → identity_at (option_case o slots (λ info. with_slot slots slot (Some (record info { state = state })))) slot ≡ identity_at slots slot
+state_same slots slot None state table_length slot_is = refl
+state_same slots slot (Some info) state table_length slot_is =
+    let slot_in_range = live_in_range slots slot info table_length slot_is in
+    let at_k = at_written_slot slots slot (Some (record info { state = state })) (omega (arith, table_length, slot_in_range)) in
     ap (option_map identity_of) at_k ∙ sym (ap (option_map identity_of) slot_is)
 
 -- a new state of slot j leaves the identity of each slot unchanged
-pub state_keeps : (slots : Slots) (k j : ℕ) (state : EnclaveState) → length slots ≡ slot_count
-    → identity_at (with_state slots j state) k ≡ identity_at slots k
-state_keeps slots k j state table_length = elim (cases_eq k j) [
-  | inl equal ↦ rw (← equal) (state_same slots k (slot_at slots k) state table_length refl)
-  | inr distinct ↦ ap (option_map identity_of) (state_other slots k j (slot_at slots j) state distinct)
+pub state_keeps : (slots : Slots) (slot j : ℕ) (state : EnclaveState) → length slots ≡ slot_count
+    → identity_at (with_state slots j state) slot ≡ identity_at slots slot
+state_keeps slots slot j state table_length = elim (cases_eq slot j) [
+  | inl equal ↦ rw (← equal) (state_same slots slot (slot_at slots slot) state table_length refl)
+  | inr distinct ↦ ap (option_map identity_of) (state_other slots slot j (slot_at slots j) state distinct)
 ]
 
--- enclave k is live before the trap handler
-module _ (k : ℕ) (hart_state : HartState) (shared : Shared) (valid : IsValid shared.memory shared.table) (live : is_live shared.table k ≡ true) where
-  -- a create leaves the identity of the live slot k unchanged
-  created_keeps : (new : CreateArgs) → MayCreate shared new → identity_at (created shared new).table k ≡ identity_at shared.table k
+-- enclave `slot` is live before the trap handler
+module _ (slot : ℕ) (hart_state : HartState) (shared : Shared) (valid : IsValid shared.memory shared.table)
+    (live : is_live shared.table slot ≡ true) where
+  -- a create leaves the identity of the live `slot` unchanged
+  created_keeps : (new : CreateArgs) → MayCreate shared new → identity_at (created shared new).table slot ≡ identity_at shared.table slot
   unfolding created
   created_keeps new no_refusal =
       let free = (free_slot_from shared.table (new_slot shared.table) no_refusal.free).free in
-      let distinct : k ≢ new_slot shared.table = λ same. both_ways _ (ap (λ (o : Option SlotInfo). is_some o) free) (rw (← same) live) in
-      ap (option_map identity_of) (at_other_slot shared.table (new_slot shared.table) k (Some (recorded shared.memory new)) distinct)
+      let distinct : slot ≢ new_slot shared.table = λ same. both_ways _ (ap (λ (o : Option SlotInfo). is_some o) free) (rw (← same) live) in
+      ap (option_map identity_of) (at_other_slot shared.table (new_slot shared.table) slot (Some (recorded shared.memory new)) distinct)
 
-  -- a destroy after which slot k is live leaves the identity of slot k unchanged
-  destroyed_keeps : (j : ℕ) → SlotIsAccepted shared.table Destroy j → is_live (destroyed shared j).table k ≡ true
-      → identity_at (destroyed shared j).table k ≡ identity_at shared.table k
+  -- a destroy after which `slot` is live leaves the identity of `slot` unchanged
+  destroyed_keeps : (j : ℕ) → SlotIsAccepted shared.table Destroy j → is_live (destroyed shared j).table slot ≡ true
+      → identity_at (destroyed shared j).table slot ≡ identity_at shared.table slot
   unfolding destroyed
-  destroyed_keeps j is_taken live_after = elim (cases_eq k j) [
+  destroyed_keeps j is_taken live_after = elim (cases_eq slot j) [
     | inl equal ↦
         let slot_in_range = live_in_range shared.table j is_taken.info valid.count is_taken.is in
         let slot_is_free : slot_at (with_slot shared.table j None) j ≡ None = at_written_slot shared.table j None (omega (arith, valid.count)) in
         absurd (both_ways _ (ap (λ (o : Option SlotInfo). is_some o) slot_is_free) (rw equal at live_after))
-    | inr distinct ↦ ap (option_map identity_of) (at_other_slot shared.table j k None distinct)
+    | inr distinct ↦ ap (option_map identity_of) (at_other_slot shared.table j slot None distinct)
   ]
 
-  -- if slot k is live after the trap handler, then its identity is unchanged
+  -- if `slot` is live after the trap handler, then its identity is unchanged
   abbrev Keeps : Handled → Type 0
-  Keeps h = is_live h.shared.table k ≡ true → identity_at h.shared.table k ≡ identity_at shared.table k
+  Keeps h = is_live h.shared.table slot ≡ true → identity_at h.shared.table slot ≡ identity_at shared.table slot
 
   -- the trap handler satisfies `Keeps`
   handled_keeps : (trap : Trap) → Keeps (handled hart_state shared trap)
@@ -71,21 +72,22 @@ module _ (k : ℕ) (hart_state : HartState) (shared : Shared) (valid : IsValid s
     creates = λ requests no_refusal live_after. created_keeps (create_args_of hart_state.hart.regs) no_refusal;
     destroys = λ requests is_taken live_after. destroyed_keeps (a0 hart_state) is_taken live_after;
     measures = λ requests no_refusal live_after. refl;
-    enters = λ call requests is_entry_call from_host is_taken live_after. state_keeps shared.table k (a0 hart_state) Running valid.count;
+    enters = λ call requests is_entry_call from_host is_taken live_after. state_keeps shared.table slot (a0 hart_state) Running valid.count;
     leaves =
-        λ live_after. state_keeps shared.table k (running_slot hart_state.world) (enclave_state_after trap.cause hart_state.hart.regs) valid.count;
+        λ live_after. state_keeps shared.table slot (running_slot hart_state.world) (enclave_state_after trap.cause hart_state.hart.regs) valid.count;
     redirects = λ live_after. refl;
   })
 
 -- proves that a step keeps the identity of each enclave that stays live
 pub record_law : (hart : ℕ) (machine : MonitoredMachine) → Invariant machine → PreservesRecords machine (step_of hart machine)
-record_law hart machine invariant k live =
+record_law hart machine invariant slot live =
     by_hart hart machine
-    (λ after. is_live after.state.shared.table k ≡ true → identity_at after.state.shared.table k ≡ identity_at machine.shared.table k)
+    (λ after. is_live after.state.shared.table slot ≡ true → identity_at after.state.shared.table slot ≡ identity_at machine.shared.table slot)
     (λ live_after. refl)
     (λ in_range.
     let state : HartView = hart_view hart machine in
     let view_invariant = hart_view_invariant hart machine invariant in_range in
-    step_cases state (λ after. is_live after.state.shared.table k ≡ true → identity_at after.state.shared.table k ≡ identity_at state.shared.table k)
+    step_cases state (λ after. is_live after.state.shared.table slot ≡ true
+    → identity_at after.state.shared.table slot ≡ identity_at state.shared.table slot)
     (λ no_trap live_after. refl)
-    (λ trap trapped. handled_keeps k (hart_state_after state.hart_state trap) state.shared view_invariant.valid live trap))
+    (λ trap trapped. handled_keeps slot (hart_state_after state.hart_state trap) state.shared view_invariant.valid live trap))

@@ -10,17 +10,17 @@ use Rattle.rv_monitor.proofs.HartCases.{hart_cases_of_both}
 use Rattle.rv_monitor.proofs.InvariantLemmas.{past_as_is}
 
 -- two changes of a hart keep its world, and keep related hart states related
-pub record ChangesAlike (e : ℕ) (one other : HartState) (change change_too : HartState → HartState) : Type 0 where
+pub record ChangesAlike (enclave : ℕ) (one other : HartState) (change change_too : HartState → HartState) : Type 0 where
   pub world : (change one).world ≡ one.world
-  pub state : HartStatesEquivExcept e (guest_state one) (guest_state other)
-      → HartStatesEquivExcept e (guest_state (change one)) (guest_state (change_too other))
+  pub state : HartStatesEquivExcept enclave (guest_state one) (guest_state other)
+      → HartStatesEquivExcept enclave (guest_state (change one)) (guest_state (change_too other))
   pub host : SameHost (guest_state one) (guest_state other) → SameHost (guest_state (change one)) (guest_state (change_too other))
 
 -- the state of the same hart changes in two related machines by changes that are alike
-module _ (e hart : ℕ) (change change_too : HartState → HartState) (one other : MonitoredMachine) (related : AreRelated e one other)
-    (alike : ChangesAlike e (hart_state_of hart one) (hart_state_of hart other) change change_too) where
+module _ (enclave hart : ℕ) (change change_too : HartState → HartState) (one other : MonitoredMachine) (related : AreRelated enclave one other)
+    (alike : ChangesAlike enclave (hart_state_of hart one) (hart_state_of hart other) change change_too) where
   -- two changes of a hart of the machines that are alike leave the machines related
-  changed_in : hart < count_of one → AreRelated e (changed hart change one) (changed hart change_too other)
+  changed_in : hart < count_of one → AreRelated enclave (changed hart change one) (changed hart change_too other)
   changed_in in_range =
       let changed_one = change (hart_state_of hart one) in
       let changed_other = change_too (hart_state_of hart other) in
@@ -28,11 +28,11 @@ module _ (e hart : ℕ) (change change_too : HartState → HartState) (one other
       record {
         harts = length-set one.hart_states hart changed_one ∙ same_harts ∙ sym (length-set other.hart_states hart changed_other);
         hart_states = hart_cases_of_both one.hart_states other.hart_states hart changed_one changed_other
-            (λ j s t. HartStatesEquivExcept e (guest_state s) (guest_state t)) same_harts in_range (alike.state (related.hart_states hart))
+            (λ j s t. HartStatesEquivExcept enclave (guest_state s) (guest_state t)) same_harts in_range (alike.state (related.hart_states hart))
             (λ j distinct. related.hart_states j);
         hosts = hart_cases_of_both one.hart_states other.hart_states hart changed_one changed_other
-            (λ j s t. is_world_of e s.world ≡ true → SameHost (guest_state s) (guest_state t)) same_harts in_range
-            (λ runs. alike.host (related.hosts hart (ap (is_world_of e) (sym alike.world) ∙ runs)))
+            (λ j s t. is_world_of enclave s.world ≡ true → SameHost (guest_state s) (guest_state t)) same_harts in_range
+            (λ runs. alike.host (related.hosts hart (ap (is_world_of enclave) (sym alike.world) ∙ runs)))
             (λ j distinct. related.hosts j);
         table = related.table;
         memory = related.memory;
@@ -41,7 +41,7 @@ module _ (e hart : ℕ) (change change_too : HartState → HartState) (one other
       }
 
   -- two changes at any hart number that are alike leave the machines related
-  pub changed_related : AreRelated e (changed hart change one) (changed hart change_too other)
+  pub changed_related : AreRelated enclave (changed hart change one) (changed hart change_too other)
   changed_related = elim (cases_lt hart (count_of one)) [
     | inl in_range ↦ changed_in in_range
     | inr past_last ↦
@@ -52,10 +52,10 @@ module _ (e hart : ℕ) (change change_too : HartState → HartState) (one other
   ]
 
 -- two related machines stay related with two memories that are equal outside the bytes that may differ, and that are equal if the enclave is not live
-pub memory_related : (e : ℕ) (one other : MonitoredMachine) (m n : List ℕ) → AreRelated e one other
-    → EqualOutside (may_differ one.shared.table e) m n → (is_live one.shared.table e ≡ false → m ≡ n)
-    → AreRelated e (with_memory one m) (with_memory other n)
-memory_related e one other m n related equal same_once_dead = record {
+pub memory_related : (enclave : ℕ) (one other : MonitoredMachine) (m n : List ℕ) → AreRelated enclave one other
+    → EqualOutside (may_differ one.shared.table enclave) m n → (is_live one.shared.table enclave ≡ false → m ≡ n)
+    → AreRelated enclave (with_memory one m) (with_memory other n)
+memory_related enclave one other m n related equal same_once_dead = record {
   harts = related.harts;
   hart_states = related.hart_states;
   hosts = related.hosts;
@@ -66,8 +66,8 @@ memory_related e one other m n related equal same_once_dead = record {
 }
 
 -- a machine is related to itself
-pub related_itself : (e : ℕ) (machine : MonitoredMachine) → AreRelated e machine machine
-related_itself e machine = record {
+pub related_itself : (enclave : ℕ) (machine : MonitoredMachine) → AreRelated enclave machine machine
+related_itself enclave machine = record {
   harts = refl;
   hart_states = λ hart. record { world = refl; same = λ low. refl };
   hosts = λ hart runs. record { host = refl; rest = refl };

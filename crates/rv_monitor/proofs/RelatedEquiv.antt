@@ -1,5 +1,6 @@
--- Two machines that are related are equivalent except e in the guest view, if the window of a running enclave has equal bytes in both. Two machines
--- that are equivalent except e in the guest view are related, if each hart that runs e has the same saved host in both.
+-- Two machines that are related are equivalent except `enclave` in the guest view, if the window of a running enclave has equal bytes in both. Two
+-- machines
+-- that are equivalent except `enclave` in the guest view are related, if each hart that runs `enclave` has the same saved host in both.
 use Rattle.std.proofs.Common.{◌≡◌, ℕ, ◌+◌, true, false, refl, sym, ◌∙◌, ap, inl, inr}
 use Rattle.std.proofs.lemmas.Bool.{cases_Bool, or_parts}
 use Rattle.std.specs.Prelude.{not, slice_index}
@@ -11,14 +12,15 @@ use Rattle.rv_monitor.proofs.Prelude.{MonitoredMachine, hart_state_of, length-ma
 use Rattle.rv_monitor.proofs.EquivLemmas.{hart_states_equiv}
 use Rattle.rv_monitor.proofs.GuestView.{guest_hart_state}
 
--- two machines, and the enclave e that may differ in them
-module _ (e : ℕ) (one other : MonitoredMachine) where
-  -- two related machines are equivalent except e in the guest view, if the window of a running enclave has equal bytes in both
-  pub related_equiv : AreRelated e one other → (runs one.shared.table e ≡ true → SameWindow e one other) → EquivToGuests e one other
+-- two machines, and the `enclave` that may differ in them
+module _ (enclave : ℕ) (one other : MonitoredMachine) where
+  -- two related machines are equivalent except `enclave` in the guest view, if the window of a running enclave has equal bytes in both
+  pub related_equiv : AreRelated enclave one other → (runs one.shared.table enclave ≡ true → SameWindow enclave one other)
+      → EquivToGuests enclave one other
   related_equiv related same = record {
     harts = length-map one.hart_states guest_state ∙ related.harts ∙ sym (length-map other.hart_states guest_state);
     hart_states = λ j.
-        hart_states_equiv e (hart_state_of j (guest_view one)) (guest_state (hart_state_of j one)) (hart_state_of j (guest_view other))
+        hart_states_equiv enclave (hart_state_of j (guest_view one)) (guest_state (hart_state_of j one)) (hart_state_of j (guest_view other))
         (guest_state (hart_state_of j other)) (guest_hart_state j one) (guest_hart_state j other) (related.hart_states j);
     shared = record {
       table = related.table;
@@ -27,28 +29,30 @@ module _ (e : ℕ) (one other : MonitoredMachine) where
       gone = related.gone;
     };
   } where
-    -- the memories of the two machines have equal bytes outside the region of e
-    bytes : (i : ℕ) → has (region one.shared.table e) (ram_base + i) ≡ false → slice_index one.shared.memory i ≡ slice_index other.shared.memory i
-    bytes i own = elim (cases_Bool (runs one.shared.table e)) [
+    -- the memories of the two machines have equal bytes outside the region of `enclave`
+    bytes : (i : ℕ) → has (region one.shared.table enclave) (ram_base + i) ≡ false
+        → slice_index one.shared.memory i ≡ slice_index other.shared.memory i
+    bytes i own = elim (cases_Bool (runs one.shared.table enclave)) [
       | inr idle ↦ related.memory.bytes i (rw (own, idle) refl)
-      | inl running ↦ elim (cases_Bool (has (window one.shared.table e) (ram_base + i))) [
+      | inl running ↦ elim (cases_Bool (has (window one.shared.table enclave) (ram_base + i))) [
         | inl in_window ↦ (same running).bytes i (ap not in_window)
         | inr outside_window ↦ related.memory.bytes i (rw (own, running, outside_window) refl)
       ]
     ]
 
-  -- two machines that are equivalent except e in the guest view are related, if each hart that runs e has the same saved host in both
-  pub equiv_related : EquivToGuests e one other → ((hart : ℕ) → runs_on e hart one ≡ true → SameHostOn hart one other) → AreRelated e one other
+  -- two machines that are equivalent except `enclave` in the guest view are related, if each hart that runs `enclave` has the same saved host in both
+  pub equiv_related : EquivToGuests enclave one other → ((hart : ℕ) → runs_on enclave hart one ≡ true → SameHostOn hart one other)
+      → AreRelated enclave one other
   equiv_related equiv hosts = record {
     harts = sym (length-map one.hart_states guest_state) ∙ equiv.harts ∙ length-map other.hart_states guest_state;
     hart_states = λ j.
-        hart_states_equiv e (guest_state (hart_state_of j one)) (hart_state_of j (guest_view one)) (guest_state (hart_state_of j other))
+        hart_states_equiv enclave (guest_state (hart_state_of j one)) (hart_state_of j (guest_view one)) (guest_state (hart_state_of j other))
         (hart_state_of j (guest_view other)) (sym (guest_hart_state j one)) (sym (guest_hart_state j other)) (equiv.hart_states j);
     hosts = hosts;
     table = equiv.shared.table;
     memory = record {
       size = equiv.shared.memory.size;
-      bytes = λ i not_hidden. equiv.shared.memory.bytes i (or_parts (has (region one.shared.table e) (ram_base + i)) _ not_hidden).0;
+      bytes = λ i not_hidden. equiv.shared.memory.bytes i (or_parts (has (region one.shared.table enclave) (ram_base + i)) _ not_hidden).0;
     };
     contexts = equiv.shared.contexts;
     gone = equiv.shared.gone;

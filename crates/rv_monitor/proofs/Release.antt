@@ -1,4 +1,5 @@
--- Two machines that are equivalent except e stay equivalent except e after e exits from both, if e hands over the same in both.
+-- Two machines that are equivalent except `enclave` stay equivalent except `enclave` after `enclave` exits from both, if `enclave` hands over the
+-- same in both.
 use Rattle.std.proofs.Common.{◌≡◌, ◌<◌, ℕ, ◌+◌, true, false, length, Option, Some, None, refl, sym, ◌∙◌, ap, ap₂, subst, inl, inr, arith}
 use Rattle.std.specs.Prelude.{is_some, map, not}
 use Rattle.rv_state.specs.declared.cause.Cause.TheVariants as causes
@@ -33,20 +34,21 @@ same_value : (cause : Cause) (one other : Hart) → SameHandoverBy cause one oth
 same_value (causes.Interrupt interrupt) one other same_handover = refl
 same_value (causes.Exception exception) one other same_handover = same_handover.a0
 
--- a new state of slot k does not change whether slot k is live
-state_live : (slots : Slots) (k : ℕ) (o : Option SlotInfo) (state : EnclaveState) → length slots ≡ slot_count → slot_at slots k ≡ o
-    → is_live (option_case o slots (λ info. with_slot slots k (Some (record info { state = state })))) k ≡ is_some o
-state_live slots k None state table_length slot_is = ap (λ (o : Option SlotInfo). is_some o) slot_is
-state_live slots k (Some info) state table_length slot_is =
-    let slot_in_range = live_in_range slots k info table_length slot_is in
+-- a new state of `slot` does not change whether `slot` is live
+state_live : (slots : Slots) (slot : ℕ) (o : Option SlotInfo) (state : EnclaveState) → length slots ≡ slot_count → slot_at slots slot ≡ o
+    → is_live (option_case o slots (λ info. with_slot slots slot (Some (record info { state = state })))) slot ≡ is_some o
+state_live slots slot None state table_length slot_is = ap (λ (o : Option SlotInfo). is_some o) slot_is
+state_live slots slot (Some info) state table_length slot_is =
+    let slot_in_range = live_in_range slots slot info table_length slot_is in
     ap (λ (o : Option SlotInfo). is_some o)
-    (at_written_slot slots k (Some (record info { state = state })) (omega (arith, table_length, slot_in_range)))
+    (at_written_slot slots slot (Some (record info { state = state })) (omega (arith, table_length, slot_in_range)))
 
--- Enclave e exits by the same trap from the same hart of two machines that are equivalent except e. The enclave hands over the same, and both harts
+-- `enclave` exits by the same trap from the same hart of two machines that are equivalent except `enclave`. The enclave hands over the same, and
+-- both harts
 -- have the same saved host.
-module _ (e hart : ℕ) (one other : MonitoredMachine) (trap : Trap) (host : Context) (table_length : length one.shared.table ≡ slot_count)
-    (live : is_live one.shared.table e ≡ true)
-    (equiv : EquivExcept e one other) (there_is : hart < count_of one)
+module _ (enclave hart : ℕ) (one other : MonitoredMachine) (trap : Trap) (host : Context) (table_length : length one.shared.table ≡ slot_count)
+    (live : is_live one.shared.table enclave ≡ true)
+    (equiv : EquivExcept enclave one other) (there_is : hart < count_of one)
     (same_host : SameHost (hart_state_of hart one) (hart_state_of hart other))
     (same_handover : SameHandoverBy trap.cause (hart_state_of hart one).hart (hart_state_of hart other).hart) where
   -- the first hart at the trap
@@ -63,15 +65,16 @@ module _ (e hart : ℕ) (one other : MonitoredMachine) (trap : Trap) (host : Con
 
   -- the first table after the exit
   abbrev table_one : Slots
-  table_one = with_state one.shared.table e state_after
+  table_one = with_state one.shared.table enclave state_after
 
   -- the second table after the exit
   abbrev table_other : Slots
-  table_other = with_state other.shared.table e (enclave_state_after trap.cause hart_other.regs)
+  table_other = with_state other.shared.table enclave (enclave_state_after trap.cause hart_other.regs)
 
   -- the tables after both exits are equal
   same_table : table_one ≡ table_other
-  same_table = ap₂ (λ (t : Slots) (s : EnclaveState). with_state t e s) equiv.shared.table (same_state trap.cause hart_one hart_other same_handover)
+  same_table = ap₂ (λ (t : Slots) (s : EnclaveState). with_state t enclave s) equiv.shared.table
+      (same_state trap.cause hart_one hart_other same_handover)
 
   -- the hart after an exit, from the table t, the CSRs c, the reason r and the value v
   abbrev returned_hart : Slots → CsrState → ℕ → ℕ → Hart
@@ -99,7 +102,7 @@ module _ (e hart : ℕ) (one other : MonitoredMachine) (trap : Trap) (host : Con
 
   -- the states of each other hart are equivalent after the exit
   other_harts_equiv : (j : ℕ)
-      → HartStatesEquivExcept e (hart_state_in (map (reprogrammed table_one) one.hart_states) j)
+      → HartStatesEquivExcept enclave (hart_state_in (map (reprogrammed table_one) one.hart_states) j)
       (hart_state_in (map (reprogrammed table_other) other.hart_states) j)
   other_harts_equiv j =
       let same_harts = equiv.harts in
@@ -112,28 +115,30 @@ module _ (e hart : ℕ) (one other : MonitoredMachine) (trap : Trap) (host : Con
             get_or-map (reprogrammed table_other) other.hart_states j (hart_state_at_start 0) (hart_state_at_start 0)
             (omega (arith, same_harts, in_range)) in
             let hart_states = equiv.hart_states j in
-            let harts_alike : HartStatesEquivExcept e (reprogrammed table_one (hart_state_of j one))
+            let harts_alike : HartStatesEquivExcept enclave (reprogrammed table_one (hart_state_of j one))
             (reprogrammed table_other (hart_state_of j other)) =
             record {
               world = hart_states.world;
               same = λ low. ap₂ (λ (t : Slots) (s : HartState). reprogrammed t s) same_table (hart_states.same low);
             } in
-            subst (λ (x : HartState). HartStatesEquivExcept e x (hart_state_in (map (reprogrammed table_other) other.hart_states) j)) (sym read_one)
-            (subst (HartStatesEquivExcept e (reprogrammed table_one (hart_state_of j one))) (sym read_other) harts_alike)
+            subst (λ (x : HartState). HartStatesEquivExcept enclave x (hart_state_in (map (reprogrammed table_other) other.hart_states) j))
+            (sym read_one)
+            (subst (HartStatesEquivExcept enclave (reprogrammed table_one (hart_state_of j one))) (sym read_other) harts_alike)
         | inr past_last ↦
             let read_one = past_hart_state (map (reprogrammed table_one) one.hart_states) j (omega (arith, length_one, past_last)) in
             let read_other =
             past_hart_state (map (reprogrammed table_other) other.hart_states) j (omega (arith, length_other, same_harts, past_last)) in
-            let both : HartStatesEquivExcept e (hart_state_at_start 0) (hart_state_at_start 0) = record { world = refl; same = λ low. refl } in
-            subst (λ (x : HartState). HartStatesEquivExcept e x (hart_state_in (map (reprogrammed table_other) other.hart_states) j)) (sym read_one)
-            (subst (HartStatesEquivExcept e (hart_state_at_start 0)) (sym read_other) both)
+            let both : HartStatesEquivExcept enclave (hart_state_at_start 0) (hart_state_at_start 0) = record { world = refl; same = λ low. refl } in
+            subst (λ (x : HartState). HartStatesEquivExcept enclave x (hart_state_in (map (reprogrammed table_other) other.hart_states) j))
+            (sym read_one)
+            (subst (HartStatesEquivExcept enclave (hart_state_at_start 0)) (sym read_other) both)
       ]
 
   -- both machines are equivalent after the exit
-  left_agree : EquivExcept e (left_machine hart one e trap host) (left_machine hart other e trap host)
+  left_agree : EquivExcept enclave (left_machine hart one enclave trap host) (left_machine hart other enclave trap host)
   left_agree =
       let length_one = length-map one.hart_states (reprogrammed table_one) in
-      let extent = state_extent one.shared.table e (slot_at one.shared.table e) state_after table_length refl in
+      let extent = state_extent one.shared.table enclave (slot_at one.shared.table enclave) state_after table_length refl in
       let contexts_one = one.shared.contexts in
       let contexts_other = other.shared.contexts in
       let saved_one = Some (saved_after trap.cause hart_one) in
@@ -144,7 +149,7 @@ module _ (e hart : ℕ) (one other : MonitoredMachine) (trap : Trap) (host : Con
         hart_states =
             hart_cases_of_both (map (reprogrammed table_one) one.hart_states) (map (reprogrammed table_other) other.hart_states) hart
             (host_state (left_hart hart_one table_one trap host))
-            (host_state (left_hart hart_other table_other trap host)) (λ j a b. HartStatesEquivExcept e a b) same_count
+            (host_state (left_hart hart_other table_other trap host)) (λ j a b. HartStatesEquivExcept enclave a b) same_count
             (omega (arith, length_one, there_is))
             (record { world = refl; same = λ low. ap host_state harts_same }) (λ j distinct. other_harts_equiv j);
         shared = record {
@@ -154,46 +159,49 @@ module _ (e hart : ℕ) (one other : MonitoredMachine) (trap : Trap) (host : Con
             bytes = λ i not_hidden. equiv.shared.memory.bytes i (ap (λ (r : Block). has r (ram_base + i)) (sym extent.region) ∙ not_hidden);
           };
           contexts = record {
-            size = length-set contexts_one e saved_one ∙ equiv.shared.contexts.size ∙ sym (length-set contexts_other e saved_other);
+            size = length-set contexts_one enclave saved_one ∙ equiv.shared.contexts.size ∙ sym (length-set contexts_other enclave saved_other);
             others =
-                λ k distinct. at_other_slot contexts_one e k saved_one distinct ∙ equiv.shared.contexts.others k distinct
-                ∙ sym (at_other_slot contexts_other e k saved_other distinct);
+                λ slot distinct. at_other_slot contexts_one enclave slot saved_one distinct ∙ equiv.shared.contexts.others slot distinct
+                ∙ sym (at_other_slot contexts_other enclave slot saved_other distinct);
           };
-          gone = λ dead. absurd (both_ways _ dead (state_live one.shared.table e (slot_at one.shared.table e) state_after table_length refl ∙ live));
+          gone = λ dead. absurd (both_ways _ dead (state_live one.shared.table enclave (slot_at one.shared.table enclave) state_after table_length
+              refl ∙ live));
         };
       }
 
 -- an exit from both machines leaves them equivalent, for each saved context that the first hart has
-with_host : (e hart : ℕ) (one other : MonitoredMachine) (trap : Trap) (o : Option Context) → (hart_state_of hart one).host_context ≡ o → Invariant one
+with_host : (enclave hart : ℕ) (one other : MonitoredMachine) (trap : Trap) (o : Option Context) → (hart_state_of hart one).host_context ≡ o
+    → Invariant one
     → Invariant other
-    → EquivExcept e one other → runs_on e hart one ≡ true
+    → EquivExcept enclave one other → runs_on enclave hart one ≡ true
     → SameHost (hart_state_of hart one) (hart_state_of hart other)
     → SameHandoverBy trap.cause (hart_state_of hart one).hart (hart_state_of hart other).hart
     → (step_of hart one).outcome.step.trap ≡ Some trap → (step_of hart other).outcome.step.trap ≡ Some trap
     → (hart_state_of hart (step_of hart one).state).world ≡ Host → (hart_state_of hart (step_of hart other).state).world ≡ Host
-    → EquivExcept e (step_of hart one).state (step_of hart other).state
-with_host e hart one other trap None saved invariant_one invariant_other equiv runs_e same_host handed traps traps_too one_exits other_exits =
-    let in_range = runs_inside e hart one runs_e in
-    let world = world_is_enclave e (hart_state_of hart one).world runs_e in
+    → EquivExcept enclave (step_of hart one).state (step_of hart other).state
+with_host enclave hart one other trap None saved invariant_one invariant_other equiv runs_e same_host handed traps traps_too one_exits other_exits =
+    let in_range = runs_inside enclave hart one runs_e in
+    let world = world_is_enclave enclave (hart_state_of hart one).world runs_e in
     let kept = (invariant_one.hart_states hart in_range).host.kept in
     let contradiction : false ≡ true = ap (λ (o : Option Context). is_some o) (sym saved) ∙ kept ∙ ap (λ w. not (is_host w)) world in
     cc
-with_host e hart one other trap (Some host) saved invariant_one invariant_other equiv runs_e same_host handed traps traps_too one_exits other_exits =
-    let in_range = runs_inside e hart one runs_e in
-    let world = world_is_enclave e (hart_state_of hart one).world runs_e in
-    let left_one = (leave_law hart one invariant_one e host trap world saved traps one_exits).0 in
+with_host enclave hart one other trap (Some host) saved invariant_one invariant_other equiv runs_e same_host handed traps traps_too one_exits
+    other_exits =
+    let in_range = runs_inside enclave hart one runs_e in
+    let world = world_is_enclave enclave (hart_state_of hart one).world runs_e in
+    let left_one = (leave_law hart one invariant_one enclave host trap world saved traps one_exits).0 in
     let left_other =
-    (leave_law hart other invariant_other e host trap (sym (equiv.hart_states hart).world ∙ world)
+    (leave_law hart other invariant_other enclave host trap (sym (equiv.hart_states hart).world ∙ world)
     (sym same_host.host ∙ saved) traps_too other_exits).0 in
-    let live = running_is_live e hart one invariant_one runs_e in
-    rw (left_one, left_other) (left_agree e hart one other trap host invariant_one.shared.valid.count live equiv in_range same_host handed)
+    let live = running_is_live enclave hart one invariant_one runs_e in
+    rw (left_one, left_other) (left_agree enclave hart one other trap host invariant_one.shared.valid.count live equiv in_range same_host handed)
 
--- an exit from both machines to the same host that hands over the same leaves the machines equivalent except e
-pub release : (e hart : ℕ) (one other : MonitoredMachine) (trap : Trap) → Invariant one → Invariant other
-    → EquivExcept e one other → runs_on e hart one ≡ true
+-- an exit from both machines to the same host that hands over the same leaves the machines equivalent except `enclave`
+pub release : (enclave hart : ℕ) (one other : MonitoredMachine) (trap : Trap) → Invariant one → Invariant other
+    → EquivExcept enclave one other → runs_on enclave hart one ≡ true
     → SameHost (hart_state_of hart one) (hart_state_of hart other)
     → SameHandoverBy trap.cause (hart_state_of hart one).hart (hart_state_of hart other).hart
     → (step_of hart one).outcome.step.trap ≡ Some trap → (step_of hart other).outcome.step.trap ≡ Some trap
     → (hart_state_of hart (step_of hart one).state).world ≡ Host → (hart_state_of hart (step_of hart other).state).world ≡ Host
-    → EquivExcept e (step_of hart one).state (step_of hart other).state
-release e hart one other trap = with_host e hart one other trap (hart_state_of hart one).host_context refl
+    → EquivExcept enclave (step_of hart one).state (step_of hart other).state
+release enclave hart one other trap = with_host enclave hart one other trap (hart_state_of hart one).host_context refl

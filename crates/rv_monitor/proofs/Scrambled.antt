@@ -12,21 +12,21 @@ use Rattle.rv_monitor.proofs.EquivLemmas.{equiv_itself, shared_equiv}
 
 -- ---- the machine
 
--- a scramble of slot k preserves the invariant
-pub scramble_invariant : (machine : MonitoredMachine) (k : ℕ) → Invariant machine → can_scramble machine.shared.table k ≡ true
-    → Invariant (scrambled machine k)
+-- a scramble of `slot` preserves the invariant
+pub scramble_invariant : (machine : MonitoredMachine) (slot : ℕ) → Invariant machine → can_scramble machine.shared.table slot ≡ true
+    → Invariant (scrambled machine slot)
 unfolding scrambled_shared
-scramble_invariant machine k invariant may_scramble = record {
-  shared = scrambled_sound machine.shared (worlds machine) k invariant.shared may_scramble;
+scramble_invariant machine slot invariant may_scramble = record {
+  shared = scrambled_sound machine.shared (worlds machine) slot invariant.shared may_scramble;
   hart_states = invariant.hart_states;
 }
 
--- the scrambled machine is equivalent except k to the machine before the scramble
-pub scramble_equiv : (machine : MonitoredMachine) (k : ℕ) → Invariant machine → can_scramble machine.shared.table k ≡ true
-    → EquivExcept k machine (scrambled machine k)
-scramble_equiv machine k invariant may_scramble =
-    shared_equiv k machine machine machine.shared (scrambled_shared machine.shared k) (equiv_itself k machine (itself k machine.shared))
-    (scrambled_agrees machine.shared (worlds machine) k invariant.shared may_scramble)
+-- the scrambled machine is equivalent except `slot` to the machine before the scramble
+pub scramble_equiv : (machine : MonitoredMachine) (slot : ℕ) → Invariant machine → can_scramble machine.shared.table slot ≡ true
+    → EquivExcept slot machine (scrambled machine slot)
+scramble_equiv machine slot invariant may_scramble =
+    shared_equiv slot machine machine machine.shared (scrambled_shared machine.shared slot) (equiv_itself slot machine (itself slot machine.shared))
+    (scrambled_agrees machine.shared (worlds machine) slot invariant.shared may_scramble)
 
 -- ---- the function `scramble`, which changes nothing if the slot may not be scrambled
 
@@ -36,20 +36,20 @@ seated_with machine shared = record machine { shared = shared }
 
 -- the shared state, scrambled if `done` holds
 abbrev pub perhaps : Bool → MonitoredMachine → ℕ → Shared
-perhaps done machine k = if done then scrambled_shared machine.shared k else machine.shared
+perhaps done machine slot = if done then scrambled_shared machine.shared slot else machine.shared
 
--- a machine keeps the invariant if slot k is scrambled in the case that it may be scrambled
-pub perhaps_kept : (done : Bool) (machine : MonitoredMachine) (k : ℕ) → done ≡ can_scramble machine.shared.table k → Invariant machine
-    → Invariant (seated_with machine (perhaps done machine k))
-perhaps_kept true machine k done_is invariant = scramble_invariant machine k invariant (sym done_is)
-perhaps_kept false machine k done_is invariant = invariant
+-- a machine keeps the invariant if `slot` is scrambled in the case that it may be scrambled
+pub perhaps_kept : (done : Bool) (machine : MonitoredMachine) (slot : ℕ) → done ≡ can_scramble machine.shared.table slot → Invariant machine
+    → Invariant (seated_with machine (perhaps done machine slot))
+perhaps_kept true machine slot done_is invariant = scramble_invariant machine slot invariant (sym done_is)
+perhaps_kept false machine slot done_is invariant = invariant
 
--- a machine in which slot k is scrambled, if it may be, is equivalent except k to the machine before
-pub perhaps_equiv : (done : Bool) (machine : MonitoredMachine) (k : ℕ) → done ≡ can_scramble machine.shared.table k → Invariant machine
-    → EquivExcept k machine (seated_with machine (perhaps done machine k))
-perhaps_equiv true machine k done_is invariant = scramble_equiv machine k invariant (sym done_is)
-perhaps_equiv false machine k done_is invariant = equiv_itself k machine (itself k machine.shared)
+-- a machine in which `slot` is scrambled, if it may be, is equivalent except `slot` to the machine before
+pub perhaps_equiv : (done : Bool) (machine : MonitoredMachine) (slot : ℕ) → done ≡ can_scramble machine.shared.table slot → Invariant machine
+    → EquivExcept slot machine (seated_with machine (perhaps done machine slot))
+perhaps_equiv true machine slot done_is invariant = scramble_equiv machine slot invariant (sym done_is)
+perhaps_equiv false machine slot done_is invariant = equiv_itself slot machine (itself slot machine.shared)
 
 -- proves that two scrambles restore the machine
 pub scramble_law : ScrambleLaw
-scramble_law machine k bytes words = ap (λ (shared : Shared). record machine { shared = shared }) (shared_twice machine.shared k bytes words)
+scramble_law machine slot bytes words = ap (λ (shared : Shared). record machine { shared = shared }) (shared_twice machine.shared slot bytes words)

@@ -110,7 +110,7 @@ record HandledOver (m n : List ℕ) (a b : Handled) : Type 0 where
 -- create is offered only to the host
 offered_host : (world : World) → is_offered world Create ≡ true → is_host world ≡ true
 offered_host Host offered = refl
-offered_host (Enclave k) offered = cc
+offered_host (Enclave slot) offered = cc
 
 -- the region of a create by the host has no hidden byte
 abbrev pub MeasuresSeen : (ℕ → Bool) → World → Slots → Contexts → Type 0
@@ -177,25 +177,25 @@ module _ (hidden : ℕ → Bool) (hart_state : HartState) (trap : Trap) (table :
   unfolding created measurement_of
   created_over new bytes =
       let info : recorded m new ≡ recorded n new = rw bytes refl in
-      let k = new_slot table in
+      let slot = new_slot table in
       record {
-        table = ap (λ (x : SlotInfo). with_slot table k (Some x)) info;
-        contexts = ap (λ (x : SlotInfo). with_context saved_contexts k (Some (first_context x))) info;
+        table = ap (λ (x : SlotInfo). with_slot table slot (Some x)) info;
+        contexts = ap (λ (x : SlotInfo). with_context saved_contexts slot (Some (first_context x))) info;
         size = equal.size;
         changes = unchanged m n;
       }
 
   -- a destroy gives shared states that satisfy `SharedOver`
-  destroyed_over : (k : ℕ) → SharedOver m n (destroyed shared_m k) (destroyed shared_n k)
+  destroyed_over : (slot : ℕ) → SharedOver m n (destroyed shared_m slot) (destroyed shared_n slot)
   unfolding destroyed
-  destroyed_over k =
-      let block = region table k in
-      put_over (with_slot table k None) (with_context saved_contexts k None) block.base (replicate block.size 0)
+  destroyed_over slot =
+      let block = region table slot in
+      put_over (with_slot table slot None) (with_context saved_contexts slot None) block.base (replicate block.size 0)
 
   -- a measure gives shared states that satisfy `SharedOver`
-  measured_over : (k address : ℕ) → SharedOver m n (measured shared_m k address) (measured shared_n k address)
+  measured_over : (slot address : ℕ) → SharedOver m n (measured shared_m slot address) (measured shared_n slot address)
   unfolding measured
-  measured_over k address = put_over table saved_contexts address (measurement_at table k)
+  measured_over slot address = put_over table saved_contexts address (measurement_at table slot)
 
   -- the results of the trap handler satisfy `HandledOver`
   handled_over : HandledOver m n (handled hart_state shared_m trap) (handled hart_state shared_n trap)

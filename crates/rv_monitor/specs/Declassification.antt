@@ -17,9 +17,9 @@ use Rattle.rv_monitor.specs.Step.{step_of}
 
 -- ---- two machines that are equivalent except for an enclave
 
--- two machines are equivalent except e in the guest view
+-- two machines are equivalent except `enclave` in the guest view
 abbrev pub EquivToGuests : ℕ → MonitoredMachine → MonitoredMachine → Type 0
-EquivToGuests e one other = EquivExcept e (guest_view one) (guest_view other)
+EquivToGuests enclave one other = EquivExcept enclave (guest_view one) (guest_view other)
 
 -- the CSRs that no context switch replaces: those of M-mode and the counters
 abbrev pub unswitched : CsrState → CsrState
@@ -34,26 +34,27 @@ pub record SameHost (one other : HartState) : Type 0 where
 abbrev pub SameHostOn : ℕ → MonitoredMachine → MonitoredMachine → Type 0
 SameHostOn hart one other = SameHost (guest_state (hart_state_of hart one)) (guest_state (hart_state_of hart other))
 
--- the bytes that may differ: those in the region of slot e, and those in its window while the enclave runs
+-- the bytes that may differ: those in the region of `enclave`, and those in its window while the enclave runs
 abbrev pub may_differ : Slots → ℕ → ℕ → Bool
-may_differ slots e byte = has (region slots e) byte || (runs slots e && has (window slots e) byte)
+may_differ slots enclave byte = has (region slots enclave) byte || (runs slots enclave && has (window slots enclave) byte)
 
--- Two machines are equivalent except e in the guest view, and except for the window of e while e runs. The saved contexts of the host on the hart of
--- e are equal.
-pub record AreRelated (e : ℕ) (one other : MonitoredMachine) : Type 0 where
+-- Two machines are equivalent except `enclave` in the guest view, and except for the window of `enclave` while `enclave` runs. The saved contexts
+-- of the host on the hart of
+-- `enclave` are equal.
+pub record AreRelated (enclave : ℕ) (one other : MonitoredMachine) : Type 0 where
   pub harts : count_of one ≡ count_of other
-  pub hart_states : (hart : ℕ) → HartStatesEquivExcept e (guest_state (hart_state_of hart one)) (guest_state (hart_state_of hart other))
-  pub hosts : (hart : ℕ) → runs_on e hart one ≡ true → SameHostOn hart one other
+  pub hart_states : (hart : ℕ) → HartStatesEquivExcept enclave (guest_state (hart_state_of hart one)) (guest_state (hart_state_of hart other))
+  pub hosts : (hart : ℕ) → runs_on enclave hart one ≡ true → SameHostOn hart one other
   pub table : one.shared.table ≡ other.shared.table
-  pub memory : EqualOutside (may_differ one.shared.table e) one.shared.memory other.shared.memory
-  pub contexts : SameContexts e one.shared.contexts other.shared.contexts
-  pub gone : is_live one.shared.table e ≡ false → one.shared ≡ other.shared
+  pub memory : EqualOutside (may_differ one.shared.table enclave) one.shared.memory other.shared.memory
+  pub contexts : SameContexts enclave one.shared.contexts other.shared.contexts
+  pub gone : is_live one.shared.table enclave ≡ false → one.shared ≡ other.shared
 
 -- ---- what the enclave hands over
 
--- the bytes in the window of e are equal in both machines
+-- the bytes in the window of `enclave` are equal in both machines
 abbrev pub SameWindow : ℕ → MonitoredMachine → MonitoredMachine → Type 0
-SameWindow e one other = EqualOutside (λ byte. not (has (window one.shared.table e) byte)) one.shared.memory other.shared.memory
+SameWindow enclave one other = EqualOutside (λ byte. not (has (window one.shared.table enclave) byte)) one.shared.memory other.shared.memory
 
 -- two harts have equal a0, and equal a6, which says how the enclave exits
 pub record SameHandover (one other : Hart) : Type 0 where
@@ -65,10 +66,10 @@ abbrev pub SameHandoverBy : Cause → Hart → Hart → Type 0
 SameHandoverBy (causes.Interrupt interrupt) one other = Unit {0}
 SameHandoverBy (causes.Exception exception) one other = SameHandover one other
 
--- enclave e exits from both machines by the same trap, and hands over the same
-pub record ExitsAlike (e hart : ℕ) (one other : MonitoredMachine) : Type 0 where
-  pub runs : runs_on e hart one ≡ true
-  pub window : SameWindow e one other
+-- `enclave` exits from both machines by the same trap, and hands over the same
+pub record ExitsAlike (enclave hart : ℕ) (one other : MonitoredMachine) : Type 0 where
+  pub runs : runs_on enclave hart one ≡ true
+  pub window : SameWindow enclave one other
   pub trap : Trap
   pub handover : SameHandoverBy trap.cause (hart_state_of hart one).hart (hart_state_of hart other).hart
   pub first : (step_of hart one).outcome.step.trap ≡ Some trap
@@ -85,22 +86,22 @@ pub data Move : Type 0 where
   Both : Event → Move
 
 -- the step is a step of the enclave that does not exit
-pub record IsInside (e hart : ℕ) (machine : MonitoredMachine) : Type 0 where
-  pub before : runs_on e hart machine ≡ true
-  pub after : runs_on e hart (step_of hart machine).state ≡ true
+pub record IsInside (enclave hart : ℕ) (machine : MonitoredMachine) : Type 0 where
+  pub before : runs_on enclave hart machine ≡ true
+  pub after : runs_on enclave hart (step_of hart machine).state ≡ true
 
 -- The step is a low step. If the enclave runs on another hart, then the bytes of its window that the step reads are equal in both machines.
-pub record IsLowStep (e hart : ℕ) (one other : MonitoredMachine) : Type 0 where
-  pub low : runs_on e hart one ≡ false
-  pub window : runs one.shared.table e ≡ true → SameWindowRead e hart one other
+pub record IsLowStep (enclave hart : ℕ) (one other : MonitoredMachine) : Type 0 where
+  pub low : runs_on enclave hart one ≡ false
+  pub window : runs one.shared.table enclave ≡ true → SameWindowRead enclave hart one other
 
 -- In one machine only the enclave takes steps. In both there are low steps, exits of the enclave that hand over the same, and changes of any timer
 -- line.
 abbrev pub IsMove : ℕ → Move → MonitoredMachine → MonitoredMachine → Type 0
-IsMove e (First hart) one other = IsInside e hart one
-IsMove e (Second hart) one other = IsInside e hart other
-IsMove e (Both (StepOf hart)) one other = IsLowStep e hart one other ⊎ ExitsAlike e hart one other
-IsMove e (Both (LineOf hart raised)) one other = Unit {0}
+IsMove enclave (First hart) one other = IsInside enclave hart one
+IsMove enclave (Second hart) one other = IsInside enclave hart other
+IsMove enclave (Both (StepOf hart)) one other = IsLowStep enclave hart one other ⊎ ExitsAlike enclave hart one other
+IsMove enclave (Both (LineOf hart raised)) one other = Unit {0}
 
 -- the first machine after a move; a move of the second machine alone does not change it
 abbrev pub first_after : Move → MonitoredMachine → MonitoredMachine
@@ -116,19 +117,19 @@ second_after (Both event) machine = (event_of event machine).state
 
 -- each move in the list is permitted in the two machines that the moves before it lead to
 abbrev pub AreMoves : ℕ → List Move → MonitoredMachine → MonitoredMachine → Type 0
-AreMoves e [] one other = Unit {0}
-AreMoves e (move ∷ moves) one other = IsMove e move one other × AreMoves e moves (first_after move one) (second_after move other)
+AreMoves enclave [] one other = Unit {0}
+AreMoves enclave (move ∷ moves) one other = IsMove enclave move one other × AreMoves enclave moves (first_after move one) (second_after move other)
 
 -- every low step has equal outcomes
 abbrev pub LowOutcomesEqual : ℕ → List Move → MonitoredMachine → MonitoredMachine → Type 0
-LowOutcomesEqual e [] one other = Unit {0}
-LowOutcomesEqual e (First hart ∷ moves) one other = LowOutcomesEqual e moves (step_of hart one).state other
-LowOutcomesEqual e (Second hart ∷ moves) one other = LowOutcomesEqual e moves one (step_of hart other).state
-LowOutcomesEqual e (Both (StepOf hart) ∷ moves) one other =
-    (runs_on e hart one ≡ false → (step_of hart one).outcome ≡ (step_of hart other).outcome)
-    × LowOutcomesEqual e moves (step_of hart one).state (step_of hart other).state
-LowOutcomesEqual e (Both (LineOf hart raised) ∷ moves) one other =
-    LowOutcomesEqual e moves (with_timer hart one raised) (with_timer hart other raised)
+LowOutcomesEqual enclave [] one other = Unit {0}
+LowOutcomesEqual enclave (First hart ∷ moves) one other = LowOutcomesEqual enclave moves (step_of hart one).state other
+LowOutcomesEqual enclave (Second hart ∷ moves) one other = LowOutcomesEqual enclave moves one (step_of hart other).state
+LowOutcomesEqual enclave (Both (StepOf hart) ∷ moves) one other =
+    (runs_on enclave hart one ≡ false → (step_of hart one).outcome ≡ (step_of hart other).outcome)
+    × LowOutcomesEqual enclave moves (step_of hart one).state (step_of hart other).state
+LowOutcomesEqual enclave (Both (LineOf hart raised) ∷ moves) one other =
+    LowOutcomesEqual enclave moves (with_timer hart one raised) (with_timer hart other raised)
 
 -- the first machine after all moves
 abbrev pub first_end : List Move → MonitoredMachine → MonitoredMachine
@@ -143,19 +144,21 @@ second_end (move ∷ moves) machine = second_end moves (second_after move machin
 -- ---- the law
 
 -- each low step has equal outcomes in both machines, and the machines are related after the moves
-pub record MovedAlike (e : ℕ) (moves : List Move) (one other : MonitoredMachine) : Type 0 where
-  pub outcomes : LowOutcomesEqual e moves one other
-  pub state : AreRelated e (first_end moves one) (second_end moves other)
+pub record MovedAlike (enclave : ℕ) (moves : List Move) (one other : MonitoredMachine) : Type 0 where
+  pub outcomes : LowOutcomesEqual enclave moves one other
+  pub state : AreRelated enclave (first_end moves one) (second_end moves other)
 
 -- permitted moves of two related machines have equal outcomes of low steps, and lead to related machines
 abbrev pub DeclassificationLaw : Type 0
 DeclassificationLaw =
-    (e : ℕ) (moves : List Move) (one other : MonitoredMachine) → Invariant one → Invariant other → AreRelated e one other
-    → AreMoves e moves one other → MovedAlike e moves one other
+    (enclave : ℕ) (moves : List Move) (one other : MonitoredMachine) → Invariant one → Invariant other → AreRelated enclave one other
+    → AreMoves enclave moves one other → MovedAlike enclave moves one other
 
 -- Machines that are equivalent except for an enclave are so in the guest view. Machines that are so in the guest view are related, if the enclave
 -- runs on no hart. Related machines are equivalent in the guest view, if the enclave does not run.
 pub record RelationLaw : Type 0 where
-  pub guests : (e : ℕ) (one other : MonitoredMachine) → EquivExcept e one other → EquivToGuests e one other
-  pub begins : (e : ℕ) (one other : MonitoredMachine) → EquivToGuests e one other → ((hart : ℕ) → runs_on e hart one ≡ false) → AreRelated e one other
-  pub ends : (e : ℕ) (one other : MonitoredMachine) → AreRelated e one other → runs one.shared.table e ≡ false → EquivToGuests e one other
+  pub guests : (enclave : ℕ) (one other : MonitoredMachine) → EquivExcept enclave one other → EquivToGuests enclave one other
+  pub begins : (enclave : ℕ) (one other : MonitoredMachine) → EquivToGuests enclave one other → ((hart : ℕ) → runs_on enclave hart one ≡ false)
+      → AreRelated enclave one other
+  pub ends : (enclave : ℕ) (one other : MonitoredMachine) → AreRelated enclave one other → runs one.shared.table enclave ≡ false
+      → EquivToGuests enclave one other

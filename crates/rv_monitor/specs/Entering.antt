@@ -6,13 +6,13 @@ use Rattle.rv_monitor.specs.MonitoredMachine.{MonitoredMachine, hart_state_of}
 use Rattle.rv_monitor.specs.NumberedCalls.{EntersByCall}
 use Rattle.rv_monitor.specs.Step.{MonitoredStepped}
 
--- the step traps, slot k had a saved context, and the step leaves the machine that a call leaves which enters slot k
-pub record HasEntered (hart k : ℕ) (before : MonitoredMachine) (after : MonitoredStepped) : Type 0 where
+-- the step traps, `slot` had a saved context, and the step leaves the machine that a call leaves which enters `slot`
+pub record HasEntered (hart slot : ℕ) (before : MonitoredMachine) (after : MonitoredStepped) : Type 0 where
   pub trap : Trap
   pub trapped : after.outcome.step.trap ≡ Some trap
-  pub call : EntersByCall hart before after trap k
+  pub call : EntersByCall hart before after trap slot
 
--- each step of the hart that runs the host before it and enclave k after it enters slot k with its saved context
+-- each step of the hart that runs the host before it and enclave `slot` after it enters `slot` with its saved context
 abbrev pub EntersOnly : ℕ → MonitoredMachine → MonitoredStepped → Type 0
 EntersOnly hart before after =
-    (k : ℕ) → (hart_state_of hart before).world ≡ Host → (hart_state_of hart after.state).world ≡ Enclave k → HasEntered hart k before after
+    (slot : ℕ) → (hart_state_of hart before).world ≡ Host → (hart_state_of hart after.state).world ≡ Enclave slot → HasEntered hart slot before after

@@ -5,17 +5,17 @@ use Rattle.std.specs.Prelude.{◌≡◌, ℕ, Bool, false}
 use Rattle.rv_monitor.specs.Prelude.{HartState, SharedEquivExcept, is_world_of}
 use Rattle.rv_monitor.specs.MonitoredMachine.{MonitoredMachine, count_of, hart_state_of}
 
--- whether the enclave of slot e runs on a hart
+-- whether `enclave` runs on a hart
 abbrev pub runs_on : ℕ → ℕ → MonitoredMachine → Bool
-runs_on e hart machine = is_world_of e (hart_state_of hart machine).world
+runs_on enclave hart machine = is_world_of enclave (hart_state_of hart machine).world
 
--- two hart states with the same world; they are equal unless that world is the enclave of slot e
-pub record HartStatesEquivExcept (e : ℕ) (one other : HartState) : Type 0 where
+-- two hart states with the same world; they are equal unless that world is `enclave`
+pub record HartStatesEquivExcept (enclave : ℕ) (one other : HartState) : Type 0 where
   pub world : one.world ≡ other.world
-  pub same : is_world_of e one.world ≡ false → one ≡ other
+  pub same : is_world_of enclave one.world ≡ false → one ≡ other
 
 -- the number of harts is the same, their states are equivalent, and so is the shared state
-pub record EquivExcept (e : ℕ) (one other : MonitoredMachine) : Type 0 where
+pub record EquivExcept (enclave : ℕ) (one other : MonitoredMachine) : Type 0 where
   pub harts : count_of one ≡ count_of other
-  pub hart_states : (hart : ℕ) → HartStatesEquivExcept e (hart_state_of hart one) (hart_state_of hart other)
-  pub shared : SharedEquivExcept e one.shared other.shared
+  pub hart_states : (hart : ℕ) → HartStatesEquivExcept enclave (hart_state_of hart one) (hart_state_of hart other)
+  pub shared : SharedEquivExcept enclave one.shared other.shared

@@ -32,58 +32,60 @@ EventInvariantLaw = (list : List Event) (machine : MonitoredMachine) → Invaria
 
 -- a low step, or a change of any timer line, also that of the hart on which the enclave runs
 abbrev pub IsLowEvent : ℕ → Event → MonitoredMachine → Type 0
-IsLowEvent e (StepOf hart) machine = runs_on e hart machine ≡ false
-IsLowEvent e (LineOf hart raised) machine = Unit {0}
+IsLowEvent enclave (StepOf hart) machine = runs_on enclave hart machine ≡ false
+IsLowEvent enclave (LineOf hart raised) machine = Unit {0}
 
 -- before each event in the list, the event is a low step or a change of a timer line
 abbrev pub AreLowEvents : ℕ → List Event → MonitoredMachine → Type 0
-AreLowEvents e [] machine = Unit {0}
-AreLowEvents e (event ∷ more) machine = IsLowEvent e event machine × AreLowEvents e more (event_of event machine).state
+AreLowEvents enclave [] machine = Unit {0}
+AreLowEvents enclave (event ∷ more) machine = IsLowEvent enclave event machine × AreLowEvents enclave more (event_of event machine).state
 
--- the outcomes are the same, and the final states are equivalent except for e
-pub record EventsAlike (e : ℕ) (list : List Event) (one other : MonitoredMachine) : Type 0 where
+-- the outcomes are the same, and the final states are equivalent except for `enclave`
+pub record EventsAlike (enclave : ℕ) (list : List Event) (one other : MonitoredMachine) : Type 0 where
   pub outcomes : (events list one).outcomes ≡ (events list other).outcomes
-  pub state : EquivExcept e (events list one).state (events list other).state
+  pub state : EquivExcept enclave (events list one).state (events list other).state
 
--- if two machines are equivalent except for slot e, low events have the same outcomes on both and leave them equivalent except for e
+-- if two machines are equivalent except for `enclave`, low events have the same outcomes on both and leave them equivalent except for `enclave`
 abbrev pub EventLaw : Type 0
 EventLaw =
-    (e : ℕ) (list : List Event) (one other : MonitoredMachine) → Invariant one → Invariant other → EquivExcept e one other → AreLowEvents e list one
-    → EventsAlike e list one other
+    (enclave : ℕ) (list : List Event) (one other : MonitoredMachine) → Invariant one → Invariant other → EquivExcept enclave one other
+    → AreLowEvents enclave list one
+    → EventsAlike enclave list one other
 
 -- ---- integrity
 
 -- a low step that does not enter the enclave, or a change of any timer line
 abbrev pub IsUndisturbing : ℕ → Event → MonitoredMachine → Type 0
-IsUndisturbing k (StepOf hart) machine = (runs_on k hart machine ≡ false) × (enters k (step_of hart machine).outcome.entered ≡ false)
-IsUndisturbing k (LineOf hart raised) machine = Unit {0}
+IsUndisturbing slot (StepOf hart) machine = (runs_on slot hart machine ≡ false) × (enters slot (step_of hart machine).outcome.entered ≡ false)
+IsUndisturbing slot (LineOf hart raised) machine = Unit {0}
 
 -- the enclave is live before, between and after the events, and no event disturbs it
 abbrev pub AreUndisturbing : ℕ → List Event → MonitoredMachine → Type 0
-AreUndisturbing k [] machine = is_live machine.shared.table k ≡ true
-AreUndisturbing k (event ∷ more) machine =
-    (is_live machine.shared.table k ≡ true) × IsUndisturbing k event machine × AreUndisturbing k more (event_of event machine).state
+AreUndisturbing slot [] machine = is_live machine.shared.table slot ≡ true
+AreUndisturbing slot (event ∷ more) machine =
+    (is_live machine.shared.table slot ≡ true) × IsUndisturbing slot event machine × AreUndisturbing slot more (event_of event machine).state
 
 -- as IsUntouched, except for the timer line of the hart on which it runs
-pub record IsUntouchedButLine (k : ℕ) (before after : MonitoredMachine) : Type 0 where
-  pub preserved : IsPreserved k before.shared after.shared
-  pub hart_state : (hart : ℕ) → runs_on k hart before ≡ true
+pub record IsUntouchedButLine (slot : ℕ) (before after : MonitoredMachine) : Type 0 where
+  pub preserved : IsPreserved slot before.shared after.shared
+  pub hart_state : (hart : ℕ) → runs_on slot hart before ≡ true
       → timer_line_set false (hart_state_of hart after) ≡ timer_line_set false (reprogrammed after.shared.table (hart_state_of hart before))
 
 -- every list of events preserves each enclave that it leaves undisturbed
 abbrev pub EventIntegrityLaw : Type 0
 EventIntegrityLaw =
-    (k : ℕ) (list : List Event) (machine : MonitoredMachine) → Invariant machine → AreUndisturbing k list machine
-    → IsUntouchedButLine k machine (events list machine).state
+    (slot : ℕ) (list : List Event) (machine : MonitoredMachine) → Invariant machine → AreUndisturbing slot list machine
+    → IsUntouchedButLine slot machine (events list machine).state
 
 -- no event is a step of a hart on which the enclave runs
 abbrev pub StepsNone : ℕ → List Event → MonitoredMachine → Type 0
-StepsNone k [] machine = Unit {0}
-StepsNone k (StepOf hart ∷ more) machine = (runs_on k hart machine ≡ false) × StepsNone k more machine
-StepsNone k (LineOf hart raised ∷ more) machine = StepsNone k more machine
+StepsNone slot [] machine = Unit {0}
+StepsNone slot (StepOf hart ∷ more) machine = (runs_on slot hart machine ≡ false) × StepsNone slot more machine
+StepsNone slot (LineOf hart raised ∷ more) machine = StepsNone slot more machine
 
 -- an enclave that runs on a hart is left undisturbed by every list of steps of the other harts and of changes of any timer line
 abbrev pub RunningEventLaw : Type 0
 RunningEventLaw =
-    (k own : ℕ) (list : List Event) (machine : MonitoredMachine) → Invariant machine → runs_on k own machine ≡ true → StepsNone k list machine
-    → AreUndisturbing k list machine
+    (slot own : ℕ) (list : List Event) (machine : MonitoredMachine) → Invariant machine → runs_on slot own machine ≡ true
+    → StepsNone slot list machine
+    → AreUndisturbing slot list machine

@@ -64,9 +64,9 @@ redirected_machine own before trap =
 -- ---- the law
 
 -- after a step of a hart that runs an enclave, the hart runs this enclave, or the host after stop, exit or a timer interrupt
-pub record ExitsOnlyBy (hart k : ℕ) (before : MonitoredMachine) (after : MonitoredStepped) : Type 0 where
+pub record ExitsOnlyBy (hart slot : ℕ) (before : MonitoredMachine) (after : MonitoredStepped) : Type 0 where
   -- without a trap, the enclave continues
-  pub quiet : after.outcome.step.trap ≡ None → (hart_state_of hart after.state).world ≡ Enclave k
+  pub quiet : after.outcome.step.trap ≡ None → (hart_state_of hart after.state).world ≡ Enclave slot
   -- with a trap, the enclave exits if and only if the cause is one that exits
   pub exits : (trap : Trap) → after.outcome.step.trap ≡ Some trap
       → is_host (hart_state_of hart after.state).world ≡ causes_exit (hart_state_of hart before) trap.cause
@@ -79,4 +79,4 @@ pub record ExitsOnlyBy (hart k : ℕ) (before : MonitoredMachine) (after : Monit
 
 -- an enclave that runs on the hart that steps exits only by stop, by exit or by a timer interrupt
 abbrev pub ExitsOnRequest : ℕ → MonitoredMachine → MonitoredStepped → Type 0
-ExitsOnRequest hart before after = (k : ℕ) → (hart_state_of hart before).world ≡ Enclave k → ExitsOnlyBy hart k before after
+ExitsOnRequest hart before after = (slot : ℕ) → (hart_state_of hart before).world ≡ Enclave slot → ExitsOnlyBy hart slot before after

@@ -40,8 +40,8 @@ pub record SameRead (hart_state : HartState) (cause : Cause) (one other : Shared
 pub record SameWhereSame (one other one_after other_after : Shared) : Type 0 where
   pub table : one_after.table ≡ other_after.table
   pub bytes : (i : ℕ) → slice_index one.memory i ≡ slice_index other.memory i → slice_index one_after.memory i ≡ slice_index other_after.memory i
-  pub contexts : (k : ℕ) → context_at one.contexts k ≡ context_at other.contexts k
-      → context_at one_after.contexts k ≡ context_at other_after.contexts k
+  pub contexts : (slot : ℕ) → context_at one.contexts slot ≡ context_at other.contexts slot
+      → context_at one_after.contexts slot ≡ context_at other_after.contexts slot
 
 -- two results of the trap handler have equal harts, and each byte and each context that is equal before is equal after
 pub record SameHandling (one other : Shared) (one_left other_left : Handled) : Type 0 where

@@ -27,70 +27,73 @@ SchedInvariantLaw = (harts : List ℕ) (machine : MonitoredMachine) → Invarian
 
 -- ---- low steps
 
--- all steps are low steps of e: the enclave does not run on the hart that steps
+-- all steps are low steps of `enclave`: the enclave does not run on the hart that steps
 abbrev pub AreLowSteps : ℕ → List ℕ → MonitoredMachine → Type 0
-AreLowSteps e [] machine = Unit {0}
-AreLowSteps e (hart ∷ harts) machine = (runs_on e hart machine ≡ false) × AreLowSteps e harts (step_of hart machine).state
+AreLowSteps enclave [] machine = Unit {0}
+AreLowSteps enclave (hart ∷ harts) machine = (runs_on enclave hart machine ≡ false) × AreLowSteps enclave harts (step_of hart machine).state
 
 -- the enclave runs on none of these harts
 abbrev pub RunsOnNone : ℕ → List ℕ → MonitoredMachine → Type 0
-RunsOnNone e [] machine = Unit {0}
-RunsOnNone e (hart ∷ harts) machine = (runs_on e hart machine ≡ false) × RunsOnNone e harts machine
+RunsOnNone enclave [] machine = Unit {0}
+RunsOnNone enclave (hart ∷ harts) machine = (runs_on enclave hart machine ≡ false) × RunsOnNone enclave harts machine
 
 -- no step except the last one enters the enclave
 abbrev pub IsNotEnteredBefore : ℕ → List ℕ → MonitoredMachine → Type 0
-IsNotEnteredBefore e [] machine = Unit {0}
-IsNotEnteredBefore e (hart ∷ []) machine = Unit {0}
-IsNotEnteredBefore e (hart ∷ next ∷ harts) machine =
-    (enters e (step_of hart machine).outcome.entered ≡ false) × IsNotEnteredBefore e (next ∷ harts) (step_of hart machine).state
+IsNotEnteredBefore enclave [] machine = Unit {0}
+IsNotEnteredBefore enclave (hart ∷ []) machine = Unit {0}
+IsNotEnteredBefore enclave (hart ∷ next ∷ harts) machine =
+    (enters enclave (step_of hart machine).outcome.entered ≡ false) × IsNotEnteredBefore enclave (next ∷ harts) (step_of hart machine).state
 
 -- a hart runs the enclave after a step only if it did so before, or the step entered it
 abbrev pub EntryLaw : Type 0
 EntryLaw =
-    (e hart own : ℕ) (machine : MonitoredMachine) → runs_on e own machine ≡ false → enters e (step_of hart machine).outcome.entered ≡ false
-    → runs_on e own (step_of hart machine).state ≡ false
+    (enclave hart own : ℕ) (machine : MonitoredMachine) → runs_on enclave own machine ≡ false
+    → enters enclave (step_of hart machine).outcome.entered ≡ false
+    → runs_on enclave own (step_of hart machine).state ≡ false
 
 -- steps of harts that did not run the enclave at first are low steps, up to and including the step that enters the enclave
 abbrev pub LowStepsLaw : Type 0
 LowStepsLaw =
-    (e : ℕ) (harts : List ℕ) (machine : MonitoredMachine) → RunsOnNone e harts machine → IsNotEnteredBefore e harts machine
-    → AreLowSteps e harts machine
+    (enclave : ℕ) (harts : List ℕ) (machine : MonitoredMachine) → RunsOnNone enclave harts machine → IsNotEnteredBefore enclave harts machine
+    → AreLowSteps enclave harts machine
 
 -- ---- noninterference
 
--- The outcomes are the same, and the final machines are equivalent except e. The steps are low steps in the other machine too.
-pub record SchedAlike (e : ℕ) (harts : List ℕ) (one other : MonitoredMachine) : Type 0 where
+-- The outcomes are the same, and the final machines are equivalent except `enclave`. The steps are low steps in the other machine too.
+pub record SchedAlike (enclave : ℕ) (harts : List ℕ) (one other : MonitoredMachine) : Type 0 where
   pub outcomes : (sched harts one).outcomes ≡ (sched harts other).outcomes
-  pub state : EquivExcept e (sched harts one).state (sched harts other).state
-  pub low_steps : AreLowSteps e harts other
+  pub state : EquivExcept enclave (sched harts one).state (sched harts other).state
+  pub low_steps : AreLowSteps enclave harts other
 
--- if two machines are equivalent except for slot e, low steps in any order have the same outcomes on both and leave them equivalent except for e
+-- if two machines are equivalent except for `enclave`, low steps in any order have the same outcomes on both and leave them equivalent except for
+-- `enclave`
 abbrev pub SchedLaw : Type 0
 SchedLaw =
-    (e : ℕ) (harts : List ℕ) (one other : MonitoredMachine) → Invariant one → Invariant other → EquivExcept e one other → AreLowSteps e harts one
-    → SchedAlike e harts one other
+    (enclave : ℕ) (harts : List ℕ) (one other : MonitoredMachine) → Invariant one → Invariant other → EquivExcept enclave one other
+    → AreLowSteps enclave harts one
+    → SchedAlike enclave harts one other
 
 -- ---- integrity
 
 -- A list of steps leaves an enclave undisturbed. The enclave is live before, between and after the steps, and each step is a low step that does not
 -- enter the enclave.
 abbrev pub IsUndisturbed : ℕ → List ℕ → MonitoredMachine → Type 0
-IsUndisturbed k [] machine = is_live machine.shared.table k ≡ true
-IsUndisturbed k (hart ∷ harts) machine =
-    (is_live machine.shared.table k ≡ true) × (runs_on k hart machine ≡ false) × (enters k (step_of hart machine).outcome.entered ≡ false)
-    × IsUndisturbed k harts (step_of hart machine).state
+IsUndisturbed slot [] machine = is_live machine.shared.table slot ≡ true
+IsUndisturbed slot (hart ∷ harts) machine =
+    (is_live machine.shared.table slot ≡ true) × (runs_on slot hart machine ≡ false) × (enters slot (step_of hart machine).outcome.entered ≡ false)
+    × IsUndisturbed slot harts (step_of hart machine).state
 
 -- every order of steps preserves each enclave that it leaves undisturbed
 abbrev pub SchedIntegrityLaw : Type 0
 SchedIntegrityLaw =
-    (k : ℕ) (harts : List ℕ) (machine : MonitoredMachine) → Invariant machine → IsUndisturbed k harts machine
-    → IsUntouched k machine (sched harts machine).state
+    (slot : ℕ) (harts : List ℕ) (machine : MonitoredMachine) → Invariant machine → IsUndisturbed slot harts machine
+    → IsUntouched slot machine (sched harts machine).state
 
 -- an enclave that runs on a hart is undisturbed by every order of steps of the other harts
 abbrev pub RunningLaw : Type 0
 RunningLaw =
-    (k own : ℕ) (harts : List ℕ) (machine : MonitoredMachine) → Invariant machine → runs_on k own machine ≡ true → RunsOnNone k harts machine
-    → IsUndisturbed k harts machine
+    (slot own : ℕ) (harts : List ℕ) (machine : MonitoredMachine) → Invariant machine → runs_on slot own machine ≡ true → RunsOnNone slot harts machine
+    → IsUndisturbed slot harts machine
 
 -- ---- which bytes change
 

@@ -13,7 +13,7 @@ pub record IsLegalHartState (hart_state : HartState) : Type 0 where
 -- the pc and S-mode registers of each hart, and those of each saved context of an enclave, have legal values
 pub record IsLegalMachine (machine : MonitoredMachine) : Type 0 where
   pub harts : (hart : ℕ) → IsLegalHartState (hart_state_of hart machine)
-  pub contexts : (k : ℕ) → IfSome (context_at machine.shared.contexts k) (λ context. IsLegal context.supervisor)
+  pub contexts : (slot : ℕ) → IfSome (context_at machine.shared.contexts slot) (λ context. IsLegal context.supervisor)
 
 -- the machine at reset is legal, and every event of a legal machine leaves it legal
 pub record LegalLaw : Type 0 where

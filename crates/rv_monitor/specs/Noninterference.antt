@@ -14,19 +14,20 @@ use Rattle.rv_monitor.specs.Switches.{Handled}
 abbrev pub continuing_from : Handled → HartState
 continuing_from h = record h.hart_state { hart = returned_to h.hart_state.hart h.next.pc h.next.mode }
 
--- Two results of the trap handler enter the same slot and are equivalent except e. If this slot is e, then the hart states need not be equal.
-pub record HandledAlike (e : ℕ) (one other : Handled) : Type 0 where
+-- Two results of the trap handler enter the same slot and are equivalent except `enclave`. If this slot is `enclave`, then the hart states need not
+-- be equal.
+pub record HandledAlike (enclave : ℕ) (one other : Handled) : Type 0 where
   pub entered : one.next.entered ≡ other.next.entered
-  pub hart_state : HartStatesEquivExcept e (continuing_from one) (continuing_from other)
-  pub shared : SharedEquivExcept e one.shared other.shared
+  pub hart_state : HartStatesEquivExcept enclave (continuing_from one) (continuing_from other)
+  pub shared : SharedEquivExcept enclave one.shared other.shared
 
--- the trap handler of a world other than e has equivalent results on two shared states that are equivalent except e
+-- the trap handler of a world other than `enclave` has equivalent results on two shared states that are equivalent except `enclave`
 abbrev pub HandlerLaw : Type 0
 HandlerLaw =
-    (e : ℕ) (worlds : List World) (hart_state : HartState) (one other : Shared) (trap : Trap) → SharedInvariant one worlds
+    (enclave : ℕ) (worlds : List World) (hart_state : HartState) (one other : Shared) (trap : Trap) → SharedInvariant one worlds
     → SharedInvariant other worlds
-    → is_world_of e hart_state.world ≡ false → SharedEquivExcept e one other
-    → HandledAlike e (handled hart_state one trap) (handled hart_state other trap)
+    → is_world_of enclave hart_state.world ≡ false → SharedEquivExcept enclave one other
+    → HandledAlike enclave (handled hart_state one trap) (handled hart_state other trap)
 
 -- ---- the bare step
 
@@ -43,20 +44,20 @@ pub record StepAlike (hidden : ℕ → Bool) (one other : Stepped) : Type 0 wher
 -- a bare step depends on no byte in the region of an enclave other than the running world
 abbrev pub BareLaw : Type 0
 BareLaw =
-    (e : ℕ) (state : HartView) (memory : List ℕ) → HartViewInvariant state → is_world_of e state.hart_state.world ≡ false
-    → EqualOutside (is_private state.shared.table e) state.shared.memory memory
-    → StepAlike (is_private state.shared.table e) (step (bare_machine state)) (step (record (bare_machine state) { memory = memory }))
+    (enclave : ℕ) (state : HartView) (memory : List ℕ) → HartViewInvariant state → is_world_of enclave state.hart_state.world ≡ false
+    → EqualOutside (is_private state.shared.table enclave) state.shared.memory memory
+    → StepAlike (is_private state.shared.table enclave) (step (bare_machine state)) (step (record (bare_machine state) { memory = memory }))
 
 -- ---- the monitored step
 
--- two steps have equal outcomes, and end in machines that are equivalent except e
-pub record SteppedAlike (e : ℕ) (one other : MonitoredStepped) : Type 0 where
+-- two steps have equal outcomes, and end in machines that are equivalent except `enclave`
+pub record SteppedAlike (enclave : ℕ) (one other : MonitoredStepped) : Type 0 where
   pub outcome : one.outcome ≡ other.outcome
-  pub state : EquivExcept e one.state other.state
+  pub state : EquivExcept enclave one.state other.state
 
 -- The outcome and the new state of a step depend on no enclave that is not its world. On every machine that is equivalent except for that
 -- enclave, the step has the same effect. The step may be the one that enters the enclave.
 abbrev pub StepNoninterference : ℕ → MonitoredMachine → MonitoredStepped → Type 0
 StepNoninterference hart before after =
-    (e : ℕ) (other : MonitoredMachine) → Invariant other → EquivExcept e before other → runs_on e hart before ≡ false
-    → SteppedAlike e after (step_of hart other)
+    (enclave : ℕ) (other : MonitoredMachine) → Invariant other → EquivExcept enclave before other → runs_on enclave hart before ≡ false
+    → SteppedAlike enclave after (step_of hart other)

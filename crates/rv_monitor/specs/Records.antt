@@ -12,12 +12,12 @@ use Rattle.rv_monitor.specs.Step.{MonitoredStepped}
 abbrev pub identity_of : SlotInfo → SlotInfo
 identity_of info = record info { state = Fresh }
 
--- the region, window, entry and measurement of slot k, if it has an enclave
+-- the region, window, entry and measurement of `slot`, if it has an enclave
 abbrev pub identity_at : Slots → ℕ → Option SlotInfo
-identity_at slots k = option_map identity_of (slot_at slots k)
+identity_at slots slot = option_map identity_of (slot_at slots slot)
 
 -- a step keeps the identity of every enclave that is live before it and after it
 abbrev pub PreservesRecords : MonitoredMachine → MonitoredStepped → Type 0
 PreservesRecords before after =
-    (k : ℕ) → is_live before.shared.table k ≡ true → is_live after.state.shared.table k ≡ true
-    → identity_at after.state.shared.table k ≡ identity_at before.shared.table k
+    (slot : ℕ) → is_live before.shared.table slot ≡ true → is_live after.state.shared.table slot ≡ true
+    → identity_at after.state.shared.table slot ≡ identity_at before.shared.table slot

@@ -7,11 +7,11 @@ use Rattle.rv_monitor.specs.MonitoredMachine.{MonitoredMachine}
 
 -- the machine with the bytes of k's region and its saved registers complemented
 abbrev pub scrambled : MonitoredMachine → ℕ → MonitoredMachine
-scrambled machine k = record machine { shared = scrambled_shared machine.shared k }
+scrambled machine slot = record machine { shared = scrambled_shared machine.shared slot }
 
 -- two scrambles restore the machine, if memory holds bytes and the registers of the saved context hold 32-bit words
 abbrev pub ScrambleLaw : Type 0
 ScrambleLaw =
-    (machine : MonitoredMachine) (k : ℕ) → ((i : ℕ) → slice_index machine.shared.memory i < 2 ^ 8)
-    → IfSome (context_at machine.shared.contexts k) (λ context. (n : ℕ) → slice_index context.regs n < 2 ^ 32)
-    → scrambled (scrambled machine k) k ≡ machine
+    (machine : MonitoredMachine) (slot : ℕ) → ((i : ℕ) → slice_index machine.shared.memory i < 2 ^ 8)
+    → IfSome (context_at machine.shared.contexts slot) (λ context. (n : ℕ) → slice_index context.regs n < 2 ^ 32)
+    → scrambled (scrambled machine slot) slot ≡ machine
