@@ -52,24 +52,24 @@ def print_plain(line: str) -> None:
         sys.stderr = open(os.devnull, "w", encoding="utf-8")
 
 
-HEARD: List[List[str]] = []  # the lists of the callers that take messages; the last one gets them
+MESSAGE_LISTS: List[List[str]] = []  # of the bodies that capture messages; the last list gets them
 
 
 @contextmanager
-def heard() -> Iterator[List[str]]:
-    """Gives a list that gets the messages of the body, which are not printed then."""
-    HEARD.append([])
+def captured_messages() -> Iterator[List[str]]:
+    """Collects the messages of the body in a list, in place of printing them."""
+    MESSAGE_LISTS.append([])
     try:
-        yield HEARD[-1]
+        yield MESSAGE_LISTS[-1]
     finally:
-        HEARD.pop()
+        MESSAGE_LISTS.pop()
 
 
 def print_line(severity: str, line: str) -> None:
     """Prints a message to standard error: the program, a severity and the text, whose control characters are made visible."""
     text = "rvlook: %s: %s" % (severity, visible(line))
-    if HEARD:
-        HEARD[-1].append(text)
+    if MESSAGE_LISTS:
+        MESSAGE_LISTS[-1].append(text)
     else:
         print_plain(text)
 

@@ -98,7 +98,7 @@ MUTANTS = (
            "test_lacking.py::test_functions_are_named_and_data_is_left_out"),
     Mutant("guard_accepts_a_run_in_which_nothing_traps", "monitors/guard_text.py", "if not any(it.counts[\"returns from M\"] for it in results.guards):",
            "if False:", "test_guard.py::test_monitor_and_host_without_an_enclave_are_checked"),
-    Mutant("a_finder_shows_its_progress_to_its_caller", "output/progress.py", "self.stream.isatty() and not HEARD", "self.stream.isatty()",
+    Mutant("a_finder_shows_its_progress_to_its_caller", "output/progress.py", "self.stream.isatty() and not MESSAGE_LISTS", "self.stream.isatty()",
            "test_progress.py::test_no_progress_is_shown_to_a_caller_that_takes_the_messages"),
     Mutant("leak_takes_a_verdict_for_a_finding", "finders/leak_search.py", "if is_verdict else set()", "if False else set()",
            "test_leak.py::test_verdict_of_a_correct_store_is_no_finding"),

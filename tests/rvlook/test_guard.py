@@ -306,10 +306,10 @@ def test_ranges_of_a_table_are_those_of_its_elements_that_count(tmp_path):
     found = ownership_from(tmp_path, ADDS_RANGES + "table slot 3 slots 20 region 4 8 window c 10 while 0!=0 calls<9  # a comment\nonce slot\n")
     words = {0x80002000: 1, 0x80002004: 0x80024000, 0x80002008: 0x1000, 0x8000200C: 0x80026000, 0x80002010: 0x2000,
              0x80002024: 0x80025000, 0x80002028: 0x1000, 0x80002040: 2, 0x80002044: 0x80028000, 0x80002048: 0x800}
-    shown = [(str(it), it.owner, it.may, it.sharers) for it in found.now(lambda at: words.get(at, 0), 8).ranges if it.is_timed]
+    shown = [(str(it), it.owner, it.may, it.sharers) for it in found.active(lambda at: words.get(at, 0), 8).ranges if it.is_timed]
     assert shown == [("80024000-80024fff", "slot0", "rwx", ()), ("80026000-80027fff", "shared", "rw-", ("slot0",)),
                      ("80028000-800287ff", "slot2", "rwx", ())]
-    assert not any(it.is_timed for it in found.now(lambda at: words.get(at, 0), 9).ranges)
+    assert not any(it.is_timed for it in found.active(lambda at: words.get(at, 0), 9).ranges)
     assert found.runs_once("slot2") and found.enclaves() == ["e0", "slot"]
 
 
@@ -318,12 +318,12 @@ def test_ranges_of_a_table_are_those_of_its_elements_that_count(tmp_path):
 def test_condition_compares_the_word_at_a_place(tmp_path, text, values):
     found = ownership_from(tmp_path, ADDS_RANGES + "e1 80024000-80024fff while %s\n" % text)
     for value, is_there in values.items():
-        assert ("e1" in found.now({0x80002004: value}.__getitem__, 0).enclaves()) == is_there
+        assert ("e1" in found.active({0x80002004: value}.__getitem__, 0).enclaves()) == is_there
 
 
 def test_condition_compares_the_calls_in_decimal(tmp_path):
     found = ownership_from(tmp_path, ADDS_RANGES + "e1 80024000-80024fff while calls>=10 calls<12\n")
-    assert ["e1" in found.now(lambda at: 0, number).enclaves() for number in (9, 10, 11, 12)] == [False, True, True, False]
+    assert ["e1" in found.active(lambda at: 0, number).enclaves() for number in (9, 10, 11, 12)] == [False, True, True, False]
 
 
 CONDITIONS = ("small 80014000-80014fff while %s\nlarge 80014000-80015fff while %s\nshared small rw- 80018000-80018fff while %s\n")

@@ -84,12 +84,12 @@ def test_guard_shows_a_bar_and_reports_what_it_has(stopped):
 
 def test_no_progress_is_shown_to_a_caller_that_takes_the_messages():
     import io
-    from rvlook.errors import heard
+    from rvlook.errors import captured_messages
     from rvlook.output.progress import Progress
 
     class Terminal(io.StringIO):
         def isatty(self):
             return True
     assert Progress(Terminal()).is_shown
-    with heard():
+    with captured_messages():
         assert not Progress(Terminal()).is_shown

@@ -14,7 +14,7 @@ from rvlook.access.stack import overflow_text, overflows as overflows_of
 from rvlook.api.building import PathLike
 from rvlook.api.program import RAM, STEPS, Program
 from rvlook.cli.opening import sets_order
-from rvlook.errors import UsageError, heard
+from rvlook.errors import UsageError, captured_messages
 from rvlook.finders.inputs.report import InputsOptions, details_of, find_inputs, print_text, texts_of
 from rvlook.finders.leak_search import ComparedPair, Leak, LeakOptions, compare_drawn, compare_given
 from rvlook.finders.leak_text import finish, pair_text, text_of_channel, text_of_pair
@@ -84,7 +84,7 @@ def searching(finder: str, program: Optional[Program], *words: str, **options: A
     """Gives findings to fill and the printer of their report. The notes and warnings of the body are those of the findings. `words` and `options` are
     for the command line that repeats the search."""
     found, text = Findings(command=command_of(finder, program, *words, **options)), io.StringIO()
-    with heard() as messages:
+    with captured_messages() as messages:
         yield found, Printer(as_json=False, stream=text)
     found.report, found.notes = text.getvalue(), "".join(it + "\n" for it in messages)
 

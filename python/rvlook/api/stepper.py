@@ -11,7 +11,7 @@ from rvlook.protocol.bench import Closing
 from rvlook.protocol.console import ENDED, WRITTEN, Console, consoles_of
 from rvlook.protocol.commands import line_error
 from rvlook.protocol.replies import Ran, RanTrap, step_of
-from rvlook.protocol.run import EQUAL, Setup
+from rvlook.protocol.run import HALTED_AFTER, Setup
 from rvlook.protocol.schedule import LONGEST, turns_of
 from rvlook.protocol.timeline import Action, Timeline
 
@@ -255,7 +255,7 @@ class Stepper(Closing):
     def traps_forever(self) -> bool:
         """Returns whether the selected hart traps in the same way at each step. Another machine finds out, since a step here would count."""
         with self.timeline.again(self.steps) as ahead:
-            replies = ahead.do_all(["step 1"] * EQUAL)
+            replies = ahead.do_all(["step 1"] * HALTED_AFTER)
         return "trap=-" not in replies[0][0] and all(it == replies[0] for it in replies)
 
     def fail(self, what: str, ran: Ran) -> None:

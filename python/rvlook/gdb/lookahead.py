@@ -7,7 +7,7 @@ from typing import Callable, Iterable, Iterator, Mapping, Optional, Tuple
 
 from rvlook.gdb.stops import NO_TRAP, Halt, Stops
 from rvlook.protocol.replies import Ran, RanTrap, step_of
-from rvlook.protocol.run import EQUAL
+from rvlook.protocol.run import HALTED_AFTER
 from rvlook.protocol.timeline import MOST_STEPS, Action, Line, ScheduledSteps, Timeline, actions_between, rotated, steps_within
 
 BLOCK = 4096  # steps of an exchange
@@ -121,7 +121,7 @@ def ends_of(found: Iterable[tuple[int, int, Ran]]) -> dict[int, RanState] | None
     last: dict[int, list[RanState]] = {}
     for hart, _, ran in found:
         last.setdefault(hart, []).append(state_of(ran))
-    if any(len(states) < EQUAL or len(set(states[-EQUAL:])) > 1 for states in last.values()):
+    if any(len(states) < HALTED_AFTER or len(set(states[-HALTED_AFTER:])) > 1 for states in last.values()):
         return None
     return {hart: states[-1] for hart, states in last.items()}
 
@@ -139,7 +139,7 @@ def first_equal(timeline: Timeline, first: int, ends: Mapping[int, RanState]) ->
                     since.pop(hart, None)
                 else:
                     since.setdefault(hart, position)
-            if len(since) == len(ends) and position >= max(since.values()) + EQUAL * len(block.turns):
+            if len(since) == len(ends) and position >= max(since.values()) + HALTED_AFTER * len(block.turns):
                 return max(since.values())
         return max(since.values(), default=end)
 

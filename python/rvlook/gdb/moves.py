@@ -17,7 +17,7 @@ from rvlook.gdb.stops import INTERRUPTED, Halt, Stops, signal_of
 from rvlook.gdb.view import CachedView
 from rvlook.protocol import names
 from rvlook.protocol.replies import Ran, bytes_of, poke_commands
-from rvlook.protocol.run import EQUAL
+from rvlook.protocol.run import HALTED_AFTER
 from rvlook.protocol.schedule import TURN, alternating
 from rvlook.protocol.timeline import MOST_STEPS, Action, ScheduledSteps, Timeline, actions_between
 
@@ -122,7 +122,7 @@ class Moves:
 
     def step(self, hart: int, others: Sequence[int], inside: Container[int] = ()) -> Halt:
         """Steps a hart once, or while it is inside a range; the other harts run by the schedule meanwhile."""
-        last, equal = None, 0
+        last, equal_steps = None, 0
         while True:
             self.redo()
             turns = self.turns_of([hart, *others])
@@ -135,10 +135,11 @@ class Moves:
             if halt and halt.reason:
                 return self.halt_at(halt)
             self.show_step(ran, before)
-            equal, last = equal + 1 if ran == last else 0, ran
+            equal_steps = equal_steps + 1 if ran == last else 0
+            last = ran
             if halt or ran.trap or int(ran.pc, 16) not in inside or self.stops.is_break(self.timeline, ran.pc):
                 return Halt(hart)
-            if equal >= EQUAL:
+            if equal_steps >= HALTED_AFTER:
                 return self.halt_at(self.halted([hart], hart, ran))
             if self.link.interrupted():
                 return Halt(hart, signal=INTERRUPTED)
@@ -224,7 +225,7 @@ class Moves:
     def end_of(self, harts: Sequence[int], first: int) -> Halt | None:
         """Returns the halt at the first step after `first` from which these harts are halted, or None."""
         turns, start = self.turns_of(harts), self.start()
-        found = query_steps(self.timeline, turns, EQUAL * len(turns), is_single=True)
+        found = query_steps(self.timeline, turns, HALTED_AFTER * len(turns), is_single=True)
         for done, (hart, _, ran) in enumerate(found, 1):
             if self.stops.may_meet(self.timeline, ran, start.worlds[hart]):
                 halt = self.met_at(start, ScheduledSteps(turns, done), hart, ran)

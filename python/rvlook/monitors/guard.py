@@ -146,7 +146,7 @@ class Guard:
 
     def arrive(self, machine: Guarded, stay: StayInM, memory: bytes, tval: int) -> None:
         """Makes the checks of a return from M, and gives the world that continues its values in place of the marks."""
-        self.ownership = self.declared.now(lambda at: word_at(machine.bench, at), self.calls)
+        self.ownership = self.declared.active(lambda at: word_at(machine.bench, at), self.calls)
         left_name, owner = self.world, self.ownership.owner_of(stay.exit.pc)
         self.handled.update(stay.handled)
         if stay.fault:

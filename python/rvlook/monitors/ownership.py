@@ -81,14 +81,14 @@ class Ownership:
     ranges: list[OwnedRange] = field(default_factory=list)  # all of them
     hands: set[int] = field(default_factory=lambda: {10, 11})  # registers that hand values over at a call
     once: set[str] = field(default_factory=set)  # owners that run once
-    tables: list[RangesTable] = field(default_factory=list)  # have further ranges
+    tables: list[RangesTable] = field(default_factory=list)  # tables in memory that have further ranges
     secrets: list[OwnedRange] = field(default_factory=list)  # secret ranges of the monitor
 
-    def now(self, words: Words, calls: int) -> Ownership:
+    def active(self, words: Words, calls: int) -> Ownership:
         """Returns the ranges that exist with these words of memory after a number of calls. Returns this object if all ranges exist always."""
         if not self.tables and not any(it.when for it in self.ranges):
             return self
-        ranges = [it for it in self.ranges if all(one.holds(words, calls) for one in it.when)]
+        ranges = [it for it in self.ranges if all(condition.holds(words, calls) for condition in it.when)]
         ranges += [it for table in self.tables for it in table.ranges(words, calls)]
         return Ownership(ranges, self.hands, self.once, [], self.secrets)
 

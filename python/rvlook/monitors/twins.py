@@ -61,7 +61,7 @@ class Track:
                 self.invert_state(cause, entry)
             stay = self.machine.to_return(cause, entry)
         self.returns += 1
-        self.ownership = self.declared.now(lambda at: word_at(self.machine.bench, at), self.calls)
+        self.ownership = self.declared.active(lambda at: word_at(self.machine.bench, at), self.calls)
         owner = self.ownership.owner_of(stay.exit.pc)
         self.world = self.world if owner is None or owner == MONITOR else owner
         self.note_closed(stay)

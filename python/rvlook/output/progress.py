@@ -5,7 +5,7 @@ import sys
 import time
 from typing import TextIO
 
-from rvlook.errors import HEARD
+from rvlook.errors import MESSAGE_LISTS
 from rvlook.escapes import visible
 
 EVERY = 0.2  # seconds
@@ -17,7 +17,7 @@ class Progress:
     def __init__(self, stream: TextIO | None = None) -> None:
         self.stream = stream or sys.stderr  # standard error by default
         # `last`: time of the last update; `width`: characters of the line
-        self.is_shown, self.last, self.width = self.stream.isatty() and not HEARD, time.monotonic(), 0
+        self.is_shown, self.last, self.width = self.stream.isatty() and not MESSAGE_LISTS, time.monotonic(), 0
 
     def __enter__(self) -> Progress:
         return self

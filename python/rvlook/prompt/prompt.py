@@ -17,7 +17,7 @@ from rvlook.protocol.commands import COMMANDS, Form, is_form, line_error, resolv
 from rvlook.protocol.console import consoles_of
 from rvlook.protocol.nearest import nearest
 from rvlook.protocol.replies import Location, ran_of
-from rvlook.protocol.run import EQUAL, Run, equal_at_end
+from rvlook.protocol.run import HALTED_AFTER, Run, equal_at_end
 from rvlook.protocol.symbols import Symbols
 from rvlook.protocol.timeline import MOST_STEPS, Timeline
 
@@ -228,7 +228,7 @@ def steps_to(ahead: Timeline, is_end: Callable[[str, str], bool]) -> int | None:
         found = next((n for n, replies in enumerate(zip([before, *lines], lines), 1) if is_end(*replies)), None)
         if found:
             return done + found
-        if equal_at_end(lines) >= EQUAL:
+        if equal_at_end(lines) >= HALTED_AFTER:
             return None
         before = lines[-1]
     return None

@@ -21,7 +21,7 @@ from rvlook.protocol.timeline import Line, ScheduledSteps, Timeline, steps_withi
 
 STEPS_PER_EXCHANGE = 16384  # single steps in one exchange
 MAX_CACHED_STEPS = 2000000  # a longer run is not cached; the reply to a step has some 60 bytes
-EQUAL = 3  # equal replies (pc, mode, world and trap) after which a hart counts as halted
+HALTED_AFTER = 3  # equal replies (pc, mode, world and trap) after which a hart counts as halted
 SINGLE_STEP = b"step 1\n"
 OUTSIDE = "rvbench: image 9"  # the error for a segment that is not in RAM
 
@@ -128,7 +128,7 @@ class Run:
         last_replies, equal = [b""] * self.setup.harts, [0] * self.setup.harts  # `equal`: equal replies in succession
         for hart, turn in turns_of(self.setup.schedule):
             count = min(turn, left)
-            if not count or min(equal) >= EQUAL:
+            if not count or min(equal) >= HALTED_AFTER:
                 break
             replies = bench.block(b"hart %d\n" % hart + SINGLE_STEP * count, 1 + count).splitlines()[1:]
             repeated = equal_at_end(replies)
@@ -137,7 +137,7 @@ class Run:
             self.hart = hart
             left -= count
         self.add_steps(self.setup.schedule, self.setup.limit - left)
-        self.ended = "halted" if min(equal) >= EQUAL else "limit"
+        self.ended = "halted" if min(equal) >= HALTED_AFTER else "limit"
 
     def with_lines(self, step: int, lines: Sequence[str]) -> Run:
         """Returns the run with more lines after a step; the lines of the script stay at their steps."""
@@ -211,10 +211,10 @@ class Run:
             left -= count
             data = pending + bench.block(SINGLE_STEP * count, count)
             equal = equal_lines_at_end(data)
-            if equal >= EQUAL:
+            if equal >= HALTED_AFTER:
                 why, later = "halted", equal - 1
             else:
-                later = EQUAL - 1 if left else 0
+                later = HALTED_AFTER - 1 if left else 0
             cut = begin_of_last(later, data)
             data, pending = data[:cut], data[cut:]
             kept, waiting, last = waiting + count - later, later, data or last

@@ -11,7 +11,7 @@ from rvlook.output.printer import Printer, place_text, run_object
 from rvlook.protocol import names
 from rvlook.protocol.console import ENDED, WRITTEN, Console, consoles_of
 from rvlook.protocol.replies import Location, Ran, step_of
-from rvlook.protocol.run import EQUAL, Run
+from rvlook.protocol.run import HALTED_AFTER, Run
 from rvlook.protocol.schedule import turns_of
 from rvlook.protocol.timeline import MOST_STEPS
 
@@ -105,8 +105,8 @@ class Emulator:
 
     def halted_step(self) -> Ran | None:
         """Returns the next step if the steps after it change nothing that a reply shows, else None. These steps do not count for the limit."""
-        self.probed += EQUAL
-        replies = self.bench.ask(*["step 1"] * EQUAL)
+        self.probed += HALTED_AFTER
+        replies = self.bench.ask(*["step 1"] * HALTED_AFTER)
         return step_of(replies[0][0]) if all(it == replies[0] for it in replies) else None
 
     # two harts
@@ -122,7 +122,7 @@ class Emulator:
             self.show()
             if self.status() is not None:
                 return self.finished(ran)
-            if len(last) > 1 and all(len(it) == EQUAL and len(set(it)) == 1 for it in last.values()):
+            if len(last) > 1 and all(len(it) == HALTED_AFTER and len(set(it)) == 1 for it in last.values()):
                 harts = [step_of(it[0]) for it in last.values()]  # a hart which traps or hangs comes before one that ends
                 return self.halted(next((it for it in harts if it.trap), next((it for it in harts if self.hangs(it)), ran)))
         return self.cut(ran)
@@ -140,7 +140,7 @@ class Emulator:
         for (hart, _), reply in zip(lines[-SINGLY - 2 * len(turns):], replies[-SINGLY - 2 * len(turns):]):
             if reply.startswith("ran "):
                 last.setdefault(hart, []).append(reply)
-        return {hart: rans[-EQUAL:] for hart, rans in last.items()}
+        return {hart: rans[-HALTED_AFTER:] for hart, rans in last.items()}
 
     # ends
 

@@ -21,7 +21,7 @@ from rvlook.finders.inputs.contexts import Contexts
 from rvlook.finders.inputs.trace import READ_RESULT, Changes, ProbeComparison, Probes, Trace, TraceVisit, each_probe
 from rvlook.protocol.reader import step_command, values_of
 from rvlook.protocol.replies import Enclave, enclave_of, register_values
-from rvlook.protocol.run import EQUAL, Run, equal_at_end
+from rvlook.protocol.run import HALTED_AFTER, Run, equal_at_end
 from rvlook.protocol.timeline import Timeline
 
 FIRST_STEPS, FIRST_CHUNK, LAST_CHUNK = 32, 256, 8192  # single steps of the first exchange, of the second one, and of an exchange at most
@@ -281,7 +281,7 @@ class Tracer:
 
     def end_of(self, leader: Timeline, lines: Sequence[bytes], is_own: bool) -> str:
         """Returns why a trace ends after these steps; empty if it goes on."""
-        if equal_at_end(lines) >= EQUAL:
+        if equal_at_end(lines) >= HALTED_AFTER:
             return "stuck" if is_own else "halted"
         if leader.position < self.limit:
             return ""

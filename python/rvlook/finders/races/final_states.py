@@ -180,14 +180,13 @@ class Component:
 
     def values(self, outcome: Sequence[Observed]) -> tuple[dict[tuple[Value, ...], OutcomeState], bool]:
         """Returns the recurring values of the outcome, each with a vertex, a state and the schedule between them; and whether some may be missing."""
-        machine = self.machine
         found: dict[tuple[Value, ...], OutcomeState] = {}
         for vertex in self.vertices:
             state = self.graph.nodes[vertex].point.state
-            found.setdefault(values_in(machine, outcome, state), OutcomeState(vertex, state))
+            found.setdefault(values_in(self.machine, outcome, state), OutcomeState(vertex, state))
         if self.search.is_outcome_visible:
             return found, False
-        loops = [it for it in range(machine.count) if it not in self.moves and self.loop(it) and len(self.values_alone(it, outcome)) > 1]
+        loops = [it for it in range(self.machine.count) if it not in self.moves and self.loop(it) and len(self.values_alone(it, outcome)) > 1]
         moving_harts = [*self.moves, *loops]
         if len(moving_harts) == 1:
             for values, state_alone in self.values_alone(moving_harts[0], outcome).items():
