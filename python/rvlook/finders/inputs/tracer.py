@@ -3,7 +3,7 @@
 A run is replayed at full speed up to the changed input. From there it is first expected to take the steps of its parent: one list of commands reads
 the registers of loads and stores, and the pc after each branch. At the first reply that differs, single steps show the new path: the first few with
 all registers, since most paths join that of the parent soon. After these a second process reads the registers. If the new path joins that of the
-parent, the run follows it again."""
+parent, the run follows it again. Steps that an earlier run took with the same registers are copied from its trace."""
 from __future__ import annotations
 
 from array import array
