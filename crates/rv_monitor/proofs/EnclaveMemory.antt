@@ -255,7 +255,7 @@ step_own slot hart_state one other view_invariant_one runs_enclave slots same_fo
     (after_bare outcome (record hart_state { hart = hart }) (stored hart_state other)) in
     subst (λ hart. P hart bare_other.outcome) (sym alike.hart) (subst (λ outcome. P bare_one.state.hart outcome) (sym alike.outcome) base)
 
--- a world that passes the test `is_world_of `slot`` is not the host
+-- a world that passes the test `is_world_of slot` is not the host
 pub not_host_by : (slot : ℕ) (world : World) → is_world_of slot world ≡ true → is_host world ≡ false
 not_host_by slot Host runs_enclave = cc
 not_host_by slot (Enclave j) runs_enclave = refl

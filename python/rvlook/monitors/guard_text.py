@@ -17,7 +17,7 @@ from rvlook.protocol.symbols import Symbols
 
 COUNTS = {"steps": "steps below M", "returns": "returns from M", "switches": "switches", "continued": "worlds that continue",
           "given_back": "ranges given back"}
-MAX_FUNCTIONS_SHOWN = 40  # that are shown
+MAX_FUNCTIONS_SHOWN = 40  # in one list
 
 
 def show_guard(plan: GuardPlan, printer: Printer, findings: ReportedCases) -> None:

@@ -26,7 +26,7 @@ from rvlook.protocol.jobs import results_of
 from rvlook.protocol.run import Run
 from rvlook.protocol.symbols import Symbols
 
-MAX_CHANGES_PER_RUN = 4  # of one run
+MAX_CHANGES_PER_RUN = 4  # changes of inputs; the search goes on from no run with so many
 BATCH_RUNS = 16  # runs from one trace before the runs from the next trace
 RUNS_AHEAD = 2  # runs that are started before the one that is traced is complete
 
