@@ -54,7 +54,7 @@ class Recorded(Search):
         paths = self.paths
         super().explore(state)
         if self.paths > paths:
-            self.kept = getattr(self, "kept", []) + [(state.conds[:], part_of(state))]
+            self.kept = getattr(self, "kept", []) + [(state.conditions[:], part_of(state))]
 
 
 def explored(world, **more):
@@ -182,11 +182,11 @@ def outside(search):
     for state, key in search.states:
         it = search.merger.merged[key]
         for at, x in merge.raw_cells(state, merge.RESULTS):
-            cell = it.cells.get(at, it.mem[at - search.world.region[0]] if isinstance(at, int) else 0)
+            cell = it.cells.get(at, it.region_bytes[at - search.world.region[0]] if isinstance(at, int) else 0)
             found += [] if is_instance(search, state, at, x, cell) else [at]
-        for at in merge.changed_bytes(bytes(state.mem), it.mem, search.world.region[0]):
-            cell = it.cells.get(at, it.mem[at - search.world.region[0]])
-            found += [] if at in state.sym or is_instance(search, state, at, state.mem[at - search.world.region[0]], cell) else [at]
+        for at in merge.changed_bytes(bytes(state.region_bytes), it.region_bytes, search.world.region[0]):
+            cell = it.cells.get(at, it.region_bytes[at - search.world.region[0]])
+            found += [] if at in state.symbolic_bytes or is_instance(search, state, at, state.region_bytes[at - search.world.region[0]], cell) else [at]
     return found
 
 
@@ -201,7 +201,7 @@ def is_instance(search, state, at, x, cell):
     if values is None or not isinstance(x, Node):
         return values is None or x in values
     others = all_of(*(differ(word(x, 0, 0, 0), it) for it in values))
-    return search.solver.satisfiable(state.conds, others, state.model)[0] is False
+    return search.solver.satisfiable(state.conditions, others, state.model)[0] is False
 
 
 def stops(bench, monkeypatch, task, is_joined=True):

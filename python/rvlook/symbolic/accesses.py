@@ -26,7 +26,7 @@ GONE = "uses a local variable of a function that has returned"
 
 class Candidate(NamedTuple):
     """An object in which an access may stay."""
-    inside: Condition  # that the access stays in the object
+    inside: Condition  # the condition that the access stays in the object
     extent: Extent
 
 
@@ -50,10 +50,10 @@ class Accesses(Paths):
             return tag
         extents = self.search.extents
         target = tag.base + offset & M32
-        found = extents.object_at(self, target)
-        if found is None or not found.is_start:
+        extent = extents.object_at(self, target)
+        if extent is None or not extent.is_start:
             return tag
-        is_other = found.low == target or extents.begins_other_member(target, tag.base)
+        is_other = extent.low == target or extents.begins_other_member(target, tag.base)
         return tag._replace(base=target) if is_other else tag
 
     def constant_in(self, register: int, pc: int) -> int:
@@ -126,24 +126,24 @@ class Accesses(Paths):
             search.report(kind, self, GONE, self.model)
             return
         objects = self.objects_of(tag, offset, address)
-        found = next((extent for extent in objects if extent.has(address, width)), None)
-        if found is None:
+        object_ = next((extent for extent in objects if extent.has(address, width)), None)
+        if object_ is None:
             self.report_leaving(address, width, tag, objects, kind)
         elif len(objects) > 1 and address != tag.base + offset & M32 and not objects[0].is_start:
             search.doubt_access(kind, self, FOLDED)
         else:
-            search.reached_objects.add((self.pc, found.bounds))
-            self.last_objects[self.pc] = tag, found.low, found.high
-            self.note_variable(tag, found, kind)
-            member_leaves(self, address, width, Place(tag, offset, found), kind)
+            search.reached_objects.add((self.pc, object_.bounds))
+            self.last_objects[self.pc] = tag, object_.low, object_.high
+            self.note_variable(tag, object_, kind)
+            member_leaves(self, address, width, Place(tag, offset, object_), kind)
 
-    def note_variable(self, tag: Origin, found: Extent, kind: str) -> None:
+    def note_variable(self, tag: Origin, extent: Extent, kind: str) -> None:
         """Notes the variable that an access reaches. The access is not decided if the instruction has reached another variable from the same address,
         on this or another path: one of the two may be wrong."""
         search = self.search
-        if tag.how is not How.SYMBOL or max(tag.base, found.low) >= search.world.objects.stack:
+        if tag.how is not How.SYMBOL or max(tag.base, extent.low) >= search.world.objects.stack:
             return
-        if search.reached_variables.setdefault((self.pc, tag.base), found.bounds) != found.bounds:
+        if search.reached_variables.setdefault((self.pc, tag.base), extent.bounds) != extent.bounds:
             search.doubt_access(kind, self, FOLDED)
 
     def report_leaving(self, address: int, width: int, tag: Origin, objects: List[Extent], kind: str) -> None:
@@ -160,9 +160,9 @@ class Accesses(Paths):
             if not self.is_base:
                 raise Ended(FINDING)
 
-    def is_sure(self, tag: Origin, found: Extent) -> bool:
+    def is_sure(self, tag: Origin, extent: Extent) -> bool:
         """Returns whether an origin is in an object for sure, so that an access that leaves the object is an error."""
-        return tag.how is How.FRAME or found.is_start or (self.pc, found.bounds) in self.search.reached_objects
+        return tag.how is How.FRAME or extent.is_start or (self.pc, extent.bounds) in self.search.reached_objects
 
     def is_end(self, tag: Origin, address: int, width: int) -> bool:
         """Returns whether an origin may be the end of the object that an access reaches, from which the compiler counts back."""
@@ -203,11 +203,11 @@ class Accesses(Paths):
             return self.allowed_place(address, width, kind) if search.world.allowed.has(self.pc) else None
         if self.is_base and not any(self.holds(candidate.inside) for candidate in candidates):
             return None  # the run itself is outside
-        found = self.choose_object(candidates)
-        if tag is not None and found.low != search.world.window[0]:
-            self.note_variable(tag, found, kind)
-            return ask_member(self, address, width, Place(tag, offset, found), kind)
-        return found
+        chosen = self.choose_object(candidates)
+        if tag is not None and chosen.low != search.world.window[0]:
+            self.note_variable(tag, chosen, kind)
+            return ask_member(self, address, width, Place(tag, offset, chosen), kind)
+        return chosen
 
     def places(self, address: Node, tag: Tag, offset: int, width: int) -> Tuple[List[Extent], bool]:
         """Returns the objects of an access at an expression, and whether it is an error for sure if the access leaves them. A pointer of the host may
@@ -225,7 +225,7 @@ class Accesses(Paths):
             return objects, True
         is_sure = all(self.is_sure(tag, extent) for extent in objects)
         if len(objects) == 1 and not is_sure:
-            answer, _ = search.solver.satisfiable(self.conds, within(address, objects[0].low, objects[0].high - width), self.model)
+            answer, _ = search.solver.satisfiable(self.conditions, within(address, objects[0].low, objects[0].high - width), self.model)
             is_sure = answer is True  # an address that is never inside was folded
         return objects, is_sure
 
@@ -237,7 +237,7 @@ class Accesses(Paths):
         if (kind, self.pc) in search.findings:
             search.assumed_inside[self.pc] += 1
             return True
-        answer, model = search.solver.satisfiable(self.conds, outside, self.model)
+        answer, model = search.solver.satisfiable(self.conditions, outside, self.model)
         if answer is False:
             return False
         if answer is None:
@@ -260,7 +260,7 @@ class Accesses(Paths):
         search = self.search
         world = search.world
         inside = any_of(*(within(address, low, high - width) for low, high in (world.region, world.window)))
-        answer, model = search.solver.satisfiable(self.conds, not_(inside), self.model)
+        answer, model = search.solver.satisfiable(self.conditions, not_(inside), self.model)
         if answer is None:
             search.undecided[kind, self.pc] += 1
         elif answer:
@@ -269,11 +269,11 @@ class Accesses(Paths):
             if self.is_base and not self.holds(inside):
                 return None
             self.move_to(inside)
-        found = search.extents.object_at(self, self.value(address))
-        if found is None:
+        extent = search.extents.object_at(self, self.value(address))
+        if extent is None:
             return None
-        outside = not_(within(address, found.low, found.high - width))
-        return found if search.solver.satisfiable(self.conds, outside, self.model)[0] is False else None
+        outside = not_(within(address, extent.low, extent.high - width))
+        return extent if search.solver.satisfiable(self.conditions, outside, self.model)[0] is False else None
 
     def choose_object(self, candidates: List[Candidate]) -> Extent:
         """Chooses the object in which this path goes on, and leaves the others to other paths. Returns the object that the access reaches in the
@@ -287,7 +287,7 @@ class Accesses(Paths):
         for inside, extent in candidates:
             if extent is chosen.extent:
                 continue
-            answer, model = search.solver.satisfiable(self.conds, inside, self.model)
+            answer, model = search.solver.satisfiable(self.conditions, inside, self.model)
             if answer is None:
                 search.undecided["value", self.pc] += 1
             elif answer:

@@ -33,13 +33,13 @@ def instructions_of(text: str, symbols: Symbols, region: Tuple[int, int]) -> Fro
     there."""
     low, high = region
     if is_line(text, symbols):
-        found = frozenset(pc for pc in range(low, high, WORD) if has_line(symbols, pc, text))
+        pcs = frozenset(pc for pc in range(low, high, WORD) if has_line(symbols, pc, text))
     else:
         at, count = place_and_size(text, symbols)
-        found = frozenset(pc for pc in range(at & -WORD, at + (count or WORD), WORD) if low <= pc < high)
-    if not found:
+        pcs = frozenset(pc for pc in range(at & -WORD, at + (count or WORD), WORD) if low <= pc < high)
+    if not pcs:
         raise RvlookError("--allow names no instruction of the enclave with '%s'; use PLACE[:BYTES] or FILE:LINE" % text)
-    return found
+    return pcs
 
 
 def is_line(text: str, symbols: Symbols) -> bool:

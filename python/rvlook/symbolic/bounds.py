@@ -78,11 +78,11 @@ class Bounds:
         which they may be related. `word_at` gives the values of words, and `tags` has their origins. `loop_mask` is the mask of the unknowns of a
         loop, on which no bound may depend; None at a stop."""
         bases = {at: tag.base for at, tag in tags.items() if tag is not None and tag.how in (How.SYMBOL, How.FRAME, How.MEMORY, How.UPPER)}
-        found = candidates(new[:MOST_PLACES], others[:MOST_PLACES], word_at, bases, self.limits, loop_mask is not None)
+        facts = candidates(new[:MOST_PLACES], others[:MOST_PLACES], word_at, bases, self.limits, loop_mask is not None)
 
         def is_usable(bound: Any) -> bool:
             return type(bound) is not Node or (bound.weight <= LONGEST_BOUND and not mask_of(bound) & (loop_mask or 0))
-        return [fact for fact in found if is_usable(fact.bound)]
+        return [fact for fact in facts if is_usable(fact.bound)]
 
     def holding(self, assumed: Assumed, facts: Sequence[Fact], word_at: WordAt) -> List[Fact]:
         """Returns the facts that hold for all values for which some conditions hold. `word_at` gives the words of the facts."""
@@ -92,8 +92,8 @@ class Bounds:
     @staticmethod
     def conditions(facts: Sequence[Fact], word_at: WordAt) -> List[Node]:
         """Returns facts as conditions, without conditions that always hold. `word_at` gives the words of the facts."""
-        found = [condition_of(fact, word_at) for fact in active(facts)]
-        return [condition for condition in found if type(condition) is Node]
+        conditions = [condition_of(fact, word_at) for fact in active(facts)]
+        return [condition for condition in conditions if type(condition) is Node]
 
 
 def word_reader(state: State) -> WordAt:

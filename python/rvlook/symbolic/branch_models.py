@@ -25,23 +25,23 @@ if TYPE_CHECKING:
     from rvlook.finders.inputs.trace import Trace
     from rvlook.symbolic.fields import AnyState, Load
 
-MOST_STEPS = 30000  # of a path
-MOST_ROUNDS = 4  # of a loop in which a path proposes models
-MOST_MODELS = 24  # of a trace that become new traces
-MOST_TRACES = 16  # that are executed with expressions
+MOST_STEPS = 30000  # the most steps of a path
+MOST_ROUNDS = 4  # the most rounds of a loop in which a path proposes models
+MOST_MODELS = 24  # the most models of a trace that become new traces
+MOST_TRACES = 16  # the most traces that are executed with expressions
 TIMEOUT = 2000  # milliseconds of a query
-SECONDS = 60.0  # of a path
+SECONDS = 60.0  # the seconds of a path
 NEAR = 8  # bytes; two changed bytes that are closer to each other are changed at once, with the bytes between them
 Pair = Tuple[int, int]  # a branch, and the pc after it
 
 
 class Model:
-    """Values of the inputs of a path."""
+    """Values for the inputs of a path, by which it takes its branches."""
 
     def __init__(self, state: AnyState, values: Mapping[str, int], pair: Optional[Pair] = None) -> None:
         self.loads: List[Load] = state.loads[:]
         self.leaving_steps: List[int] = [answer.step for answer in state.answers]  # the steps in which the enclave leaves
-        self.values = values  # by the name of the variable
+        self.values = values  # the values by the name of the variable
         self.pair = pair  # the branch that takes the other way with these values; None if the values move an access
         self.index = state.steps if pair is None else state.steps - 1  # the number of the step of the branch or access
 
@@ -58,7 +58,7 @@ class TraceState(State):
             for candidate in candidates:
                 extent = candidate.extent
                 for at in (extent.high, extent.high - 1, extent.low - 1):
-                    answer, model = search.solver.satisfiable(self.conds, eq(address, at), self.model)
+                    answer, model = search.solver.satisfiable(self.conditions, eq(address, at), self.model)
                     if answer:
                         search.models.append(Model(self, model))
         return True

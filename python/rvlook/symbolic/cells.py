@@ -16,7 +16,7 @@ if TYPE_CHECKING:
     from rvlook.symbolic.facts import Fact
     from rvlook.symbolic.state import State
 
-MOST_VALUES = 16  # of an unknown; one with more values may have any value
+MOST_VALUES = 16  # the most values of an unknown; one with more values may have any value
 BLOCK = 64  # bytes of two memories that are compared at once
 Cell = Any  # an int, a Node, or an unknown (int, Optional[FrozenSet[int]])
 
@@ -54,7 +54,7 @@ def byte_at(content: bytes, base: int, at: Place) -> int:
 def raw_cells(state: State, zeros: Tuple[int, ...] = ()) -> Iterator[Tuple[Place, Byte]]:
     """Yields the bytes of a state with their places: those of the region that are expressions, and those of all registers. The registers `zeros` are
     taken as 0."""
-    for at, part in state.sym.items():
+    for at, part in state.symbolic_bytes.items():
         yield at, plain(part)
     for number in range(1, 32):
         for n in range(4):

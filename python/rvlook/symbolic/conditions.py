@@ -81,10 +81,10 @@ def equals_node(x: Node, y: Node) -> Condition:
 
 def inverse_of(odd: int) -> int:
     """Returns the inverse of an odd number modulo 2 ** 32, by Newton's iteration."""
-    found = odd
+    inverse = odd
     for _ in range(5):
-        found = found * (2 - odd * found) & M32
-    return found
+        inverse = inverse * (2 - odd * inverse) & M32
+    return inverse
 
 
 def is_shifted(x: Node) -> bool:
@@ -165,14 +165,14 @@ def all_of(*conditions: Condition) -> Condition:
 
 def distinct(conditions: List[Node]) -> List[Node]:
     """Returns the parts of conditions, each once. A looser bound of a word by a number is left out."""
-    found: Dict[Any, Node] = {}
+    distinct_conditions: Dict[Any, Node] = {}
     for condition in conditions:
         for part in condition.args if condition.op == "and1" else (condition,):
             key, n = bound_of(part)
-            old = found.get(key)
+            old = distinct_conditions.get(key)
             if old is None or n > bound_of(old)[1]:
-                found[key] = part
-    return list(found.values())
+                distinct_conditions[key] = part
+    return list(distinct_conditions.values())
 
 
 def bound_of(condition: Node) -> Tuple[Any, int]:
@@ -224,7 +224,7 @@ class Table:
     """The bytes of an object that is read at an index."""
 
     def __init__(self, content: Tuple[Byte, ...]) -> None:
-        self.content = content  # from the first byte of the object on
+        self.content = content  # the content from the first byte of the object on
 
 
 tables: Dict[Tuple[Byte, ...], Table] = {}  # all tables, by content

@@ -21,7 +21,7 @@ HINT = "To run a finding, give --scripts DIR. It writes DIR/finding_N, which ./r
 
 
 class InputRow(NamedTuple):
-    """Bytes that a load takes from the host."""
+    """Bytes that a load takes from the host in a counterexample: their values there, and in the run itself."""
     activation: int  # counted from 1
     at: int  # the address of the first byte
     values: bytes
@@ -32,7 +32,7 @@ def rows_of(search: Search, example: Counterexample) -> Iterator[InputRow]:
     """Yields the inputs on which the conditions and the address of a finding depend, load by load."""
     memo: Dict[Any, Any] = {}
     mask = mask_of(example.address)
-    for condition in example.conds:
+    for condition in example.conditions:
         mask |= mask_of(condition)
     leaving_steps = [answer.step for answer in example.answers]
     for step, at, names in example.loads:
@@ -66,13 +66,13 @@ def joined(one: InputRow, two: InputRow) -> InputRow:
 
 def table(search: Search, example: Counterexample) -> List[InputRow]:
     """Returns the inputs of a finding. Bytes that are loaded one by one are put together to aligned words of one field."""
-    found: List[InputRow] = []
+    rows: List[InputRow] = []
     for row in rows_of(search, example):
-        if found and is_continued(search, found[-1], row):
-            found[-1] = joined(found[-1], row)
+        if rows and is_continued(search, rows[-1], row):
+            rows[-1] = joined(rows[-1], row)
         else:
-            found.append(row)
-    return found
+            rows.append(row)
+    return rows
 
 
 def is_continued(search: Search, last: InputRow, row: InputRow) -> bool:
@@ -87,12 +87,12 @@ def is_continued(search: Search, last: InputRow, row: InputRow) -> bool:
 
 def input_lines(search: Search, example: Counterexample) -> List[str]:
     """Returns the inputs that differ from those of the run itself, as lines."""
-    found = [line_of(search, row) for row in table(search, example) if row.values != row.old]
-    if not found:
+    lines = [line_of(search, row) for row in table(search, example) if row.values != row.old]
+    if not lines:
         return ["  input  none: the run itself"]
-    if len(found) > MOST_INPUTS:
-        return [*found[:MOST_INPUTS], "  input  ... and %d more" % (len(found) - MOST_INPUTS)]
-    return found
+    if len(lines) > MOST_INPUTS:
+        return [*lines[:MOST_INPUTS], "  input  ... and %d more" % (len(lines) - MOST_INPUTS)]
+    return lines
 
 
 def line_of(search: Search, row: InputRow) -> str:
@@ -107,12 +107,12 @@ def line_of(search: Search, row: InputRow) -> str:
 def input_objects(search: Search, example: Counterexample) -> List[Json]:
     """Returns the bytes of the inputs as JSON objects."""
     fields = search.world.fields
-    found: List[Json] = []
+    objects: List[Json] = []
     for row in rows_of(search, example):
         for n, value in enumerate(row.values):
-            found.append({"activation": row.activation, "address": hex8(row.at + n), "name": fields.name(row.at + n), "value": value,
-                          "instead_of": row.old[n]})
-    return found
+            objects.append({"activation": row.activation, "address": hex8(row.at + n), "name": fields.name(row.at + n), "value": value,
+                            "instead_of": row.old[n]})
+    return objects
 
 
 def is_elf_file(path: str) -> bool:

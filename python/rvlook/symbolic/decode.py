@@ -157,7 +157,7 @@ def upper(kind: str) -> Callable[[int], Decoded]:
     return lambda word: Decoded(kind, rd=rd_of(word), imm=word & 0xFFFFF000)
 
 
-DECODERS: Dict[int, Callable[[int], Decoded]] = {  # by opcode
+DECODERS: Dict[int, Callable[[int], Decoded]] = {  # the decoders by opcode
     0x37: upper("lui"),
     0x17: upper("auipc"),
     0x6F: jal,

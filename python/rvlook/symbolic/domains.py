@@ -6,7 +6,7 @@ from typing import Any, Dict, List, Optional, Sequence, Tuple
 from rvlook.symbolic.evaluation import value_of
 from rvlook.symbolic.nodes import M32, Node, mask_of, operands
 
-VALUES = 256  # of a byte
+VALUES = 256  # the number of values of a byte
 LONGEST = 400  # operations of a condition that is tried, apart from those that were tried before
 
 
@@ -19,17 +19,17 @@ class Domains:
 
     def set_of(self, condition: Node) -> Optional[int]:
         """Returns the values of its byte for which a condition holds; None if it has not one byte, or is too long to be tried."""
-        found = self.sets.get(condition)
-        if found is None:
+        set_of_values = self.sets.get(condition)
+        if set_of_values is None:
             mask = mask_of(condition)
             if not mask or mask & mask - 1 or not self.is_short(condition):
                 return None
-            found = 0
+            set_of_values = 0
             for value, holds in enumerate(self.values(condition)):
                 if holds:
-                    found |= 1 << value
-            self.sets[condition] = found
-        return found
+                    set_of_values |= 1 << value
+            self.sets[condition] = set_of_values
+        return set_of_values
 
     def is_short(self, condition: Node) -> bool:
         """Returns whether few operations of a condition have no values yet. An operation counts once, however often its result is used."""
@@ -66,12 +66,12 @@ class Domains:
     def look_up(self, node: Node) -> List[int]:
         """Returns the values of a byte of a table; 0 outside."""
         at, low, table = node.args
-        found = []
+        values = []
         for n, place in enumerate(self.value_lists[at] if type(at) is Node else [at] * VALUES):
             index = place - low & M32
             content_byte = table.content[index] if index < len(table.content) else 0
-            found.append(self.value_lists[content_byte][n] if type(content_byte) is Node else content_byte)
-        return found
+            values.append(self.value_lists[content_byte][n] if type(content_byte) is Node else content_byte)
+        return values
 
     def answer(self, conditions: Sequence[Node]) -> Tuple[Optional[bool], Dict[Node, int]]:
         """Returns True if all conditions are about one byte each and can hold. The sets of values are those for which all conditions about a byte
@@ -93,13 +93,13 @@ class Domains:
 
 def parts_of(conditions: Sequence[Node]) -> List[Node]:
     """Returns conditions, with the parts of each conjunction in its place."""
-    found: List[Node] = []
+    parts: List[Node] = []
     for condition in conditions:
         if condition.op == "and1":
-            found += parts_of([operand for operand in condition.args if type(operand) is Node])
+            parts += parts_of([operand for operand in condition.args if type(operand) is Node])
         else:
-            found.append(condition)
-    return found
+            parts.append(condition)
+    return parts
 
 
 def member_of(values: int, preferred: int) -> int:

@@ -13,8 +13,8 @@ if TYPE_CHECKING:
     from rvlook.symbolic.fields import AnyState
     from rvlook.symbolic.search import Search
 
-TRIALS = 8  # of a loop with the values of one model, to see whether it ends
-TRIAL_STEPS = 20000  # of each trial
+TRIALS = 8  # the number of trials of a loop with the values of one model, to see whether it ends
+TRIAL_STEPS = 20000  # the number of steps of each trial
 TRIED_AT = (8, 16, 32)  # rounds after which the first trials are made; the last one is made at the bound
 LONGEST = 2000  # steps of an endless loop that is noticed at the end of a long path
 
@@ -28,8 +28,8 @@ class Mark(NamedTuple):
 
 def rest_of(state: AnyState) -> Tuple[Any, ...]:
     """Returns the state of a path without x0 to x31: a digest of memory, the window as it is known, the mode, and the registers of S-mode."""
-    digest = blake2b(state.mem).digest()
-    return digest, frozenset(state.sym.items()), frozenset(state.calm_window.items()), state.mode, tuple(state.csr.values()), state.context
+    digest = blake2b(state.region_bytes).digest()
+    return digest, frozenset(state.symbolic_bytes.items()), frozenset(state.calm_window.items()), state.mode, tuple(state.csr.values()), state.context
 
 
 class Endless:
@@ -81,8 +81,8 @@ class Endless:
         trial: Any = state.fork(state.pc, is_again=True)
         trial.regs = [state.value(word) for word in state.regs]
         trial.csr = {number: state.value(word) for number, word in state.csr.items()}
-        for at in list(trial.sym):
-            trial.put(at, state.value(plain(trial.sym[at])))
+        for at in list(trial.symbolic_bytes):
+            trial.put(at, state.value(plain(trial.symbolic_bytes[at])))
         search.is_trial = True
         try:
             is_endless = self.repeats(trial)

@@ -72,8 +72,8 @@ def table_value(node: Node, memo: Dict[Node, Any]) -> int:
 
 def value_of(op: str, values: Sequence[Any]) -> Any:
     """Returns the value of an operation on values."""
-    found = VALUES.get(op)
-    return found(values) if found else concrete(op, values[0], values[1])
+    function = VALUES.get(op)
+    return function(values) if function else concrete(op, values[0], values[1])
 
 
 VALUES: Dict[str, Any] = {  # the value of an operation on the values `v` of its operands; `nodes.NUMBERS` has the operations on two words
@@ -146,17 +146,17 @@ MAKERS: Dict[str, Any] = {  # makes an operation of its operands `a`; `words.ope
     "ite": lambda a: choice(*a)}
 
 
-def note_known(condition: Node, found: Dict[Node, int]) -> None:
+def note_known(condition: Node, known: Dict[Node, int]) -> None:
     """Adds the variables to which a condition gives a value, with the values, to `found`."""
     if condition.op == "and1":
         for part in condition.args:
-            note_known(part, found)
+            note_known(part, known)
     elif condition.op in ("eq", "eq8") and type(condition.args[1]) is int:
         word_or_byte, value = condition.args
         parts = [(word_or_byte, value)] if condition.op == "eq8" else []
         if condition.op == "eq" and word_or_byte.op == "word":
             parts = [(part, value >> 8 * n & 255) for n, part in enumerate(word_or_byte.args)]
-        found.update((part, content) for part, content in parts if type(part) is Node and part.op == "var")
+        known.update((part, content) for part, content in parts if type(part) is Node and part.op == "var")
 
 
 def reduced(conditions: Sequence[Condition]) -> Tuple[Optional[List[Condition]], Dict[Node, int]]:
@@ -173,7 +173,7 @@ def reduced(conditions: Sequence[Condition]) -> Tuple[Optional[List[Condition]],
             return left, values
         values.update(new)
         memo: Dict[Node, Any] = {}
-        left = [rebuilt(it, values, memo) for it in left]
-        if any(it is False for it in left):
+        left = [rebuilt(part, values, memo) for part in left]
+        if any(part is False for part in left):
             return None, {}
-        left = [it for it in left if it is not True]
+        left = [part for part in left if part is not True]

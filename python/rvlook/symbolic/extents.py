@@ -28,8 +28,8 @@ class LocalVariable(NamedTuple):
 
 
 class Extent(NamedTuple):
-    """An object, as it was found at an address."""
-    low: int  # its first address
+    """The bounds of the object to which an address belongs."""
+    low: int  # the first address of the object
     high: int  # its end
     name: str
     is_start: bool  # whether the address is where the object, or one of its members, begins
@@ -47,7 +47,7 @@ class Extent(NamedTuple):
 class Frame(NamedTuple):
     """The stack frame of a call."""
     call: int  # the number of the call
-    sp: int  # its first address
+    sp: int  # the first address of the frame
     top: int  # its end: sp of the caller, or the end of the stack
     pc: int  # the present instruction of the call
 
@@ -77,7 +77,7 @@ class Extents:
         """Returns the variable at an address of the region below the stacks: by its symbol, else the bytes between two symbols."""
         symbol = self.objects.symbol_at(address)
         starts = self.objects.own_starts
-        index = bisect_right(starts, address)  # of the next symbol
+        index = bisect_right(starts, address)  # the index of the next symbol
         end = starts[index] if index < len(starts) else self.objects.stack
         if symbol:
             high = symbol.address + symbol.size if symbol.size else end
@@ -90,7 +90,7 @@ class Extents:
     def member_at(self, address: int) -> Optional[Member]:
         """Returns the member of a variable at an address below the stacks, or None without DWARF."""
         members = self.static_members
-        index = bisect_right(self.objects.starts, address) - 1  # of the last member that begins at or before the address
+        index = bisect_right(self.objects.starts, address) - 1  # the index of the last member that begins at or before the address
         while index >= 0 and members[index].at > address - LARGEST_MEMBER:
             if address < members[index].at + members[index].size:
                 return members[index]

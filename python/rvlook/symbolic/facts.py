@@ -124,7 +124,7 @@ def follows(fact: Fact, ranges: Ranges) -> bool:
 def hulls_of(lost: Iterable[Fact], word_at: WordAt, loop_mask: int) -> List[Fact]:
     """Returns looser bounds in place of bounds that a state does not fulfil (`lost`): the words of the state itself, which `word_at` gives.
     `loop_mask` is the mask of the unknowns of the loop, on which a bound must not depend."""
-    found = []
+    hulls = []
     for fact in lost:
         if fact.kind != LEAST and not (fact.kind == MOST and type(fact.bound) is Node):
             continue
@@ -134,15 +134,15 @@ def hulls_of(lost: Iterable[Fact], word_at: WordAt, loop_mask: int) -> List[Fact
         else:
             is_usable = fact.kind == LEAST
         if is_usable:
-            found.append(fact._replace(bound=bound))
-    return found
+            hulls.append(fact._replace(bound=bound))
+    return hulls
 
 
-def holding(solver: Solver, conds: Sequence[Node], model: Dict[str, int], facts: Iterable[Fact], word_at: WordAt,
+def holding(solver: Solver, conditions: Sequence[Node], model: Dict[str, int], facts: Iterable[Fact], word_at: WordAt,
             is_late: Callable[[], bool]) -> List[Fact]:
     """Returns the facts that hold for all values for which the conditions hold, without facts about results of a hash. `model` is one of these
     values. Asks nothing once the time is over."""
-    path_conditions = set(conds)
+    path_conditions = set(conditions)
     light: List[Fact] = []  # the facts that are asked: all but those about results of a hash
     wanted: List[Condition] = []  # these facts as conditions
     for fact in dict.fromkeys(facts):
@@ -154,7 +154,7 @@ def holding(solver: Solver, conds: Sequence[Node], model: Dict[str, int], facts:
 
     def strongest(left: List[int]) -> List[int]:
         return [numbers[fact] for fact in active([light[n] for n in left])]
-    session = Session(solver.within(TIMEOUT), conds, wanted, model)
+    session = Session(solver.within(TIMEOUT), conditions, wanted, model)
     return [fact for fact, holds in zip(light, session.implied(wanted, is_late, strongest)) if holds]
 
 
@@ -168,7 +168,7 @@ def mask_of_all(conditions: Iterable[Condition]) -> int:
 
 class Limits(NamedTuple):
     """The bounds that are proposed for words."""
-    numbers: Sequence[int]  # that may bound a word
+    numbers: Sequence[int]  # the numbers that may bound a word
     sums: Sequence[int]  # numbers that may bound the sum of two words
     are_comparable: Callable[[WordPlace, WordPlace], bool]  # returns whether one of two words may bound the other
     have_bounded_sum: Callable[[WordPlace, WordPlace], bool]  # returns whether the sum of two words may be bounded
@@ -179,16 +179,16 @@ def candidates(new: Sequence[WordPlace], others: Sequence[WordPlace], word_at: W
     """Returns facts that may hold for words that became unknown (`new`). `others` are the words to which they may be related. `word_at` gives the
     first values of the words, and `bases` has the first address of the object for each word that is a pointer. `is_loop` says whether the state is
     merged at the head of a loop: then more facts are proposed."""
-    found: List[Fact] = []
+    facts: List[Fact] = []
     for x in new:
         offsets = (-bases[x] & M32,) if x in bases else (0, 1)  # x - base, for a pointer; else x and x + 1
         for offset in offsets:
-            found += [Fact(MOST, x, 0, offset, bound) for bound in limits.numbers]
+            facts += [Fact(MOST, x, 0, offset, bound) for bound in limits.numbers]
         if is_loop:
             first = word_at(x)
-            found += [Fact(LEAST, x, bound=first), Fact(LEAST, x, bound=1)]
+            facts += [Fact(LEAST, x, bound=first), Fact(LEAST, x, bound=1)]
             if type(first) is Node:
-                found.append(Fact(MOST, x, bound=first))
+                facts.append(Fact(MOST, x, bound=first))
         if is_byte(x):
             continue
         for y in others:
@@ -197,15 +197,15 @@ def candidates(new: Sequence[WordPlace], others: Sequence[WordPlace], word_at: W
             has_register = isinstance(x, str) or isinstance(y, str)
             are_comparable = (is_loop and has_register) or limits.are_comparable(x, y)
             if are_comparable:
-                found += [Fact(NOT_ABOVE, x, y), Fact(NOT_ABOVE, y, x)]
+                facts += [Fact(NOT_ABOVE, x, y), Fact(NOT_ABOVE, y, x)]
                 if is_loop:
-                    found += [Fact(BELOW, x, y), Fact(BELOW, y, x)]
+                    facts += [Fact(BELOW, x, y), Fact(BELOW, y, x)]
             if limits.have_bounded_sum(x, y):
-                found += [Fact(SUM, x, y, 0, bound) for bound in limits.sums]
+                facts += [Fact(SUM, x, y, 0, bound) for bound in limits.sums]
             if is_loop and are_comparable and y in new and str(x) < str(y):  # each pair once
-                found.append(Fact(DIFFERENCE, x, y, bound=operation("sub", word_at(x), word_at(y))))
-                found.append(Fact(TOTAL, x, y, bound=operation("add", word_at(x), word_at(y))))
-    return found
+                facts.append(Fact(DIFFERENCE, x, y, bound=operation("sub", word_at(x), word_at(y))))
+                facts.append(Fact(TOTAL, x, y, bound=operation("add", word_at(x), word_at(y))))
+    return facts
 
 
 def is_byte(place: WordPlace) -> bool:
@@ -216,8 +216,8 @@ def is_byte(place: WordPlace) -> bool:
 def thresholds_of(numbers: Iterable[int], sizes: Iterable[int]) -> List[int]:
     """Returns numbers that may bound a word, in ascending order: `numbers` of instructions, `sizes` of objects, the numbers before these, and powers
     of two minus 1."""
-    found = set(POWERS)
+    thresholds = set(POWERS)
     for number in (*numbers, *sizes):
         if 0 < number < LARGEST_BOUND:
-            found |= {number, number - 1}
-    return sorted(found)
+            thresholds |= {number, number - 1}
+    return sorted(thresholds)

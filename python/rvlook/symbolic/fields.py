@@ -39,7 +39,7 @@ AnyState = Any  # a State; the classes from which State inherits call functions 
 
 
 class Load(NamedTuple):
-    """A load of inputs."""
+    """A load of input bytes, which the host chooses."""
     step: int  # the number of the step that loads
     at: Word  # the address of the first byte
     names: Tuple[Tuple[int, str], ...]  # for each input byte, its offset from the address and the name of its variable
@@ -102,13 +102,15 @@ class TimeIsOver(Ended):
 SHARED = ("search", "mode", "model", "context", "calls", "call", "activation", "earlier_pcs", "steps_before", "start_kind", "values_followed",
           "areas", "stack_bottom", "pending_outputs", "is_released", "source_head", "join", "joined_steps", "input_count", "entry", "start_number",
           "is_covered")
-LISTS = ("loads", "stores", "answers", "conds", "regs", "tags", "symbolic_fetches")
-MAPPINGS = ("sym", "csr", "branch_counts", "calm_window", "last_objects", "fetched", "mem_tags", "csr_tags", "public", "rounds", "branch_states")
+LISTS = ("loads", "stores", "answers", "conditions", "regs", "tags", "symbolic_fetches")
+MAPPINGS = ("symbolic_bytes", "csr", "branch_counts", "calm_window", "last_objects", "fetched", "mem_tags", "csr_tags", "public", "rounds",
+            "branch_states")
 
 
 class Fields:
     """The data of a path: the machine, the conditions, and the actions of the path so far."""
-    __slots__ = (*SHARED, *LISTS, *MAPPINGS, "mem", "window_memory", "memo", "is_base", "start_head", "resumed_at", "value_followed", "pcs", "pc")
+    __slots__ = (*SHARED, *LISTS, *MAPPINGS, "region_bytes", "window_memory", "memo", "is_base", "start_head", "resumed_at", "value_followed",
+                 "pcs", "pc")
     search: Search  # the search to which the path belongs
 
     # ---- the machine
@@ -116,15 +118,15 @@ class Fields:
     mode: int  # 1 in S-mode, 0 in U-mode
     regs: List[Word]  # x0 to x31
     csr: Dict[int, Word]  # the control and status registers of S-mode, by their number
-    mem: bytearray  # the bytes of the region that are numbers
-    sym: Dict[int, Any]  # the bytes of the region that are expressions, by address
+    region_bytes: bytearray  # the bytes of the region that are numbers
+    symbolic_bytes: Dict[int, Any]  # the bytes of the region that are expressions, by address
     window_memory: bytearray  # the bytes of the window that the host gives in the run itself in this activation, with the stores of the path
     calm_window: Dict[int, Any]  # with --calm: the bytes of the window that this activation has loaded or stored, by address
 
     # ---- origins of pointers
-    tags: List[Tag]  # of x0 to x31
-    mem_tags: Dict[int, Tag]  # of words of the region, by address
-    csr_tags: Dict[int, Tag]  # of the registers of S-mode, by their number
+    tags: List[Tag]  # the tags of x0 to x31
+    mem_tags: Dict[int, Tag]  # the tags of words of the region, by address
+    csr_tags: Dict[int, Tag]  # the tags of the registers of S-mode, by their number
     last_objects: Dict[int, Tuple[Tag, int, int]]  # by pc: the origin of the last address of this access, and the first address and end of its object
 
     # ---- calls
@@ -136,7 +138,7 @@ class Fields:
     stack_bottom: int  # the lowest address of the stack to which sp belongs
 
     # ---- conditions
-    conds: List[Node]  # the conditions of the path, in the order of its steps
+    conditions: List[Node]  # the conditions of the path, in the order of its steps
     model: Dict[str, int]  # values of the variables, by name, for which all conditions hold
     memo: Dict[Node, Any]  # the values of nodes in `model`, as far as they were computed
     public: Set[Node]  # nodes that have come out: they are taken to be equal for two secrets
@@ -218,7 +220,7 @@ class Fields:
             setattr(copy, name, getattr(self, name)[:])
         for name in MAPPINGS:
             setattr(copy, name, getattr(self, name).copy())
-        copy.mem = bytearray(self.mem)
+        copy.region_bytes = bytearray(self.region_bytes)
         copy.window_memory = bytearray(self.window_memory)
         copy.memo = {}
         copy.is_base = False
@@ -277,4 +279,4 @@ class Fields:
     def assume(self, condition: Condition) -> None:
         """Adds a condition to the path. The caller makes sure that it holds in the model."""
         if type(condition) is Node:
-            self.conds.append(condition)
+            self.conditions.append(condition)

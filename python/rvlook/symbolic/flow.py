@@ -11,7 +11,7 @@ from rvlook.finders.inputs.code import LINKS
 from rvlook.symbolic.decode import decode
 from rvlook.symbolic.nodes import M32
 
-MOST_INSTRUCTIONS = 6000  # of a function; the control flow of a longer one is not known
+MOST_INSTRUCTIONS = 6000  # the most instructions of a function; the control flow of a longer one is not known
 SHORTEST_TABLE = 3  # words of a jump table
 BackEdge = Tuple[int, int]  # a jump back: its pc, and the pc of the head of the loop
 
@@ -61,7 +61,7 @@ class Flows:
     def jump_tables(self) -> Dict[Optional[int], List[int]]:
         """Returns the targets in the jump tables of each function, by its entry. A table is a row of at least SHORTEST_TABLE words, one after
         another, that are addresses of instructions of one function, but not its entry."""
-        found: Dict[Optional[int], Set[int]] = {}
+        targets_by_entry: Dict[Optional[int], Set[int]] = {}
         content = bytes(self.memory)
         row: List[int] = []  # the words of the present row
         last: Optional[int] = None  # the entry of the function to which they point
@@ -70,12 +70,12 @@ class Flows:
             entry = self.function_at(word) if not word & 3 and word not in self.functions else None
             if entry != last:
                 if last is not None and len(row) >= SHORTEST_TABLE:
-                    found.setdefault(last, set()).update(row)
+                    targets_by_entry.setdefault(last, set()).update(row)
                 row = []
             if entry:
                 row.append(word)
             last = entry
-        return {entry: sorted(targets) for entry, targets in found.items()}
+        return {entry: sorted(targets) for entry, targets in targets_by_entry.items()}
 
     def next_of(self, pc: int) -> Optional[Tuple[Sequence[int], bool]]:
         """Returns the pcs to which an instruction leads in its function, and whether it is a call. Returns None outside the image."""
@@ -111,10 +111,10 @@ class Flows:
         while stack:
             pc, taken = stack.pop()
             if taken == 0:
-                found = self.next_of(pc)
-                if found is None or len(following) >= MOST_INSTRUCTIONS:
+                following_and_call = self.next_of(pc)
+                if following_and_call is None or len(following) >= MOST_INSTRUCTIONS:
                     return None
-                following[pc], is_call = found
+                following[pc], is_call = following_and_call
                 active.add(pc)
                 if is_call:
                     meeting_points.update(following[pc])
@@ -152,9 +152,9 @@ def loops_of(order: Dict[int, int], following: Dict[int, Sequence[int]], back_ed
             if pc not in body and order[pc] >= order[head]:
                 body.add(pc)
                 stack += sources.get(pc, [])
-    found: Dict[int, List[int]] = {}
+    heads_by_pc: Dict[int, List[int]] = {}
     outermost_first = sorted(bodies, key=lambda head: (-len(bodies[head]), order[head]))  # a loop inside another one has fewer instructions
     for head in outermost_first:
         for pc in bodies[head]:
-            found.setdefault(pc, []).append(head)
-    return {pc: tuple(heads) for pc, heads in found.items()}
+            heads_by_pc.setdefault(pc, []).append(head)
+    return {pc: tuple(heads) for pc, heads in heads_by_pc.items()}

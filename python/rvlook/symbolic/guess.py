@@ -71,8 +71,8 @@ def invert_zero_or(x: Node, model: Model, memo: Dict[Node, Any]) -> Part:
         values = {**model, **chosen}
         pairs = ((leaf.args[0], leaf.args[1]), (leaf.args[1], leaf.args[0])) if leaf.op == "xor" else ((leaf, 0),)
         values_memo = {} if chosen else memo
-        found = (invert(one, evaluate(two, values, values_memo), values, values_memo) for one, two in pairs if type(one) is Node)
-        chosen.update(next((part for part in found if part), {}))
+        inverses = (invert(one, evaluate(two, values, values_memo), values, values_memo) for one, two in pairs if type(one) is Node)
+        chosen.update(next((part for part in inverses if part), {}))
     return chosen
 
 
@@ -93,10 +93,10 @@ def invert(node: Word, value: int, model: Model, memo: Dict[Node, Any]) -> Optio
         if node.op == "or" and not may_of(node.args[0]) & may_of(node.args[1]):
             one, two = node.args
             return union_of(invert(one, value & may_of(one), model, memo), invert(two, value & may_of(two), model, memo))
-        found = invert_operation(node, value, model, memo)
-        if found is None:
+        operand_and_value = invert_operation(node, value, model, memo)
+        if operand_and_value is None:
             return None
-        node, value = found
+        node, value = operand_and_value
     return None
 
 
@@ -142,8 +142,8 @@ def union_of(one: Optional[Part], two: Optional[Part]) -> Optional[Part]:
 
 def invert_bytes(parts: Tuple[Any, ...], value: int, model: Model, memo: Dict[Node, Any]) -> Optional[Part]:
     """Returns values of variables for which bytes have a value together, or None."""
-    found: Optional[Part] = {}
+    union: Optional[Part] = {}
     for n, part in enumerate(parts):
-        if found is not None:
-            found = union_of(found, invert(part, value >> 8 * n & 255, model, memo))
-    return found
+        if union is not None:
+            union = union_of(union, invert(part, value >> 8 * n & 255, model, memo))
+    return union

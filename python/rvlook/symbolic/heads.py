@@ -42,7 +42,7 @@ class Head(Merged):
         self.drops = self.hints.drops.copy()
         # ---- what all paths have in common
         self.unknown_mask = 0  # the mask of the variables of its unknowns
-        self.conds: List[Node] = []  # the common conditions
+        self.conditions: List[Node] = []  # the common conditions
         self.public: Set[Node] = set()  # the nodes that have come out on all paths
         self.model: Dict[str, int] = {}  # values of the variables on the path that was merged last
         self.equations: Dict[Node, None] = {}  # comparisons of words with numbers that the conditions of the paths contain

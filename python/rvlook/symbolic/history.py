@@ -61,30 +61,30 @@ def history_of(state: AnyState, model: Mapping[str, int]) -> History:
         if join is None:
             break
         parts.append(join.one if evaluate(join.condition, model, memo) else join.two)
-    found = History()
+    history = History()
     for part in reversed(parts):
-        steps = len(found.pcs)
-        loads = len(found.loads)
-        stores = len(found.stores)
-        found.pcs += part.pcs
-        found.loads += [load._replace(step=load.step + steps) for load in part.loads]
-        found.stores += [store._replace(step=store.step + steps) for store in part.stores]
-        found.answers += [it._replace(step=it.step + steps, loads=it.loads + loads, stores=it.stores + stores) for it in part.answers]
-    return found
+        steps = len(history.pcs)
+        loads = len(history.loads)
+        stores = len(history.stores)
+        history.pcs += part.pcs
+        history.loads += [load._replace(step=load.step + steps) for load in part.loads]
+        history.stores += [store._replace(step=store.step + steps) for store in part.stores]
+        history.answers += [leaf._replace(step=leaf.step + steps, loads=leaf.loads + loads, stores=leaf.stores + stores) for leaf in part.answers]
+    return history
 
 
 def events_of(history: History, model: Mapping[str, int]) -> List[Event]:
     """Returns the answers, loads and stores of a path in the order of its steps."""
     memo: Dict[Node, Any] = {}
-    found = [Event(answer.step, ANSWERED, {}) for answer in history.answers]
+    events = [Event(answer.step, ANSWERED, {}) for answer in history.answers]
     for load in history.loads:
         first = evaluate(load.at, model, memo)
-        found.append(Event(load.step, LOADED, {first + n: model[name] for n, name in load.names}))
+        events.append(Event(load.step, LOADED, {first + n: model[name] for n, name in load.names}))
     for store in history.stores:
         first = evaluate(store.at, model, memo)
         value = evaluate(store.value, model, memo)
-        found.append(Event(store.step, STORED, {first + n: value >> 8 * n & 255 for n in range(store.width)}))
-    return sorted(found, key=lambda event: event.step)
+        events.append(Event(store.step, STORED, {first + n: value >> 8 * n & 255 for n in range(store.width)}))
+    return sorted(events, key=lambda event: event.step)
 
 
 def is_calm(history: History, model: Mapping[str, int]) -> bool:

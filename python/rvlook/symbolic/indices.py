@@ -19,7 +19,7 @@ WORD_SHIFT = 2  # bits by which an index of words is shifted to an offset
 MOST_TO_LOAD = 8  # instructions after the shift within which the word is loaded
 MOST_TO_JUMP = 4  # instructions after the load within which a jump to the word makes it a target
 MOST_INDEX = 8  # the end of the values of an index that have a part of their own
-MOST_PARTS = 8  # of one head
+MOST_PARTS = 8  # the most parts of one head
 Part = Tuple[int, ...]  # the values of the index registers of a path; -1 for a value that has no part of its own
 
 
@@ -69,15 +69,15 @@ class Indices:
     def index_registers(self, flow: Flow, pc: int) -> FrozenSet[int]:
         """Returns the registers that are shifted to the offset of a word which is then loaded, in any loop around an instruction."""
         around = set(flow.heads.get(pc, ()))
-        found: Set[int] = set()
+        registers: Set[int] = set()
         for place in flow.order:
             if around.isdisjoint(flow.heads.get(place, ())):
                 continue
             instruction = self.at(place)
             is_word_offset = instruction.kind == "imm" and instruction.op == "sll" and instruction.imm == WORD_SHIFT
             if is_word_offset and self.is_loaded(place + 4, instruction.rd):
-                found.add(instruction.rs1)
-        return frozenset(found)
+                registers.add(instruction.rs1)
+        return frozenset(registers)
 
     def at(self, pc: int) -> Decoded:
         """Returns the instruction at a pc; after the end of the image, an illegal instruction."""

@@ -33,7 +33,7 @@ def key_of(state: State) -> Tuple[Any, ...]:
 
 
 class Joins:
-    """Joins the paths of a search."""
+    """Joins two paths that have divided at a branch and meet again."""
 
     def __init__(self, search: Search) -> None:
         self.search = search
@@ -44,24 +44,24 @@ class Joins:
         groups: Dict[Any, List[State]] = {}
         for state in states:
             groups.setdefault(key_of(state), []).append(state)
-        found: List[State] = []
+        joined: List[State] = []
         for group in groups.values():
-            group.sort(key=lambda state: [condition.number for condition in state.conds])  # paths with a long common beginning become neighbours
+            group.sort(key=lambda state: [condition.number for condition in state.conditions])  # paths with a long common beginning become neighbours
             while len(group) > 1:
-                at = max(range(len(group) - 1), key=lambda n: common_count(group[n].conds, group[n + 1].conds))
+                at = max(range(len(group) - 1), key=lambda n: common_count(group[n].conditions, group[n + 1].conditions))
                 both = self.join_pair(group[at], group[at + 1])
                 if both is None:
-                    found.append(group.pop(at))
+                    joined.append(group.pop(at))
                 else:
                     group[at:at + 2] = [both]
-            found += group
-        return found
+            joined += group
+        return joined
 
     def join_pair(self, one: State, two: State) -> Optional[State]:
         """Returns two paths as one, or None if they cannot be joined. The result is one of the two states, which is changed."""
-        count = common_count(one.conds, two.conds)
-        conditions_one = one.conds[count:]
-        conditions_two = two.conds[count:]
+        count = common_count(one.conditions, two.conditions)
+        conditions_one = one.conditions[count:]
+        conditions_two = two.conditions[count:]
         if not conditions_one or not conditions_two or len(conditions_one) + len(conditions_two) > MOST_CONDITIONS:
             return None
         if one.public != two.public or one.calm_window.keys() != two.calm_window.keys():
@@ -78,7 +78,7 @@ class Joins:
             condition = condition.args[0]
         self.count += 1
         self.join(one, two, condition)
-        one.conds = one.conds[:count] + rest_of(condition, conditions_one, conditions_two)
+        one.conditions = one.conditions[:count] + rest_of(condition, conditions_one, conditions_two)
         return one
 
     def find_divider(self, one: State, conditions_one: List[Node], conditions_two: List[Node]) -> Optional[Node]:
@@ -142,13 +142,13 @@ class Joins:
     def join_memory(self, one: State, two: State, condition: Node) -> None:
         """Joins the region, word by word, and the origins of words."""
         low = self.search.world.region[0]
-        places = {at & -4 for at in changed_bytes(bytes(one.mem), bytes(two.mem), low)}
-        places |= {at & -4 for at, content in one.sym.items() if two.sym.get(at) != content}
-        places |= {at & -4 for at in two.sym if at not in one.sym}
+        places = {at & -4 for at in changed_bytes(bytes(one.region_bytes), bytes(two.region_bytes), low)}
+        places |= {at & -4 for at, content in one.symbolic_bytes.items() if two.symbolic_bytes.get(at) != content}
+        places |= {at & -4 for at in two.symbolic_bytes if at not in one.symbolic_bytes}
         for at in sorted(places):
             value = choose_word(condition, word(*contents(one, at, low)), word(*contents(two, at, low)))
             if type(value) is Node and value.op != "word":
-                one.sym[at], one.sym[at + 1], one.sym[at + 2], one.sym[at + 3] = parts_of(value)
+                one.symbolic_bytes[at], one.symbolic_bytes[at + 1], one.symbolic_bytes[at + 2], one.symbolic_bytes[at + 3] = parts_of(value)
                 continue
             for n in range(4):
                 one.put(at + n, byte(value, n))
@@ -177,7 +177,7 @@ def join_registers(one: State, two: State, condition: Node) -> None:
 
 def contents(state: State, at: int, low: int) -> List[Byte]:
     """Returns the four bytes at an address of the region, which begins at `low`."""
-    return [plain(state.sym.get(at + n, state.mem[at + n - low])) for n in range(4)]
+    return [plain(state.symbolic_bytes.get(at + n, state.region_bytes[at + n - low])) for n in range(4)]
 
 
 def choose_word(condition: Node, one: Word, two: Word) -> Word:
@@ -205,22 +205,22 @@ def rest_of(condition: Node, one: List[Node], two: List[Node]) -> List[Node]:
     """Returns the conditions of joined paths, after those that they have in common from the beginning on. `one` has the further conditions of the
     first path, for which the divider `condition` holds, and `two` those of the second path."""
     negation = not_(condition)
-    both = [it for it in one if it in two]
-    first = [it for it in one if it not in both and it is not condition and it is not negation]
-    second = [it for it in two if it not in both and it is not condition and it is not negation]
-    found: List[Condition] = both[:]
+    both = [term for term in one if term in two]
+    first = [term for term in one if term not in both and term is not condition and term is not negation]
+    second = [term for term in two if term not in both and term is not condition and term is not negation]
+    conditions: List[Condition] = both[:]
     for side, rest in ((negation, all_of(*first)), (condition, all_of(*second))):
         if rest is not not_(side):
-            found.append(any_of(side, rest))
-    return [it for it in found if type(it) is Node]
+            conditions.append(any_of(side, rest))
+    return [part for part in conditions if type(part) is Node]
 
 
 def join_fetched(one: State, two: State, condition: Node) -> None:
     """Joins what two states have loaded from the window in the first one. A load of only one path keeps the condition of this path."""
     both = [load for load in one.symbolic_fetches if load in two.symbolic_fetches]
-    found = both[:]
+    fetches = both[:]
     for state, other, side in ((one, two, condition), (two, one, not_(condition))):
-        found += [load._replace(joined=(*load.joined, side)) for load in state.symbolic_fetches if load not in both]
-        found += [SymbolicFetch(at, 1, pc, context, (side,)) for at, (pc, context) in state.fetched.items() if at not in other.fetched]
+        fetches += [load._replace(joined=(*load.joined, side)) for load in state.symbolic_fetches if load not in both]
+        fetches += [SymbolicFetch(at, 1, pc, context, (side,)) for at, (pc, context) in state.fetched.items() if at not in other.fetched]
     one.fetched = {at: site for at, site in one.fetched.items() if at in two.fetched}
-    one.symbolic_fetches = found
+    one.symbolic_fetches = fetches

@@ -143,28 +143,28 @@ class Judge(Leaving):
         """Asks whether a load has a byte in common with an earlier load, if one of the two is at an expression. If they always have, it is a double
         fetch. If they have only for some inputs, that is not decided. The address `place` may also be a pointer of the host, which may lead to any
         byte: then it is no finding."""
-        earlier = [EarlierLoad(overlap(place, width, it.at, it.width), (it.pc, it.context), it.joined) for it in state.symbolic_fetches]
+        earlier = [EarlierLoad(overlap(place, width, old.at, old.width), (old.pc, old.context), old.joined) for old in state.symbolic_fetches]
         if type(place) is not int:
             earlier += [EarlierLoad(within(place, low - width + 1, high - 1), first) for low, high, first in ranges_of(state.fetched)]
-        earlier = [it for it in earlier if it.overlaps is not False]
-        for joined in sorted({it.joined for it in earlier}, key=len):
-            own = [it for it in earlier if set(it.joined) <= set(joined)]
+        earlier = [access for access in earlier if access.overlaps is not False]
+        for joined in sorted({access.joined for access in earlier}, key=len):
+            own = [access for access in earlier if set(access.joined) <= set(joined)]
             self.ask_overlap_of(state, place, own, all_of(*joined))
 
     def ask_overlap_of(self, state: State, place: Word, earlier: List[EarlierLoad], joined: Condition) -> None:
         """Asks whether a load has a byte in common with one of `earlier`, for those of the joined paths for which the condition `joined` holds."""
         here = state.pc, state.context
-        question = any_of(*(it.overlaps for it in earlier))
-        can, model = self.solver.satisfiable(state.conds, all_of(joined, question), state.model)
+        question = any_of(*(access.overlaps for access in earlier))
+        can, model = self.solver.satisfiable(state.conditions, all_of(joined, question), state.model)
         if can is False or ("reread", state.pc) in self.findings:
             return
-        must_not, _ = self.solver.satisfiable(state.conds, all_of(joined, not_(question)), state.model)
+        must_not, _ = self.solver.satisfiable(state.conditions, all_of(joined, not_(question)), state.model)
         if can is None or must_not is None:
             self.undecided["reread", state.pc] += 1
         elif must_not is False:
             memo: Dict[Node, object] = {}
-            hits = [it.site for it in earlier if evaluate(it.overlaps, model, memo)]
-            first = next((it for it in hits if it != here), hits[0])
+            hits = [access.site for access in earlier if evaluate(access.overlaps, model, memo)]
+            first = next((hit for hit in hits if hit != here), hits[0])
             self.fetched_again(state, first, evaluate(place, model, memo), model)
         elif state.has_origin():
             self.doubt("reread", state, MEETS)
@@ -192,7 +192,7 @@ class Judge(Leaving):
         if (what, state.pc) not in self.findings:
             are_functions: List[Condition] = [eq(target, entry) for entry in sorted(self.world.functions)]
             outside = differ(target, state.value(target)) if is_return else all_of(*(not_(is_function) for is_function in are_functions))
-            answer, model = self.solver.satisfiable(state.conds, outside, state.model)
+            answer, model = self.solver.satisfiable(state.conditions, outside, state.model)
             if answer:
                 self.report(what, state, "the host chooses the target: %08x" % evaluate(target, model), model)
             elif answer is None:
@@ -218,10 +218,10 @@ class Judge(Leaving):
 
 def ranges_of(fetched: Dict[int, Place]) -> List[Tuple[int, int, Place]]:
     """Returns bytes as ranges: the first address, the end, and the one instruction that has loaded the range."""
-    found: List[Tuple[int, int, Place]] = []
+    ranges: List[Tuple[int, int, Place]] = []
     for at in sorted(fetched):
-        if found and found[-1][1] == at and found[-1][2] == fetched[at]:
-            found[-1] = found[-1][0], at + 1, fetched[at]
+        if ranges and ranges[-1][1] == at and ranges[-1][2] == fetched[at]:
+            ranges[-1] = ranges[-1][0], at + 1, fetched[at]
         else:
-            found.append((at, at + 1, fetched[at]))
-    return found
+            ranges.append((at, at + 1, fetched[at]))
+    return ranges

@@ -28,7 +28,7 @@ class Leaving(Outputs):
     def check_leaving(self, state: AnyState) -> None:
         """Asks the questions at the end of an activation."""
         if self.options.must_matter:
-            for condition in state.conds:
+            for condition in state.conditions:
                 self.output_variables |= mask_of(condition)
         has_one_history = state.is_base or not self.options.merges
         if self.means.is_whole and has_one_history and state.activation >= FIRST_ASKED and ("older", state.pc) not in self.findings:
@@ -38,7 +38,7 @@ class Leaving(Outputs):
 
     def check_remains(self, state: AnyState) -> None:
         """Reports bytes of the region and registers that depend on the secret, apart from the secret itself and public values."""
-        cells = {at: plain(part) for at, part in state.sym.items()}
+        cells = {at: plain(part) for at, part in state.symbolic_bytes.items()}
         places = sorted(at for at, cell in cells.items() if is_secret(state, cell) and not (at in self.world.secret and cell.op == "var"))
         registers = ["x%d" % n for n in range(1, 32) if is_secret(state, state.regs[n])]
         registers += ["csr %x" % n for n, value in state.csr.items() if is_secret(state, value)]
@@ -73,8 +73,8 @@ class Leaving(Outputs):
     def check_acceptance(self, state: AnyState, accepts_old: Condition, accepts_latest: Condition, changed: List[int]) -> bool:
         """Reports an old state that the enclave accepts, and returns whether there is one. `accepts_old` and `accepts_latest` are the conditions that
         the activation has loaded the old and the latest state. `changed` has the addresses at which the two differ."""
-        is_old_accepted, model = self.solver.satisfiable(state.conds, accepts_old, state.model)
-        is_latest_accepted = self.solver.satisfiable(state.conds, accepts_latest, state.model)[0] if is_old_accepted else False
+        is_old_accepted, model = self.solver.satisfiable(state.conditions, accepts_old, state.model)
+        is_latest_accepted = self.solver.satisfiable(state.conditions, accepts_latest, state.model)[0] if is_old_accepted else False
         if is_old_accepted is None or is_latest_accepted is None:
             self.undecided["older", state.pc] += 1
         if not is_old_accepted or not is_latest_accepted:
@@ -90,21 +90,21 @@ class Leaving(Outputs):
         for load in state.loads[ends[state.activation].loads:]:
             places = stored + ([(at, 1) for at in changed] if type(load.at) is Node else [])
             meetings += [overlap(load.at, len(load.names), at, width) for at, width in places]
-        if self.solver.satisfiable(state.conds, any_of(*meetings), state.model)[0] is not False:
+        if self.solver.satisfiable(state.conditions, any_of(*meetings), state.model)[0] is not False:
             self.doubt("older", state, AT_INDEX)
 
 
 def stored_states(state: AnyState, ends: Sequence[Counts]) -> List[Dict[int, Byte]]:
     """Returns the bytes that the enclave has stored to the window up to the end of each earlier activation, by address. `ends` has the counts at the
     end of each activation, after those at the beginning."""
-    found: List[Dict[int, Byte]] = []
+    states: List[Dict[int, Byte]] = []
     contents: Dict[int, Byte] = {}
     for activation in range(state.activation):
         for store in state.stores[ends[activation].stores:ends[activation + 1].stores]:
             if type(store.at) is int:
                 contents.update({store.at + n: byte(store.value, n) for n in range(store.width)})
-        found.append(dict(contents))
-    return found
+        states.append(dict(contents))
+    return states
 
 
 def input_of(name: str) -> Word:

@@ -39,10 +39,10 @@ def is_read(flows: Flows, pc: int, register: int, is_saved: bool = True) -> bool
         if (at, depth) in seen:
             continue
         seen.add((at, depth))
-        found = flows.next_of(at)
-        if found is None or len(seen) > MOST_INSTRUCTIONS:
+        following_and_call = flows.next_of(at)
+        if following_and_call is None or len(seen) > MOST_INSTRUCTIONS:
             return True
-        following, is_call = found
+        following, is_call = following_and_call
         offset = at - flows.low
         instruction = decode(int.from_bytes(bytes(flows.memory[offset:offset + 4]), "little"))
         if reads(instruction, register, is_saved):

@@ -31,7 +31,7 @@ if TYPE_CHECKING:
 
 MOST_RANKS = 40  # words that are tried as the measure of a loop
 MOST_ON_WAYS = 24  # words that are tried as the measure of the ways from one loop to another
-MOST_OPERATIONS = 1000  # of the value of a word that is tried as a measure
+MOST_OPERATIONS = 1000  # the most operations of the value of a word that is tried as a measure
 TIMEOUT = 1000  # milliseconds of a question about measures
 ROUND = 3  # how much it counts if a round of the loop drops a bound; a path from another loop counts 1, since it may follow its own bounds
 MOST_DROPS = {MOST: 3 * ROUND, SUM: ROUND, LEAST: 2 * ROUND}  # as in `merge`; fewer drops of one loop suffice, since `widen` drops bounds at once
@@ -43,7 +43,7 @@ class LoopMerger(Merger):
 
     def __init__(self, search: Search, prefix: str) -> None:
         super().__init__(search)
-        self.prefix = prefix  # of the head
+        self.prefix = prefix  # the prefix of the head
         self.zeros = ()
 
     # ---- joining paths
@@ -51,14 +51,14 @@ class LoopMerger(Merger):
     def begin_head(self, head: Head, state: State) -> None:
         """Makes a head the state of the first path that arrives there."""
         head.cells = dict(raw_cells(state))
-        head.mem = bytes(state.mem)
+        head.region_bytes = bytes(state.region_bytes)
         head.tags = tags_of(state, self.zeros)
         dead = self.dead_places(state)
         for at in dead | head.hints.unknown:
             head.cells[at] = self.taint_at(state, head.cells.get(at, 0)), None
         head.tags.update((at, LOST) for at in dead if isinstance(at, int) and not at & 3)
         self.note_unknowns(head)
-        head.conds = state.conds[:]
+        head.conditions = state.conditions[:]
         head.public = set(state.public)
         self.note_loads(head, state)
         self.update_facts(head, state, None, {}, 0)
@@ -67,18 +67,18 @@ class LoopMerger(Merger):
         """Joins a further path that arrives at a head with its merged state. Returns whether the merged state changed."""
         assumed = self.assumed(head)
         old = dict(head.cells)
-        head.equations.update(dict.fromkeys(comparisons(state.conds)))
+        head.equations.update(dict.fromkeys(comparisons(state.conditions)))
         new = {at: self.loop_cell(head, state, at, content) for at, content in raw_cells(state)}
-        is_changed = self.join_cells(head, new, bytes(state.mem))
+        is_changed = self.join_cells(head, new, bytes(state.region_bytes))
         is_changed = join_tags(head.tags, tags_of(state, self.zeros)) or is_changed
         is_changed = self.complete_unknown_words(head, state) or is_changed
         self.note_unknowns(head)
         is_changed = self.drop_nodes_of_unknowns(head) or is_changed
-        common = set(state.conds)
-        conds = [condition for condition in head.conds if condition in common and not mask_of(condition) & head.unknown_mask]
+        common = set(state.conditions)
+        conditions = [condition for condition in head.conditions if condition in common and not mask_of(condition) & head.unknown_mask]
         public = {node for node in head.public & state.public if not mask_of(node) & head.unknown_mask}
-        is_changed = is_changed or len(conds) < len(head.conds) or len(public) < len(head.public)
-        head.conds = conds
+        is_changed = is_changed or len(conditions) < len(head.conditions) or len(public) < len(head.public)
+        head.conditions = conditions
         head.public = public
         is_changed = self.update_facts(head, state, assumed, old, head.unknown_mask) or is_changed
         is_changed = self.note_loads(head, state) or is_changed
@@ -95,9 +95,9 @@ class LoopMerger(Merger):
         names = ["x%d" % n for n in range(1, 32) if n != SP and n not in live]
         if not state.mode:
             names += ["c%x" % n for n in (SEPC, SCAUSE, STVAL)]
-        found: Set[Place] = {"%s_%d" % (name, n) for name in names for n in range(4)}
+        dead: Set[Place] = {"%s_%d" % (name, n) for name in names for n in range(4)}
         words = self.search.written | self.search.written_before
-        return found.union(at + n for at in words if self.is_popped(state, at) for n in range(4))
+        return dead.union(at + n for at in words if self.is_popped(state, at) for n in range(4))
 
     def is_popped(self, state: State, at: int) -> bool:
         """Returns whether a byte is below the top of a stack: the stack of sp, or that of the other mode, whose stack pointer is in sscratch."""
@@ -159,9 +159,9 @@ class LoopMerger(Merger):
 
     def note_loads(self, head: Head, state: State) -> bool:
         """Adds the loads of a path to those of a head, and takes over its model. Returns whether there are new loads."""
-        found = [load for load in state.symbolic_fetches if load not in head.symbolic_fetches]
-        fixed = [load for load in found if not has_variables(load, head.unknown_mask)]
-        moving = [load for load in found if has_variables(load, head.unknown_mask)]
+        new_loads = [load for load in state.symbolic_fetches if load not in head.symbolic_fetches]
+        fixed = [load for load in new_loads if not has_variables(load, head.unknown_mask)]
+        moving = [load for load in new_loads if has_variables(load, head.unknown_mask)]
         is_range_changed, fetched = self.note_moving_loads(head, state, moving)
         has_first_load = state.input_count > 0 and not head.input_count
         is_changed = is_range_changed or len(fetched) > len(head.fetched) or bool(fixed) or has_first_load
@@ -203,8 +203,8 @@ class LoopMerger(Merger):
     def assumed(self, merged: Merged) -> Assumed:
         """Returns the conditions of a merged state, and values for which they hold."""
         assert isinstance(merged, Head)
-        conds, model = super().assumed(merged)
-        return merged.conds + conds, {**merged.model, **model}
+        conditions, model = super().assumed(merged)
+        return merged.conditions + conditions, {**merged.model, **model}
 
     def state_to_explore(self, merged: Merged) -> State:
         """Returns the state from which the loop is explored for another round."""
@@ -216,7 +216,7 @@ class LoopMerger(Merger):
         self.search.loops.drop_inner_heads(self.prefix, merged)
         state = merged.state.fork(merged.state.pc, is_again=True)
         begin(state, MERGED_LOOP)
-        state.conds = list(merged.conds)
+        state.conditions = list(merged.conditions)
         state.public = set(merged.public)
         state.model = dict(merged.model)
         state.input_count = merged.input_count
@@ -271,7 +271,7 @@ class LoopMerger(Merger):
         if not is_own:  # a path that does not depend on the unknowns of the head does not begin with the word that it has here
             olds = [fact for fact in olds if mask_of(word_after(fact.x)) & merged.unknown_mask]
         words = [word_at(fact.x) for fact in olds for word_at in (word_before, word_after)]
-        session = Session(self.search.solver, [condition for condition in state.conds if condition not in bounds], words, state.model)
+        session = Session(self.search.solver, [condition for condition in state.conditions if condition not in bounds], words, state.model)
         for old in olds:
             wider = [fact for fact in merged.facts if fact[:4] == old[:4] and type(fact.bound) is int]
             wider.sort(key=lambda fact: fact.bound)
@@ -300,7 +300,7 @@ class LoopMerger(Merger):
             return
         source = state.source_head
         candidates = self.candidates(head)
-        is_related = source == self.prefix or bool(mask_of_all(state.conds) & head.unknown_mask)
+        is_related = source == self.prefix or bool(mask_of_all(state.conditions) & head.unknown_mask)
         word_at_head = self.merged_word_reader(head, head.cells)
         arrival = Edge(source, self.prefix, *self.directions(head, state, word_at_head, candidates if is_related else []))
         head.arrivals.append(arrival)
@@ -322,14 +322,14 @@ class LoopMerger(Merger):
         changes = [(at, word_before(at), self.present_word(state, at)) for at in places]
         changes = [change for change in changes if weight_of(change[2]) <= MOST_OPERATIONS]
         words = [word for _, *pair in changes for word in pair]
-        session = Session(self.search.solver.within(TIMEOUT), state.conds, words, state.model)
+        session = Session(self.search.solver.within(TIMEOUT), state.conditions, words, state.model)
         return directions(changes, head.equations, lambda conditions: session.implied(conditions, self.search.is_late))
 
     def implied(self, state: State, condition: Condition) -> bool:
         """Returns whether the conditions of a path imply another condition."""
         if condition is True or not state.holds(condition):
             return condition is True
-        return self.search.solver.satisfiable(state.conds, not_(condition), state.model)[0] is False
+        return self.search.solver.satisfiable(state.conditions, not_(condition), state.model)[0] is False
 
     def candidates(self, head: Head) -> List[Place]:
         """Returns the first MOST_RANKS registers and words of memory that have an unknown byte and may have facts: the registers first."""

@@ -28,7 +28,7 @@ class Loops:
 
     def __init__(self, search: Search) -> None:
         self.search = search
-        self.heads: Dict[Key, Tuple[LoopMerger, Head]] = {}  # by what all paths of a head have in common
+        self.heads: Dict[Key, Tuple[LoopMerger, Head]] = {}  # the heads by what all paths of a head have in common
         self.hints: Dict[Key, Hints] = {}  # what is known about heads that were dropped, by the same key
         self.count = 0  # how many heads there were
         self.has_dropped = False  # whether a head was dropped
@@ -162,13 +162,13 @@ class Loops:
         """Returns the heads inside others that are passed a finite number of times between two passes of the others: their own rounds end, and no
         ways lead around between them. `left` has the heads that are examined, by prefix."""
         inner = {name: head for name, head in left.items() if any(is_around(outer, head) for outer in left.values())}
-        found = {name for name, head in inner.items() if is_ranked([edge for edge in head.arrivals if edge.source == name])}
-        ways = [Edge(source, name, set(), set()) for name in found for source in left[name].sources & found - {name}]
-        return set() if circular(ways) else found
+        finite = {name for name, head in inner.items() if is_ranked([edge for edge in head.arrivals if edge.source == name])}
+        ways = [Edge(source, name, set(), set()) for name in finite for source in left[name].sources & finite - {name}]
+        return set() if circular(ways) else finite
 
     def heads_around(self, name: str, state: State) -> List[str]:
         """Returns the prefixes of those heads around a given one on whose unknowns the conditions of a path depend."""
-        mask = mask_of_all(state.conds)
+        mask = mask_of_all(state.conditions)
         heads = {merger.prefix: head for merger, head in self.heads.values()}
         return [prefix for prefix, head in heads.items() if head.unknown_mask & mask and is_around(head, heads[name])]
 

@@ -36,7 +36,7 @@ class Place(NamedTuple):
 
 def terms_of(word: Word) -> Tuple[Terms, int]:
     """Returns a word as a sum of terms and a constant, modulo 2 ** 32."""
-    found: Terms = {}
+    factors: Terms = {}
     constant = 0
     stack: List[Tuple[Word, int]] = [(word, 1)]  # words that are to be added, each with a factor
     while stack:
@@ -52,8 +52,8 @@ def terms_of(word: Word) -> Tuple[Terms, int]:
         elif term.op == "mul" and type(term.args[1]) is int:
             stack.append((term.args[0], factor * term.args[1]))
         else:
-            found[term] = found.get(term, 0) + factor
-    return {node: factor & M32 for node, factor in found.items() if factor & M32}, constant & M32
+            factors[term] = factors.get(term, 0) + factor
+    return {node: factor & M32 for node, factor in factors.items() if factor & M32}, constant & M32
 
 
 def stride_of(state: Accesses, member: Member) -> int:
@@ -101,7 +101,7 @@ def stays_usual(state: Accesses, address: Word, width: int) -> bool:
         search.usual_members.add(usual)
     if usual not in search.usual_members or inside is False:
         return False
-    return inside is True or search.solver.satisfiable(state.conds, not_(inside), state.model)[0] is False
+    return inside is True or search.solver.satisfiable(state.conditions, not_(inside), state.model)[0] is False
 
 
 def is_one_array(member: Member, whole: Extent) -> bool:
@@ -150,7 +150,7 @@ def reach_of(state: Accesses, member: Member) -> int:
 def size_begun(state: Accesses, member: Member) -> int:
     """Returns the size of the largest structure or element that begins with a number, or the size of the number itself."""
     whole = state.search.extents.variable_at(member.at)
-    members = [other for other in state.search.extents.static_members if whole.low <= other.at < whole.high]  # of the same variable
+    members = [other for other in state.search.extents.static_members if whole.low <= other.at < whole.high]  # the members of the same variable
     parts = member.name.split(".")
     for n in range(1, len(parts)):
         prefix = ".".join(parts[:n])
@@ -190,12 +190,12 @@ def ask_member(state: Accesses, address: Node, width: int, place: Place, kind: s
         start = constant % stride if stride else constant
         if can_wrap(state, terms, stride, variable):
             first = (member.at - variable.low) % stride
-            offset = operation("remu", operation("sub", address, variable.low), stride)  # in the element of the array around the member
+            offset = operation("remu", operation("sub", address, variable.low), stride)  # the offset in the element of the array around the member
             inside = within(offset, first, first + size - width)
         else:
             most = size if member.element else reach_of(state, member)
             inside = within(rest_of(terms, start, stride), 0, most - width)
-        answer, model = search.solver.satisfiable(state.conds, not_(inside), state.model)
+        answer, model = search.solver.satisfiable(state.conditions, not_(inside), state.model)
         if answer is None:
             search.undecided[kind, state.pc] += 1
         elif answer:
@@ -227,14 +227,14 @@ def can_wrap(state: Accesses, terms: Terms, stride: int, variable: Extent) -> bo
         return False
     size = variable.high - variable.low
     limits = [(node, size // factor) for node, factor in terms.items() if factor % stride == 0]
-    return any(state.search.solver.satisfiable(state.conds, ult(limit, node), state.model)[0] is not False for node, limit in limits)
+    return any(state.search.solver.satisfiable(state.conditions, ult(limit, node), state.model)[0] is not False for node, limit in limits)
 
 
 def ask_flat(state: Accesses, address: Node, width: int, member: Member, kind: str) -> None:
     """Asks about an access at an expression to an array of arrays, if no part of the expression chooses the row. The access is decided only if it
     always stays in the first row."""
     inside = within(address, member.at, member.at + member.row - width)
-    answer, _ = state.search.solver.satisfiable(state.conds, not_(inside), state.model)
+    answer, _ = state.search.solver.satisfiable(state.conditions, not_(inside), state.model)
     if answer is not False:
         state.search.doubt_access(kind, state, ROW)
 
@@ -242,9 +242,9 @@ def ask_flat(state: Accesses, address: Node, width: int, member: Member, kind: s
 def sizes_of(state: Accesses, member: Member, terms: Terms) -> List[Tuple[int, int]]:
     """Returns the sizes of the arrays in which an access must stay, each with the stride of the structure or array around it, or 0. `terms` are those
     of the address."""
-    found = []
+    sizes = []
     if member.element != member.size or "[]" in member.name:
-        found.append((member.size, stride_of(state, member)))
+        sizes.append((member.size, stride_of(state, member)))
     if member.row and any(factor % member.row == 0 for factor in terms.values()):
-        found.append((member.row, member.row))
-    return found
+        sizes.append((member.row, member.row))
+    return sizes

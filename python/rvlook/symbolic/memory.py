@@ -37,16 +37,16 @@ class Memory(Accesses):
         low, high = self.search.world.region
         if not (low <= at and at + width <= high):
             return assemble(self.load_window(at, width, at), width, is_signed)
-        sym, mem = self.sym, self.mem
-        parts = [sym.get(at + n) for n in range(width)] if sym else []
+        symbolic_bytes, region_bytes = self.symbolic_bytes, self.region_bytes
+        parts = [symbolic_bytes.get(at + n) for n in range(width)] if symbolic_bytes else []
         at -= low
         if not any(parts):
-            value = int.from_bytes(mem[at:at + width], "little")
+            value = int.from_bytes(region_bytes[at:at + width], "little")
             return signed(value, 8 * width) & M32 if is_signed else value
         first = parts[0]
         if width == 4 and type(first) is tuple and first[0].parts == tuple(parts):
             return first[0]
-        return assemble([mem[at + n] if part is None else plain(part) for n, part in enumerate(parts)], width, is_signed)
+        return assemble([region_bytes[at + n] if part is None else plain(part) for n, part in enumerate(parts)], width, is_signed)
 
     def store(self, at: int, width: int, value: Word, tag: Tag = None) -> None:
         """Stores the lower `width` bytes of a word to the region or the window at a number. `tag` is the origin of the word."""
@@ -56,12 +56,12 @@ class Memory(Accesses):
             return
         self.search.note_written(self, at, width, width == 4)
         if type(value) is int:
-            self.mem[at - low:at - low + width] = (value & (1 << 8 * width) - 1).to_bytes(width, "little")
-            if self.sym:
+            self.region_bytes[at - low:at - low + width] = (value & (1 << 8 * width) - 1).to_bytes(width, "little")
+            if self.symbolic_bytes:
                 for n in range(width):
-                    self.sym.pop(at + n, None)
+                    self.symbolic_bytes.pop(at + n, None)
         elif width == 4 and value.op != "word":
-            self.sym[at], self.sym[at + 1], self.sym[at + 2], self.sym[at + 3] = parts_of(value)
+            self.symbolic_bytes[at], self.symbolic_bytes[at + 1], self.symbolic_bytes[at + 2], self.symbolic_bytes[at + 3] = parts_of(value)
         else:
             for n in range(width):
                 self.put(at + n, byte(value, n))
@@ -70,10 +70,10 @@ class Memory(Accesses):
     def put(self, at: int, value: Byte) -> None:
         """Sets a byte of the region."""
         if type(value) is int:
-            self.mem[at - self.search.world.region[0]] = value
-            self.sym.pop(at, None)
+            self.region_bytes[at - self.search.world.region[0]] = value
+            self.symbolic_bytes.pop(at, None)
         else:
-            self.sym[at] = value
+            self.symbolic_bytes[at] = value
 
     # ---- origins of words in memory
 
@@ -96,7 +96,7 @@ class Memory(Accesses):
         """Returns whether the bytes of a word of the region that are numbers look like an address of the region or the window."""
         world = self.search.world
         low, high = world.region
-        return at + 4 <= high and world.is_pointer(int.from_bytes(self.mem[at - low:at - low + 4], "little"))
+        return at + 4 <= high and world.is_pointer(int.from_bytes(self.region_bytes[at - low:at - low + 4], "little"))
 
     def origin_at(self, at: int, value: Word) -> Tag:
         """Returns the origin of a word that was loaded at a number. A pointer in the data of the image is the origin of itself."""
@@ -131,25 +131,25 @@ class Memory(Accesses):
             return [self.calm_window[number + n] for n in range(width)]
         if is_number and search.is_given(number, width):
             return self.load_given(number, width)
-        found: List[Byte] = []
+        window_bytes: List[Byte] = []
         names: List[Tuple[int, str]] = []  # the new inputs: offsets and variables
         for n in range(width):
             if is_calm and number + n in self.calm_window:
-                found.append(self.calm_window[number + n])
+                window_bytes.append(self.calm_window[number + n])
                 continue
             name = "i%d_%d" % (self.input_count, n)
             self.set_value(name, self.window_memory[number + n - base])
             input_byte = variable(name, INPUT)
             names.append((n, name))
-            found.append(input_byte)
+            window_bytes.append(input_byte)
             if is_calm:
                 self.calm_window[number + n] = input_byte
         self.loads.append(Load(self.steps, address, tuple(names)))
         self.input_count += 1
         search.note_fetch(self, address, width, names)
         if is_number and number in search.world.lengths:
-            self.limit_length(number, assemble(found, width, is_signed=False))
-        return found
+            self.limit_length(number, assemble(window_bytes, width, is_signed=False))
+        return window_bytes
 
     def set_value(self, name: str, value: int) -> None:
         """Sets the value of a variable in the model."""
@@ -178,7 +178,7 @@ class Memory(Accesses):
         self.access(at, count, self.tags[A0], 0, "store")
         names = [(n, "a%d_%d" % (self.input_count, n)) for n in range(count)]
         self.input_count += 1
-        values = {name: self.value(plain(self.sym.get(at + n, self.mem[at + n - low]))) for n, name in names}
+        values = {name: self.value(plain(self.symbolic_bytes.get(at + n, self.region_bytes[at + n - low]))) for n, name in names}
         self.model = {**self.model, **values}
         self.memo = {}
         self.search.note_written(self, at, count, True)
@@ -241,10 +241,10 @@ class Memory(Accesses):
     def contents_of(self, extent: Extent) -> Tuple[Byte, ...]:
         """Returns the bytes of an object of the region."""
         base = self.search.world.region[0]
-        raw = self.mem[extent.low - base:extent.high - base]
-        if not self.sym:
+        raw = self.region_bytes[extent.low - base:extent.high - base]
+        if not self.symbolic_bytes:
             return tuple(raw)
-        return tuple(plain(self.sym.get(at, raw[at - extent.low])) for at in range(extent.low, extent.high))
+        return tuple(plain(self.symbolic_bytes.get(at, raw[at - extent.low])) for at in range(extent.low, extent.high))
 
     def write(self, address: Node, width: int, value: Word, tags: Tuple[Tag, Tag], offset: int) -> Optional[int]:
         """Stores at an address that is an expression. `tags` are the origins of the register with the address and of the value, and `offset` that of
@@ -274,7 +274,7 @@ class Memory(Accesses):
             if is_here is False:
                 continue
             for n in range(width):
-                old = plain(self.sym.get(at + n, self.mem[at + n - low]))
+                old = plain(self.symbolic_bytes.get(at + n, self.region_bytes[at + n - low]))
                 self.put(at + n, choice8(is_here, byte(value, n), old))
         for at in range(extent.low & -4, extent.high, 4):
             if at in self.mem_tags or type(value) is not int:

@@ -37,15 +37,15 @@ RESULTS = (10, 11)  # registers that a resume sets to 0
 
 
 class Merged:
-    """A merged state."""
+    """A state that includes all paths which were merged into it. Cells that differ between the paths are unknowns."""
 
     def __init__(self, state: State, prefix: str) -> None:
         self.prefix = prefix  # the beginning of the names of its unknowns
         self.state = state  # the first path that was merged; it gives what is equal in all of them
         self.is_queued = False  # whether the merged state is to be explored
         # ---- bytes
-        self.cells: Dict[Place, Cell] = {}  # by place; the other bytes of the region are those of `mem`
-        self.mem = b""  # the region of the first path
+        self.cells: Dict[Place, Cell] = {}  # the cells by place; the other bytes of the region are those of `region_bytes`
+        self.region_bytes = b""  # the region of the first path
         self.tags: Dict[Place, Tag] = {}  # the origins of words, by place
         self.changes: Dict[Place, int] = {}  # how often a cell has changed
         self.sample: Dict[Place, int] = {}  # the values of bytes in the state that was merged last
@@ -80,7 +80,7 @@ class Merger:
 
     def __init__(self, search: Search) -> None:
         self.search = search
-        self.merged: Dict[Key, Merged] = {}  # by what the paths have in common
+        self.merged: Dict[Key, Merged] = {}  # the merged states by what their paths have in common
         self.by_prefix: Dict[str, Merged] = {}
         self.rounds = 0  # how often a merged state was explored
         self.bounds = search.bounds  # proposes facts and tests them
@@ -99,14 +99,14 @@ class Merger:
             merged = self.merged[key] = Merged(state.fork(state.pc + 4), "u%d" % len(self.merged))
             self.by_prefix[merged.prefix] = merged
             merged.cells = self.cells_of(merged, state)
-            merged.mem = bytes(state.mem)
+            merged.region_bytes = bytes(state.region_bytes)
             merged.tags = tags
             is_changed = True
             self.update_facts(merged, state, None, {})
         else:
             assumed = self.assumed(merged)
             old = dict(merged.cells)
-            is_changed = self.join_cells(merged, self.cells_of(merged, state), bytes(state.mem))
+            is_changed = self.join_cells(merged, self.cells_of(merged, state), bytes(state.region_bytes))
             is_changed = join_tags(merged.tags, tags) or is_changed
             is_changed = self.update_facts(merged, state, assumed, old) or is_changed
         if not is_changed or merged.is_queued:
@@ -143,17 +143,17 @@ class Merger:
         """Returns whether a node is the variable of the unknown at a place of a merged state."""
         return node.op == "var" and node.args[0] == name_of(merged.prefix, at, node.taint)
 
-    def join_cells(self, merged: Merged, new: Dict[Place, Cell], mem: bytes) -> bool:
+    def join_cells(self, merged: Merged, new: Dict[Place, Cell], region_bytes: bytes) -> bool:
         """Adds the cells and the memory of a state to a merged state. Returns whether the merged state changed."""
         cells = merged.cells
         base = self.search.world.region[0]
         places = [*cells, *(at for at in new if at not in cells)]
         with_cells = set(places)
-        places += [at for at in changed_bytes(merged.mem, mem, base) if at not in with_cells]
+        places += [at for at in changed_bytes(merged.region_bytes, region_bytes, base) if at not in with_cells]
         is_changed = False
         for at in places:
-            old_cell = cells[at] if at in cells else byte_at(merged.mem, base, at)
-            new_cell = new[at] if at in new else byte_at(mem, base, at)
+            old_cell = cells[at] if at in cells else byte_at(merged.region_bytes, base, at)
+            new_cell = new[at] if at in new else byte_at(region_bytes, base, at)
             joined = self.join_cell(merged, at, old_cell, new_cell)
             if joined != old_cell:
                 count = merged.changes[at] = merged.changes.get(at, 0) + 1
@@ -181,16 +181,16 @@ class Merger:
 
     def assumed(self, merged: Merged) -> Assumed:
         """Returns the conditions of a merged state on its unknowns, and values for which they hold."""
-        conds = [condition for at, cell in merged.cells.items() for condition in self.value_conditions(merged, at, cell)]
-        return conds + self.bounds.conditions(merged.facts, self.merged_word_reader(merged, merged.cells)), self.model_of(merged)
+        conditions = [condition for at, cell in merged.cells.items() for condition in self.value_conditions(merged, at, cell)]
+        return conditions + self.bounds.conditions(merged.facts, self.merged_word_reader(merged, merged.cells)), self.model_of(merged)
 
     def model_of(self, merged: Merged) -> Dict[str, int]:
         """Returns the values of the variables in the state that was merged last."""
-        found = self.secret_values(merged)
+        model = self.secret_values(merged)
         for at, cell in merged.cells.items():
             if type(cell) is tuple:
-                found[name_of(merged.prefix, at, cell[0])] = self.sample_at(merged, at)
-        return found
+                model[name_of(merged.prefix, at, cell[0])] = self.sample_at(merged, at)
+        return model
 
     @staticmethod
     def secret_values(merged: Merged) -> Dict[str, int]:
@@ -218,7 +218,7 @@ class Merger:
         base = self.search.world.region[0]
 
         def content_at(at: Place) -> Byte:
-            cell = cells.get(at, merged.mem[at - base] if isinstance(at, int) else 0)
+            cell = cells.get(at, merged.region_bytes[at - base] if isinstance(at, int) else 0)
             return variable(name_of(merged.prefix, at, cell[0]), cell[0]) if type(cell) is tuple else cell
         plain_word_at = word_reader_of_bytes(content_at)
         sums = sums_among(merged.facts if facts is None else facts, cells)
@@ -235,7 +235,7 @@ class Merger:
         merged state before, with the cells `old`. `loop_mask` is the mask of the unknowns of a loop, None at a stop. Returns whether a fact was
         dropped."""
         merged.sample = {at: evaluate(content, state.model, state.memo) for at, content in raw_cells(state, self.zeros)}
-        merged.sample_memory = bytes(state.mem)
+        merged.sample_memory = bytes(state.region_bytes)
         if not self.search.means.loops_from:
             return False
         places = self.fact_places(merged, state, old, loop_mask)
@@ -244,7 +244,7 @@ class Merger:
         proposed = self.propose_facts(merged, places, old_word_at, loop_mask)
         if assumed:
             proposed = self.bounds.holding(assumed, proposed, old_word_at)
-        merged.facts = self.bounds.holding((state.conds, state.model), merged.facts + proposed, word_reader(state))
+        merged.facts = self.bounds.holding((state.conditions, state.model), merged.facts + proposed, word_reader(state))
         dropped = set(old_facts) - set(merged.facts)
         if assumed and loop_mask is not None:
             lost = {*old_facts, *proposed} - set(merged.facts)
@@ -273,13 +273,13 @@ class Merger:
     def propose_facts(self, merged: Merged, places: FactPlaces, word_at: WordAt, loop_mask: Optional[int]) -> List[Fact]:
         """Returns facts that may hold for the new words of a merged state. `word_at` gives the values of the words, and `loop_mask` is that of
         `update_facts`."""
-        found = self.bounds.candidates(places.new, places.others, word_at, merged.tags, loop_mask)
-        found = [fact for fact in found if form_of(fact) not in merged.lost]
+        facts = self.bounds.candidates(places.new, places.others, word_at, merged.tags, loop_mask)
+        facts = [fact for fact in facts if form_of(fact) not in merged.lost]
         solvable = [] if loop_mask is None else [at for at in places.unknown if is_unknown_word(merged.cells, at)]  # may be replaced by a sum
         relations = relations_of(places.new, solvable, places.others, word_at, merged.facts)
-        found += [fact for fact in relations if fact not in merged.lost]
-        merged.tried |= set(found)
-        return found
+        facts += [fact for fact in relations if fact not in merged.lost]
+        merged.tried |= set(facts)
+        return facts
 
     def drop_weight(self, state: State) -> int:
         """Returns how much it counts in `Merged.drops` if a state drops a bound."""
@@ -297,19 +297,19 @@ class Merger:
     def find_wanted_places(self, state: State) -> Set[MergedPlace]:
         """Returns the places whose bounds decide a question, and the places from which their values in a state come. Adds them to those of the
         search."""
-        found: Set[MergedPlace] = set()
+        wanted: Set[MergedPlace] = set()
         new = set(self.search.wanted_places)
         while new:
-            found |= new
+            wanted |= new
             mask = 0
             for at in new:
                 if isinstance(at, str):
                     mask |= mask_of(state.regs[int(at[1:])]) if at.startswith("x") else 0
-                elif at in state.sym:
-                    mask |= mask_of(plain(state.sym[at]))
-            new = {place for place in map(merged_place, names_of(mask)) if place is not None} - found
-        self.search.wanted_places |= found
-        return found
+                elif at in state.symbolic_bytes:
+                    mask |= mask_of(plain(state.symbolic_bytes[at]))
+            new = {place for place in map(merged_place, names_of(mask)) if place is not None} - wanted
+        self.search.wanted_places |= wanted
+        return wanted
 
     # ---- states to explore
 
@@ -318,7 +318,7 @@ class Merger:
         self.rounds += 1
         merged.is_queued = False
         state = merged.state.fork(merged.state.pc)
-        state.conds = []
+        state.conditions = []
         state.public = set()
         state.model = self.secret_values(merged)
         begin(state, MERGED_STOPS)
@@ -327,8 +327,8 @@ class Merger:
 
     def set_contents(self, state: State, merged: Merged) -> None:
         """Sets the bytes of a state to the cells of a merged state, and adds the facts as conditions."""
-        state.mem = bytearray(merged.mem)
-        state.sym = {}
+        state.region_bytes = bytearray(merged.region_bytes)
+        state.symbolic_bytes = {}
         word_at = self.merged_word_reader(merged, merged.cells)
         sums = {place: byte(word_at(at), n) for at in sums_among(merged.facts, merged.cells) for n, place in enumerate(bytes_at(at))}
         contents: Dict[Place, Byte] = {}
@@ -341,7 +341,7 @@ class Merger:
         for number in state.csr:
             state.csr[number] = word(*(contents["c%x_%d" % (number, n)] for n in range(4)))
         set_tags(state, merged.tags)
-        state.conds += self.bounds.conditions(merged.facts, word_at)
+        state.conditions += self.bounds.conditions(merged.facts, word_at)
 
     def byte_of_cell(self, merged: Merged, state: State, at: Place) -> Byte:
         """Returns the byte of a cell. For an unknown, adds its value to the model of a state, and its conditions."""
@@ -350,7 +350,7 @@ class Merger:
             return cell
         unknown = variable(name_of(merged.prefix, at, cell[0]), cell[0])
         state.model[unknown.args[0]] = self.sample_at(merged, at)
-        state.conds += self.value_conditions(merged, at, cell)
+        state.conditions += self.value_conditions(merged, at, cell)
         return unknown
 
 

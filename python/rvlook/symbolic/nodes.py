@@ -40,7 +40,7 @@ class Node:
     def __init__(self, op: str, args: Tuple[Any, ...], taint: int, may: int, number: int) -> None:
         self.op = op  # the name of the operation, such as "add"; "var" for a variable
         self.args = args  # the operands: nodes, numbers, a name, or a Table
-        self.taint = taint  # on what the value depends: a sum of INPUT, SECRET and CHECK
+        self.taint = taint  # the data on which the value depends: a sum of INPUT, SECRET and CHECK
         self.may = may  # the bits of the value that may be set
         self.number = number  # the age: a node is older than the nodes that contain it; a variable has a negative number
         self.weight = 1  # the number of operations, with repetitions, at most HEAVIEST
@@ -94,8 +94,8 @@ def operands(node: Node) -> List[Node]:
     """Returns the nodes on which the value of a node depends directly."""
     if node.op == "table":
         at, _, table = node.args
-        found = [content_byte for content_byte in table.content if type(content_byte) is Node]
-        return [at, *found] if type(at) is Node else found
+        bytes_of_table = [content_byte for content_byte in table.content if type(content_byte) is Node]
+        return [at, *bytes_of_table] if type(at) is Node else bytes_of_table
     return [operand for operand in node.args if type(operand) is Node]
 
 
@@ -129,12 +129,12 @@ def mask_of(expression: Word | Condition) -> int:
 
 def bits_of(mask: int) -> List[int]:
     """Returns the numbers of the bits that are set in a mask, in ascending order."""
-    found = []
+    bits = []
     while mask:
         lowest = mask & -mask
-        found.append(lowest.bit_length() - 1)
+        bits.append(lowest.bit_length() - 1)
         mask ^= lowest
-    return found
+    return bits
 
 
 def names_of(mask: int) -> List[str]:

@@ -21,8 +21,8 @@ if TYPE_CHECKING:
     from rvlook.finders.leak_search import Leak
     from rvlook.protocol.run import Setup
 
-MOST_STEPS = 400000  # of the path
-SECONDS = 60.0  # of the decision, if the option --seconds does not limit it
+MOST_STEPS = 400000  # the most steps of the path
+SECONDS = 60.0  # the seconds of the decision, if the option --seconds does not limit it
 HARMLESS = ("fault", "assertion", "older")  # kinds of findings that do not depend on the secret
 OBJECTS = ("load", "store", "jump", "return")  # kinds of doubts about objects, after which the path goes on as the run does
 STEPS = ("step", "run", "sched")  # commands of a script that execute steps
@@ -80,8 +80,8 @@ class OwnPath(Search):
 
     def harm(self) -> List[str]:
         """Returns the kinds of findings and of open questions after which the host may observe the secret."""
-        found = [what for what, _ in self.findings if what not in HARMLESS]
-        return found + [what for what, pc in self.undecided if what not in OBJECTS or (what, pc) not in self.reasons]
+        harmful = [what for what, _ in self.findings if what not in HARMLESS]
+        return harmful + [what for what, pc in self.undecided if what not in OBJECTS or (what, pc) not in self.reasons]
 
     def explore(self, state: State) -> None:
         """Explores the path, and keeps its last state."""

@@ -16,7 +16,7 @@ def is_lookup_or_choice(node: Node) -> bool:
 
 def is_large_lookup(node: Node) -> bool:
     """Returns whether a node is a byte of a table that has many expressions."""
-    return node.op == "table" and sum(type(it) is Node for it in node.args[2].content) > FEW_BYTES
+    return node.op == "table" and sum(type(byte) is Node for byte in node.args[2].content) > FEW_BYTES
 
 
 def is_none(_: Node) -> bool:
@@ -64,18 +64,18 @@ class Opaque(Translator):
 
     def relevant(self, conditions: Sequence[Node], question: Node) -> Optional[List[Node]]:
         """Returns the conditions that share variables with a question, and the question; None if there is nothing to leave out."""
-        found, mask = self.relevant_conditions(conditions, self.mask_of(question))
-        return [*found, question] if self.within(mask) or len(found) < len(conditions) else None
+        relevant, mask = self.relevant_conditions(conditions, self.mask_of(question))
+        return [*relevant, question] if self.within(mask) or len(relevant) < len(conditions) else None
 
     def relevant_conditions(self, conditions: Sequence[Node], mask: int) -> Tuple[List[Node], int]:
         """Returns the conditions that share variables with a mask, directly or through other conditions, and the mask of all their variables."""
         left = list(conditions)
-        found: List[Node] = []
+        relevant: List[Node] = []
         while True:
             more = [condition for condition in left if self.mask_of(condition) & mask]
             if not more:
-                return found, mask
-            found += more
+                return relevant, mask
+            relevant += more
             left = [condition for condition in left if not self.mask_of(condition) & mask]
             for condition in more:
                 mask |= self.mask_of(condition)

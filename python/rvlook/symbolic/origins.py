@@ -30,9 +30,9 @@ class Origin(NamedTuple):
     index_constant: int = 0  # a constant in the index that was added to sp, which the compiler may have taken from the offset
 
 
-NO_ORIGIN = Origin(How.NONE, 0)  # of a word in memory that is no pointer, although its value looks like one
-MIXED = Origin(How.MIXED, 0)  # of a word that has another origin on another of the paths that were joined
-LOST = Origin(How.NONE, 1)  # of a word that has an origin on some of the paths that were merged, and another or none on others
+NO_ORIGIN = Origin(How.NONE, 0)  # the origin of a word in memory that is no pointer, although its value looks like one
+MIXED = Origin(How.MIXED, 0)  # the origin of a word that has another origin on another of the paths that were joined
+LOST = Origin(How.NONE, 1)  # the origin of a word that has an origin on some of the paths that were merged, and another or none on others
 Tag = Optional[Origin]  # None for a word that is no pointer, as far as is known
 
 

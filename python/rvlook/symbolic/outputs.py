@@ -93,7 +93,7 @@ class Outputs(Record):
                 inside = within(place, low, low + count - width)
                 if inside is True:
                     return low
-                if inside is not False and self.solver.satisfiable(state.conds, not_(inside), state.model)[0] is False:
+                if inside is not False and self.solver.satisfiable(state.conditions, not_(inside), state.model)[0] is False:
                     return low
         return None
 
@@ -127,11 +127,11 @@ class Outputs(Record):
         """Asks about the answer with which the enclave leaves, and about the outputs that are public only with some answer."""
         for answer, shown, pc in state.pending_outputs:
             other = differ(value, answer)
-            is_possible, model = self.solver.satisfiable(state.conds, other, state.model)
+            is_possible, model = self.solver.satisfiable(state.conditions, other, state.model)
             if is_possible is False:
                 continue
-            conds = state.conds + ([other] if type(other) is Node else [])
-            differs, one, two = self.solver.secret_pair(conds, shown, set(), model)
+            conditions = state.conditions + ([other] if type(other) is Node else [])
+            differs, one, two = self.solver.secret_pair(conditions, shown, set(), model)
             if differs and one is not None:
                 self.report("window", state, "the output of %s is public only with the answer %d" % (self.world.place(pc), answer), one, two)
             elif differs is None or is_possible is None:
@@ -154,7 +154,7 @@ class Outputs(Record):
                 continue
             other = {**state.model, name: state.model.get(name, 0) ^ OTHER_BITS}
             memo: Dict[Node, object] = {}
-            if not all(evaluate(condition, other, memo) for condition in state.conds):
+            if not all(evaluate(condition, other, memo) for condition in state.conditions):
                 continue
             if any(evaluate(part, other, memo) != state.value(part) for part in parts):
                 self.influencing_bytes.add(name)
@@ -198,7 +198,7 @@ class Outputs(Record):
         if not self.world.check or state.is_released or ("check", state.pc) in self.findings:
             return
         state.is_released = True
-        answer = self.solver.allows_other_codes(state.conds, self.code_names)
+        answer = self.solver.allows_other_codes(state.conditions, self.code_names)
         if answer and is_mixed:
             self.doubt("check", state, MIXED_OUTPUT)
         elif answer:
@@ -221,7 +221,7 @@ def is_one_byte(output: Node, taint: int) -> bool:
 def comparison_with(node: Node, taint: int) -> Optional[Node]:
     """Returns the one comparison through which a node depends on variables with a taint. Returns None if there are several, or if the node depends on
     the variables in another way."""
-    found: List[Node] = []
+    comparisons: List[Node] = []
     stack = [node]
     seen = {node}
     while stack:
@@ -229,9 +229,9 @@ def comparison_with(node: Node, taint: int) -> Optional[Node]:
         if top.op == "var" and top.taint & taint:
             return None
         if top.op in COMPARISONS and top.taint & taint:
-            found.append(top)
+            comparisons.append(top)
             continue
         new = [operand for operand in operands(top) if operand.taint & taint and operand not in seen]
         seen.update(new)
         stack += new
-    return found[0] if len(found) == 1 else None
+    return comparisons[0] if len(comparisons) == 1 else None

@@ -8,7 +8,7 @@ from rvlook.symbolic.fields import FINDING, IMPOSSIBLE, MERGED, MERGED_LOOP, End
 from rvlook.symbolic.nodes import SECRET, Condition, Node, Word
 from rvlook.symbolic.words import not_
 
-MOST_VALUES = 48  # of a word that is followed value by value
+MOST_VALUES = 48  # the most values of a word that is followed value by value
 NESTED = 16  # a loop is followed for so many times the rounds of --bound in all rounds of the loops around it together
 
 
@@ -21,7 +21,7 @@ class Paths(Fields):
         if condition is False:
             raise Ended(IMPOSSIBLE)
         if not self.holds(condition):
-            answer, model = self.search.solver.satisfiable(self.conds, condition, self.model)
+            answer, model = self.search.solver.satisfiable(self.conditions, condition, self.model)
             if answer is None:
                 self.search.undecided["value", self.pc] += 1
             if not answer:
@@ -41,7 +41,7 @@ class Paths(Fields):
             return False
         if key in search.findings:
             return True
-        answer, one, two = search.solver.secret_pair(self.conds, word, self.public, self.model)
+        answer, one, two = search.solver.secret_pair(self.conditions, word, self.public, self.model)
         if answer and one is not None:
             search.report(what, self, "", one, two)
             return True
@@ -73,17 +73,17 @@ class Paths(Fields):
         if is_leak and is_other_side_known:
             search.left_after_leak[pc] += 1
         else:
-            answer, model = search.solver.satisfiable(self.conds, not_(here), self.model)
+            answer, model = search.solver.satisfiable(self.conditions, not_(here), self.model)
             if answer is False:  # the conditions imply this side
                 self.count_implied()
                 if self.start_kind == MERGED_LOOP:
-                    self.conds.append(here)  # a wider bound of the merged state may not imply it
+                    self.conditions.append(here)  # a wider bound of the merged state may not imply it
                 return next_pc
             if answer:
                 self.leave_other_side(here, model, other_pc)
             else:
                 search.undecided["branch", pc] += 1
-        self.conds.append(here)
+        self.conditions.append(here)
         return next_pc
 
     def count_implied(self) -> None:
@@ -112,7 +112,7 @@ class Paths(Fields):
             branch = self.fork(self.pc if is_trap else other_pc, is_trap)
             branch.model = model
             branch.start_head = self.pc if is_trap and key in search.heads else None
-            branch.conds.append(not_(here))
+            branch.conditions.append(not_(here))
             search.add_divided_path(branch)
         elif search.options.loops and search.merger:
             search.heads.add(key)
@@ -135,7 +135,7 @@ class Paths(Fields):
         is_leak = bool(word.taint & SECRET) and self.differs(what, word)
         tried = self.values_tried()
         other = differ(word, value)
-        answer, model = search.solver.satisfiable(self.conds, other, self.model)
+        answer, model = search.solver.satisfiable(self.conditions, other, self.model)
         if answer is None:
             search.undecided["value", self.pc] += 1
         elif answer and is_leak:
@@ -155,5 +155,5 @@ class Paths(Fields):
         other.values_followed = other.steps_before, tried
         other.start_head = self.start_head
         other.value_followed = value
-        other.conds.append(condition)
+        other.conditions.append(condition)
         self.search.add_divided_path(other)

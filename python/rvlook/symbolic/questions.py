@@ -40,7 +40,7 @@ REASONS = {"any_bytes": "any_bytes names bytes outside the region",  # why a pat
 @dataclass
 class Answer:
     """The answer to a question."""
-    name: str  # of the question
+    name: str  # the name of the question
     verdict: str
     title: str  # the statement
     findings: List[Counterexample] = field(default_factory=list)  # the confirmed findings
@@ -65,55 +65,55 @@ def questions_asked(search: Search) -> List[str]:
 def reasons_not_covered(search: Search) -> List[str]:
     """Returns why not all paths were covered; an empty list if they were."""
     place = search.world.place
-    found = ["Ctrl-C ended the search"] if search.is_cut else []
+    reasons = ["Ctrl-C ended the search"] if search.is_cut else []
     for count, what in ((search.not_replayed, "paths"), (search.not_confirmed, "findings")):
         if count:
-            found.append("the time is over before %d %s were replayed" % (count, what))
+            reasons.append("the time is over before %d %s were replayed" % (count, what))
     if not search.has_begun:
-        found.append("nothing was explored")
+        reasons.append("nothing was explored")
     if search.merge_queue:
-        found.append("%d merged states are left" % len(search.merge_queue))
+        reasons.append("%d merged states are left" % len(search.merge_queue))
     if search.queue:
-        found.append("%d paths are left" % len(search.queue))
+        reasons.append("%d paths are left" % len(search.queue))
     if search.has_begun and (search.is_outgrown or not search.loops.is_examined):
-        found.append("the time is over before the ends of loops were examined")
+        reasons.append("the time is over before the ends of loops were examined")
     for pc in search.cut_loops:
-        found.append("the loop at %s is followed for %d rounds" % (place(pc), search.options.bound))
+        reasons.append("the loop at %s is followed for %d rounds" % (place(pc), search.options.bound))
     for pc in sorted({pc for what, pc in search.undecided if what in DIVIDING}):
-        found.append("it is not known where paths go on at %s" % place(pc))
+        reasons.append("it is not known where paths go on at %s" % place(pc))
     for pc in search.not_assumed:
-        found.append("the run itself does not fulfil the assumption at %s" % place(pc))
+        reasons.append("the run itself does not fulfil the assumption at %s" % place(pc))
     for pc in search.left_after_leak:
-        found.append("after the leak at %s other secrets are left out" % place(pc))
+        reasons.append("after the leak at %s other secrets are left out" % place(pc))
     for pc in search.words_with_many_values:
-        found.append("the word at %s has more than %d values" % (place(pc), MOST_VALUES))
+        reasons.append("the word at %s has more than %d values" % (place(pc), MOST_VALUES))
     for pc in search.assumed_inside:
-        found.append("after the finding at %s the access stays inside" % place(pc))
+        reasons.append("after the finding at %s the access stays inside" % place(pc))
     for pc in sorted(search.changed_code):
-        found.append("code changes, at %s" % place(pc))
+        reasons.append("code changes, at %s" % place(pc))
     for pc in sorted(search.stores_to_given):
-        found.append("%s stores to bytes of --given" % place(pc))
+        reasons.append("%s stores to bytes of --given" % place(pc))
     for why, text in REASONS.items():
         if search.end_counts[why]:
-            found.append("%s (%d paths)" % (text, search.end_counts[why]))
+            reasons.append("%s (%d paths)" % (text, search.end_counts[why]))
     if search.end_counts[FINDING]:
-        found.append("%d paths end at a finding" % search.end_counts[FINDING])
-    return found
+        reasons.append("%d paths end at a finding" % search.end_counts[FINDING])
+    return reasons
 
 
 def untrusted(search: Search) -> List[str]:
     """Returns which replays differ from what the search predicts; an empty list if none does."""
-    found = ["the replay of %s" % text for text in search.wrong_replays]
+    reasons = ["the replay of %s" % text for text in search.wrong_replays]
     for example in search.findings.values():
         if example.answer and not example.is_confirmed:
-            found.append("the replay of the finding %s at %s: %s" % (example.what, search.world.place(example.pc), example.answer))
-    return found
+            reasons.append("the replay of the finding %s at %s: %s" % (example.what, search.world.place(example.pc), example.answer))
+    return reasons
 
 
 def answers(search: Search) -> List[Answer]:
     """Returns the answer to each question."""
     has_all_paths = not reasons_not_covered(search) and not untrusted(search)
-    found = []
+    answers = []
     for name in questions_asked(search):
         title, kinds = QUESTIONS[name]
         is_limited = (name == "memory" and bool(search.allowed)) or (name == "state" and search.merger is not None)
@@ -130,19 +130,19 @@ def answers(search: Search) -> List[Answer]:
             answer.verdict = FOUND
         elif answer.places:
             answer.verdict = NOT_DECIDED
-        found.append(answer)
-    return found
+        answers.append(answer)
+    return answers
 
 
 def undecided_places(search: Search, kinds: Sequence[str]) -> List[str]:
     """Returns where questions of some kinds are not decided, and why, in the order of the pcs."""
-    found = []
+    texts = []
     for (what, pc), count in sorted(search.undecided.items(), key=lambda item: (item[0][1], item[0][0])):
         if what in kinds and (what, pc) not in search.findings:
             why = "; ".join(sorted(search.reasons.get((what, pc), ())))
             place = search.world.place(pc)
-            found.append("%s at %s%s, %d times" % (what, place, ": " + why if why else "", count))
-    return found
+            texts.append("%s at %s%s, %d times" % (what, place, ": " + why if why else "", count))
+    return texts
 
 
 def missing_influences(search: Search) -> List[str]:
@@ -162,10 +162,10 @@ def is_complete(search: Search) -> bool:
 
 def open_texts(search: Search) -> List[str]:
     """Returns why a result is not COMPLETE; an empty list if it is. An option --allow that no access needs is a reason: it may name a wrong place."""
-    found = [*reasons_not_covered(search), *untrusted(search)]
-    if not found and not is_complete(search):
-        found = ["places are not decided"]
-    return found + unused_options(search)
+    reasons = [*reasons_not_covered(search), *untrusted(search)]
+    if not reasons and not is_complete(search):
+        reasons = ["places are not decided"]
+    return reasons + unused_options(search)
 
 
 def covered(search: Search) -> str:

@@ -33,7 +33,7 @@ class Edge(NamedTuple):
 
 
 class Passage(NamedTuple):
-    """A path that arrives at a head."""
+    """A path that arrives at the head of a loop."""
     last: str  # the prefix of the head that it has passed last
     edges: Dict[str, Edge]  # the ways to this head from the last one, and from the heads around that one, by where each begins
 
@@ -67,23 +67,23 @@ def measured(changes: Sequence[Change], equations: Iterable[Node]) -> Iterator[T
             yield Measure(place, False, number), all_of(was_above, not_(is_above)), any_of(was_above, not_(is_above))
 
 
-def comparisons(conds: Iterable[Node]) -> List[Node]:
+def comparisons(conditions: Iterable[Node]) -> List[Node]:
     """Returns the equations with a number that are conditions, or whose negations are conditions."""
-    compared = (condition.args[0] if condition.op == "not" else condition for condition in conds)
+    compared = (condition.args[0] if condition.op == "not" else condition for condition in conditions)
     return [equation for equation in compared if equation.op in ("eq", "eq8") and type(equation.args[1]) is int]
 
 
 def numbers_compared(equations: Iterable[Node], word: Word) -> List[int]:
     """Returns numbers with which a word, or a part of it, is compared in equations, and the numbers before them: a round may compare the word after
     it has grown. Returns at most MOST_COMPARED numbers."""
-    found: Dict[int, None] = {}
+    numbers: Dict[int, None] = {}
     for equation in equations:
         compared, number = equation.args
         if mask_of(compared) & mask_of(word):
-            found[number] = None
+            numbers[number] = None
             if number > 0:
-                found[number - 1] = None
-    return list(found)[:MOST_COMPARED]
+                numbers[number - 1] = None
+    return list(numbers)[:MOST_COMPARED]
 
 
 def is_ranked(rounds: List[Edge]) -> bool:
@@ -114,7 +114,7 @@ def circular(edges: List[Edge]) -> Set[str]:
 def origins(sources: Dict[str, Set[str]], inside: Set[str], name: str) -> Set[str]:
     """Returns the heads from which paths come to the head `name`, directly or through heads in `inside` alone. `sources` has the heads from which
     paths come to each head directly, and `inside` has heads inside other loops."""
-    found: Set[str] = set()
+    outer: Set[str] = set()
     seen = {name}
     stack = [name]
     while stack:
@@ -123,19 +123,19 @@ def origins(sources: Dict[str, Set[str]], inside: Set[str], name: str) -> Set[st
             if source in inside:
                 stack.append(source)
             elif source in sources:
-                found.add(source)
-    return found
+                outer.add(source)
+    return outer
 
 
 def outer_ways(passages: Dict[str, List[Passage]], sources: Dict[str, Set[str]], inside: Set[str]) -> List[Edge]:
     """Returns the ways between the heads that are not in `inside`. Each goes from one of them to the next, directly or through heads in `inside`.
     `passages` has the paths that arrive at each head, and `sources` the heads from which paths come."""
-    found: List[Edge] = []
+    edges: List[Edge] = []
     for name in passages.keys() - inside:
         for passage in passages[name]:
             starts = origins(sources, inside, passage.last) if passage.last in inside else {passage.last} & passages.keys()
-            found += [passage.edges.get(start, Edge(start, name, set(), set())) for start in sorted(starts)]
-    return found
+            edges += [passage.edges.get(start, Edge(start, name, set(), set())) for start in sorted(starts)]
+    return edges
 
 
 def components(edges: List[Edge]) -> List[List[Edge]]:
@@ -147,12 +147,12 @@ def components(edges: List[Edge]) -> List[List[Edge]]:
         for edge in edges:
             if extends(reached, edge):
                 is_changed = True
-    found: Dict[FrozenSet[str], List[Edge]] = {}  # by the heads of the component
+    components: Dict[FrozenSet[str], List[Edge]] = {}  # the components by the heads of the component
     for edge in edges:
         if edge.source in reached.get(edge.target, ()):
             key = frozenset(name for name in reached[edge.source] if edge.source in reached.get(name, ()))
-            found.setdefault(key, []).append(edge)
-    return list(found.values())
+            components.setdefault(key, []).append(edge)
+    return list(components.values())
 
 
 def extends(reached: Dict[str, Set[str]], edge: Edge) -> bool:

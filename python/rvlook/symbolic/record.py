@@ -49,7 +49,7 @@ class Counterexample:
     answers: List[Answer]
     one: Dict[str, int]  # the values of the variables, by name
     two: Optional[Dict[str, int]]  # for a difference between two secrets: the values with the second secret
-    conds: List[Node] = field(default_factory=list)  # the conditions of the path
+    conditions: List[Node] = field(default_factory=list)  # the conditions of the path
     address: Any = None  # the address that a load or store accesses, as an expression
     count: int = 1  # how often it was found
     answer: str = ""  # what a replay showed; empty before the replay
@@ -105,7 +105,7 @@ class Record:
         history = history_of(state, one)
         second = dict(two) if two else None
         self.findings[key] = Counterexample(what, state.pc, text, [*history.pcs, state.pc], history.loads, history.stores, history.answers, dict(one),
-                                            second, state.conds[:], address)
+                                            second, state.conditions[:], address)
 
     def note_wanted(self, state: State, what: str) -> None:
         """Notes the places of a merged state on which a finding depends: the variables of the accessed address, and of all conditions that share a
@@ -113,9 +113,9 @@ class Record:
         address = state.access_address() if what in ("load", "store") else None
         mask = mask_of(address) if address is not None else 0
         if not mask:
-            for condition in state.conds[-LAST:]:
+            for condition in state.conditions[-LAST:]:
                 mask |= mask_of(condition)
-        for condition in [it for it in state.conds if mask_of(it) & mask]:
+        for condition in [condition for condition in state.conditions if mask_of(condition) & mask]:
             mask |= mask_of(condition)
         self.wanted_places |= {place for place in map(merged_place, names_of(mask)) if place is not None}
 

@@ -25,7 +25,7 @@ def relations_of(new: Iterable[WordPlace], unknown: Iterable[WordPlace], others:
             used |= {fact.x, *(place for place, _ in fact.y)}
     new_words = {*new}
     unknown_words = {*unknown}
-    found: List[Fact] = []
+    relations: List[Fact] = []
     for n, (y, one) in enumerate(forms):
         for z, two in forms[:n]:
             total = plus(one, two, 1)
@@ -35,9 +35,9 @@ def relations_of(new: Iterable[WordPlace], unknown: Iterable[WordPlace], others:
                 related = {x, y, z}
                 solved = solve(x, y, z, form.number - total.number & M32, unknown_words - used)
                 if solved and len(related) == 3 and not related.isdisjoint(new_words):
-                    found.append(solved)
+                    relations.append(solved)
                     used |= related
-    return found
+    return relations
 
 
 def solve(x: WordPlace, y: WordPlace, z: WordPlace, number: int, free: Set[WordPlace]) -> Optional[Fact]:

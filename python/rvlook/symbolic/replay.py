@@ -24,9 +24,9 @@ A1 = 11
 A6 = 16
 A7 = 17
 STEPS_AT_ONCE = 20000  # between two checks of the time
-FURTHER_STEPS = 20000  # of an endless loop, which are executed after its finding
+FURTHER_STEPS = 20000  # the steps of an endless loop that are executed after its finding
 FURTHER_STEPS_AT_ONCE = 2000  # between two checks of the time
-WATCHED_STEPS = 40000  # after the further steps, which are executed one by one until the registers repeat
+WATCHED_STEPS = 40000  # the steps after FURTHER_STEPS, which are executed one by one until the registers repeat
 
 
 class Path(Protocol):
@@ -38,8 +38,8 @@ class Path(Protocol):
 
 @dataclass
 class Replayed:
-    """The results of a replay."""
-    pcs: List[int] = field(default_factory=list)  # of the steps that were executed
+    """The results of a replay of a path on rvbench."""
+    pcs: List[int] = field(default_factory=list)  # the pcs of the steps that were executed
     regs: List[int] = field(default_factory=list)  # x0 to x31 before the last step, if the path is not whole
     after: int = 0  # the pc after the last step
     world: str = ""  # the world after the last step
@@ -78,16 +78,16 @@ class Plan:
 
 
 class Replayer:
-    """Replays paths of an enclave."""
+    """Replays paths of an enclave on rvbench, and compares each with its prediction."""
 
     def __init__(self, world: World, deadline: float = inf) -> None:
         self.world = world
-        self.deadline = deadline  # by time.perf_counter()
+        self.deadline = deadline  # the end of the time, by time.perf_counter()
 
     def secrets(self, model: Mapping[str, int]) -> List[str]:
         """Returns the commands that set the secrets of a model, and the bytes that the host must know."""
-        found = ["poke %x %02x" % (at, model["k_%08x" % at]) for at in self.world.secret]
-        return found + ["poke %x %02x" % (at, model["c_%08x" % at]) for at in self.world.check]
+        commands = ["poke %x %02x" % (at, model["k_%08x" % at]) for at in self.world.secret]
+        return commands + ["poke %x %02x" % (at, model["c_%08x" % at]) for at in self.world.check]
 
     def go(self, pcs: Sequence[int], path: Path, model: Mapping[str, int], is_whole: bool, is_endless: bool = False) -> Replayed:
         """Replays the steps of a path with the inputs and the secrets of a model. `pcs` has the predicted pcs. If the path is not whole, executes the
@@ -220,8 +220,8 @@ def watch(bench: Bench, replayed: Replayed, pc: int, deadline: float) -> None:
 def check_window(bench: Bench, replayed: Replayed) -> None:
     """Compares the bytes of the window with those that a path has loaded or stored."""
     places = sorted(replayed.expected)
-    found = bench.ask(*["mem %x 1" % at for at in places]) if places else []
-    for at, line in zip(places, found):
+    replies = bench.ask(*["mem %x 1" % at for at in places]) if places else []
+    for at, line in zip(places, replies):
         value = int(line[0].split()[1], 16)
         if value != replayed.expected[at] and not replayed.wrong:
             replayed.wrong = "%08x has %02x, predicted %02x" % (at, value, replayed.expected[at])

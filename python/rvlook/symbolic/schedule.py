@@ -22,7 +22,7 @@ Position = Tuple[int, ...]  # the key by which waiting paths are sorted; a path 
 def position_of(flows: Flows, state: State) -> Position:
     """Returns the place of a path in the order of the program."""
     parts = [place_of(flows, state, state.entry, state.call, state.pc)]
-    parts += [place_of(flows, state, it.entry, it.caller, it.back - 4) for it in state.open_calls()]
+    parts += [place_of(flows, state, call.entry, call.caller, call.back - 4) for call in state.open_calls()]
     return (state.start_number, state.activation, *(n for part in reversed(parts) for n in part), state.pc)
 
 
@@ -33,25 +33,25 @@ def place_of(flows: Flows, state: State, entry: int, call: int, pc: int) -> Posi
     flow = flows.by_entry.get(entry)
     if flow is None or pc not in flow.order:
         return (0,)
-    found: List[int] = []
+    position: List[int] = []
     for head in flow.heads.get(pc, ()):
-        found += flow.order[head], state.rounds.get((call, head), 0)
-    return (*found, flow.order[pc])
+        position += flow.order[head], state.rounds.get((call, head), 0)
+    return (*position, flow.order[pc])
 
 
 def turn_of(flows: Flows, state: State) -> Position:
     """Returns the place of the loop at whose head a path is, in the order in which loops are explored. A loop comes after the loops before it in the
     program, and before those inside it."""
-    found: List[int] = []
-    places = [(state.entry, state.pc), *((it.entry, it.back - 4) for it in state.open_calls())]
+    position: List[int] = []
+    places = [(state.entry, state.pc), *((call.entry, call.back - 4) for call in state.open_calls())]
     for entry, pc in reversed(places):
         flow = flows.by_entry.get(entry)
         if flow is None or pc not in flow.order:
             continue
-        found += [flow.order[head] for head in flow.heads.get(pc, ())]
+        position += [flow.order[head] for head in flow.heads.get(pc, ())]
         if flow.innermost_head(pc) != pc:
-            found.append(flow.order[pc])
-    return tuple(found)
+            position.append(flow.order[pc])
+    return tuple(position)
 
 
 class Schedule:
@@ -68,7 +68,7 @@ class Schedule:
         return len(self.heap)
 
     def add(self, state: State) -> None:
-        """Adds a path."""
+        """Adds a path to the queue."""
         self.count += 1
         position = self.rarity(state) if self.is_rare_first else position_of(self.flows, state)
         heapq.heappush(self.heap, (position, self.count, state))
@@ -84,10 +84,10 @@ class Schedule:
         """Removes and returns the paths that are furthest behind, which are all at the same position. If rare branches come first, this is one
         path."""
         position, _, state = heapq.heappop(self.heap)
-        found = [state]
+        states = [state]
         while self.heap and self.heap[0][0] == position and not self.is_rare_first:
-            found.append(heapq.heappop(self.heap)[2])
-        return found
+            states.append(heapq.heappop(self.heap)[2])
+        return states
 
 
 def waiting(step: Step) -> Step:

@@ -36,10 +36,10 @@ def input_of(run: Run, example: Counterexample, heading: str) -> bytes:
 
 def joined(commands: Sequence[str]) -> List[str]:
     """Returns commands in which consecutive single steps are one command."""
-    found: List[str] = []
+    joined_commands: List[str] = []
     for command in commands:
-        if command == STEP and found and found[-1].startswith("step "):
-            found[-1] = "step %d" % (int(found[-1].split()[1]) + 1)
+        if command == STEP and joined_commands and joined_commands[-1].startswith("step "):
+            joined_commands[-1] = "step %d" % (int(joined_commands[-1].split()[1]) + 1)
         else:
-            found.append(command)
-    return found
+            joined_commands.append(command)
+    return joined_commands

@@ -70,10 +70,10 @@ class Search(Judge):
         self.divided: Set[Tuple[int, int]] = set()  # without merged loops: the heads of loops in which a path has divided: pc and context
         self.sides_taken: Set[Tuple[int, bool]] = set()  # the branches (pcs) that a path has executed, and whether it took the branch
         self.began = time.perf_counter()
-        self.deadline = self.began + self.options.seconds  # by time.perf_counter()
+        self.deadline = self.began + self.options.seconds  # the end of the time, by time.perf_counter()
 
     def set_limits(self) -> None:
-        """Sets the limits of paths."""
+        """Sets the limits of paths: the addresses of pointers, the steps before a branch, and the activations."""
         world = self.world
         self.low_pointer = min(world.region[0], world.window[0]) - NEAR  # the range of addresses to which lui and auipc may point
         self.high_pointer = max(world.region[1], world.window[1]) + NEAR
@@ -121,7 +121,7 @@ class Search(Judge):
         state.mode = 1
         state.regs = world.regs[:]
         state.csr = dict.fromkeys(CSRS, 0)
-        state.mem = bytearray(world.memory)
+        state.region_bytes = bytearray(world.memory)
         state.window_memory = bytearray(world.windows[0])
         state.tags = [None] * 32
         state.mem_tags = {}
@@ -132,16 +132,16 @@ class Search(Judge):
         state.entry = world.pc
         state.areas = ()
         state.stack_bottom = world.objects.stack
-        state.conds = []
+        state.conditions = []
         state.public = set()
         low, high = world.window
         if low < high and state.regs[WINDOW_BASE] == low:
             state.tags[WINDOW_BASE] = Origin(How.SYMBOL, low)
-        state.sym = {}
+        state.symbolic_bytes = {}
         state.model = {}
         for values, name, taint in ((world.secret, "k_%08x", SECRET), (world.check, "c_%08x", CHECK)):
             for address, value in values.items():
-                state.sym[address] = variable(name % address, taint)
+                state.symbolic_bytes[address] = variable(name % address, taint)
                 state.model[name % address] = value
         return state
 

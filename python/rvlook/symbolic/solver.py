@@ -28,7 +28,7 @@ TRIES = 6  # other secrets that are tried
 MOST_SOLUTIONS = 8  # guesses by inversion of the question
 REPAIRS = 4  # conditions that are repaired in a guess
 MOST_NAMES = 64  # variables of a question for which corners are tried
-MOST_PARTS = 12  # of a conjunction that is guessed
+MOST_PARTS = 12  # the most parts of a conjunction that is guessed
 OPAQUE_TIMEOUT = 500  # milliseconds of a query without the contents of tables and choices
 LIGHT = 256  # operations of a public node that is computed for both of two secrets, so that it restricts them
 Answer = Optional[bool]  # whether values exist; None if it is not decided
@@ -60,10 +60,10 @@ class Solver:
         self.shown: Dict[FrozenSet[Node], Set[Condition]] = {}  # the conditions that follow from a set of conditions, as far as this was shown
         self.declared: Set[Node] = set()  # nodes that came out at a place of --public
         self.proofs: Optional[List[List[Any]]] = None  # if it is a list: the conditions of each answer that no values exist, for a second solver
-        self.queries = 0  # to z3
+        self.queries = 0  # the number of queries to z3
         self.guesses = 0  # questions that a guess has answered
         self.cached = 0  # questions that the cache has answered
-        self.seconds = 0.0  # in z3
+        self.seconds = 0.0  # the seconds in z3
 
     def within(self, timeout: int) -> Solver:
         """Returns the same solver with at most `timeout` milliseconds for a query, and a cache of its own."""
@@ -79,12 +79,12 @@ class Solver:
         """Returns the conditions that share variables with a question, directly or through other conditions, and the mask of all these variables.
         `mask` has the variables of the question."""
         left = list(conditions)
-        found: List[Node] = []
+        relevant: List[Node] = []
         while True:
             more = [condition for condition in left if mask_of(condition) & mask]
             if not more:
-                return found, mask
-            found += more
+                return relevant, mask
+            relevant += more
             chosen = set(more)
             left = [condition for condition in left if condition not in chosen]
             for condition in more:
@@ -164,9 +164,9 @@ class Solver:
             parts += [{name: self.rng.randrange(256) for name in names} for _ in range(RANDOM_GUESSES)]
             parts.append({name: self.rng.choice(CORNERS) for name in names})
         for part in parts:
-            found = self.repair_guess(part, conditions, question, model)
-            if found is not None:
-                return found
+            repaired = self.repair_guess(part, conditions, question, model)
+            if repaired is not None:
+                return repaired
         return None
 
     @staticmethod
@@ -254,11 +254,11 @@ class Solver:
             self.cached += 1
             return self.cache[key]
         secret = [condition for condition in relevant if condition.taint & SECRET]
-        found = self.try_other_secrets(question, mask, secret, equal, model)
-        if found is None:
-            found = self.solve_pair(question, mask, relevant, equal, model)
-        self.cache[key] = found
-        return found
+        pair = self.try_other_secrets(question, mask, secret, equal, model)
+        if pair is None:
+            pair = self.solve_pair(question, mask, relevant, equal, model)
+        self.cache[key] = pair
+        return pair
 
     def solve_pair(self, question: Node, mask: int, relevant: List[Node], equal: Equal, model: Part) -> Pair:
         """Asks z3 whether a node can differ for two secrets. In an expression for the second secret, the name of a variable ends with an apostrophe.
@@ -286,7 +286,7 @@ class Solver:
         memo: Dict[Node, Any] = {}
         value = evaluate(question, model, memo)
         wanted = {node: evaluate(node, model, memo) for node in equal.computed}
-        forced = {it: evaluate(it, model, memo) for it in equal.public if it.taint & SECRET and mask_of(it) & mask and it not in wanted}
+        forced = {name: evaluate(name, model, memo) for name in equal.public if name.taint & SECRET and mask_of(name) & mask and name not in wanted}
         for number in range(TRIES):
             other = {**model, **self.other_secret(number, names, model)}
             values = dict(forced)

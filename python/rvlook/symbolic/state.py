@@ -74,7 +74,7 @@ class State(Traps):
             raise Ended(MERGED)
 
     def step(self) -> None:
-        """Executes one step."""
+        """Executes one step of the path."""
         pc = self.pc
         self.pc = (self.search.code.get(pc) or self.compile_at(pc))(self, pc)
         self.pcs.append(pc)
@@ -87,7 +87,7 @@ class State(Traps):
             if not self.csr[STVEC]:
                 raise Ended("outside")
             return fetch_fault
-        if pc in search.written or any(pc + n in self.sym for n in range(4)):
+        if pc in search.written or any(pc + n in self.symbolic_bytes for n in range(4)):
             search.changed_code.add(pc)
             raise Ended(CODE)
         step = compiled(decode(search.world.word_at(pc)))

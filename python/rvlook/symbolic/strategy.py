@@ -54,7 +54,7 @@ class Strategy:
         self.world = world
         self.options = options
         exact_search = Search(world, options)
-        self.deadline = time.perf_counter() + options.seconds  # of all searches and replays, by time.perf_counter()
+        self.deadline = time.perf_counter() + options.seconds  # the end of all searches and replays, by time.perf_counter()
         self.exact_search = self.with_deadline(exact_search)
         self.searches: List[Search] = [self.exact_search]  # all searches so far
         self.heads: Dict[int, Set[Tuple[int, int]]] = {count: set() for count in LOOPS_FROM}  # the heads that are merged (pc and context), by
@@ -144,7 +144,7 @@ class Strategy:
 
     def has_doubt_in_merged(self) -> bool:
         """Returns whether a violation was found only in a merged state."""
-        reasons = [reason for search in self.searches for found in search.reasons.values() for reason in found]
+        reasons = [reason for search in self.searches for texts in search.reasons.values() for reason in texts]
         return any(IN_MERGED in reason for reason in reasons)
 
     def result(self) -> Search:

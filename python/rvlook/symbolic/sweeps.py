@@ -73,20 +73,20 @@ def end_of(load: SymbolicFetch) -> Word:
 
 def least_values_of(facts: Sequence[Fact]) -> Dict[WordPlace, int]:
     """Returns the words that are at least a number by the facts, each with the greatest such number."""
-    found: Dict[WordPlace, int] = {}
+    least: Dict[WordPlace, int] = {}
     for fact in facts:
         if fact.kind == LEAST and type(fact.bound) is int:
-            found[fact.x] = max(fact.bound, found.get(fact.x, 0))
-    return found
+            least[fact.x] = max(fact.bound, least.get(fact.x, 0))
+    return least
 
 
 def conditions_of(loads: Sequence[SymbolicFetch], low: int, old_end: Word, new_end: Word) -> List[Condition]:
     """Returns the conditions that all loads are from `low` up to before `new_end`, and that the end of the range has not fallen."""
-    found: List[Condition] = [not_(ult(new_end, old_end))]
+    conditions: List[Condition] = [not_(ult(new_end, old_end))]
     for load in loads:
         is_inside = all_of(not_(ult(load.at, low)), not_(ult(new_end, end_of(load))))
-        found.append(any_of(not_(all_of(*load.joined)), is_inside))
-    return found
+        conditions.append(any_of(not_(all_of(*load.joined)), is_inside))
+    return conditions
 
 
 def has_variables(load: SymbolicFetch, mask: int) -> bool:

@@ -11,17 +11,17 @@ from rvlook.symbolic.origins import LOST, NO_ORIGIN, Tag
 if TYPE_CHECKING:
     from rvlook.symbolic.state import State
 
-Place = Union[int, str]  # of a word; in `cells`, of a byte
+Place = Union[int, str]  # the place of a word; in `cells`, of a byte
 
 
 def tags_of(state: State, zeros: Tuple[int, ...]) -> Dict[Place, Tag]:
     """Returns the origins of registers and words by their places. The calls are numbered by their depth, which is the same in all paths that are
     merged. The registers `zeros` are 0, and are left out."""
     depths = {call: depth for depth, call in enumerate(state.call_numbers(), 1)}
-    found: Dict[Place, Tag] = {"x%d" % n: renumbered(tag, depths) for n, tag in enumerate(state.tags) if n not in zeros}
-    found.update({"c%x" % number: renumbered(tag, depths) for number, tag in state.csr_tags.items()})
-    found.update({at: renumbered(tag, depths) for at, tag in state.mem_tags.items()})
-    return found
+    tags: Dict[Place, Tag] = {"x%d" % n: renumbered(tag, depths) for n, tag in enumerate(state.tags) if n not in zeros}
+    tags.update({"c%x" % number: renumbered(tag, depths) for number, tag in state.csr_tags.items()})
+    tags.update({at: renumbered(tag, depths) for at, tag in state.mem_tags.items()})
+    return tags
 
 
 def renumbered(tag: Tag, numbers: Dict[int, int]) -> Tag:

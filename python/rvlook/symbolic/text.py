@@ -14,7 +14,7 @@ if TYPE_CHECKING:
     from rvlook.symbolic.record import Counterexample
     from rvlook.symbolic.search import Search
 
-STYLES = {questions.PROVED: Style.good, questions.FOUND: Style.bad}  # of verdicts
+STYLES = {questions.PROVED: Style.good, questions.FOUND: Style.bad}  # the styles of verdicts
 VERDICT_WIDTH = 12  # columns of a verdict
 HEADINGS = {  # the texts of findings that have no text of their own, by kind
     "pc": "the pc depends on the secret",
@@ -44,14 +44,14 @@ def show(search: Search, printer: Printer, findings: ReportedCases) -> None:
     """Prints what a search found and covered, and notes it for the exit status."""
     answers = questions.answers(search)
     if search.options.scripts:
-        found = [it for answer in answers for it in answer.findings]
-        scripts.write(search.options.scripts, search.world.run, found, [heading_of(search, it) for it in found])
+        found_findings = [finding for answer in answers for finding in answer.findings]
+        scripts.write(search.options.scripts, search.world.run, found_findings, [heading_of(search, finding) for finding in found_findings])
     if printer.as_json:
         write_objects(search, answers, printer)
     else:
         print_text(search, answers, printer)
     for answer in answers:
-        findings.add(answer.name, "\n".join(text_of(search, it) for it in answer.findings))
+        findings.add(answer.name, "\n".join(text_of(search, finding) for finding in answer.findings))
     unfinished = unfinished_text(search)
     if unfinished:
         findings.leave_open(unfinished, bool(questions.untrusted(search)))
@@ -73,10 +73,10 @@ def unfinished_text(search: Search) -> str:
 
 def print_text(search: Search, answers: Sequence[questions.Answer], printer: Printer) -> None:
     """Prints the findings, the answers, and what was covered."""
-    number = 0  # of findings
+    number = 0  # the number of findings
     reasons = questions.open_texts(search)
     wrong = questions.untrusted(search)
-    for example in (it for answer in answers for it in answer.findings):
+    for example in (finding for answer in answers for finding in answer.findings):
         number += 1
         printer.line(printer.styled("finding %d: %s" % (number, heading_of(search, example)), Style.bad))
         for line in details_of(search, example):

@@ -33,8 +33,8 @@ class Z3:
         self.numbers: Dict[Tuple[int, int], Any] = {}  # the constants so far, by value and number of bits
         names = "simplify", "propagate-values", "solve-eqs", "simplify", "bit-blast", "sat"
         self.tactics = z3.Then(*names, ctx=self.owner)
-        for it in (self.owner, self.tactics):  # to free long expressions one by one takes minutes; the process ends anyway
-            ctypes.pythonapi.Py_IncRef(ctypes.py_object(it))
+        for part in (self.owner, self.tactics):  # to free long expressions one by one takes minutes; the process ends anyway
+            ctypes.pythonapi.Py_IncRef(ctypes.py_object(part))
         # ---- the functions that make operations: on two operands of one sort, shifts, upper halves of products, and divisions
         self.binary = {"add": library.Z3_mk_bvadd, "sub": library.Z3_mk_bvsub, "mul": library.Z3_mk_bvmul, "xor": library.Z3_mk_bvxor,
                        "or": library.Z3_mk_bvor, "and": library.Z3_mk_bvand, "eq": library.Z3_mk_eq, "eq8": library.Z3_mk_eq,
@@ -174,7 +174,7 @@ def leave_out_old() -> None:
 
 
 class Translator:
-    """Makes expressions of z3."""
+    """Translates nodes into expressions of z3."""
 
     def __init__(self) -> None:
         self.z3 = the_z3()

@@ -142,8 +142,8 @@ def operation_by_bytes(op: str, x: Word, y: Word) -> Optional[Word]:
     p, q = bytes_of(x), bytes_of(y)
     if not p or not q:
         return None
-    found = [byte_operation(op, a, b) for a, b in zip(p, q)]
-    return None if None in found else word(*found)
+    result_bytes = [byte_operation(op, a, b) for a, b in zip(p, q)]
+    return None if None in result_bytes else word(*result_bytes)
 
 
 def xor(x: Word, y: Word) -> Word:
@@ -251,14 +251,14 @@ def mul(x: Word, y: Word) -> Word:
 
 
 def remu(x: Word, y: Word) -> Word:
-    """Returns the unsigned remainder."""
+    """Returns the unsigned remainder of two words."""
     if type(y) is int and y and not y & y - 1:
         return and_(x, y - 1)
     return make("remu", (x, y), mask_up_to(may_of(x)))
 
 
 def divu(x: Word, y: Word) -> Word:
-    """Returns the unsigned quotient."""
+    """Returns the unsigned quotient of two words."""
     if type(y) is int and y and not y & y - 1:
         return srl(x, y.bit_length() - 1)
     return make("divu", (x, y), mask_up_to(may_of(x)) if type(y) is int and y else M32)

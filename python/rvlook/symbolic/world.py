@@ -84,14 +84,14 @@ class World:
 
     def bytes_of(self, places: Sequence[str]) -> Dict[int, int]:
         """Returns the bytes of the region that PLACE[:BYTES] texts name: their values at the first entry, by address. Raises RvlookError."""
-        found: Dict[int, int] = {}
+        values: Dict[int, int] = {}
         low, high = self.region
         for text in places:
             secret = secret_of(text, self.symbols, self.run, self.slot)
             if secret.register or not low <= secret.at <= secret.at + len(secret.bytes) <= high:
                 raise RvlookError("verify needs bytes in the region of the enclave in slot %d, not '%s'; use PLACE[:BYTES]" % (self.slot, text))
-            found.update((secret.at + n, self.memory[secret.at + n - low]) for n in range(len(secret.bytes)))
-        return found
+            values.update((secret.at + n, self.memory[secret.at + n - low]) for n in range(len(secret.bytes)))
+        return values
 
     # ---- the run itself
 
@@ -120,20 +120,20 @@ class World:
     def read_entries(self) -> Enclave:
         """Replays the run. Reads the region and the registers at the first entry, and the window at each entry, after the lines of the script there.
         Returns the enclave."""
-        found: Optional[Enclave] = None
+        enclave: Optional[Enclave] = None
         with self.run.replay() as replay:
             for activation in self.own_activations:
                 replay.go(activation.position)
                 replay.bench.ask(*replay.lines_up_to_next())
-                if found is None:
+                if enclave is None:
                     enclaves = map(enclave_of, replay.bench.ask("enclaves")[0])
-                    found = next(enclave for enclave in enclaves if enclave.slot == self.slot)
-                    self.region = found.base, found.base + found.size
-                    self.window = found.window, found.window + found.window_size
+                    enclave = next(enclave for enclave in enclaves if enclave.slot == self.slot)
+                    self.region = enclave.base, enclave.base + enclave.size
+                    self.window = enclave.window, enclave.window + enclave.window_size
                     self.read_hart(replay.bench, activation.hart, replay.hart)
                 self.windows.append(bytes_at(replay.bench, *self.window))
-        assert found is not None
-        return found
+        assert enclave is not None
+        return enclave
 
     def read_hart(self, bench: Bench, hart: int, selected: int) -> None:
         """Reads the registers of the hart that enters the enclave, and the region. `selected` is the selected hart of the bench, before and after."""
@@ -151,13 +151,13 @@ class World:
     @cached_property
     def fields(self) -> WindowFields:
         """The names of the fields of the window, as far as calls in the run itself show them."""
-        found = WindowFields(self.symbols)
+        fields = WindowFields(self.symbols)
         if self.objects.parameters:
-            reader = FieldReader(self.run, self.objects.parameters, found)
+            reader = FieldReader(self.run, self.objects.parameters, fields)
             for activation in Activations(self.run).all():
                 if activation.slot == self.slot:
                     reader.read(activation)
-        return found
+        return fields
 
     # ---- addresses
 
@@ -187,28 +187,28 @@ def bytes_at(bench: Bench, low: int, high: int) -> bytearray:
 
 def lengths_of(texts: Sequence[str], symbols: Symbols) -> Dict[int, int]:
     """Returns what texts PLACE:N of --length say: the greatest value N of a load in the window, by its address. Raises RvlookError."""
-    found: Dict[int, int] = {}
+    lengths: Dict[int, int] = {}
     for text in texts:
         name, _, most = text.partition(":")
         at = symbols.address(name)
         if at is None or not (most.isascii() and most.isdigit()):
             raise RvlookError("'%s' is no length; use --length PLACE:N, with a hexadecimal address or a symbol" % text)
-        found[at] = int(most)
-    return found
+        lengths[at] = int(most)
+    return lengths
 
 
 def conditional(texts: Sequence[str], symbols: Symbols) -> Tuple[List[str], List[Tuple[Public, int]]]:
     """Returns what texts of --public name: the texts without a condition, and what WHAT@answer=N texts name, each with the answer N. Raises
     RvlookError."""
     always: List[str] = []
-    found: List[Tuple[Public, int]] = []
+    conditions: List[Tuple[Public, int]] = []
     for text in texts:
         what, condition, value = text.partition(ANSWER_IS)
         if not condition:
             always.append(text)
             continue
         try:
-            found.append((public_of([what], symbols), int(value, 0) & 0xFFFFFFFF))
+            conditions.append((public_of([what], symbols), int(value, 0) & 0xFFFFFFFF))
         except ValueError:
             raise RvlookError("'%s' is no number in --public %s" % (value, text)) from None
-    return always, found
+    return always, conditions
