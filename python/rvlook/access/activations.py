@@ -23,9 +23,9 @@ BARE = "bare"
 class Operation(NamedTuple):
     """A load, a store or a division in a step."""
     step: int  # number of the step of the run
-    pc: int  # of the instruction
+    pc: int  # the pc of the instruction
     kind: str  # r for a load, w for a store, d for a division
-    address: int  # of the access; 0 for a division
+    address: int  # the address of the access; 0 for a division
     width: int  # bytes of the access; 0 for a division
     values: Sequence[int]  # the bytes of a store, or the operands of a division; empty for a load
     done: bool  # false if the step trapped
@@ -35,23 +35,23 @@ class Operation(NamedTuple):
 class Activation:
     """An activation: an enclave on a hart, from its first step to the step that leaves it. An index counts its steps from 0."""
     world: str  # the enclave, such as `e0`; `bare` on the bare bench
-    hart: int  # on which it runs
+    hart: int  # the hart on which it runs
     first: int  # number of its first step
-    number: int  # of the activation in its slot
-    enclave: Enclave  # its entry in the enclave table
+    number: int  # the number of the activation in its slot
+    enclave: Enclave  # the entry of the enclave in the enclave table
     last: int = 0  # number of the step that leaves; 0 while it runs
     ended_by: str = ""  # exit, stop, timer, or none at the end of the run
     answer: tuple[int, ...] = ()  # a0 and a1 of the host after it; may be empty
-    pc: Optional[int] = None  # of the last step
-    pcs: array[int] = field(default_factory=lambda: array("I"))  # of each step, with its mode in the lowest bits
+    pc: Optional[int] = None  # the pc of the last step
+    pcs: array[int] = field(default_factory=lambda: array("I"))  # the pc of each step, with its mode in the lowest bits
     steps: array[int] = field(default_factory=lambda: array("I"))  # the number of each
-    traps: dict[int, bytes] = field(default_factory=dict)  # of the steps that trapped, by index
+    traps: dict[int, bytes] = field(default_factory=dict)  # the traps of the steps that trapped, by index
     operations: list[Operation] = field(default_factory=list)  # loads and stores, and divisions if they are recorded
     operations_at: array[int] = field(default_factory=lambda: array("I"))  # the index of the step of each operation
     before: bytes = b""  # the window at the entry
     after: bytes = b""  # the window at the end
     others: tuple[str, ...] = ()  # the world of the other hart, where there is one
-    table: tuple[Enclave, ...] = ()  # of the live enclaves
+    table: tuple[Enclave, ...] = ()  # the table of the live enclaves
 
     @property
     def slot(self) -> int:
@@ -77,7 +77,7 @@ def operands_of(line: bytes) -> Need[MemoryOperand] | None:
 
 @lru_cache(maxsize=65536)
 def number_of(pc: bytes) -> int:
-    """Returns a pc as a number."""
+    """Returns the number that the hexadecimal digits of a pc denote."""
     return int(pc, 16)
 
 
@@ -86,8 +86,8 @@ class Activations:
 
     def __init__(self, run: Run, start: int = 0, is_strict: bool = False) -> None:
         self.run, self.start, self.is_strict = run, start, is_strict  # `start`: the step after which activations are taken
-        self.worlds = [run.world] * run.setup.harts  # of each hart
-        self.open: list[Activation | None] = [None] * run.setup.harts  # of each hart; None if no enclave runs there
+        self.worlds = [run.world] * run.setup.harts  # the world of each hart
+        self.open: list[Activation | None] = [None] * run.setup.harts  # the open activation of each hart; None if no enclave runs there
         self.numbers: Counter[str] = Counter()  # activations so far, by world
         self.end: End | None = None  # None until the run has ended
 
@@ -103,7 +103,7 @@ class Activations:
                 elif isinstance(item, Stretch):
                     for part in item.by_world():
                         yield from self.take(part, reader)
-            for activation in (it for it in self.open if it):
+            for activation in (activation for activation in self.open if activation):
                 assert self.end is not None
                 yield self.complete(activation, self.end.steps, pc=None, ended_by="none")
 
@@ -131,7 +131,7 @@ class Activations:
         enclave, before = self.table_and_window(world, step)
         activation = Activation(world, hart, step + 1, self.numbers[world], enclave, before=before)
         activation.table = tuple(map(enclave_of, self.viewer.bench.ask("enclaves")[0]))
-        activation.others = tuple(it for number, it in enumerate(self.worlds) if number != hart)
+        activation.others = tuple(other for number, other in enumerate(self.worlds) if number != hart)
         return activation
 
     def complete(self, activation: Activation, step: int, pc: int | None, ended_by: str | None = None) -> Activation:
@@ -148,7 +148,7 @@ class Activations:
         """Returns the table entry of an enclave and the bytes of its window after a step."""
         bench = self.viewer.bench
         *_, table = bench.ask(*self.viewer.lines_to(step), "enclaves")
-        entry = next((it for it in map(enclave_of, table) if it.world == world), enclave or self.bare_region(world))
+        entry = next((enclave for enclave in map(enclave_of, table) if enclave.world == world), enclave or self.bare_region(world))
         assert entry is not None
         return entry, bench.memory(entry.window, entry.window_size)
 
@@ -164,21 +164,21 @@ def extend(activation: Activation, part: Stretch, reads: Reads[MemoryOperand]) -
     activation.pcs += columns.pcs_with_modes
     activation.steps.extend(range(part.first, part.first + part.count))
     if columns.traps.count(NO_TRAP) < part.count:
-        activation.traps.update([(begin_at + n, it) for n, it in enumerate(columns.traps) if it != NO_TRAP])
+        activation.traps.update([(begin_at + n, trap) for n, trap in enumerate(columns.traps) if trap != NO_TRAP])
     operations = operations_of(part, reads)
     activation.operations += operations
-    activation.operations_at.extend([begin_at - part.first + it.step for it in operations])
+    activation.operations_at.extend([begin_at - part.first + operation.step for operation in operations])
 
 
 def operations_of(part: Stretch, reads: Reads[MemoryOperand]) -> list[Operation]:
     """Returns the operations of steps."""
-    found, values, first = [], reads.values, part.first
+    operations, values, first = [], reads.values, part.first
     pcs, traps = (map(column.__getitem__, reads.indices) for column in (part.columns.pcs, part.columns.traps))
     for n, pc, trap, (kind, width, _, offset, _), at in zip(reads.indices, map(number_of, pcs), traps, reads.items, reads.starts):
         if kind == "d":
             if trap == NO_TRAP:
-                found.append(Operation(first + n, pc, kind, address=0, width=0, values=(values[at], values[at + 1]), done=True))
+                operations.append(Operation(first + n, pc, kind, address=0, width=0, values=(values[at], values[at + 1]), done=True))
         elif trap == NO_TRAP or trap[:8].decode() in names.ACCESS_FAULTS:
             stored = values[at + 1].to_bytes(4, "little")[:width] if kind == "w" else b""
-            found.append(Operation(first + n, pc, kind, values[at] + offset & 0xFFFFFFFF, width, stored, trap == NO_TRAP))
-    return found
+            operations.append(Operation(first + n, pc, kind, values[at] + offset & 0xFFFFFFFF, width, stored, trap == NO_TRAP))
+    return operations

@@ -36,32 +36,32 @@ A0, READ, REGISTERS = 10, (10, 16, 17), 32  # the status of a call; that, its nu
 WORD_MASK = 0xFFFFFFFF
 MAX_SHOWN = 20  # failures that are printed; each of them counts
 CAUSES = [name for cause, name in names.CAUSES.items() if cause[0] == "0" and not name.startswith("ecall")]
-FAILURE_NAMES = {it.lower(): it for it in (*names.STATUSES.values(), *CAUSES, *names.MARKS.values())}
+FAILURE_NAMES = {name.lower(): name for name in (*names.STATUSES.values(), *CAUSES, *names.MARKS.values())}
 
 
 class Turn(NamedTuple):
     """Commands that change the state, and then steps of a hart."""
-    commands: tuple[str, ...]  # without `step`
-    hart: int  # that steps
-    steps: int  # their number
+    commands: tuple[str, ...]  # the commands without `step`
+    hart: int  # the hart that steps
+    steps: int  # the number of the steps
 
 
 class Trapped(NamedTuple):
-    """A step that trapped."""
-    step: int  # its number in the run
-    hart: int  # that did it
-    at: Location  # where the hart was before it
+    """A step that trapped, with the location of its hart before it."""
+    step: int  # the number of the step in the run
+    hart: int  # the hart that did it
+    at: Location  # the location of the hart before the step
     ran: Ran  # the reply to it
 
 
 @dataclass(frozen=True)
 class Failure:
     """A trap, or a refused call of the monitor, of an instruction."""
-    name: str  # of the cause, or of the status
+    name: str  # the name of the cause, or of the status
     step: int  # number of the first one
-    hart: int  # of the first one
+    hart: int  # the hart of the first one
     at: Location  # pc, mode and world
-    value: str = ""  # of the first trap, hexadecimal digits; empty for a call
+    value: str = ""  # the value of the first trap, hexadecimal digits; empty for a call
     call: str = ""  # the refused call; empty for a trap
     count: int = 1  # how often it occurred
 
@@ -74,16 +74,16 @@ class Failure:
 def failures_of(run: Run, schedule: str, steps: int) -> list[Failure]:
     """Returns the failures in the first steps of a run, by step; `schedule` orders the steps of two harts after the script. Failures of one
     instruction with the same name are one. The scan ends after MAX_FAILURES of them."""
-    found: dict[tuple[object, ...], Failure] = {}
+    failures: dict[tuple[object, ...], Failure] = {}
     with run.setup.bench() as leader, run.setup.bench() as follower, run.setup.bench() as reader:
         scan = Scan(run, LaggingBench(leader), LaggingBench(follower), LaggingBench(reader))
         for failure in itertools.islice(scan.failures(parts_of(turns(run, schedule, steps))), MAX_FAILURES):
-            old = found.get(failure.key)
-            found[failure.key] = failure if old is None else replace(old, count=old.count + 1)
-    return sorted(found.values(), key=lambda it: it.step)
+            old = failures.get(failure.key)
+            failures[failure.key] = failure if old is None else replace(old, count=old.count + 1)
+    return sorted(failures.values(), key=lambda it: it.step)
 
 
-def turns(run: Run, schedule: str, left: int) -> Iterator[Turn]:
+def turns(run: Run, schedule: str, remaining: int) -> Iterator[Turn]:
     """Yields the first `left` steps of a run: those of the script, and then those of the schedule or of the selected hart."""
     pending: list[str] = []
     for item in run.plan:
@@ -91,14 +91,14 @@ def turns(run: Run, schedule: str, left: int) -> Iterator[Turn]:
             if item.changes_state:
                 pending.append(item.text)
             continue
-        for hart, count in steps_within(item, 0, left).by_hart():
+        for hart, count in steps_within(item, 0, remaining).by_hart():
             yield Turn((*pending, *run.setup.choice(hart)), hart, count)
-            pending, left = [], left - count
+            pending, remaining = [], remaining - count
     tail = turns_of(schedule) if schedule else iter(lambda: (run.hart, STEPS_PER_PART), None)
-    while left > 0:
+    while remaining > 0:
         hart, count = next(tail)
-        yield Turn((*pending, *run.setup.choice(hart)), hart, min(count, left))
-        pending, left = [], left - count
+        yield Turn((*pending, *run.setup.choice(hart)), hart, min(count, remaining))
+        pending, remaining = [], remaining - count
 
 
 def parts_of(turns_of_run: Iterable[Turn]) -> Iterator[list[Turn]]:
@@ -121,7 +121,7 @@ class LaggingBench:
     """A bench that does the parts of a run. Parts that it skips are done before the next one that it examines."""
 
     def __init__(self, bench: Bench) -> None:
-        self.bench = bench  # that does the parts
+        self.bench = bench  # the bench that does the parts
         self.skipped: list[str] = []  # the commands of skipped parts
 
     def skip(self, part: Sequence[Turn]) -> None:
@@ -130,7 +130,7 @@ class LaggingBench:
 
     def ask(self, commands: Sequence[str]) -> list[bytes]:
         """Runs the commands of the skipped parts and then these, each with a reply of one line; returns the replies to these."""
-        return self.block("".join(it + "\n" for it in commands).encode(), len(commands)).split(b"\n")[:-1]
+        return self.block("".join(command + "\n" for command in commands).encode(), len(commands)).split(b"\n")[:-1]
 
     def block(self, text: bytes, count: int) -> bytes:
         """Runs the commands of the skipped parts, and then commands whose replies have `count` lines; returns these replies."""
@@ -141,7 +141,7 @@ class LaggingBench:
 
 def full_speed_commands(part: Sequence[Turn]) -> list[str]:
     """Returns the commands of a part at full speed."""
-    return [line for it in part for line in (*it.commands, *(["step %d" % it.steps] if it.steps else []))]
+    return [line for turn in part for line in (*turn.commands, *(["step %d" % turn.steps] if turn.steps else []))]
 
 
 class Scan:
@@ -149,9 +149,9 @@ class Scan:
 
     def __init__(self, run: Run, leader: LaggingBench, follower: LaggingBench, reader: LaggingBench) -> None:
         self.leader, self.follower, self.reader = leader, follower, reader  # `follower` and `reader` lag behind `leader`
-        self.harts = range(run.setup.harts)  # their numbers
-        self.locations = [Location(run.pc, run.mode, run.world) for _ in self.harts]  # where each hart is
-        self.traps = [0 for _ in self.harts]  # of each hart, by its counters
+        self.harts = range(run.setup.harts)  # the numbers of the harts
+        self.locations = [Location(run.pc, run.mode, run.world) for _ in self.harts]  # the location of each hart
+        self.traps = [0 for _ in self.harts]  # the traps of each hart, by its counters
         self.position = 0  # steps so far
 
     def failures(self, parts: Iterator[list[Turn]]) -> Iterator[Failure]:
@@ -176,13 +176,13 @@ class Scan:
 
     def is_quiet(self, replies: Sequence[bytes]) -> bool:
         """Returns whether no step of a part trapped, by the replies to the queries after it."""
-        values = [int(it[8:], 16) for it in replies if it.startswith(b"csr ")]
+        values = [int(reply[8:], 16) for reply in replies if reply.startswith(b"csr ")]
         before, self.traps = self.traps, [cycles - retired & WORD_MASK for cycles, retired in zip(values[::3], values[1::3])]
         return before == self.traps and not any(values[2::3])
 
     def take(self, part: Sequence[Turn], replies: Sequence[bytes]) -> list[Location]:
         """Notes where the harts are after a part, by the replies to its commands. Returns where the hart of each turn was before it."""
-        ran, starts = iter([it for it in replies if it.startswith(b"ran ")]), []
+        ran, starts = iter([reply for reply in replies if reply.startswith(b"ran ")]), []
         for turn in part:
             starts.append(self.locations[turn.hart])
             if turn.steps:
@@ -192,9 +192,10 @@ class Scan:
 
     def examine(self, part: Sequence[Turn], position: int, starts: Sequence[Location]) -> Iterator[Failure]:
         """Yields the failures of a part after a position, which it does in single steps. `starts` has where the hart of each turn is before it."""
-        text = b"".join("".join(line + "\n" for line in it.commands).encode() + b"step 1\n" * it.steps for it in part)
+        text = b"".join("".join(line + "\n" for line in turn.commands).encode() + b"step 1\n" * turn.steps for turn in part)
         trapped = list(trapped_in(part, self.follower.block(text, text.count(b"\n")), position, starts))
-        calls = [it for it in trapped if it.ran.trap and it.ran.trap.cause == names.ECALL_FROM_S and it.ran.world == it.at.world != "bare"]
+        ecalls = [turn for turn in trapped if turn.ran.trap and turn.ran.trap.cause == names.ECALL_FROM_S]
+        calls = [turn for turn in ecalls if turn.ran.world == turn.at.world != "bare"]
         refused = dict(zip(calls, self.refused(part, position, calls)))
         for trap in trapped:
             failure = refused[trap] if trap in refused else trap_of(trap)
@@ -206,19 +207,19 @@ class Scan:
         if not calls:
             self.reader.skip(part)
             return []
-        commands, call_steps = [], [it.step for it in calls]
+        commands, call_steps = [], [call.step for call in calls]
         for turn in part:
             commands += [*turn.commands, *commands_reading(turn, position, call_steps)]
             position += turn.steps
-        values = register_values(it for it in self.reader.ask(commands) if it.startswith(b"x"))
+        values = register_values(reply for reply in self.reader.ask(commands) if reply.startswith(b"x"))
         registers = [dict(zip(READ, values[at:])) for at in range(0, len(values), len(READ))]
-        return [refused_call(it.step, it.hart, it.at, [values.get(n, 0) for n in range(REGISTERS)]) for it, values in zip(calls, registers)]
+        return [refused_call(call.step, call.hart, call.at, [values.get(n, 0) for n in range(REGISTERS)]) for call, values in zip(calls, registers)]
 
 
 def trapped_in(part: Sequence[Turn], block: bytes, position: int, starts: Sequence[Location]) -> Iterator[Trapped]:
     """Yields the steps of a part that trapped, from its replies. `starts` has where the hart of each turn is before it."""
-    ends = list(itertools.accumulate(len(it.commands) + it.steps for it in part))  # line numbers
-    firsts = list(itertools.accumulate((it.steps for it in part), initial=position))  # steps before each turn
+    ends = list(itertools.accumulate(len(turn.commands) + turn.steps for turn in part))  # line numbers
+    firsts = list(itertools.accumulate((turn.steps for turn in part), initial=position))  # steps before each turn
     for number, before, line in trapping_lines(block):
         index = bisect_right(ends, number)
         offset = number - ends[index] + part[index].steps
@@ -289,8 +290,8 @@ def failure_object(failure: Failure, symbols: Symbols) -> dict[str, Json]:
 
 class Expectation(NamedTuple):
     """A failure that the user expects."""
-    text: str  # as the user wrote it
-    name: str  # of a cause or of a status; empty: any
+    text: str  # the text that the user wrote
+    name: str  # the name of a cause or of a status; empty: any
     place: str = ""  # function or address of the instruction; empty: any
 
     def has(self, failure: Failure, symbols: Symbols) -> bool:
@@ -335,14 +336,14 @@ class FailureReport:
                 warn(text)
         if len(failures) > MAX_SHOWN and not self.printer.as_json:
             warn("%d more traps and refused calls are not shown; use --json" % (len(failures) - MAX_SHOWN))
-        if sum(it.count for it in failures) >= MAX_FAILURES:
+        if sum(failure.count for failure in failures) >= MAX_FAILURES:
             self.findings.add("all failures", "the search for traps and refused calls ended after %d of them" % MAX_FAILURES)
             warn("the search for traps and refused calls ended after %d of them" % MAX_FAILURES)
 
     def show_missing(self, failures: Sequence[Failure]) -> None:
         """Reports each expected failure that did not occur as a finding."""
         for other in self.expected:
-            if not any(other.has(it, self.symbols) for it in failures):
+            if not any(other.has(failure, self.symbols) for failure in failures):
                 text = "--expect '%s': it did not occur" % other.text
                 self.findings.add(text, text)
                 warn("--expect '%s': it did not occur" % other.text)

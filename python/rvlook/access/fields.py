@@ -22,7 +22,7 @@ class WindowFields:
     def add(self, address: int, members: tuple[Member, ...]) -> None:
         """Adds the members of the memory at an address, unless its fields are known. Structures come before single values."""
         if members and (address, members[0]) not in self.rows:
-            rows = [(address + it.at, it) for it in members]
+            rows = [(address + member.at, member) for member in members]
             self.rows = self.rows + rows if not members[0].size else rows + self.rows
 
     def name(self, address: int) -> str | None:
@@ -31,7 +31,7 @@ class WindowFields:
 
     def member(self, address: int) -> tuple[int, Member] | None:
         """Returns the address and the member of the field at an address, or None."""
-        return next(((at, it) for at, it in self.rows if at <= address < at + it.size), None)
+        return next(((at, row) for at, row in self.rows if at <= address < at + row.size), None)
 
     def known(self, address: int) -> str | None:
         """Returns the name of the field at an address, or None."""
@@ -39,9 +39,9 @@ class WindowFields:
             if at <= address < at + parameter.size:
                 offset = "+%x" % (address - at) if address > at else ""
                 return parameter.name + (index_text((address - at) // parameter.element) if parameter.element else offset)
-        for at, it in self.rows:
-            if not it.size and at <= address:
-                return it.name + index_text((address - at) // it.element)
+        for at, row in self.rows:
+            if not row.size and at <= address:
+                return row.name + index_text((address - at) // row.element)
         return None
 
 
@@ -59,17 +59,17 @@ class FieldReader:
 
     def read(self, activation: Activation) -> None:
         """Reads the arguments at the first call of each function in an activation."""
-        functions = {it.function for it in self.parameters} - self.read_functions
+        functions = {parameter.function for parameter in self.parameters} - self.read_functions
         first_steps: dict[int, int] = {}
-        for pc in (it for it in set(activation.pcs) if it & -4 in functions):
+        for pc in (pc for pc in set(activation.pcs) if pc & -4 in functions):
             step = activation.steps[activation.pcs.index(pc)]
             first_steps[pc & -4] = min(step, first_steps.get(pc & -4, step))
         for step, function in sorted((step, function) for function, step in first_steps.items()):
             self.read_functions.add(function)
             with self.run.replay() as replay:
                 replay.go(step - 1)
-                for it in (it for it in self.parameters if it.function == function):
-                    (reply,) = replay.bench.ask(*self.run.setup.choice(activation.hart), "reg %d" % (A0 + it.number))[-1]
+                for parameter in (parameter for parameter in self.parameters if parameter.function == function):
+                    (reply,) = replay.bench.ask(*self.run.setup.choice(activation.hart), "reg %d" % (A0 + parameter.number))[-1]
                     value = value_of(reply)
                     if activation.enclave.shares(value):
-                        self.fields.add(value, it.members)
+                        self.fields.add(value, parameter.members)

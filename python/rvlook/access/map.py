@@ -22,9 +22,9 @@ ENTRY_WRITTEN = re.compile(rb" csrr\w+ x\d+, 0x3[ab][0-9a-f],")  # pmpcfg0 to pm
 
 class Column(NamedTuple):
     """A world whose access rights are shown."""
-    name: str  # of the column
+    name: str  # the name of the column
     world: str
-    hart: Optional[int]  # on which the world runs; None: on no hart, so the rights are derived
+    hart: Optional[int]  # the hart on which the world runs; None: on no hart, so the rights are derived
 
     @property
     def derived(self) -> bool:
@@ -35,44 +35,44 @@ class Column(NamedTuple):
 class Row(NamedTuple):
     """A range of RAM with the access rights to it."""
     range: Range
-    what: str  # its meaning; empty on the bare bench
+    what: str  # the meaning of the range; empty on the bare bench
     may: dict[str, dict[str, str]]  # rights by column and mode
 
 
 class Event(NamedTuple):
     """A change of access rights, and the rights after it."""
     step: int  # number of the step that changed them; 0 for the reset
-    hart: int  # that did the step
+    hart: int  # the hart that did the step
     cause: str  # reset, pmp, timer, or the name of a call
-    slot: Optional[int]  # of the enclave; None if there is none
-    status: Optional[str]  # of the call, 8 hexadecimal digits; None if it has none
+    slot: Optional[int]  # the slot of the enclave; None if there is none
+    status: Optional[str]  # the status of the call, 8 hexadecimal digits; None if it has none
     text: Optional[str]  # the instruction; None if it is not known
-    pc: str  # of the instruction, 8 hexadecimal digits
-    mode: str  # after the step
-    world: str  # after the step
+    pc: str  # the pc of the instruction, 8 hexadecimal digits
+    mode: str  # the mode after the step
+    world: str  # the world after the step
     enclaves: tuple[Enclave, ...]  # the enclave table after the step
-    columns: tuple[Column, ...]  # of the worlds
-    rows: tuple[Row, ...]  # of the ranges of RAM
+    columns: tuple[Column, ...]  # the columns of the worlds
+    rows: tuple[Row, ...]  # the rows of the ranges of RAM
 
 
 class RightsState(NamedTuple):
     """The state that decides access rights."""
-    entries: tuple[tuple[str, ...], ...]  # for each hart the replies of `pmp`
-    worlds: tuple[str, ...]  # of each hart
+    entries: tuple[tuple[str, ...], ...]  # the replies of `pmp` for each hart
+    worlds: tuple[str, ...]  # the world of each hart
     enclaves: tuple[Enclave, ...]  # the enclave table
 
 
 class Cause(NamedTuple):
     """The cause of an event. The fields that do not apply are None."""
     name: str  # reset, pmp, timer, or the name of a call
-    slot: Optional[int] = None  # of the enclave
-    status: Optional[str] = None  # of the call, 8 hexadecimal digits
+    slot: Optional[int] = None  # the slot of the enclave
+    status: Optional[str] = None  # the status of the call, 8 hexadecimal digits
     text: Optional[str] = None  # the instruction
 
 
 def events(run: Run) -> Iterator[Event | End]:
     """Yields an Event for the state at reset and for each change of access rights, and then the End."""
-    return (it for it in events_and_refusals(run) if not isinstance(it, Failure))
+    return (event for event in events_and_refusals(run) if not isinstance(event, Failure))
 
 
 def events_and_refusals(run: Run) -> Iterator[Event | Failure | End]:
@@ -81,9 +81,9 @@ def events_and_refusals(run: Run) -> Iterator[Event | Failure | End]:
     with run.replay() as replay:
         yield finder.at_reset(replay)
         for item in (changed_steps(run) if run.setup.monitor else changed_entries(run)):
-            found = item if isinstance(item, End) else finder.at_step(replay, *item)
-            if found:
-                yield found
+            event = item if isinstance(item, End) else finder.at_step(replay, *item)
+            if event:
+                yield event
 
 
 def changed_steps(run: Run) -> Iterator[tuple[int, int] | End]:
@@ -125,7 +125,7 @@ class EventFinder:
 
     def __init__(self, run: Run) -> None:
         self.run, self.setup = run, run.setup  # the run with its configuration
-        self.verdicts: dict[tuple[str, ...], list[Verdicts]] = {}  # by replies of `pmp`
+        self.verdicts: dict[tuple[str, ...], list[Verdicts]] = {}  # the verdicts by the replies of `pmp`
         self.state = RightsState(entries=(), worlds=(), enclaves=())  # nothing is known yet
 
     def at_reset(self, replay: Timeline) -> Event:
@@ -169,7 +169,7 @@ class EventFinder:
         """Returns a column for the world of each hart, and one for each world that runs on no hart."""
         worlds = self.state.worlds
         running = [Column("hart %d: %s" % (hart, world) if len(worlds) > 1 else world, world, hart) for hart, world in enumerate(worlds)]
-        live = ["host"] + [it.world for it in self.state.enclaves] if self.setup.monitor else []
+        live = ["host"] + [enclave.world for enclave in self.state.enclaves] if self.setup.monitor else []
         return tuple(running + [Column(world, world, hart=None) for world in live if world not in worlds])
 
     def rows(self, columns: Sequence[Column]) -> Iterator[Row]:
@@ -177,10 +177,10 @@ class EventFinder:
         by_hart = [self.verdicts[lines] for lines in self.state.entries]
         ends = table_boundaries(self.state.enclaves, self.setup.ram) if self.setup.monitor else set()
         for verdicts in by_hart:
-            ends.update(it.range.first for it in verdicts)
+            ends.update(verdict.range.first for verdict in verdicts)
             ends.add(verdicts[-1].range.end)
         boundaries = sorted(ends)
-        starts = [[it.range.first for it in verdicts] for verdicts in by_hart]
+        starts = [[verdict.range.first for verdict in verdicts] for verdicts in by_hart]
         for first, end in zip(boundaries, boundaries[1:]):
             may: dict[str, dict[str, str]] = {}
             for column in columns:

@@ -52,15 +52,15 @@ def write_event(printer: ObjectWriter, event: Event, symbols: Symbols) -> None:
     pc = int(event.pc, 16)
     rows = [{"first": hex8(row.range.first), "last": hex8(row.range.end - 1), "size": row.range.end - row.range.first,
              "what": row.what, "may": row.may} for row in event.rows]
-    columns = [{"name": it.name, "world": it.world, "hart": it.hart, "derived": it.derived} for it in event.columns]
+    columns = [{"name": column.name, "world": column.world, "hart": column.hart, "derived": column.derived} for column in event.columns]
     printer.object("event", step=event.step, hart=event.hart, cause=event.cause, slot=event.slot, status=event.status,
                    text=event.text, pc=event.pc, symbol=symbols.name(pc), source=symbols.source(pc), mode=event.mode,
-                   world=event.world, enclaves=[enclave_object(it) for it in event.enclaves], columns=columns, rows=rows)
+                   world=event.world, enclaves=[enclave_object(enclave) for enclave in event.enclaves], columns=columns, rows=rows)
 
 
 def heading_of(event: Event) -> str:
     """Returns the hart of an event, if there are several, its step and its cause."""
-    return ("hart %d  " % event.hart if sum(not it.derived for it in event.columns) > 1 else "") + step_and_cause(event)
+    return ("hart %d  " % event.hart if sum(not column.derived for column in event.columns) > 1 else "") + step_and_cause(event)
 
 
 def step_and_cause(event: Event) -> str:
@@ -77,8 +77,8 @@ def step_and_cause(event: Event) -> str:
 def print_event(printer: Printer, event: Event, symbols: Symbols) -> None:
     """Prints an event: its cause and place, the enclaves, and the ranges."""
     printer.line(printer.styled(heading_of(event), Style.heading) + "  at " + place_text(event.pc, symbols))
-    lines = [enclave_text(it) for it in event.enclaves]
-    lines += ["    measurement " + it.measurement for it in event.enclaves if event.cause == "create" and it.slot == event.slot]
+    lines = [enclave_text(enclave) for enclave in event.enclaves]
+    lines += ["    measurement " + enclave.measurement for enclave in event.enclaves if event.cause == "create" and enclave.slot == event.slot]
     heads = [head for column in event.columns for head in heads_of(column, event)]
     widths = [max(CELL, len(head) + 2) for head in heads]
     lines.append(" " * 29 + "".join(head.ljust(width) for head, width in zip(heads, widths)))
@@ -95,41 +95,41 @@ def print_brief(printer: Printer, event: Event, before: Event | None, symbols: S
     printer.line("  ".join(parts))
     for enclave in event.enclaves:
         if not before or enclave not in before.enclaves:
-            was = next((it.state for it in before.enclaves if it.slot == enclave.slot), None) if before else None
+            was = next((earlier.state for earlier in before.enclaves if earlier.slot == enclave.slot), None) if before else None
             printer.line("  %s %s -> %s" % (enclave.world, was, enclave.state) if was else enclave_text(enclave))
-    for found, what, changed in changed_rows(event, before):
-        ends = "%08x-%08x %7s" % (found.first, found.end - 1, names.size_text(found.end - found.first))
+    for range_, what, changed in changed_rows(event, before):
+        ends = "%08x-%08x %7s" % (range_.first, range_.end - 1, names.size_text(range_.end - range_.first))
         printer.line("  %s  %s%s" % (ends, "  ".join(changed), "  " + what if what else ""))
 
 
 def changed_rows(event: Event, before: Event | None) -> list[tuple[Range, str, list[str]]]:
     """Returns each range whose access rights change, with its meaning and changes, joined if alike; all ranges without an earlier event."""
-    found: list[tuple[Range, str, list[str]]] = []
-    starts = sorted({row.range.first for it in (event, before) if it for row in it.rows})
+    rows: list[tuple[Range, str, list[str]]] = []
+    starts = sorted({row.range.first for each in (event, before) if each for row in each.rows})
     for first, end in zip(starts, [*starts[1:], event.rows[-1].range.end]):
         old, new = rights_of(before, first) if before else {}, rights_of(event, first)
         changed = [change_text(key, old.get(key), new.get(key, NOTHING)) for key in {**old, **new} if old.get(key, NOTHING) != new.get(key, NOTHING)]
         what = row_at(event, first).what
-        if changed and found and found[-1][1:] == (what, changed) and found[-1][0].end == first:
-            found[-1] = (Range(found[-1][0].first, end), what, changed)
+        if changed and rows and rows[-1][1:] == (what, changed) and rows[-1][0].end == first:
+            rows[-1] = (Range(rows[-1][0].first, end), what, changed)
         elif changed:
-            found.append((Range(first, end), what, changed))
-    return found
+            rows.append((Range(first, end), what, changed))
+    return rows
 
 
 def row_at(event: Event, address: int) -> Row:
     """Returns the row of an address."""
-    return event.rows[bisect_right([it.range.first for it in event.rows], address) - 1]
+    return event.rows[bisect_right([row.range.first for row in event.rows], address) - 1]
 
 
 def rights_of(event: Event, address: int) -> dict[str, str]:
     """Returns the access rights of each world to an address, by mode if they differ between modes. A world that does not exist has no rights."""
-    row, found = row_at(event, address), {}
+    row, rights_by_mode = row_at(event, address), {}
     for column in event.columns:
         for mode, rights in row.may[column.name].items():
             split = "%s %s" % (column.world, mode) if is_split(column, event) else column.world
-            found[mode if column.world == "bare" else split] = rights
-    return found
+            rights_by_mode[mode if column.world == "bare" else split] = rights
+    return rights_by_mode
 
 
 def change_text(name: str, old: str | None, new: str) -> str:

@@ -14,16 +14,16 @@ NOTHING, ALL, DATA = "---", "rwx", "rw-"  # access rights
 
 
 class Range(NamedTuple):
-    """A range of addresses."""
-    first: int  # the first byte
-    end: int  # the byte after the last one
+    """A range of addresses, from `first` up to before `end`."""
+    first: int  # the address of the first byte
+    end: int  # the address after the last byte
 
 
 class Verdicts(NamedTuple):
     """The access rights to a range."""
     range: Range
-    may: dict[str, str]  # by mode, such as `rw-`
-    replies: tuple[str, ...]  # of `access`, which name the entry that decides
+    may: dict[str, str]  # the rights by mode, such as `rw-`
+    replies: tuple[str, ...]  # the replies of `access`, which name the entry that decides
 
 
 def entry_range(entries: Sequence[PmpEntry], index: int) -> Range | None:
@@ -58,19 +58,19 @@ def verdicts_of(bench: Bench, pmp_lines: Sequence[str], modes: str, ram: int) ->
     queries = [(mode, kind) for mode in modes for kind in KINDS]
     lines = ["access %s %s %x 1" % (mode, kind, at) for at in ends[:-1] for mode, kind in queries]
     replies = [reply[0] for reply in bench.ask(*lines)]
-    found = []
+    ranges = []
     for index, (first, end) in enumerate(zip(ends, ends[1:])):
         verdicts = replies[index * len(queries):(index + 1) * len(queries)]
         may = {mode: "".join(kind if verdicts[i * 3 + k].startswith("allowed") else "-" for k, kind in enumerate(KINDS))
                for i, mode in enumerate(modes)}
-        found.append(Verdicts(Range(first, end), may, tuple(verdicts)))
-    return merged(found)
+        ranges.append(Verdicts(Range(first, end), may, tuple(verdicts)))
+    return merged(ranges)
 
 
-def merged(found: Iterable[Verdicts]) -> list[Verdicts]:
+def merged(ranges: Iterable[Verdicts]) -> list[Verdicts]:
     """Joins adjacent ranges that have the same replies, including the entry that decides. An access across their boundary has that reply too."""
     rows: list[Verdicts] = []
-    for part in found:
+    for part in ranges:
         if rows and (rows[-1].may, rows[-1].replies) == (part.may, part.replies):
             rows[-1] = Verdicts(Range(rows[-1].range.first, part.range.end), part.may, part.replies)
         else:
@@ -82,12 +82,12 @@ def derived_rights(world: str, enclaves: Sequence[Enclave], at: int) -> str:
     """Returns the access rights of a world that runs on no hart to a byte, by the enclave table: three letters, as `rw-`."""
     if at < MONITOR_END:
         return NOTHING
-    regions = [it.world for it in enclaves if it.has(at)]
+    regions = [enclave.world for enclave in enclaves if enclave.has(at)]
     if regions:
         return ALL if regions == [world] else NOTHING
     if world == "host":
         return ALL
-    return DATA if any(it.world == world and it.shares(at) for it in enclaves) else NOTHING
+    return DATA if any(enclave.world == world and enclave.shares(at) for enclave in enclaves) else NOTHING
 
 
 def table_boundaries(enclaves: Sequence[Enclave], ram: int) -> set[int]:
@@ -104,6 +104,6 @@ def meaning(enclaves: Sequence[Enclave], at: int) -> str:
     """Returns the owner of a byte in words, by the enclave table; empty if there is none."""
     if at < MONITOR_END:
         return "monitor"
-    names = ["region of " + it.world for it in enclaves if it.has(at)]
-    names += ["window of " + it.world for it in enclaves if it.shares(at)]
+    names = ["region of " + enclave.world for enclave in enclaves if enclave.has(at)]
+    names += ["window of " + enclave.world for enclave in enclaves if enclave.shares(at)]
     return ", ".join(names)

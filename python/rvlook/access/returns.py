@@ -26,11 +26,11 @@ class Transient(NamedTuple):
 
 class Return(NamedTuple):
     """A return from M."""
-    step: int  # its number
-    pc: str  # where S or U continues
+    step: int  # the number of the step
+    pc: str  # the pc at which S or U continues
     mode: str  # S or U
     event: Event  # the last change of rights up to it
-    transients: tuple[Transient, ...]  # of the stay in M before it
+    transients: tuple[Transient, ...]  # the transients of the stay in M before it
 
 
 def mode_returns(run: Run) -> Iterator[tuple[int, str, str] | End]:
@@ -63,11 +63,11 @@ def returns_of(run: Run, changes: Sequence[Event]) -> Iterator[Return | End]:
 
 def transients_of(before: Optional[Event], events_in_m: Sequence[Event], after: Event) -> Iterator[Transient]:
     """Yields for each state of a stay the first range in which S may access more than before and after the stay."""
-    ends = [it for it in (before, after) if it]
+    ends = [each for each in (before, after) if each]
     for event in events_in_m:
-        starts = sorted({row.range.first for it in (event, *ends) for row in it.rows})
+        starts = sorted({row.range.first for each in (event, *ends) for row in each.rows})
         for first, end in zip(starts, [*starts[1:], event.rows[-1].range.end]):
-            more = supervisor_rights(event, first).difference(*(supervisor_rights(it, first) for it in ends))
+            more = supervisor_rights(event, first).difference(*(supervisor_rights(end, first) for end in ends))
             if more:
                 yield Transient(event, Range(first, end), "".join(letter if letter in more else "-" for letter in "rwx"))
                 break
@@ -84,7 +84,7 @@ def show_returns(run: Run, symbols: Symbols, printer: Printer, findings: Reporte
     if printer.as_json:
         run_object(printer, run, symbols)
     before = None
-    for item in returns_of(run, [it for it in events(run) if isinstance(it, Event)]):
+    for item in returns_of(run, [event for event in events(run) if isinstance(event, Event)]):
         if isinstance(item, End):
             (end_object(printer, item) if printer.as_json else end_text(printer, item, symbols))
             continue
@@ -99,11 +99,11 @@ def show_returns(run: Run, symbols: Symbols, printer: Printer, findings: Reporte
 def print_return(printer: Printer, item: Return, before: Optional[Event], symbols: Symbols) -> None:
     """Prints a return, and the ranges whose access rights differ from those at the return before it."""
     printer.line("return at step %d to %s at %s" % (item.step, item.mode, place_text(item.pc, symbols)))
-    for found, _, changed in changed_rows(item.event, before) if item.event is not before else ():
-        changes_below_m = [it for it in changed if not it.startswith("M ")]
+    for range_, _, changed in changed_rows(item.event, before) if item.event is not before else ():
+        changes_below_m = [change for change in changed if not change.startswith("M ")]
         if changes_below_m:
-            size = names.size_text(found.end - found.first)
-            printer.line("  %08x-%08x %7s  %s" % (found.first, found.end - 1, size, "  ".join(changes_below_m)))
+            size = names.size_text(range_.end - range_.first)
+            printer.line("  %08x-%08x %7s  %s" % (range_.first, range_.end - 1, size, "  ".join(changes_below_m)))
 
 
 def write_return(printer: Printer, item: Return, before: Optional[Event], symbols: Symbols) -> None:
@@ -111,8 +111,8 @@ def write_return(printer: Printer, item: Return, before: Optional[Event], symbol
     pc = int(item.pc, 16)
     rows = [{"first": hex8(row.range.first), "last": hex8(row.range.end - 1), "may": next(iter(row.may.values()))} for row in item.event.rows]
     printer.object("return", step=item.step, pc=item.pc, mode=item.mode, symbol=symbols.name(pc), changed=item.event is not before, rows=rows,
-                   transients=[{"step": it.event.step, "pc": it.event.pc, "text": it.event.text, "first": hex8(it.range.first),
-                                "last": hex8(it.range.end - 1), "may": it.may} for it in item.transients])
+                   transients=[{"step": change.event.step, "pc": change.event.pc, "text": change.event.text, "first": hex8(change.range.first),
+                                "last": hex8(change.range.end - 1), "may": change.may} for change in item.transients])
 
 
 def transient_text(transient: Transient, symbols: Symbols) -> str:

@@ -48,7 +48,7 @@ class PointerOperation(NamedTuple):
     sources: tuple[int, int] = (0, 0)  # numbers of the operands
     factors: tuple[int, int] = (0, 0)  # 0 for an operand that is not a summand
     memory: Optional[MemoryOperand] = None  # the access; None for a computation
-    register: Optional[int] = None  # to be read: the base of an access, or sp after a write; None: no register
+    register: Optional[int] = None  # the register to be read: the base of an access, or sp after a write; None: no register
     is_store: bool = False  # whether it stores
     is_upper: bool = False  # whether it is lui or auipc
 
@@ -109,33 +109,33 @@ class Pointers:
 
 
 class Stack(NamedTuple):
-    """A stack."""
-    name: str  # begins its symbols
+    """A stack of the monitor, of the host, or of the runtime or the application of an enclave."""
+    name: str  # the name with which its symbols begin
     kind: str  # host, runtime, application or monitor
-    bottom: int  # its first byte
-    top: int  # the byte after the last one
+    bottom: int  # the address of the first byte
+    top: int  # the address after the last byte
 
 
 class Overflow(NamedTuple):
     """The first use of a stack outside its range: a store, or a write of sp."""
-    step: int  # its number
-    hart: int  # that did it
-    world: str  # of the hart
-    pc: int  # of the instruction
+    step: int  # the number of the step
+    hart: int  # the hart that did it
+    world: str  # the world of the hart
+    pc: int  # the pc of the instruction
     is_store: bool  # false for a write of sp
     address: int  # the first byte stored, or the new sp
-    stack: Stack  # that overflows
+    stack: Stack  # the stack that overflows
 
 
 def stacks_of(symbols: Symbols) -> dict[str, list[Stack]]:
     """Returns the stacks that the symbols define, by kind: `host`, `runtime` or `application`."""
-    found: dict[str, list[Stack]] = {}
+    stacks: dict[str, list[Stack]] = {}
     for name, symbol in symbols.by_name.items():
         match = NAME.match(name)
         top = symbols.by_name.get(match[1] + "_stack_top") if match else None
         if match and top and symbol.address < top.address:
-            found.setdefault(match[2], []).append(Stack(match[1], match[2], symbol.address, top.address))
-    return found
+            stacks.setdefault(match[2], []).append(Stack(match[1], match[2], symbol.address, top.address))
+    return stacks
 
 
 def kind_of(world: str, mode: str, kinds: Container[str] = ()) -> str | None:
@@ -154,20 +154,20 @@ class Part(NamedTuple):
     stretch: Stretch
     begin: int  # index of the first step in the stretch
     end: int  # index after the last step
-    world: bytes  # before each step
-    kind: Optional[str]  # of the stack that the world uses; None if it is not known
-    trap: bytes  # of each step, a hyphen without a trap
+    world: bytes  # the world before each step
+    kind: Optional[str]  # the kind of the stack that the world uses; None if it is not known
+    trap: bytes  # the trap of each step, a hyphen without a trap
 
 
 class OverflowFinder:
     """Finds the first overflow of each kind of stack."""
 
     def __init__(self, stacks: dict[str, list[Stack]]) -> None:
-        self.stacks = stacks  # by kind
+        self.stacks = stacks  # the stacks by kind
         self.found: dict[str, Overflow] = {}  # the first overflow, by kind of stack
-        self.pointers: dict[str, Pointers] = {}  # of each world
+        self.pointers: dict[str, Pointers] = {}  # the pointers of each world
         self.left_at: dict[str, int] = {}  # the pc at which an enclave left
-        self.kinds: dict[tuple[bytes, bytes], Optional[str]] = {}  # of stack, by world and mode
+        self.kinds: dict[tuple[bytes, bytes], Optional[str]] = {}  # the kinds of stack, by world and mode
 
     def take(self, stretch: Stretch, reads: Reads[PointerOperation]) -> None:
         """Checks steps of one hart, one after another, in parts with equal world, mode and trap."""
@@ -192,9 +192,9 @@ class OverflowFinder:
         for at, operation in enumerate(operations[part.begin:part.end], part.begin):
             if operation is None:
                 continue
-            writes, (one, two), (first, second), memory, register, is_store, _ = operation
+            writes, (first_source, second_source), (first_factor, second_factor), memory, register, is_store, _ = operation
             if register is None:
-                registers[writes] = first * registers[one] + second * registers[two]
+                registers[writes] = first_factor * registers[first_source] + second_factor * registers[second_source]
                 continue
             address = next(values) + memory.offset & WORD_MASK if memory else next(values)
             if is_store or writes == SP:
@@ -226,8 +226,8 @@ class OverflowFinder:
     def enter(self, hart: int, world: str, pc: int) -> Pointers:
         """Returns the pointers of a world that continues at pc. If an enclave is entered elsewhere than where it left, only sp is a pointer."""
         key = world if world.startswith("e") else "%s %d" % (world, hart)
-        left = self.left_at.get(world)
-        if key not in self.pointers or left is not None and pc not in (left, left + 4):
+        left_pc = self.left_at.get(world)
+        if key not in self.pointers or left_pc is not None and pc not in (left_pc, left_pc + 4):
             self.pointers[key] = Pointers()
         return self.pointers[key]
 
@@ -259,7 +259,7 @@ class OverflowFinder:
     def stacks_of_world(self, kind: str) -> Sequence[str]:
         """Returns the kinds of stacks to which a world may switch. Returns no kind if the symbols do not define each of them."""
         kinds = WORLD_KINDS.get(kind, ())
-        return kinds if all(it in self.stacks for it in kinds) else ()
+        return kinds if all(kind in self.stacks for kind in kinds) else ()
 
 
 @lru_cache(maxsize=65536)

@@ -30,9 +30,9 @@ LOWER_MODE = re.compile(rb"mode=[SU]")
 
 class Access(NamedTuple):
     """Accesses of one kind by a world."""
-    world: str  # on the bare bench it may be a mode
+    world: str  # the world; on the bare bench it may be a mode
     kind: str  # r, w or x
-    address: int  # of the first byte
+    address: int  # the address of the first byte
     width: int  # bytes
     done: bool  # false if the accesses were refused
 
@@ -61,8 +61,8 @@ class Counting:
 
     def __init__(self, by_mode: bool) -> None:
         self.by_mode = by_mode  # whether each mode is a world
-        self.steps: Counter[tuple[bytes, bytes, bytes]] = Counter()  # by pc, world and trap
-        self.touched: Counter[tuple[bytes, str, int, int, bool]] = Counter()  # by world, kind, address, width and `done`
+        self.steps: Counter[tuple[bytes, bytes, bytes]] = Counter()  # the number of steps by pc, world and trap
+        self.touched: Counter[tuple[bytes, str, int, int, bool]] = Counter()  # the number of accesses by world, kind, address, width and `done`
 
     def take(self, stretch: Stretch, reads: Reads[MemoryOperand]) -> None:
         """Counts the accesses of the steps of a stretch."""
@@ -77,7 +77,7 @@ class Counting:
 
     def found(self) -> Counter[Access]:
         """Returns all counts. Each step fetches the word at pc, except if an interrupt replaces it."""
-        counts = Counter({Access(it[0].decode(), *it[1:]): count for it, count in self.touched.items()})
+        counts = Counter({Access(key[0].decode(), *key[1:]): count for key, count in self.touched.items()})
         for (pc, world, trap), count in self.steps.items():
             cause, _, value = trap.decode().partition(":")
             is_refused = cause in names.FETCH_FAULTS and value == pc.decode()
@@ -88,7 +88,7 @@ class Counting:
 
 class AccessKind(NamedTuple):
     """Accesses of a world of one kind."""
-    world: str  # on the bare bench it may be a mode
+    world: str  # the world; on the bare bench it may be a mode
     kind: str  # r, w or x
     done: bool  # false if the accesses were refused
 
@@ -103,9 +103,9 @@ class Touched:
 
 class Permitted(NamedTuple):
     """A range that a world may access, and which part it accessed."""
-    what: str  # its meaning
+    what: str  # the meaning of the range
     range: Range
-    kinds: str  # of permitted accesses
+    kinds: str  # the kinds of permitted accesses
     touched: dict[str, int]  # number of accessed bytes by kind
     lowest: Optional[int]  # accessed address; None without an access
     highest: Optional[int]  # accessed address; None without an access
@@ -123,14 +123,14 @@ class Touches:
     """The accesses of a run, counted by first byte and width."""
 
     def __init__(self, run: Run) -> None:
-        self.counts: dict[AccessKind, Counter[tuple[int, int]]] = defaultdict(Counter)  # by address and width
+        self.counts: dict[AccessKind, Counter[tuple[int, int]]] = defaultdict(Counter)  # the number of accesses by address and width
         self.permitted: dict[str, list[tuple[Range, str, set[str]]]] = defaultdict(list)  # range, meaning and kinds, by world
         # each mode of a bare run is a world, if it enters S or U
-        has_modes = not run.setup.monitor and any(isinstance(it, Stretch) and LOWER_MODE.search(it.data) for it in run.stretches())
-        found, self.end = accesses(run, has_modes)  # of the run
-        for key, count in found.items():
+        has_modes = not run.setup.monitor and any(isinstance(stretch, Stretch) and LOWER_MODE.search(stretch.data) for stretch in run.stretches())
+        counts_by_access, self.end = accesses(run, has_modes)  # the accesses and the end of the run
+        for key, count in counts_by_access.items():
             self.counts[AccessKind(key.world, key.kind, key.done)][key.address, key.width] += count
-        changes = [it for it in events(run) if isinstance(it, Event)]
+        changes = [event for event in events(run) if isinstance(event, Event)]
         for event in changes:
             (self.allow_mode(event, "M") if has_modes else self.allow(event))
         for item in returns_of(run, changes) if has_modes else ():
@@ -140,7 +140,7 @@ class Touches:
 
     def allow(self, event: Event) -> None:
         """Adds the access rights that an event gives to each world that runs."""
-        for column in (it for it in event.columns if not it.derived):
+        for column in (column for column in event.columns if not column.derived):
             self.permitted[column.world] += [(row.range, row.what, set("".join(row.may[column.name].values())) - {"-"}) for row in event.rows]
 
     def allow_mode(self, event: Event, mode: str) -> None:
@@ -153,15 +153,15 @@ class Touches:
 
     def ranges(self, kind: AccessKind, symbols: Symbols) -> list[Touched]:
         """Returns the bytes that were accessed, in ranges within one symbol."""
-        found: list[Touched] = []
+        ranges: list[Touched] = []
         for (address, width), count in sorted(self.counts[kind].items()):
             name = symbols.function(address)
-            last = found[-1] if found else None
+            last = ranges[-1] if ranges else None
             if last and last.symbol == name and address <= last.range.end:
-                found[-1] = Touched(Range(last.range.first, max(last.range.end, address + width)), name, last.count + count)
+                ranges[-1] = Touched(Range(last.range.first, max(last.range.end, address + width)), name, last.count + count)
             else:
-                found.append(Touched(Range(address, address + width), name, count))
-        return found
+                ranges.append(Touched(Range(address, address + width), name, count))
+        return ranges
 
     def bytes_of(self, world: str, kind: str) -> list[int]:
         """Returns the addresses that a world accessed, in ascending order."""
@@ -170,11 +170,11 @@ class Touches:
     def permitted_rows(self, world: str) -> Iterator[Permitted]:
         """Yields each range that a world was ever permitted to access, with its accesses there."""
         touched = {kind: self.bytes_of(world, kind) for kind in KINDS}
-        for found, what, kinds in joined(self.permitted[world]):
-            by_kind = {kind: within(addresses, found) for kind, addresses in touched.items()}
+        for range_, what, kinds in joined(self.permitted[world]):
+            by_kind = {kind: within(addresses, range_) for kind, addresses in touched.items()}
             every = [address for addresses in by_kind.values() for address in addresses]
             counts = {kind: len(addresses) for kind, addresses in by_kind.items()}
-            yield Permitted(what, found, kinds, counts, min(every, default=None), max(every, default=None))
+            yield Permitted(what, range_, kinds, counts, min(every, default=None), max(every, default=None))
 
     def executed(self, world: str) -> dict[int, int]:
         """Returns how often a world executed each instruction, by address."""
@@ -183,22 +183,22 @@ class Touches:
 
 def joined(rows: Iterable[tuple[Range, str, set[str]]]) -> list[tuple[Range, str, str]]:
     """Splits overlapping ranges into disjoint ones, each with all its names and kinds. Leaves out ranges without a kind."""
-    ends = sorted({address for it, _, _ in rows for address in (it.first, it.end)})
-    found: list[tuple[Range, str, str]] = []
+    ends = sorted({address for range_, _, _ in rows for address in (range_.first, range_.end)})
+    joined_rows: list[tuple[Range, str, str]] = []
     for first, end in zip(ends, ends[1:]):
-        covering = [(what, kinds) for it, what, kinds in rows if it.first <= first < it.end]
+        covering = [(what, kinds) for range_, what, kinds in rows if range_.first <= first < range_.end]
         what = ", ".join(sorted({what for what, _ in covering} - {""}))
-        kinds = "".join(kind if any(kind in it for _, it in covering) else "-" for kind in KINDS)
-        if found and found[-1][1:] == (what, kinds) and found[-1][0].end == first:
-            found[-1] = (Range(found[-1][0].first, end), what, kinds)
+        kinds = "".join(kind if any(kind in letters for _, letters in covering) else "-" for kind in KINDS)
+        if joined_rows and joined_rows[-1][1:] == (what, kinds) and joined_rows[-1][0].end == first:
+            joined_rows[-1] = (Range(joined_rows[-1][0].first, end), what, kinds)
         elif kinds != NOTHING:
-            found.append((Range(first, end), what, kinds))
-    return found
+            joined_rows.append((Range(first, end), what, kinds))
+    return joined_rows
 
 
-def within(addresses: list[int], found: Range) -> list[int]:
+def within(addresses: list[int], range_: Range) -> list[int]:
     """Returns the addresses in a range. The given addresses are ascending."""
-    return addresses[bisect_right(addresses, found.first - 1):bisect_right(addresses, found.end - 1)]
+    return addresses[bisect_right(addresses, range_.first - 1):bisect_right(addresses, range_.end - 1)]
 
 
 def covered_functions(touches: Touches, world: str, symbols: Symbols) -> Iterator[tuple[Symbol, int, int]]:
@@ -215,7 +215,7 @@ def covered_lines(touches: Touches, world: str, symbols: Symbols) -> list[tuple[
     addresses = sorted(executed)
     for symbol, size, _ in covered_functions(touches, world, symbols):
         first, end = symbol.address, symbol.address + size
-        counts.update((it, counts.get(it, 0)) for it in symbols.sources_in(first, end) if it)
+        counts.update((source, counts.get(source, 0)) for source in symbols.sources_in(first, end) if source)
         for address in addresses[bisect_left(addresses, first):bisect_left(addresses, end)]:
             source = symbols.source(address)
             if source and (address - first) % 4 == 0:
@@ -251,17 +251,17 @@ def show_touch(run: Run, symbols: Symbols, printer: Printer) -> None:
 def all_touched(touches: Touches, world: str, symbols: Symbols) -> list[tuple[AccessKind, Touched]]:
     """Returns all ranges that a world accessed, each with the kind of access."""
     kinds = [AccessKind(world, kind, done) for kind in KINDS for done in (True, False)]
-    return [(kind, it) for kind in kinds for it in touches.ranges(kind, symbols)]
+    return [(kind, range_) for kind in kinds for range_ in touches.ranges(kind, symbols)]
 
 
 def world_objects(touches: Touches, world: str, symbols: Symbols, printer: Printer) -> None:
     """Writes the accesses, permissions and coverage of a world as objects."""
     rows: list[tuple[str, dict[str, Json]]] = [
-        ("touched", dict(kind=kind.kind, first=hex8(it.range.first), last=hex8(it.range.end - 1), symbol=it.symbol, count=it.count, done=kind.done))
-        for kind, it in all_touched(touches, world, symbols)]
-    rows += [("permitted", dict(what=it.what, first=hex8(it.range.first), last=hex8(it.range.end - 1), kinds=it.kinds,
-                                size=it.range.end - it.range.first, touched=it.touched, lowest=hex8(it.lowest), highest=hex8(it.highest),
-                                enough=it.enough)) for it in touches.permitted_rows(world)]
+        ("touched", dict(kind=kind.kind, first=hex8(part.range.first), last=hex8(part.range.end - 1), symbol=part.symbol, count=part.count,
+                         done=kind.done)) for kind, part in all_touched(touches, world, symbols)]
+    rows += [("permitted", dict(what=row.what, first=hex8(row.range.first), last=hex8(row.range.end - 1), kinds=row.kinds,
+                                size=row.range.end - row.range.first, touched=row.touched, lowest=hex8(row.lowest), highest=hex8(row.highest),
+                                enough=row.enough)) for row in touches.permitted_rows(world)]
     rows += [("function", dict(name=symbol.name, first=hex8(symbol.address), size=size, executed=executed))
              for symbol, size, executed in covered_functions(touches, world, symbols)]
     rows += [("line", dict(source=source, count=count)) for source, count in covered_lines(touches, world, symbols)]
@@ -272,14 +272,14 @@ def world_objects(touches: Touches, world: str, symbols: Symbols, printer: Print
 def world_text(touches: Touches, world: str, symbols: Symbols, printer: Printer) -> None:
     """Prints the accesses, permissions and coverage of a world."""
     printer.line(printer.styled(world, Style.heading))
-    lines = ["  %-16s %08x-%08x %7d  %s" % (KINDS[kind.kind] + ("" if kind.done else ", refused"), it.range.first, it.range.end - 1, it.count,
-                                            it.symbol or "") for kind, it in all_touched(touches, world, symbols)]
-    lines += ["  %-16s %s" % ("permitted", permitted_text(it)) for it in touches.permitted_rows(world)]
+    lines = ["  %-16s %08x-%08x %7d  %s" % (KINDS[kind.kind] + ("" if kind.done else ", refused"), part.range.first, part.range.end - 1, part.count,
+                                            part.symbol or "") for kind, part in all_touched(touches, world, symbols)]
+    lines += ["  %-16s %s" % ("permitted", permitted_text(row)) for row in touches.permitted_rows(world)]
     lines += ["  %-16s %8d of %6d bytes  %s" % ("covered", executed, size, symbol.name)
               for symbol, size, executed in covered_functions(touches, world, symbols)]
-    for name, found in by_file(covered_lines(touches, world, symbols)).items():
-        missed = [str(number) for number, count in found if not count]
-        lines.append("  %-16s %8d of %6d lines  %s%s" % ("covered", len(found) - len(missed), len(found), name,
+    for name, lines_and_counts in by_file(covered_lines(touches, world, symbols)).items():
+        missed = [str(number) for number, count in lines_and_counts if not count]
+        lines.append("  %-16s %8d of %6d lines  %s%s" % ("covered", len(lines_and_counts) - len(missed), len(lines_and_counts), name,
                                                          ", not executed: " + " ".join(missed) if missed else ""))
     for line in lines + [""]:
         printer.line(line)
@@ -313,20 +313,20 @@ def show_lcov(run: Run, symbols: Symbols, printer: Printer, paths: Sequence[str]
 def functions_by_file(touches: Touches, world: str, symbols: Symbols) -> dict[str, list[tuple[int, str, int]]]:
     """Returns for each file the functions that a world executed: line, name, and the count of the first instruction."""
     executed = touches.executed(world)
-    found: dict[str, list[tuple[int, str, int]]] = {}
+    functions: dict[str, list[tuple[int, str, int]]] = {}
     for symbol, _, _ in covered_functions(touches, world, symbols):
         source = symbols.source(symbol.address)
         if source:
             name, line = place_of(source)
-            found.setdefault(name, []).append((line, symbol.name, executed.get(symbol.address, 0)))
-    return found
+            functions.setdefault(name, []).append((line, symbol.name, executed.get(symbol.address, 0)))
+    return functions
 
 
 def write_lcov(printer: Printer, world: str, path: str, functions: Sequence[tuple[int, str, int]], lines: Sequence[tuple[int, int]]) -> None:
     """Prints the record of a source file in the format of lcov."""
     rows = ["TN:" + world, "SF:" + path, *("FN:%d,%s" % (line, name) for line, name, _ in functions),
             *("FNDA:%d,%s" % (count, name) for _, name, count in functions), "FNF:%d" % len(functions),
-            "FNH:%d" % sum(count > 0 for _, _, count in functions), *("DA:%d,%d" % it for it in lines), "LF:%d" % len(lines),
+            "FNH:%d" % sum(count > 0 for _, _, count in functions), *("DA:%d,%d" % line for line in lines), "LF:%d" % len(lines),
             "LH:%d" % sum(count > 0 for _, count in lines), "end_of_record"]
     for row in rows:
         printer.line(row)

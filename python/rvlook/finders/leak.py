@@ -27,8 +27,8 @@ class Difference:
     """A difference of two runs in a channel at an instruction."""
     channel: str  # one of CHANNELS
     steps: tuple[int, int]  # the number of the first step, in each run
-    values: tuple[Any, ...]  # their form depends on `channel`
-    pc: Optional[int] = None  # of the instruction; None for the total number of steps
+    values: tuple[Any, ...]  # the values that differ; their form depends on `channel`
+    pc: Optional[int] = None  # the pc of the instruction; None for the total number of steps
     count: int = 1  # how often the channel differs there
 
 
@@ -36,9 +36,9 @@ class Difference:
 class Observation:
     """The observations of a host in one run."""
     run: Run
-    activations: list[Activation]  # of the enclave
+    activations: list[Activation]  # the activations of the enclave
     last: int  # number of the last step that is observed
-    is_cut: bool = False  # by --steps, before the enclave exited
+    is_cut: bool = False  # whether --steps ended the run before the enclave exited
 
 
 class Public(NamedTuple):
@@ -53,43 +53,43 @@ class Public(NamedTuple):
 
 def public_of(texts: Sequence[str] | None, symbols: Symbols) -> Public:
     """Returns the differences that --public permits."""
-    places = [place_and_size(it, symbols) for it in texts or () if it != "answer"]
+    places = [place_and_size(text, symbols) for text in texts or () if text != "answer"]
     return Public(answer="answer" in (texts or ()), ranges=tuple((address, size or WORD) for address, size in places))
 
 
 def observe(run: Run, secret: Secret, is_strict: bool) -> Observation:
     """Records what a host observes of the enclave with the secret, until it exits. Raises Unfinished if it is never entered."""
-    found, activations = [], Activations(run, secret.step, is_strict)
+    activations_so_far, activations = [], Activations(run, secret.step, is_strict)
     with closing(activations.all()) as all_activations:
         for activation in all_activations:
             if activation.slot == secret.slot:
-                found.append(activation)
+                activations_so_far.append(activation)
                 if activation.ended_by == "exit":
-                    return Observation(run, found, activation.last)
-    if not found:
+                    return Observation(run, activations_so_far, activation.last)
+    if not activations_so_far:
         raise Unfinished("the enclave in slot %d is never entered after step %d, where the comparison starts" % (secret.slot, secret.step))
     assert activations.end is not None
-    return Observation(run, found, activations.end.steps, activations.end.why == "limit" and found[-1].ended_by == "none")
+    return Observation(run, activations_so_far, activations.end.steps, activations.end.why == "limit" and activations_so_far[-1].ended_by == "none")
 
 
 class Comparison:
-    """A comparison of two runs."""
+    """A comparison of two runs with different secrets."""
 
     def __init__(self, one: Observation, two: Observation, secret: Secret, public: Public, is_strict: bool) -> None:
         self.one, self.two, self.secret, self.public, self.is_strict = one, two, secret, public, is_strict  # `public`: what may differ
-        self.differences: dict[tuple[str, int | None], Difference] = {}  # by channel and instruction
+        self.differences: dict[tuple[str, int | None], Difference] = {}  # the differences by channel and instruction
         self.writers: dict[int, int] = {}  # the instruction that stored each byte of the window last
         for pair in zip(one.activations, two.activations):
             self.compare_steps(*pair)
             self.compare_ends(*pair)
         if one.last != two.last:
             self.add("steps", (one.last, two.last), (one.last, two.last))
-        if len(one.activations) != len(two.activations) and not any(it.channel == "answer" for it in self.differences.values()):
-            self.add("answer", (one.last, two.last), tuple("%d exits" % len(it.activations) for it in (one, two)))
+        if len(one.activations) != len(two.activations) and not any(difference.channel == "answer" for difference in self.differences.values()):
+            self.add("answer", (one.last, two.last), tuple("%d exits" % len(side.activations) for side in (one, two)))
 
     def channels(self) -> list[str]:
         """Returns the channels in which the runs differ, in the order of CHANNELS."""
-        return [it for it in CHANNELS if any(found.channel == it for found in self.differences.values())]
+        return [channel for channel in CHANNELS if any(difference.channel == channel for difference in self.differences.values())]
 
     def all(self) -> list[Difference]:
         """Returns all differences, by channel and step."""
@@ -104,7 +104,7 @@ class Comparison:
 
     def compare_steps(self, one: Activation, two: Activation) -> None:
         """Compares two activations step by step, and after a divergence from where they converge again."""
-        second_operations = dict(zip(two.operations_at, two.operations))  # by index of their steps
+        second_operations = dict(zip(two.operations_at, two.operations))  # the second operations by index of their steps
         x = y = 0  # indices of the next steps, in `one` and `two`
         while x < len(one.pcs) and y < len(two.pcs):
             same = common_length(one, x, two, y)
@@ -150,7 +150,7 @@ class Comparison:
     def compare_ends(self, one: Activation, two: Activation) -> None:
         """Compares the results and the windows at the end of two activations."""
         if not self.public.answer and (one.ended_by, one.answer) != (two.ended_by, two.answer):
-            self.add("answer", (one.last, two.last), tuple((it.ended_by, *it.answer) for it in (one, two)), one.pc)
+            self.add("answer", (one.last, two.last), tuple((side.ended_by, *side.answer) for side in (one, two)), one.pc)
         self.writers.update(writers_of(one, two))
         if one.after != two.after:
             base, writers, reported = one.enclave.window, self.writers, {pc for channel, pc in self.differences if channel == "window"}
@@ -178,9 +178,9 @@ def writers_of(one: Activation, two: Activation) -> dict[int, int]:
 def stores_to_window(activation: Activation) -> Iterator[Operation]:
     """Yields the stores of an activation to bytes of its window."""
     first, end = activation.enclave.window, activation.enclave.window + activation.enclave.window_size
-    for it in activation.operations:
-        if it.kind == "w" and it.done and it.address < end and first < it.address + it.width:
-            yield it
+    for operation in activation.operations:
+        if operation.kind == "w" and operation.done and operation.address < end and first < operation.address + operation.width:
+            yield operation
 
 
 def equal_length(one: array[int], x: int, two: array[int], y: int) -> int:

@@ -20,15 +20,15 @@ MAX_GUESSES = 8  # values of the host near which secrets are drawn
 class LeakOptions(NamedTuple):
     """The options of `leak`."""
     at: str  # the place of the secret
-    slot: int = 0  # of the enclave
+    slot: int = 0  # the slot of the enclave
     public: Sequence[str] = ()  # what may differ
     is_strict: bool = False  # whether operands of divisions are compared
     values: Sequence[bytes] = ()  # two secrets, or empty if pairs are drawn
     tries: Optional[int] = None  # number of drawn pairs; None if `values` is given
     first: int = 1  # number of the first pair that is run
     last: Optional[int] = None  # number of the last one; None: the last drawn one
-    seed: int = 0  # of the drawn pairs
-    seconds: Optional[float] = None  # at most; None: no limit
+    seed: int = 0  # the seed of the drawn pairs
+    seconds: Optional[float] = None  # the most seconds; None: no limit
     jobs: int = 1  # number of processes
 
 
@@ -40,7 +40,7 @@ class Leak:
         self.run, self.symbols, self.options, self.cut, self.is_hidden = run, run.setup.symbols, options, "", is_hidden
         self.public, self.is_strict = public_of(options.public, self.symbols), options.is_strict
         left_out = {*([] if self.is_strict else ["operand"]), *([] if run.setup.monitor else ["answer", "window"])}
-        self.channels = [it for it in CHANNELS if it not in left_out]  # that are compared
+        self.channels = [channel for channel in CHANNELS if channel not in left_out]  # the channels that are compared
 
     def secret(self, size: int | None = None) -> Secret:
         """Returns the secret that the options name; `size` is its length in bytes."""
@@ -48,11 +48,11 @@ class Leak:
 
     def observe(self, secret: Secret) -> Observation:
         """Returns the observations of the run with a secret. Notes if --steps ends the run too early."""
-        found = observe(self.run.with_lines(secret.step, secret.lines()), secret, self.is_strict)
-        if found.is_cut and not self.cut:
+        observation = observe(self.run.with_lines(secret.step, secret.lines()), secret, self.is_strict)
+        if observation.is_cut and not self.cut:
             what = "the enclave in slot %d was running" % secret.slot if self.run.setup.monitor else "it was running"
             self.cut = "--steps %d ended the run while %s" % (self.run.setup.limit, what)
-        return found
+        return observation
 
     def compared(self, one: Observation, two: Observation, secret: Secret) -> Comparison:
         """Compares the observations of two runs."""
@@ -61,13 +61,13 @@ class Leak:
 
 class ComparedPair(NamedTuple):
     """The result of comparing two runs with a pair of secrets."""
-    number: int  # of the pair, from 1
+    number: int  # the number of the pair, from 1
     secrets: Sequence[Secret]  # the two secrets
     is_own: bool  # whether the first secret is that of the program
     answers: Sequence[object]  # what the enclave answered with each secret; empty if the secrets were given
-    channels: Sequence[str]  # in which the runs differ
+    channels: Sequence[str]  # the channels in which the runs differ
     result: Optional[Comparison]  # None for a drawn pair that does not differ, or that another process compared
-    observations: Sequence[Observation]  # of the two runs; empty if `result` is None
+    observations: Sequence[Observation]  # the observations of the two runs; empty if `result` is None
 
     @property
     def comparison(self) -> Comparison:
@@ -79,7 +79,7 @@ class ComparedPair(NamedTuple):
 @dataclass
 class TriedPairs:
     """The result of drawn pairs."""
-    pairs: List[ComparedPair] = field(default_factory=list)  # that were compared
+    pairs: List[ComparedPair] = field(default_factory=list)  # the pairs that were compared
     again: Callable[[ComparedPair], ComparedPair] = lambda it: it  # returns a pair with its comparison, which it repeats if need be
     cut: str = ""  # why some pairs were left out; empty if all were compared
     is_interrupted: bool = False  # whether Ctrl-C ended the search
@@ -88,17 +88,17 @@ class TriedPairs:
     def verdicts(self) -> set[int]:
         """Returns the numbers of the pairs that differ with a verdict: the program answers its own secret one way, and each other secret another.
         Other differences of such a pair may follow from the answer. If the answer has a part of the secret, other secrets have several answers."""
-        own_answers = {it.answers[0] for it in self.pairs if it.is_own}
-        other_answers = {answer for it in self.pairs for answer in it.answers[it.is_own:]}
-        secrets = {secret.bytes for it in self.pairs for secret in it.secrets[it.is_own:]}
+        own_answers = {pair.answers[0] for pair in self.pairs if pair.is_own}
+        other_answers = {answer for pair in self.pairs for answer in pair.answers[pair.is_own:]}
+        secrets = {secret.bytes for pair in self.pairs for secret in pair.secrets[pair.is_own:]}
         is_verdict = len(own_answers) == len(other_answers) == 1 and own_answers != other_answers and len(secrets) > 1
-        return {it.number for it in self.pairs if it.is_own} if is_verdict else set()
+        return {pair.number for pair in self.pairs if pair.is_own} if is_verdict else set()
 
     @property
     def differing(self) -> dict[int, ComparedPair]:
         """Returns the pairs that differ without a verdict, by number."""
         verdicts = self.verdicts
-        return {it.number: it for it in self.pairs if it.channels and it.number not in verdicts}
+        return {pair.number: pair for pair in self.pairs if pair.channels and pair.number not in verdicts}
 
 
 def compare_given(leak: Leak) -> ComparedPair:
@@ -107,10 +107,10 @@ def compare_given(leak: Leak) -> ComparedPair:
     if len(values[0]) != len(values[1]):
         raise RvlookError("the two secrets differ in length")
     secret = leak.secret(len(values[0]))
-    secrets = [secret.with_bytes(it) for it in values]
+    secrets = [secret.with_bytes(value) for value in values]
     with Progress() as progress:
         progress.show("running with %s", values[0].hex())
-        one, two = (leak.observe(it) for it in secrets)
+        one, two = (leak.observe(secret) for secret in secrets)
     result = leak.compared(one, two, secret)
     return ComparedPair(1, secrets, is_own=False, answers=(), channels=result.channels(), result=result, observations=(one, two))
 
@@ -132,7 +132,7 @@ def compare_drawn(leak: Leak, heard: Callable[[ComparedPair], None] = lambda it:
                 with uninterrupted():
                     tried.pairs.append(pair)
                     heard(pair)
-                progress.bar(len(tried.pairs), len(pairs), "%d differ" % sum(bool(it.channels) for it in tried.pairs))
+                progress.bar(len(tried.pairs), len(pairs), "%d differ" % sum(bool(pair.channels) for pair in tried.pairs))
                 if end_time is not None and time.monotonic() > end_time and len(tried.pairs) < len(pairs):
                     tried.cut = "--seconds ended leak after %d of %s" % (len(tried.pairs), counted(len(pairs), "pair"))
                     break
@@ -165,7 +165,7 @@ def try_pair(leak: Leak, own: Secret, base: Observation, pair: Pair) -> Compared
     observations = (base if pair.one is None else leak.observe(one)), leak.observe(two)
     result = leak.compared(*observations, own)
     channels = result.channels()
-    answers = [tuple((it.ended_by, it.answer) for it in observation.activations) for observation in observations]
+    answers = [tuple((activation.ended_by, activation.answer) for activation in observation.activations) for observation in observations]
     details = (result, observations) if channels else (None, ())
     return ComparedPair(pair.number, (one, two), pair.one is None, answers, channels, *details)
 

@@ -33,7 +33,7 @@ def show_leak(leak: Leak, printer: Printer, findings: ReportedCases) -> None:
 
 def text_of_channel(leak: Leak, pair: ComparedPair, channel: str) -> str:
     """Returns where the runs of a pair differ in a channel; empty if they do not."""
-    return "\n".join(heading_of(leak, it, pair.secrets[0]) for it in pair.comparison.all() if it.channel == channel)
+    return "\n".join(heading_of(leak, difference, pair.secrets[0]) for difference in pair.comparison.all() if difference.channel == channel)
 
 
 def show_tries(leak: Leak, printer: Printer, findings: ReportedCases) -> None:
@@ -41,11 +41,11 @@ def show_tries(leak: Leak, printer: Printer, findings: ReportedCases) -> None:
     if printer.as_json:
         run_object(printer, leak.run, leak.symbols)
 
-    def pair_object(it: ComparedPair) -> None:
+    def pair_object(pair: ComparedPair) -> None:
         """Writes a pair as an object."""
-        first = it.secrets[0]
-        printer.object("pair", number=it.number, slot=first.slot, at=first.text(), bytes=[secret.bytes.hex() for secret in it.secrets],
-                       channels=it.channels)
+        first = pair.secrets[0]
+        printer.object("pair", number=pair.number, slot=first.slot, at=first.text(), bytes=[secret.bytes.hex() for secret in pair.secrets],
+                       channels=pair.channels)
 
     tried = compare_drawn(leak, pair_object if printer.as_json else lambda it: None)
     for text in (leak.cut, tried.cut):
@@ -61,7 +61,7 @@ def finish(leak: Leak, printer: Printer, tried: TriedPairs, findings: ReportedCa
     verdicts, differing = tried.verdicts, tried.differing
     for pair in tried.pairs:
         findings.add("pair %d" % pair.number, text_of_pair(pair) if pair.number in differing else "")
-    channels = sorted({channel for it in differing.values() for channel in it.channels}, key=CHANNELS.index)
+    channels = sorted({channel for comparison in differing.values() for channel in comparison.channels}, key=CHANNELS.index)
     is_equal = bool(tried.pairs) and not (differing or verdicts or tried.cut or tried.is_interrupted)
     for_all = is_equal and is_for_all(leak)
     if printer.as_json:
@@ -103,14 +103,14 @@ def print_result(leak: Leak, printer: Printer, tried: TriedPairs, differing: Map
             lines.append("no difference in %s: %s" % (which, ", ".join(leak.channels)))
         line("\n".join(lines))
         return
-    same = [number for number, it in differing.items() if "answer" not in it.channels]
+    same = [number for number, pair in differing.items() if "answer" not in pair.channels]
     number = min(same or differing)
     pair = differing[number]
     is_picked = bool(same) and (min(differing) != number or bool(verdicts))
     line("pair %d of %d, the first that differs%s" % (number, len(tried.pairs), " with the same answer" if is_picked else ""))
     pair_text(leak, printer, tried.again(pair))
     numbers = ", ".join(map(str, sorted(differing)[:MAX_NUMBERS])) + (", ..." if len(differing) > MAX_NUMBERS else "")
-    channels = sorted({channel for it in differing.values() for channel in it.channels}, key=CHANNELS.index)
+    channels = sorted({channel for comparison in differing.values() for channel in comparison.channels}, key=CHANNELS.index)
     line("%d of %s differ, in %s: %s" % (len(differing), counted(len(tried.pairs), "pair"), ", ".join(channels), numbers))
     if same and len(same) < len(differing):
         line("%d of them differ in the answer too, and may show no more than that" % (len(differing) - len(same)))
@@ -126,13 +126,13 @@ def place_text(pc: int, symbols: Symbols) -> str:
 def values_of(leak: Leak, difference: Difference, observations: Sequence[Observation]) -> list[str]:
     """Returns the two values of a difference in words."""
     if difference.channel == "pc":
-        return [it.run.reply(step)[len("ran 1 "):] for it, step in zip(observations, difference.steps)]
+        return [observation.run.reply(step)[len("ran 1 "):] for observation, step in zip(observations, difference.steps)]
     if difference.channel == "address":
         return ["%s %08x  %s" % (kind, at, leak.symbols.name(at) or "") for kind, at in difference.values]
     if difference.channel == "window":
         return ["%08x is %s  %s" % (at, value.hex(), leak.symbols.name(at) or "") for at, value in difference.values]
     if difference.channel == "answer" and isinstance(difference.values[0], tuple):
-        return [" ".join([end, *("a%d=%08x" % it for it in enumerate(registers))]) for end, *registers in difference.values]
+        return [" ".join([end, *("a%d=%08x" % register for register in enumerate(registers))]) for end, *registers in difference.values]
     return list(difference.values)
 
 
@@ -142,11 +142,11 @@ def pair_text(leak: Leak, printer: Printer, pair: ComparedPair) -> None:
     last, activations = observations[0].last, observations[0].activations
     printer.line("%s, from step %d, with %s and with %s at %s  %s" % (
         activations[0].world, first.step, first.bytes.hex(), second.bytes.hex(), first.text(), leak.symbols.name(first.at) or ""))
-    found = comparison.all()
+    differences = comparison.all()
     equal = {**EQUAL, "steps": "%d" % (last - first.step), "answer": "the same at " + counted(len(activations), "exit"),
              "window": "the same at every exit"}
     for channel in leak.channels:
-        entries = [it for it in found if it.channel == channel]
+        entries = [entry for entry in differences if entry.channel == channel]
         if not entries:
             printer.line("  %-7s equal: %s" % (channel, equal[channel]))
         for entry in entries:
@@ -176,11 +176,12 @@ def pair_objects(leak: Leak, printer: Printer, pair: ComparedPair) -> None:
     """Writes the comparison of one pair as objects."""
     secrets, observations, comparison, first, symbols = pair.secrets, pair.observations, pair.comparison, pair.secrets[0], leak.symbols
     run_object(printer, leak.run, symbols)
-    printer.object("secret", slot=first.slot, at=first.text(), step=first.step, bytes=[it.bytes.hex() for it in secrets])
-    for it in comparison.all():
-        values = list(it.values) if it.channel == "steps" else [value.rstrip() for value in values_of(leak, it, observations)]
-        printer.object("difference", channel=it.channel, step=list(it.steps), values=values, pc=hex8(it.pc), count=it.count,
-                       symbol=it.pc and symbols.name(it.pc), source=it.pc and symbols.source(it.pc))
-    printer.object("leak", channels=comparison.channels(), steps=[it.last - first.step for it in observations],
-                   exits=[len(it.activations) for it in observations], compared=leak.channels, pairs=1,
+    printer.object("secret", slot=first.slot, at=first.text(), step=first.step, bytes=[secret.bytes.hex() for secret in secrets])
+    for difference in comparison.all():
+        values = list(difference.values) if difference.channel == "steps" else [value.rstrip() for value in values_of(leak, difference, observations)]
+        pc = difference.pc
+        printer.object("difference", channel=difference.channel, step=list(difference.steps), values=values, pc=hex8(pc), count=difference.count,
+                       symbol=pc and symbols.name(pc), source=pc and symbols.source(pc))
+    printer.object("leak", channels=comparison.channels(), steps=[observation.last - first.step for observation in observations],
+                   exits=[len(observation.activations) for observation in observations], compared=leak.channels, pairs=1,
                    for_all=not comparison.channels() and is_for_all(leak))

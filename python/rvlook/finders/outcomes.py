@@ -35,14 +35,14 @@ class Bytes(NamedTuple):
 class Register(NamedTuple):
     """A register of a hart."""
     name: str  # as the user wrote it
-    hart: int  # its number
-    number: int  # of the register, 0 to 31
+    hart: int  # the number of the hart
+    number: int  # the number of the register, 0 to 31
 
 
 class Slot(NamedTuple):
     """The state of the enclave in a slot."""
     name: str  # as the user wrote it
-    slot: int  # its number
+    slot: int  # the number of the slot
 
 
 class EnclaveStates(NamedTuple):
@@ -56,7 +56,7 @@ Value = Union[bytes, int, str, Tuple[Tuple[int, str], ...]]  # of one of those, 
 
 class Watched(NamedTuple):
     """The parts of an outcome that the steps of a hart can change."""
-    addresses: frozenset[int] = frozenset()  # of bytes
+    addresses: frozenset[int] = frozenset()  # the addresses of bytes
     registers: frozenset[tuple[int, int]] = frozenset()  # hart and number of each register
 
     def may_change(self, hart: int, look: Look) -> bool:
@@ -71,8 +71,8 @@ class Watched(NamedTuple):
 
 def watched_of(outcome: Iterable[Observed]) -> Watched:
     """Returns the bytes and registers of an outcome."""
-    return Watched(frozenset(at for it in outcome if isinstance(it, Bytes) for at in range(it.at, it.at + it.count)),
-                   frozenset((it.hart, it.number) for it in outcome if isinstance(it, Register)))
+    return Watched(frozenset(at for item in outcome if isinstance(item, Bytes) for at in range(item.at, item.at + item.count)),
+                   frozenset((item.hart, item.number) for item in outcome if isinstance(item, Register)))
 
 
 class Forbidden(NamedTuple):
@@ -96,7 +96,7 @@ def value_in(observed: Observed, machine: RaceMachine, state: CachedState) -> Va
         return bytes(machine.bytes_at(machine.memories[state.memory], observed.at, observed.count) or ())
     if isinstance(observed, Register):
         return machine.harts[state.harts[observed.hart]][2][observed.number]
-    states = {it.slot: it.state for it in map(enclave_of, machine.tables[state.table][0])}
+    states = {enclave.slot: enclave.state for enclave in map(enclave_of, machine.tables[state.table][0])}
     return states.get(observed.slot, "none") if isinstance(observed, Slot) else tuple(sorted(states.items()))
 
 
@@ -108,7 +108,7 @@ def number_of(value: Value) -> Any:
 def value_text(value: Value) -> str:
     """Returns a value as text: a small number in decimal, a larger one in hexadecimal digits."""
     if isinstance(value, tuple):
-        return " ".join("e%d %s" % it for it in value) or "none"
+        return " ".join("e%d %s" % item for item in value) or "none"
     if isinstance(value, str):
         return value
     size = len(value) if isinstance(value, bytes) else WORD_BYTES
@@ -128,13 +128,13 @@ def outcome_of(text: str, symbols: Symbols, harts: int, members: Sequence[Member
         return Slot(text, int(text[1:]))
     if dot and hart in map(str, range(harts)) and register in names.NUMBER_OF:
         return Register(text, int(hart), names.NUMBER_OF[register])
-    member = next((it for it in members if dot and it.name == text), None)
+    member = next((member for member in members if dot and member.name == text), None)
     if member:
         return Bytes(text, member.at, member.size)
     name, _, count = text.partition(":")
     at, symbol = symbols.address(name), symbols.by_name.get(name)
     if at is None:
-        near = nearest(text, [it.name for it in members if it.name.startswith(hart + ".")]) if dot else None
+        near = nearest(text, [member.name for member in members if member.name.startswith(hart + ".")]) if dot else None
         raise RvlookError("invalid --outcome: %s (expected PLACE[:BYTES], VARIABLE.MEMBER, HART.REGISTER, enclaves, or e0 to e12)"
                           % ("no member '%s'; did you mean '%s'?" % (text, near) if near else no_symbol(name, symbols)))
     if count and not re.fullmatch("[0-9]{1,8}", count):
@@ -151,7 +151,7 @@ def condition_of(text: str, symbols: Symbols) -> Forbidden:
     parts = [match for match in map(CONDITION.match, texts) if match]
     if len(parts) < len(texts):
         raise RvlookError("invalid --forbid '%s' (expected NAME OPERATOR VALUE, joined by 'and', or one of %s)" % (text, ", ".join(HOW)))
-    return Forbidden(text, tuple((it[1], it[2], compared_with(it[1], it[3], symbols)) for it in parts))
+    return Forbidden(text, tuple((part[1], part[2], compared_with(part[1], part[3], symbols)) for part in parts))
 
 
 def compared_with(name: str, value: str, symbols: Symbols) -> int | str:
@@ -169,17 +169,17 @@ def compared_with(name: str, value: str, symbols: Symbols) -> int | str:
 
 def outcomes_of(texts: Iterable[str] | None, conditions: Sequence[Forbidden], run: Run, path: str | None) -> list[Observed]:
     """Returns the values that distinguish final states, with those of --forbid; none for all shared memory. `path` is that of --symbols."""
-    named = list(texts or ()) + [part[0] for it in conditions for part in it.parts]
-    members = variables_of(path, run.setup.image).fixed if any("." in it for it in named) else ()
-    return [outcome_of(it, run.setup.symbols, run.setup.harts, members) for it in dict.fromkeys(named)]
+    named = list(texts or ()) + [part[0] for condition in conditions for part in condition.parts]
+    members = variables_of(path, run.setup.image).fixed if any("." in name for name in named) else ()
+    return [outcome_of(name, run.setup.symbols, run.setup.harts, members) for name in dict.fromkeys(named)]
 
 
 def ranges_of(addresses: Iterable[int], symbols: Symbols) -> list[Bytes]:
     """Returns addresses as ranges within one symbol each."""
-    found: list[Bytes] = []
+    ranges: list[Bytes] = []
     for at in sorted(addresses):
-        if found and found[-1].at + found[-1].count == at and symbols.function(at) == symbols.function(found[-1].at):
-            found[-1] = found[-1]._replace(count=found[-1].count + 1)
+        if ranges and ranges[-1].at + ranges[-1].count == at and symbols.function(at) == symbols.function(ranges[-1].at):
+            ranges[-1] = ranges[-1]._replace(count=ranges[-1].count + 1)
         else:
-            found.append(Bytes(symbols.name(at) or "%08x" % at, at, 1))
-    return found
+            ranges.append(Bytes(symbols.name(at) or "%08x" % at, at, 1))
+    return ranges

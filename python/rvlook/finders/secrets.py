@@ -19,7 +19,7 @@ from rvlook.protocol.symbols import Symbols
 
 REGISTER_AT = re.compile(r"(\w+)@(.+)\Z")
 COUNT = re.compile(r"[0-9]{1,8}\Z")  # a number of bytes
-CORNER_BYTES = (b"\0", b"\xff", b"\x7f", b"\x80", b"\x01", b"\x55", b"\xaa")  # of each byte
+CORNER_BYTES = (b"\0", b"\xff", b"\x7f", b"\x80", b"\x01", b"\x55", b"\xaa")  # the special values that each byte of a secret gets
 WORD = 4
 IN_IMAGE = "image:"  # begins the place of a secret that is written at reset
 NEAR_INTERVAL = 3  # each pair with a number divisible by this has values that agree in a prefix
@@ -29,12 +29,12 @@ LEAST = 4  # the fewest bytes of a reported copy, unless the whole secret is sho
 
 class Secret(NamedTuple):
     """Bytes that are poked into memory after a step, or written to a register."""
-    slot: int  # of the enclave
+    slot: int  # the slot of the enclave
     at: int  # the address; 0 for a register
     step: int  # the number of the step after which they are written
     bytes: Bytes  # the value; little-endian in a register
-    register: int = 0  # its number; 0 for memory
-    hart: int = 0  # of the register
+    register: int = 0  # the number of the register; 0 for memory
+    hart: int = 0  # the hart of the register
 
     def lines(self) -> list[str]:
         """Returns the commands that set the secret."""
@@ -62,7 +62,7 @@ class Secret(NamedTuple):
 
 def created(run: Run, slot: int) -> Event:
     """Returns the event at which the enclave of a slot is created. Raises Unfinished if the run creates no enclave in the slot."""
-    event = next((it for it in events(run) if not isinstance(it, End) and it.cause == "create" and it.slot == slot), None)
+    event = next((event for event in events(run) if not isinstance(event, End) and event.cause == "create" and event.slot == slot), None)
     if event is None:
         raise Unfinished("no enclave is created in slot %d" % slot)
     return event
@@ -97,7 +97,7 @@ def secret_of(text: str, symbols: Symbols, run: Run, slot: int, size: int | None
             raise RvlookError("the bytes at %08x are outside the RAM" % at)
         return Secret(0, at, run.length, bytes(count))
     event = created(run, slot)
-    enclave = next(it for it in event.enclaves if it.slot == slot)
+    enclave = next(enclave for enclave in event.enclaves if enclave.slot == slot)
     if not enclave.base <= at <= at + count <= enclave.base + enclave.size:
         raise RvlookError("the bytes at %08x are outside the region of e%d" % (at, slot))
     return Secret(slot, at, event.step, bytes(count))
@@ -108,7 +108,7 @@ def register_secret(match: re.Match[str], symbols: Symbols, run: Run, slot: int)
     pc, _ = place_and_size(match[2], symbols)
     with closing(Activations(run).all()) as activations:
         for activation in activations:
-            steps = (step for step, it in zip(activation.steps, activation.pcs) if it & -4 == pc and activation.slot == slot)
+            steps = (step for step, step_pc in zip(activation.steps, activation.pcs) if step_pc & -4 == pc and activation.slot == slot)
             first = next(steps, None)
             if first is not None:
                 return Secret(slot, 0, first - 1, bytes(WORD), names.NUMBER_OF[match[1]], activation.hart)
@@ -116,10 +116,10 @@ def register_secret(match: re.Match[str], symbols: Symbols, run: Run, slot: int)
 
 
 class Pair(NamedTuple):
-    """Two secrets to compare."""
-    number: int  # from 1
+    """Two secrets whose runs are compared."""
+    number: int  # the number of the pair, from 1
     one: Optional[Bytes]  # None: the secret of the program itself
-    two: Bytes  # a drawn secret
+    two: Bytes  # a secret that was drawn
 
 
 def drawn_pairs(own: bytes, guesses: Sequence[bytes], seed: int, first: int, last: int) -> list[Pair]:
@@ -134,7 +134,7 @@ def drawn_pairs(own: bytes, guesses: Sequence[bytes], seed: int, first: int, las
             pairs.append(Pair(number, *near_pair(near, turn, rng)))
         else:
             value = next(values)
-            pairs.append(Pair(number, one=None, two=value if value != own else bytes(it ^ 0xA5 for it in own)))
+            pairs.append(Pair(number, one=None, two=value if value != own else bytes(byte ^ 0xA5 for byte in own)))
     return pairs[max(0, first - 1):]
 
 
@@ -151,7 +151,7 @@ def near_pair(value: bytes, turn: int, rng: random.Random) -> tuple[bytes, bytes
 def drawn(size: int, seed: int, count: int) -> list[bytes]:
     """Returns the first values of an endless list: corner values, then single bits and random values in turn."""
     rng = random.Random(seed)
-    values = [it * size for it in CORNER_BYTES] + [bytes([1]) + bytes(size - 1), bytes(size - 1) + b"\x80"]
+    values = [corner * size for corner in CORNER_BYTES] + [bytes([1]) + bytes(size - 1), bytes(size - 1) + b"\x80"]
     bits = [1 << n for n in range(8 * size)]
     rng.shuffle(bits)
     for number in range(count - len(values)):
@@ -164,14 +164,14 @@ class Copy(NamedTuple):
     """Bytes that equal a part of the secret."""
     at: int  # index of the first byte in the data
     size: int  # number of bytes
-    offset: int  # of the part in the secret
+    offset: int  # the offset of the part in the secret
 
 
 def copies_in(data: bytes, secret: bytes) -> list[Copy]:
     """Returns the copies of parts of the secret in data, by index, without parts of equal bytes and parts that a longer copy covers."""
     least = min(LEAST, len(secret))
-    found: list[Copy] = []
-    ends: dict[int, int] = {}  # of the last copy at each distance between the bytes and the secret
+    copies: list[Copy] = []
+    ends: dict[int, int] = {}  # the ends of the last copy at each distance between the bytes and the secret
     for offset in range(len(secret) - least + 1):
         part = secret[offset:offset + least]
         at = data.find(part) if len(set(part)) > 1 else -1
@@ -179,25 +179,25 @@ def copies_in(data: bytes, secret: bytes) -> list[Copy]:
             if ends.get(at - offset, -1) < at + least:  # not in the last copy with this distance
                 copy = extended(data, secret, at, offset, least)
                 ends[at - offset] = copy.at + copy.size
-                found.append(copy)
+                copies.append(copy)
             at = data.find(part, at + 1)
-    return not_covered(found)
+    return not_covered(copies)
 
 
 def short_copies_in(data: bytes, other: bytes, secret: bytes) -> list[Copy]:
     """Returns the copies that `copies_in` leaves out, because they are short or have equal bytes. Their complements are in `other`, the same bytes
     of a run with the complement of the secret."""
     least = min(LEAST, len(secret))
-    found = []
+    copies = []
     for at, (value, theirs) in enumerate(zip(data, other)):
         offset = secret.find(bytes([value])) if value ^ theirs == 0xFF else -1
         while offset >= 0:
             size = 1
             while data[at + size:at + size + 1] == secret[offset + size:offset + size + 1] != b"" and data[at + size] ^ other[at + size] == 0xFF:
                 size += 1
-            found.append(Copy(at, size, offset))
+            copies.append(Copy(at, size, offset))
             offset = secret.find(bytes([value]), offset + 1)
-    return [it for it in not_covered(found) if it.size < least or len(set(data[it.at:it.at + it.size])) == 1]
+    return [area for area in not_covered(copies) if area.size < least or len(set(data[area.at:area.at + area.size])) == 1]
 
 
 def extended(data: bytes, secret: bytes, at: int, offset: int, size: int) -> Copy:

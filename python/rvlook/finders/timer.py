@@ -20,7 +20,7 @@ from rvlook.protocol.run import End, Run
 from rvlook.protocol.stretch import Stretch
 from rvlook.protocol.timeline import Timeline
 
-MAX_STEPS_PER_EXCHANGE = 200  # of the enclave in one exchange
+MAX_STEPS_PER_EXCHANGE = 200  # the most steps of the enclave in one exchange
 MAX_HOST_STEPS = 1000000  # steps in which the host must enter the enclave
 TIMER = names.TIMER.encode()
 READ_ANSWER = ["reg 10", "reg 11"]
@@ -29,15 +29,15 @@ ENDED_STATES = ("Exited", "Stopped")  # states after which steps of the host are
 
 class TimerOptions(NamedTuple):
     """The options of `timer`."""
-    slot: int = 0  # of the enclave
+    slot: int = 0  # the slot of the enclave
     every: int = 1  # an interrupt comes before every so many steps
     jobs: int = 1  # number of processes
 
 
 class EnclaveStep(NamedTuple):
-    """A step of the enclave."""
+    """A step of the enclave in the run without interrupts."""
     pc: bytes  # 8 hexadecimal digits
-    reply: bytes  # of the bench to the step
+    reply: bytes  # the reply of the bench to the step
     is_entered: bool  # whether the host ran before it
     answer: tuple[bytes, ...] = ()  # a0 and a1 of the host, as replies, if the enclave leaves; else empty
 
@@ -45,13 +45,13 @@ class EnclaveStep(NamedTuple):
 class ComparisonEnd(NamedTuple):
     """The end of the comparison in the run without interrupts."""
     step: int  # the last step of the enclave, or of the run if the enclave does not end
-    enclave: Enclave  # its entry in the enclave table
+    enclave: Enclave  # the entry of the enclave in the enclave table
     is_cut: bool = False  # whether the enclave was running when --steps ended the run
 
 
 class TimerDifference(NamedTuple):
     """A step of the enclave with another result, or another final state."""
-    number: int  # of the step, from 1
+    number: int  # the number of the step, from 1
     pc: Optional[str]  # hexadecimal digits; None for the final state
     expected: str  # the reply without interrupts
     actual: str  # the reply with interrupts
@@ -60,8 +60,8 @@ class TimerDifference(NamedTuple):
 @dataclass
 class InterruptedRun:
     """The result of the run with interrupts, or of a part of it."""
-    steps: int = 0  # of the enclave
-    interrupts: int = 0  # that were taken
+    steps: int = 0  # the steps of the enclave
+    interrupts: int = 0  # the interrupts that were taken
     difference: Optional[TimerDifference] = None  # the first one; None if the results are equal
     not_resumed: Optional[TimerDifference] = None  # the step before which the host did not enter the enclave
     finish: Sequence[str] = ()  # the final state; only the last part has it
@@ -74,17 +74,17 @@ class InterruptedRun:
 
 def comparison_end(run: Run, slot: int) -> ComparisonEnd:
     """Returns the last step of the enclave after the script. Raises Unfinished if no enclave is in the slot."""
-    found, end = None, None
+    last_end, end = None, None
     for event in events(run):
         if isinstance(event, End):
             end = event
-        elif event.slot == slot and not (found and found.enclave.state == "Exited"):
-            enclave = next((it for it in event.enclaves if it.slot == slot), None)
-            found = ComparisonEnd(event.step, enclave) if enclave else found
-    if found is None:
+        elif event.slot == slot and not (last_end and last_end.enclave.state == "Exited"):
+            enclave = next((enclave for enclave in event.enclaves if enclave.slot == slot), None)
+            last_end = ComparisonEnd(event.step, enclave) if enclave else last_end
+    if last_end is None:
         raise Unfinished("no enclave in slot %d" % slot)
     assert end is not None
-    return found if found.enclave.state in ENDED_STATES else ComparisonEnd(end.steps, found.enclave, end.why == "limit")
+    return last_end if last_end.enclave.state in ENDED_STATES else ComparisonEnd(end.steps, last_end.enclave, end.why == "limit")
 
 
 def enclave_steps(run: Run, slot: int, last: ComparisonEnd, reader: Timeline) -> Iterator[EnclaveStep]:
@@ -108,7 +108,7 @@ def commands_for(pc: bytes, is_entered: bool, is_stopped: bool, is_left: bool) -
     after each stop. The last command does the step, or reads the result after it."""
     enter = [b"break %s\n" % pc, b"run %d\n" % MAX_HOST_STEPS, b"clear %s\n" % pc]
     commands = [*(enter if is_entered else []), *([b"timer on\n", b"step 1\n", *enter] if is_stopped else []), b"step 1\n"]
-    commands += [b"%s\n" % it.encode() for it in READ_ANSWER if is_left]
+    commands += [b"%s\n" % command.encode() for command in READ_ANSWER if is_left]
     return b"".join(commands), len(commands)
 
 
@@ -126,9 +126,9 @@ def interrupted(replay: Timeline, steps: Iterator[tuple[int, EnclaveStep]], ever
 
 class TimerParts(NamedTuple):
     """The run with interrupts, in `jobs` parts of equal length, one for each process, which first repeats the earlier parts uncompared."""
-    run: Run  # without interrupts
+    run: Run  # the run without interrupts
     options: TimerOptions  # slot, distance of interrupts, and jobs
-    last: ComparisonEnd  # where the comparison ends
+    last: ComparisonEnd  # the end of the comparison
     progress: Progress  # shows the finished parts
 
     @property
@@ -176,7 +176,7 @@ def batches_of(steps: Iterator[tuple[int, EnclaveStep]]) -> Iterator[list[tuple[
 
 def commands_of(batch: Sequence[tuple[int, EnclaveStep]], every: int) -> list[tuple[bytes, int]]:
     """Returns the commands for each of some steps, and their number."""
-    return [commands_for(it.pc, it.is_entered, number % every == 0, bool(it.answer)) for number, it in batch]
+    return [commands_for(step.pc, step.is_entered, number % every == 0, bool(step.answer)) for number, step in batch]
 
 
 def replies_to(replay: Timeline, commands: Sequence[tuple[bytes, int]]) -> list[bytes]:
@@ -232,7 +232,7 @@ def finish_of(bench: Bench, enclave: Enclave) -> list[str]:
     """Reads the final state: a0 and a1 of the host, the region and the window."""
     values = register_values(bench.ask("regs")[0])
     ranges = [(enclave.base, enclave.size), (enclave.window, enclave.window_size)]
-    reads = [it for base, size in ranges for it in memory_commands(base, size)]
+    reads = [command for base, size in ranges for command in memory_commands(base, size)]
     return ["a0=%08x" % values[10], "a1=%08x" % values[11]] + [reply[0] for reply in bench.ask(*reads)]
 
 
@@ -266,12 +266,12 @@ def show_timer(run: Run, printer: Printer, options: TimerOptions, findings: Repo
 
 def timer_object(run: Run, printer: Printer, options: TimerOptions, outcome: InterruptedRun) -> None:
     """Writes the result as objects."""
-    it, symbols = outcome.difference or outcome.not_resumed, run.setup.symbols
+    difference, symbols = outcome.difference or outcome.not_resumed, run.setup.symbols
     run_object(printer, run, symbols)
-    difference = None if it is None else {"step": it.number, "pc": it.pc, "expected": it.expected, "actual": it.actual,
-                                          "source": symbols.source(int(it.pc, 16)) if it.pc else None}
+    members = difference and {"step": difference.number, "pc": difference.pc, "expected": difference.expected, "actual": difference.actual,
+                              "source": symbols.source(int(difference.pc, 16)) if difference.pc else None}
     printer.object("timer", slot=options.slot, every=options.every, interrupts=outcome.interrupts, steps=outcome.steps,
-                   same=None if outcome.not_resumed else it is None, difference=difference)
+                   same=None if outcome.not_resumed else difference is None, difference=members)
 
 
 def timer_text(run: Run, printer: Printer, options: TimerOptions, outcome: InterruptedRun) -> None:

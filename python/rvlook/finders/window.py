@@ -28,7 +28,7 @@ class MarkedBytes(NamedTuple):
     pcs: tuple[int, ...]  # the instructions; for `remains` the instruction and the number of its activation
     is_secret: Optional[bool] = None  # whether they change with the secret; None if this is not compared
     is_public: bool = False  # whether --public names the bytes or the instruction
-    world: str = ""  # that stored the bytes which the enclave receives
+    world: str = ""  # the world that stored the bytes which the enclave receives
 
     @property
     def is_finding(self) -> bool:
@@ -38,7 +38,7 @@ class MarkedBytes(NamedTuple):
 
 class SecretCopy(NamedTuple):
     """A copy of a part of the secret in the window."""
-    copy: Copy  # its offsets in the window and in the secret
+    copy: Copy  # the offsets of the copy in the window and in the secret
     is_secret: bool  # whether it changes with the secret
     is_public: bool  # whether --public names it
 
@@ -49,9 +49,9 @@ class SecretCopy(NamedTuple):
 
 
 class ActivationView(NamedTuple):
-    """The findings of one activation."""
+    """The findings about the window in one activation."""
     found: list[MarkedBytes]  # ranges of the window
-    copies: list[SecretCopy]  # of parts of the secret
+    copies: list[SecretCopy]  # the copies of parts of the secret
 
 
 class WindowContext(NamedTuple):
@@ -73,13 +73,13 @@ class Byte:
 
 def bytes_of(activation: Activation) -> dict[int, Byte]:
     """Returns what the activation did with each byte of its window, by offset."""
-    found: dict[int, Byte] = defaultdict(Byte)
+    bytes_by_offset: dict[int, Byte] = defaultdict(Byte)
     base, end = activation.enclave.window, activation.enclave.window + activation.enclave.window_size
     repeated: set[tuple[int, int]] = set()  # loads that change nothing, by instruction and address
     for _, pc, kind, address, width, values, done in activation.operations:
         if not done or address >= end or address + width <= base or (pc, address) in repeated or kind not in "rw":
             continue
-        accessed = [found[at - base] for at in range(address, address + width)]
+        accessed = [bytes_by_offset[at - base] for at in range(address, address + width)]
         if kind == "w":
             for byte, value in zip(accessed, values):
                 byte.stored_at = pc
@@ -88,7 +88,7 @@ def bytes_of(activation: Activation) -> dict[int, Byte]:
             repeated.clear()
         else:
             repeated.add((pc, address))
-    return found
+    return bytes_by_offset
 
 
 def note_load(byte: Byte, pc: int) -> bool:
@@ -105,59 +105,59 @@ def note_load(byte: Byte, pc: int) -> bool:
 
 def ranges(kind: str, marks: Mapping[int, Marks]) -> list[MarkedBytes]:
     """Joins adjacent bytes with equal marks. `marks` has the marks by offset."""
-    found: list[MarkedBytes] = []
+    ranges: list[MarkedBytes] = []
     for at in sorted(marks):
-        last = found[-1] if found else None
+        last = ranges[-1] if ranges else None
         if last and last.first + last.size == at and last[3:6] == marks[at]:
-            found[-1] = last._replace(size=last.size + 1)
+            ranges[-1] = last._replace(size=last.size + 1)
         else:
-            found.append(MarkedBytes(kind, at, 1, *marks[at]))
-    return found
+            ranges.append(MarkedBytes(kind, at, 1, *marks[at]))
+    return ranges
 
 
 class LeftByte(NamedTuple):
     """A byte that an activation left in the window."""
-    value: int  # of the byte
+    value: int  # the value of the byte
     pc: int  # the instruction that stored it
-    activation: int  # its number
+    activation: int  # the number of the activation
 
 
 class Leftovers:
     """The data that the activations of each enclave left in its window."""
 
     def __init__(self) -> None:
-        self.kept: dict[str, dict[int, LeftByte]] = defaultdict(dict)  # by world and by offset
+        self.kept: dict[str, dict[int, LeftByte]] = defaultdict(dict)  # the bytes that were left, by world and by offset
         self.stored: dict[int, tuple[int, int, str]] = {}  # the value, the instruction and the world that stored each byte of any window last
 
-    def received(self, activation: Activation, found: Mapping[int, Byte]) -> dict[int, tuple[int, str]]:
+    def received(self, activation: Activation, window_bytes: Mapping[int, Byte]) -> dict[int, tuple[int, str]]:
         """Returns the loaded bytes that another enclave stored, with instruction and world of the store. Then notes the activation's stores."""
         base, marks = activation.enclave.window, {}
-        for at, byte in found.items():
+        for at, byte in window_bytes.items():
             value, pc, world = self.stored.get(base + at, (0, 0, activation.world))
             if byte.input_at is not None and world != activation.world and activation.before[at] == value:
                 marks[at] = pc, world
-        for at, byte in found.items():
+        for at, byte in window_bytes.items():
             if byte.stored_at is not None:
                 self.stored[base + at] = byte.values[-1], byte.stored_at, activation.world
         return marks
 
-    def take(self, activation: Activation, found: Mapping[int, Byte]) -> dict[int, LeftByte]:
+    def take(self, activation: Activation, window_bytes: Mapping[int, Byte]) -> dict[int, LeftByte]:
         """Updates the data after an activation; returns the bytes that remain from an earlier activation."""
         kept, after = self.kept[activation.world], activation.after
-        for at in [it for it in kept if it >= len(activation.before) or activation.before[it] != kept[it].value]:
+        for at in [offset for offset in kept if offset >= len(activation.before) or activation.before[offset] != kept[offset].value]:
             del kept[at]  # the host has written there
-        remaining = {at: it for at, it in kept.items() if at < len(after) and after[at] == it.value and it.activation != activation.number}
-        for at, byte in found.items():
+        remaining = {at: byte for at, byte in kept.items() if at < len(after) and after[at] == byte.value and byte.activation != activation.number}
+        for at, byte in window_bytes.items():
             if byte.stored_at is not None:
                 kept[at] = LeftByte(byte.values[-1], byte.stored_at, activation.number)
                 remaining.pop(at, None)
         return remaining
 
 
-def reread(found: Mapping[int, Byte], symbols: Symbols) -> Iterator[MarkedBytes]:
+def reread(window_bytes: Mapping[int, Byte], symbols: Symbols) -> Iterator[MarkedBytes]:
     """Yields the bytes that were loaded again, as ranges that the same two source lines load, or the same two instructions."""
     groups: dict[tuple[object, object], dict[int, tuple[int, int]]] = defaultdict(dict)
-    for at, byte in found.items():
+    for at, byte in window_bytes.items():
         for first, second in byte.repeated_loads:
             groups[symbols.source(first) or first, symbols.source(second) or second].setdefault(at, (first, second))
     for pairs in groups.values():
@@ -170,22 +170,21 @@ def reread(found: Mapping[int, Byte], symbols: Symbols) -> Iterator[MarkedBytes]
 def view_of(activation: Activation, leftovers: Leftovers, other: Activation | None, secret: Secret | None, context: WindowContext) -> ActivationView:
     """Returns all findings of an activation. `other` is the corresponding activation of a run with another secret, or None."""
     public = context.public
-    found, base = bytes_of(activation), activation.enclave.window
+    window_bytes, base = bytes_of(activation), activation.enclave.window
     theirs = bytes_of(other) if other else {}
-    kept = leftovers.take(activation, found)
-    received = leftovers.received(activation, found)
+    kept = leftovers.take(activation, window_bytes)
+    received = leftovers.received(activation, window_bytes)
     writes: dict[int, Marks] = {}
-    for at, byte in found.items():
+    for at, byte in window_bytes.items():
         if byte.stored_at is not None:
             is_secret = None if other is None else theirs.get(at, Byte()).values != byte.values
             writes[at] = (byte.stored_at,), is_secret, bool(is_secret) and (public.has(base + at) or public.has(byte.stored_at))
-    found_ranges = [*ranges("reads", {at: ((it.input_at,), None, False) for at, it in found.items() if it.input_at is not None}),
-                    *sorted(reread(found, context.symbols), key=lambda it: it.pcs),
-                    *(it._replace(world=world) for world in sorted({it[1] for it in received.values()})
-                      for it in ranges("receives", {at: ((pc,), None, False) for at, (pc, other_world) in received.items() if other_world == world})),
-                    *ranges("writes", writes),
-                    *ranges("remains", {at: ((it.pc, it.activation), None, False) for at, it in kept.items()})]
-    writers = {at: it.pc for at, it in leftovers.kept[activation.world].items()}
+    found_ranges = [*ranges("reads", {at: ((byte.input_at,), None, False) for at, byte in window_bytes.items() if byte.input_at is not None}),
+                    *sorted(reread(window_bytes, context.symbols), key=lambda it: it.pcs),
+                    *(part._replace(world=world) for world in sorted({writer for _, writer in received.values()})
+                      for part in ranges("receives", {at: ((pc,), None, False) for at, (pc, writer) in received.items() if writer == world})),
+                    *ranges("writes", writes), *ranges("remains", {at: ((byte.pc, byte.activation), None, False) for at, byte in kept.items()})]
+    writers = {at: byte.pc for at, byte in leftovers.kept[activation.world].items()}
     return ActivationView(found_ranges, list(copies_of(activation, other, secret, writers, public)) if secret else [])
 
 
@@ -202,7 +201,7 @@ def copies_of(activation: Activation, other: Activation | None, secret: Secret, 
 class WindowOptions(NamedTuple):
     """The options of `window`."""
     at: Optional[str] = None  # the place of the secret; None for no secret
-    slot: Optional[int] = None  # of the enclave; None: all enclaves
+    slot: Optional[int] = None  # the slot of the enclave; None: all enclaves
     public: Sequence[str] = ()  # what may depend on the secret
 
 
@@ -236,6 +235,6 @@ class WindowSearch:
 
 def with_complement(run: Run, secret: Secret) -> Iterator[Activation]:
     """Yields the activations of the run with the complement of the secret."""
-    other = secret.with_bytes(bytes(it ^ 0xFF for it in secret.bytes))
+    other = secret.with_bytes(bytes(byte ^ 0xFF for byte in secret.bytes))
     activations = Activations(run.with_lines(other.step, other.lines()), secret.step).all()
-    return (it for it in activations if it.slot == secret.slot)
+    return (activation for activation in activations if activation.slot == secret.slot)

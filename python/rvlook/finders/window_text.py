@@ -15,7 +15,7 @@ from rvlook.protocol.run import Run
 from rvlook.protocol.symbols import Symbols
 
 WIDTH = 16  # bytes of a row of the dump
-END_TEXT = {"none": "still running"}  # of an activation that has not ended
+END_TEXT = {"none": "still running"}  # the text of an activation that has not ended
 
 
 def show_window(run: Run, variables: Variables, printer: Printer, options: WindowOptions, findings: ReportedCases) -> None:
@@ -36,9 +36,9 @@ def show_window(run: Run, variables: Variables, printer: Printer, options: Windo
 def rows_that_are_findings(activation: Activation, view: ActivationView, context: WindowContext,
                            secret: Secret | None) -> list[tuple[str, int | None]]:
     """Returns the rows of an activation that are findings, each with the first instruction that it names."""
-    rows: list[tuple[str, int | None]] = [(found_text(activation, it, context).strip(), next(iter(it.pcs), None))
-                                          for it in view.found if it.is_finding]
-    return rows + [(copy_text(activation, it, context, secret).strip(), None) for it in view.copies if it.is_finding]
+    rows: list[tuple[str, int | None]] = [(found_text(activation, leftover, context).strip(), next(iter(leftover.pcs), None))
+                                          for leftover in view.found if leftover.is_finding]
+    return rows + [(copy_text(activation, copy, context, secret).strip(), None) for copy in view.copies if copy.is_finding]
 
 
 def between_text(activation: Activation, at: int) -> str:
@@ -54,41 +54,41 @@ def places_text(pcs: Iterable[int], symbols: Symbols) -> str:
     return " and ".join(dict.fromkeys(map(symbols.place, pcs)))
 
 
-def found_text(activation: Activation, found: MarkedBytes, context: WindowContext) -> str:
+def found_text(activation: Activation, marked: MarkedBytes, context: WindowContext) -> str:
     """Returns a range as a line."""
     symbols = context.symbols
-    base = activation.enclave.window + found.first
-    parts = ["  %-11s %08x-%08x %6d" % (found.kind, base, base + found.size - 1, found.size), context.fields.name(base) or ""]
-    if found.kind == "remains":
-        pc, number = found.pcs
+    base = activation.enclave.window + marked.first
+    parts = ["  %-11s %08x-%08x %6d" % (marked.kind, base, base + marked.size - 1, marked.size), context.fields.name(base) or ""]
+    if marked.kind == "remains":
+        pc, number = marked.pcs
         parts.append("%s, in activation %d" % (places_text([pc], symbols), number))
-    elif found.kind == "receives":
-        parts.append("%s of %s" % (places_text(found.pcs, symbols), found.world))
-    elif found.kind == "rereads":
-        parts.append("%s and %s; %s" % (*map(symbols.place, found.pcs), between_text(activation, base)))
+    elif marked.kind == "receives":
+        parts.append("%s of %s" % (places_text(marked.pcs, symbols), marked.world))
+    elif marked.kind == "rereads":
+        parts.append("%s and %s; %s" % (*map(symbols.place, marked.pcs), between_text(activation, base)))
     else:
-        parts.append(places_text(found.pcs, symbols))
-    if found.is_secret is not None:
-        parts.append(secret_text(found))
+        parts.append(places_text(marked.pcs, symbols))
+    if marked.is_secret is not None:
+        parts.append(secret_text(marked))
     return "  ".join(part for part in parts if part)
 
 
-def secret_text(found: MarkedBytes | SecretCopy) -> str:
+def secret_text(marked: MarkedBytes | SecretCopy) -> str:
     """Returns whether bytes of the window depend on the secret."""
-    if not found.is_secret:
+    if not marked.is_secret:
         return "the same with another secret"
-    return "depends on the secret, public" if found.is_public else "depends on the secret"
+    return "depends on the secret, public" if marked.is_public else "depends on the secret"
 
 
-def copy_text(activation: Activation, it: SecretCopy, context: WindowContext, secret: Secret | None) -> str:
+def copy_text(activation: Activation, secret_copy: SecretCopy, context: WindowContext, secret: Secret | None) -> str:
     """Returns a copy of a part of the secret as a line."""
     assert secret is not None
-    copy, base = it.copy, activation.enclave.window + it.copy.at
+    copy, base = secret_copy.copy, activation.enclave.window + secret_copy.copy.at
     offsets = "byte %d" % copy.offset if copy.size == 1 else "bytes %d to %d" % (copy.offset, copy.offset + copy.size - 1)
     is_whole = copy.size == len(secret.bytes)
     part = "all %d bytes of the secret" % copy.size if is_whole else "%s of the %d-byte secret" % (offsets, len(secret.bytes))
-    texts = ["  %-11s %08x-%08x %6d" % ("copy", base, base + copy.size - 1, copy.size), context.fields.name(base) or "", part, secret_text(it)]
-    return "  ".join(text for text in texts if text)
+    range_text = "  %-11s %08x-%08x %6d" % ("copy", base, base + copy.size - 1, copy.size)
+    return "  ".join(text for text in (range_text, context.fields.name(base) or "", part, secret_text(secret_copy)) if text)
 
 
 def rows_of(activation: Activation) -> Iterator[tuple[int, bytes]]:
@@ -101,8 +101,8 @@ def rows_of(activation: Activation) -> Iterator[tuple[int, bytes]]:
 
 def row_text(at: int, row: bytes) -> str:
     """Returns a row of the window as a line of a hex dump."""
-    shown = "".join(chr(it) if 0x20 <= it < 0x7F else "." for it in row)
-    return "  %08x  %s  %s" % (at, " ".join("%02x" % it for it in row), shown)
+    shown = "".join(chr(byte) if 0x20 <= byte < 0x7F else "." for byte in row)
+    return "  %08x  %s  %s" % (at, " ".join("%02x" % byte for byte in row), shown)
 
 
 def heading_of(activation: Activation) -> str:
@@ -123,9 +123,9 @@ def activation_text(printer: Printer, context: WindowContext, activation: Activa
         printer.line("  does not access its window" if activation.enclave.window_size else "  no window")
     for at, row in rows_of(activation):
         printer.line(row_text(at, row))
-    for found in view.copies:
-        text = copy_text(activation, found, context, secret)
-        printer.line(printer.styled(text, Style.bad) if found.is_finding else text)
+    for copy in view.copies:
+        text = copy_text(activation, copy, context, secret)
+        printer.line(printer.styled(text, Style.bad) if copy.is_finding else text)
     printer.line()
 
 
@@ -134,7 +134,7 @@ def activation_objects(printer: Printer, context: WindowContext, activation: Act
     symbols = context.symbols
     printer.object("activation", world=activation.world, hart=activation.hart, activation=activation.number, first=activation.first,
                    last=activation.last, ended_by=activation.ended_by,
-                   answer=[hex8(it) for it in activation.answer], window=hex8(activation.enclave.window), size=activation.enclave.window_size)
+                   answer=[hex8(word) for word in activation.answer], window=hex8(activation.enclave.window), size=activation.enclave.window_size)
     for marked in view.found:
         base, pcs = activation.enclave.window + marked.first, marked.pcs[:1] if marked.kind == "remains" else marked.pcs
         printer.object("window", world=activation.world, activation=activation.number, what=marked.kind, first=hex8(base),
@@ -144,8 +144,8 @@ def activation_objects(printer: Printer, context: WindowContext, activation: Act
                        between=between_text(activation, base) if marked.kind == "rereads" else None)
     for at, row in rows_of(activation):
         printer.object("dump", world=activation.world, activation=activation.number, at=hex8(at), bytes=row.hex())
-    for found in view.copies:
-        copy, base = found.copy, activation.enclave.window
+    for copy_in_window in view.copies:
+        copy, base = copy_in_window.copy, activation.enclave.window
         printer.object("copy", world=activation.world, activation=activation.number, at=hex8(base + copy.at),
                        field=context.fields.known(base + copy.at), size=copy.size,
-                       offset=copy.offset, secret=found.is_secret, public=found.is_public)
+                       offset=copy.offset, secret=copy_in_window.is_secret, public=copy_in_window.is_public)

@@ -16,20 +16,20 @@ SHOWN_RANGES = 4
 class DifferenceKind(Enum):
     """What differs."""
     fault = "fault in M"  # the author's monitor does not return
-    trap = "trap"  # of the step below M
-    mode = "mode"  # after the step
-    pc = "pc"  # after the step
+    trap = "trap"  # the trap of the step below M
+    mode = "mode"  # the mode after the step
+    pc = "pc"  # the pc after the step
     register = "register"  # x1 to x31
     csr = "csr"  # a register of S, or a part of M that affects S
-    entry = "PMP entry"  # as stored, with --exact
-    rights = "access rights"  # that PMP entries give
-    memory = "memory"  # of host and enclaves
+    entry = "PMP entry"  # the stored PMP entry, with --exact
+    rights = "access rights"  # the rights that PMP entries give
+    memory = "memory"  # the memory of host and enclaves
 
 
 class MonitorDifference(NamedTuple):
     """One difference of two monitors."""
     kind: DifferenceKind  # what differs
-    name: str  # such as `x10` or `sepc`
+    name: str  # the name, such as `x10` or `sepc`
     own: str  # the value of the author's monitor
     reference: str  # the value of the reference
     place: int | None = None  # number of a register or PMP entry, or an address; None for others
@@ -40,15 +40,15 @@ def differences(own: SideState, reference: SideState, setup: MonitorSetup) -> li
     is_exact = setup.exact
     if own.fault:
         return [MonitorDifference(DifferenceKind.fault, own.fault, "pc %08x" % own.pc, "pc %08x" % reference.pc, own.pc)]
-    found = []
+    differences = []
     if own.trap != reference.trap:
-        found.append(MonitorDifference(DifferenceKind.trap, "trap of the step", own.trap, reference.trap))
+        differences.append(MonitorDifference(DifferenceKind.trap, "trap of the step", own.trap, reference.trap))
     if own.mode != reference.mode:
-        found.append(MonitorDifference(DifferenceKind.mode, "mode", own.mode, reference.mode))
-    found += below_differences(own.below, reference.below)
-    found += above_differences(own.above, reference.above, is_exact)
-    found += entry_differences(own.entries, reference.entries) if is_exact else rights_differences(own, reference, setup)
-    return found
+        differences.append(MonitorDifference(DifferenceKind.mode, "mode", own.mode, reference.mode))
+    differences += below_differences(own.below, reference.below)
+    differences += above_differences(own.above, reference.above, is_exact)
+    differences += entry_differences(own.entries, reference.entries) if is_exact else rights_differences(own, reference, setup)
+    return differences
 
 
 def below_differences(own: bytes, reference: bytes) -> list[MonitorDifference]:
@@ -56,8 +56,8 @@ def below_differences(own: bytes, reference: bytes) -> list[MonitorDifference]:
     if own == reference:
         return []
     pairs = zip(own.decode().splitlines(), reference.decode().splitlines())
-    found = [below_difference(number, one, other) for number, (one, other) in enumerate(pairs) if one != other]
-    return sorted(found, key=lambda it: it.kind is not DifferenceKind.pc)
+    differences = [below_difference(number, one, other) for number, (one, other) in enumerate(pairs) if one != other]
+    return sorted(differences, key=lambda it: it.kind is not DifferenceKind.pc)
 
 
 def below_difference(number: int, own: str, reference: str) -> MonitorDifference:
@@ -93,8 +93,8 @@ def rights_differences(own: SideState, reference: SideState, setup: MonitorSetup
         others = closed_outside(others, setup.placement.first, setup.placement.end, RAM_BASE + setup.ram)
     if shape(mine) == shape(others):
         return []
-    only, missing = [it for it in mine if shape((it,))[0] not in shape(others)], [it for it in others if shape((it,))[0] not in shape(mine)]
-    entry = next((it.entry for it in only if it.entry is not None), None)  # the first one that decides a range
+    only, missing = [one for one in mine if shape((one,))[0] not in shape(others)], [one for one in others if shape((one,))[0] not in shape(mine)]
+    entry = next((right.entry for right in only if right.entry is not None), None)  # the first one that decides a range
     return [MonitorDifference(DifferenceKind.rights, "access rights of S and U", ranges_text(only), ranges_text(missing), entry)]
 
 
@@ -107,7 +107,7 @@ def memory_difference(own: bytes, reference: bytes) -> list[MonitorDifference]:
     """Returns the first difference of memory, from the replies of `mem`."""
     if own == reference:
         return []
-    one, other = next(it for it in zip(own.decode().splitlines(), reference.decode().splitlines()) if it[0] != it[1])
+    one, other = next(lines for lines in zip(own.decode().splitlines(), reference.decode().splitlines()) if lines[0] != lines[1])
     mine, its = bytes_of(one), bytes_of(other)
     at = next(n for n in range(len(mine)) if mine[n] != its[n])
     address = int(one[:8], 16) + at

@@ -24,9 +24,9 @@ NAMED_KINDS = (DifferenceKind.register, DifferenceKind.csr, DifferenceKind.entry
 @dataclass(frozen=True)
 class Task:
     """A script to run: its items, or the seed of a random script."""
-    name: str  # of the script
+    name: str  # the name of the script
     items: tuple[Item, ...] = ()  # empty for a random script
-    seed: str = ""  # of a random script; else empty
+    seed: str = ""  # the seed of a random script; else empty
     count: int = 0  # items of a random script
     ram: int = 0  # bytes; 0: as in the setup
     is_long: bool = False  # whether memory is compared only at the end, not after each trap
@@ -41,9 +41,9 @@ class ScriptPlan:
     """The scripts to run: those of the table, then random ones."""
     tries: int  # number of random scripts
     count: int  # items of each random script
-    seed: str  # of the random scripts
+    seed: str  # the seed of the random scripts
     only: str = ""  # a part of the names of the scripts to run; empty: all
-    seconds: float | None = None  # at most; None: no limit
+    seconds: float | None = None  # the most seconds; None: no limit
     jobs: int = 1  # number of processes
     is_deep: bool = False  # adds scripts with many calls, and with large blocks in a larger RAM
     has_ram: bool = False  # whether the user gave the size of the RAM, which then stays
@@ -52,9 +52,9 @@ class ScriptPlan:
 @dataclass
 class ConformOutcome:
     """The result of the scripts that were run."""
-    coverage: ScriptCoverage = field(default_factory=ScriptCoverage)  # of the scripts
+    coverage: ScriptCoverage = field(default_factory=ScriptCoverage)  # the coverage of the scripts
     different: PlayedScript | None = None  # the first script with a difference; None if there is none
-    task: Task | None = None  # of that script
+    task: Task | None = None  # the task of that script
     left: int = 0  # scripts that were not run, because of the time limit or Ctrl-C
     is_interrupted: bool = False  # whether Ctrl-C ended the comparison
 
@@ -68,10 +68,10 @@ def tasks_of(plan: ScriptPlan, ram: int, placement: Placement | None = None) -> 
     if plan.is_deep:
         table += [Task(name, tuple(items), is_long=True) for name, items in long_scripts()]
     seeds = ["%s-%d" % (plan.seed, n) for n in range(plan.tries)]
-    drawn = [Task("random script " + it, seed=it, count=plan.count) for it in seeds]
+    drawn = [Task("random script " + seed, seed=seed, count=plan.count) for seed in seeds]
     if placement:
-        table = [replace(it, items=tuple(map(placement.item, it.items))) for it in table]
-    return [it for it in table + drawn if plan.only in it.name]
+        table = [replace(case, items=tuple(map(placement.item, case.items))) for case in table]
+    return [case for case in table + drawn if plan.only in case.name]
 
 
 def perform(setup: MonitorSetup, task: Task) -> PlayedScript:
@@ -87,7 +87,7 @@ def play_random(setup: MonitorSetup, task: Task) -> PlayedScript:
     source = RandomScript(task.seed, placement.ram)
     with BothSides(setup, task.name) as pair:
         while pair.is_alike and len(pair.played.steps) < task.count:
-            table, reference = [placement.enclave_before(it) for it in pair.table], pair.reference
+            table, reference = [placement.enclave_before(enclave) for enclave in pair.table], pair.reference
             for item in source.items(ReferenceState(pair.world, reference.mode, placement.address_before(reference.pc), table)):
                 if not pair.do(placement.item(item)):
                     break
@@ -163,8 +163,8 @@ class Shrinker:
         self.end = time.monotonic() + MAX_SHRINK_SECONDS
         try:
             while not self.is_over:
-                found = self.leave_out(size)
-                if size == 1 and not found:
+                is_shorter = self.leave_out(size)
+                if size == 1 and not is_shorter:
                     break
                 size = max(1, size // 2)
         except KeyboardInterrupt:

@@ -24,7 +24,7 @@ from rvlook.protocol.memory_map import MONITOR_END
 from rvlook.protocol.symbols import Symbols
 
 MAX_DIFFERENCES_SHOWN = 6  # differences
-MAX_ITEMS_SHOWN = 40  # of a script that are shown
+MAX_ITEMS_SHOWN = 40  # the most items of a script that are shown
 MAX_SOURCE_LINES = 4  # source lines before a writer
 MAX_DIFFERENCES_TRACED = 2  # differences whose writers are searched
 CAUSED_BY_A_BRANCH = (DifferenceKind.register, DifferenceKind.pc, DifferenceKind.mode, DifferenceKind.rights)
@@ -40,7 +40,7 @@ class MonitorFiles(NamedTuple):
     boot: Optional[str] = None  # a file of commands before the first step
     lowered: Sequence[str] = ()  # symbols: a store of the monitor to one of them clears the timer line
     exact: bool = False  # whether PMP entries are compared as stored
-    memory: Optional[str] = None  # that of host and enclaves, as FIRST-LAST; by default the RAM from 80010000 on
+    memory: Optional[str] = None  # the memory of host and enclaves, as FIRST-LAST; by default the RAM from 80010000 on
 
     def setup(self) -> tuple[MonitorSetup, Symbols]:
         """Reads the files; returns the monitor and its symbols. Raises RvlookError if a file is invalid."""
@@ -53,8 +53,8 @@ class MonitorFiles(NamedTuple):
         boot: tuple[str, ...] = ("setreg 10 %x" % (placement.host if placement else MONITOR_END), size_line(self.ram))
         if self.boot:
             lines = resolved_script(script_lines(read_file(self.boot), self.boot), symbols)
-            boot = tuple(it.text for it in lines if not it.text.lstrip().startswith("#"))
-        lowered = tuple(address_of(it, symbols) for it in self.lowered)
+            boot = tuple(line.text for line in lines if not line.text.lstrip().startswith("#"))
+        lowered = tuple(address_of(text, symbols) for text in self.lowered)
         return MonitorSetup(image, self.ram, boot, return_addresses(image), lowered, self.exact, placement), symbols
 
 
@@ -69,9 +69,9 @@ def address_of(name: str, symbols: Symbols) -> int:
 @dataclass
 class Conformance:
     """The result of `conform`."""
-    outcome: ConformOutcome  # of all scripts
+    outcome: ConformOutcome  # the outcome of all scripts
     setup: MonitorSetup  # the monitor, as the shrunk script runs it
-    symbols: Symbols  # of the monitor
+    symbols: Symbols  # the symbols of the monitor
     shrunk: Optional[Shrinker] = None  # the shrunk script; None if there is no difference
 
     @property
@@ -89,29 +89,29 @@ def find_conform(files: MonitorFiles, plan: ScriptPlan, heard: Callable[[Conform
     if not outcome.coverage.scripts and not outcome.is_interrupted:
         raise RvlookError("no script has '%s' in its name" % plan.only)
     heard(outcome)
-    found = Conformance(outcome, setup, symbols)
+    conformance = Conformance(outcome, setup, symbols)
     if outcome.different and outcome.task:
-        found.setup = outcome.task.setup(setup)
-        found.shrunk = Shrinker(found.setup, outcome.different).shrink()
-        outcome.is_interrupted = found.shrunk.is_interrupted
-    return found
+        conformance.setup = outcome.task.setup(setup)
+        conformance.shrunk = Shrinker(conformance.setup, outcome.different).shrink()
+        outcome.is_interrupted = conformance.shrunk.is_interrupted
+    return conformance
 
 
 def show_conform(files: MonitorFiles, plan: ScriptPlan, printer: Printer, findings: ReportedCases, folder: str | None, has_table: bool) -> None:
     """Compares the monitors, and shows the first difference and the coverage table, after a difference only if `has_table`. Writes the shrunk scripts
     to a folder, if there is one. A difference is a finding; an empty cell and a time limit make the result incomplete. After Ctrl-C shows what was
     found, and raises KeyboardInterrupt."""
-    found = find_conform(files, plan, lambda it: show_counts(it, printer))
-    if found.shrunk:
-        DifferenceReport(found.setup, found.symbols, printer, found.outcome).show(found.shrunk)
-    findings.add("conform", found.finding)
-    if found.shrunk and folder:
-        write_scripts(folder, found.setup, found.shrunk, printer)
-    if not found.outcome.different or has_table or printer.as_json:
-        show_coverage(found.outcome, printer)
-    if found.outcome.is_interrupted:
+    conformance = find_conform(files, plan, lambda it: show_counts(it, printer))
+    if conformance.shrunk:
+        DifferenceReport(conformance.setup, conformance.symbols, printer, conformance.outcome).show(conformance.shrunk)
+    findings.add("conform", conformance.finding)
+    if conformance.shrunk and folder:
+        write_scripts(folder, conformance.setup, conformance.shrunk, printer)
+    if not conformance.outcome.different or has_table or printer.as_json:
+        show_coverage(conformance.outcome, printer)
+    if conformance.outcome.is_interrupted:
         raise KeyboardInterrupt
-    rest = rest_of(found.outcome, plan)
+    rest = rest_of(conformance.outcome, plan)
     if rest:
         findings.cut_short(rest)
 
@@ -143,16 +143,16 @@ class DifferenceReport:
 
     def show(self, shrunk: Shrinker) -> None:
         """Shows the shrunk script, the values of both sides, and the instructions in M that wrote them."""
-        found, played = self.outcome.different, shrunk.played
-        assert found
+        different, played = self.outcome.different, shrunk.played
+        assert different
         if not self.printer.as_json:
             self.printer.line("script '%s': different after %d items; shrunk to %d items in %d runs" % (
-                found.name, len(found.items), len(played.items), shrunk.runs))
+                different.name, len(different.items), len(played.items), shrunk.runs))
         self.show_items(played)
         for number, difference in enumerate(played.differences[:MAX_DIFFERENCES_SHOWN]):
             writers = writers_of(self.setup, played, difference) if number < MAX_DIFFERENCES_TRACED else []
             if self.printer.as_json:
-                self.difference_object(found.name, difference, writers)
+                self.difference_object(different.name, difference, writers)
             else:
                 self.difference_text(difference, writers, number < MAX_DIFFERENCES_TRACED)
         if len(played.differences) > MAX_DIFFERENCES_SHOWN and not self.printer.as_json:
@@ -212,7 +212,7 @@ def source_of(writer: WritingInstruction, symbols: Symbols) -> str | None:
 
 def lines_before(writer: WritingInstruction, symbols: Symbols) -> list[str]:
     """Returns the source lines that were executed before an instruction, each once, the last one first."""
-    lines = (it for it in map(symbols.line, writer.path) if it and it != symbols.line(writer.pc))
+    lines = (line for line in map(symbols.line, writer.path) if line and line != symbols.line(writer.pc))
     return list(dict.fromkeys(lines))[:MAX_SOURCE_LINES]
 
 
@@ -231,10 +231,10 @@ def show_coverage(outcome: ConformOutcome, printer: Printer) -> None:
         for cell in cells:
             printer.object("cell", group=cell.group, name=cell.name, count=cell.count)
         return
-    printer.line("coverage: %d of %d cells" % (sum(it.count > 0 for it in cells), len(cells)))
+    printer.line("coverage: %d of %d cells" % (sum(cell.count > 0 for cell in cells), len(cells)))
     for group, members in groupby(cells, lambda it: it.group):
         printer.line("  " + group)
-        for line in wrapped(["%s %d" % (it.name, it.count) for it in members]):
+        for line in wrapped(["%s %d" % (member.name, member.count) for member in members]):
             printer.line("    " + line)
 
 

@@ -32,7 +32,7 @@ VALID_CREATE = {"a0": FIRST, "a1": PAGE, "a2": WINDOW, "a3": PAGE, "a4": FIRST}
 ODD_SIZE = 0x1800
 INVALID_SLOTS = (1, 12, 13, 14, 16, 32, 64, 0x80000000, MASK, 0x100, 0x10000000)
 BOUNDARY_OFFSETS = (-33, -32, -31, -30, -16, -2, -1, 0, 1, 31)  # bytes around a boundary, for the 32 bytes of a measurement
-ITEM_WEIGHTS = {"call": 50, "access": 16, "csr": 8, "registers": 5, "sret": 4, "fault": 6, "timer": 6, "jump": 5}  # by kind of item
+ITEM_WEIGHTS = {"call": 50, "access": 16, "csr": 8, "registers": 5, "sret": 4, "fault": 6, "timer": 6, "jump": 5}  # the weights of the kinds of items
 CSRS_SET = ("sscratch", "sepc", "scause", "stval", "sstatus", "sie", "sip", "satp", "scounteren")
 STATES = {"run": ("Fresh",), "resume": ("Stopped",)}
 ANY_STATE = ("Fresh", "Stopped", "Exited")
@@ -90,13 +90,13 @@ def user_scripts() -> Iterator[tuple[str, list[Item]]]:
     to_user = [set_csr("sepc", FIRST + 0x100), set_csr("sstatus", 0), sret()]
     yield "an application in U", [*host(), create0(), run(0), *set_up(FIRST, "u"), *to_user, nop(), timer(is_on=True), nop(), set_registers("4"),
                                   resume(0), nop(), ecall_from_user(6), stop(5), resume(0), timer(is_on=True), nop(), resume(0), leave(1)]
-    faults = [it for name, word in FAULTS for it in (*to_user, instruction(name, word), nop())]
+    faults = [item for name, word in FAULTS for item in (*to_user, instruction(name, word), nop())]
     yield "exceptions of an application", [*host(), create0(), run(0), *set_up(FIRST, "u"), *faults, stop(1)]
     to_host_user = [set_csr("sepc", HOST + 0x400), set_csr("sstatus", 0), sret()]
-    host_faults = [it for name, word in FAULTS for it in (*to_host_user, instruction(name, word), nop())]
+    host_faults = [item for name, word in FAULTS for item in (*to_host_user, instruction(name, word), nop())]
     yield "exceptions of a process of the host", [*host(), create0(), *host_faults, *to_host_user, nop(), ecall_from_user(1), nop()]
-    yield "calls from U", [*host(), create0(), *(it for number in range(9) for it in (*to_host_user, ecall_from_user(number))), run(0),
-                           *set_up(FIRST, "u"), *(it for number in range(9) for it in (*to_user, ecall_from_user(number))), stop(1)]
+    yield "calls from U", [*host(), create0(), *(item for number in range(9) for item in (*to_host_user, ecall_from_user(number))), run(0),
+                           *set_up(FIRST, "u"), *(item for number in range(9) for item in (*to_user, ecall_from_user(number))), stop(1)]
 
 
 def measured_scripts() -> Iterator[tuple[str, list[Item]]]:
@@ -106,8 +106,7 @@ def measured_scripts() -> Iterator[tuple[str, list[Item]]]:
     for numbers in ((FIRST, PAGE, WINDOW, PAGE, FIRST + 4), (FIRST, PAGE, WINDOW, 2 * PAGE, FIRST), (FIRST, 2 * PAGE, WINDOW, PAGE, FIRST),
                     (FIRST, PAGE, 0, 0, FIRST), (FIRST, PAGE, OTHER_WINDOW, PAGE, FIRST), (FIRST, PAGE, 0x80, 0, FIRST)):
         yield "measured numbers %x %x %x %x %x" % numbers, [
-            *host(), create(*numbers), measure(HOST + 0x400), run(0), store_at(FIRST + 0x40), measure(FIRST + 0x80), stop(0),
-            measure(HOST + 0x440)]
+            *host(), create(*numbers), measure(HOST + 0x400), run(0), store_at(FIRST + 0x40), measure(FIRST + 0x80), stop(0), measure(HOST + 0x440)]
 
 
 def slot_scripts() -> Iterator[tuple[str, list[Item]]]:
@@ -130,7 +129,7 @@ def window_scripts() -> Iterator[tuple[str, list[Item]]]:
               (THIRD, PAGE, WINDOW, PAGE), (THIRD, PAGE, WINDOW, 2 * PAGE), (THIRD, PAGE, HOST, 2 * PAGE), (THIRD, PAGE, HOST, 4 * PAGE),
               (THIRD, PAGE, HOST, 8 * PAGE), (THIRD, PAGE, THIRD, PAGE), (THIRD, PAGE, 0x8000F000, PAGE), (HOST, 8 * PAGE, 0, 0))
     yield "regions and windows beside a live enclave", [
-        *host(), create(FIRST, 2 * PAGE, WINDOW, 2 * PAGE), *(it for block in blocks for it in (create(*block), run(1), stop(1), destroy(1))),
+        *host(), create(FIRST, 2 * PAGE, WINDOW, 2 * PAGE), *(item for block in blocks for item in (create(*block), run(1), stop(1), destroy(1))),
         run(0), stop(1)]
 
 
@@ -151,8 +150,8 @@ def interrupt_scripts() -> Iterator[tuple[str, list[Item]]]:
 def exception_scripts() -> Iterator[tuple[str, list[Item]]]:
     """Yields scripts with each exception, which goes to S of the same world."""
     for status in (0, 2, 0x100, 0x122, 0x80000):
-        faults = [it for name, word in FAULTS for it in (set_csr("sstatus", status), instruction(name, word), nop(), sret(), nop(),
-                                                         instruction(name, word), nop())]
+        faults = [item for name, word in FAULTS for item in (set_csr("sstatus", status), instruction(name, word), nop(), sret(), nop(),
+                                                             instruction(name, word), nop())]
         yield "exceptions of the host, sstatus %x" % status, [*host(), *faults]
         yield "exceptions of an enclave, sstatus %x" % status, [*host(), create0(), run(0), *set_up(FIRST, "f"), *faults, timer(is_on=True),
                                                                 nop(), nop()]
@@ -166,7 +165,7 @@ def access_scripts() -> Iterator[tuple[str, list[Item]]]:
     """Yields scripts with loads and stores at each boundary."""
     places = (RAM_BASE, HOST - 4, HOST, WINDOW - 4, WINDOW, WINDOW + PAGE - 4, WINDOW + PAGE, FIRST - 4, FIRST, FIRST + PAGE - 4, FIRST + PAGE,
               FIRST + PAGE - 2, WINDOW + PAGE - 2, WINDOW - 2, FIRST - 2)
-    accesses = [it for at in places for it in (load_at(at), store_at(at))]
+    accesses = [item for at in places for item in (load_at(at), store_at(at))]
     yield "accesses of the host", [*host(), create0(), *accesses]
     yield "accesses of an enclave", [*host(), create0(), run(0), *set_up(FIRST, "t"), *accesses, stop(1)]
     yield "accesses of the host after a stop", [*host(), create0(), run(0), *set_up(FIRST, "t"), stop(1), *accesses]
@@ -193,12 +192,12 @@ def large_scripts(ram: int) -> Iterator[tuple[str, list[Item]]]:
             yield "block: %x bytes apart" % size, blocks_apart(size)
         size *= 2
     sizes = [1 << n for n in range(ram.bit_length(), 32)]
-    yield "block: larger than the RAM", [*host(), *(it for at in sizes for it in (create(RAM_BASE, at), create(FIRST, PAGE, RAM_BASE, at)))]
+    yield "block: larger than the RAM", [*host(), *(item for at in sizes for item in (create(RAM_BASE, at), create(FIRST, PAGE, RAM_BASE, at)))]
 
 
 def accesses(base: int, size: int) -> list[Item]:
     """Returns loads and stores at both ends and in the middle of a block."""
-    return [it for at in (base, base + size // 2, base + size) for it in (load_at(at - 4), store_at(at - 4), load_at(at), store_at(at))]
+    return [item for at in (base, base + size // 2, base + size) for item in (load_at(at - 4), store_at(at - 4), load_at(at), store_at(at))]
 
 
 def misaligned(base: int, size: int, end: int) -> list[int]:
@@ -218,18 +217,18 @@ def large_region_scripts(base: int, size: int, end: int) -> Iterator[tuple[str, 
     yield "block: region of %x bytes, other last byte" % size, [
         *host(), poke(base + size - 1, b"\x01"), create(base, size), measure(WINDOW), destroy(0)]
     yield "block: regions of %x bytes at other bases" % size, [
-        *host(), *(it for at in misaligned(base, size, end) for it in (create(at, size), run(0), stop(0), destroy(0)))]
-    odd_sizes = [it for it in (size + PAGE, size * 3 // 2, size - PAGE, size + 4) if it > PAGE]
+        *host(), *(item for at in misaligned(base, size, end) for item in (create(at, size), run(0), stop(0), destroy(0)))]
+    odd_sizes = [odd_size for odd_size in (size + PAGE, size * 3 // 2, size - PAGE, size + 4) if odd_size > PAGE]
     far_base = -(-base // (2 * size)) * 2 * size
     yield "block: regions of %x bytes that are no power of two" % size, [
-        *host(), *(it for odd in odd_sizes for it in (create(far_base, odd), create(FIRST, PAGE, far_base, odd), run(0), stop(0), destroy(0)))]
+        *host(), *(item for odd in odd_sizes for item in (create(far_base, odd), create(FIRST, PAGE, far_base, odd), run(0), stop(0), destroy(0)))]
     inner_bases = [at for at in (base, base + size // 2, base + size - PAGE) if size > PAGE]
     yield "block: a region of %x bytes over a small one" % size, [
-        *host(), *(it for at in inner_bases for it in (create(at, PAGE), create(base, size), create(FIRST, PAGE, base, size), destroy(0)))]
+        *host(), *(item for at in inner_bases for item in (create(at, PAGE), create(base, size), create(FIRST, PAGE, base, size), destroy(0)))]
     beside = [at for at in (base, base + PAGE, base + size // 2, base + size - PAGE, base - PAGE, base + size) if at + PAGE <= end]
     yield "block: beside a region of %x bytes" % size, [
-        *host(), create(base, size), *(it for at in beside for it in (create(at, PAGE), run(1), stop(0), destroy(1))),
-        *(it for at in beside for it in (create(FIRST, PAGE, at, PAGE), run(1), stop(0), destroy(1)))]
+        *host(), create(base, size), *(item for at in beside for item in (create(at, PAGE), run(1), stop(0), destroy(1))),
+        *(item for at in beside for item in (create(FIRST, PAGE, at, PAGE), run(1), stop(0), destroy(1)))]
 
 
 def large_window_scripts(base: int, size: int, end: int) -> Iterator[tuple[str, list[Item]]]:
@@ -239,7 +238,7 @@ def large_window_scripts(base: int, size: int, end: int) -> Iterator[tuple[str, 
         *host(), create(FIRST, PAGE, base, size), run(0), *set_up(FIRST, "w"), *ends, measure(base + size - 32), measure(base + size - 31), stop(0),
         *ends, destroy(0)]
     yield "block: windows of %x bytes at other bases" % size, [
-        *host(), *(it for at in misaligned(base, size, end) for it in (create(FIRST, PAGE, at, size), run(0), stop(0), destroy(0)))]
+        *host(), *(item for at in misaligned(base, size, end) for item in (create(FIRST, PAGE, at, size), run(0), stop(0), destroy(0)))]
 
 
 def blocks_apart(size: int) -> list[Item]:
@@ -251,21 +250,21 @@ def blocks_apart(size: int) -> list[Item]:
 
 def corner_scripts() -> Iterator[tuple[str, list[Item]]]:
     """Yields scripts with the same value in all registers at an interrupt, a call and an exception."""
-    turns = [it for value in CORNER_VALUES for it in (set_all(value), timer(is_on=True), nop(), set_all(value ^ MASK), resume(0))]
+    turns = [item for value in CORNER_VALUES for item in (set_all(value), timer(is_on=True), nop(), set_all(value ^ MASK), resume(0))]
     yield "corner values at interrupts", [*host(), create0(), run(0), *set_up(FIRST, "c"), *turns, leave(1)]
-    stops = [it for value in CORNER_VALUES for it in (set_all(value), stop(value), set_all(value ^ MASK), resume(0))]
+    stops = [item for value in CORNER_VALUES for item in (set_all(value), stop(value), set_all(value ^ MASK), resume(0))]
     yield "corner values at stops", [*host(), create0(), run(0), *set_up(FIRST, "c"), *stops, leave(MASK)]
-    faults = [it for value in CORNER_VALUES for it in (set_all(value), instruction("illegal instruction", 0), set_all(value), call(0, a0=value))]
+    faults = [item for value in CORNER_VALUES for item in (set_all(value), instruction("illegal instruction", 0), set_all(value), call(0, a0=value))]
     yield "corner values at exceptions", [*host(), *faults, create0(), run(0), *set_up(FIRST, "c"), *faults, stop(0)]
 
 
 def long_scripts() -> Iterator[tuple[str, list[Item]]]:
     """Yields scripts with many calls."""
-    creates = [it for _ in range(MANY_CREATES) for it in (create(SECOND, PAGE, 0, 0), measure(WINDOW, 1), load_at(WINDOW + 28), destroy(1))]
+    creates = [item for _ in range(MANY_CREATES) for item in (create(SECOND, PAGE, 0, 0), measure(WINDOW, 1), load_at(WINDOW + 28), destroy(1))]
     yield "many creates", [*host(), create0(), *creates, run(0), stop(1)]
     calls = [call(8, a0=n) for n in range(MANY_CALLS)]
     yield "many calls", [*host(), create0(), run(0), *set_up(FIRST, "n"), stop(1), *calls, resume(0), stop(2), resume(0), leave(1)]
-    switches = [it for n in range(MANY_CREATES) for it in (stop(n), resume(0))]
+    switches = [item for n in range(MANY_CREATES) for item in (stop(n), resume(0))]
     yield "many switches", [*host(), create0(), run(0), *set_up(FIRST, "n"), *switches, leave(1)]
 
 
@@ -296,9 +295,9 @@ def bad_create(at: int, *refusals: str) -> Item:
 def create_refusals(end: int) -> Iterator[tuple[str, list[Item]]]:
     """Yields scripts with each refusal of create, alone, with each later one, and with thirteen live enclaves."""
     names = ("BadRegion", "BadWindow", "Overlap", "BadEntry")
-    yield "create, each refusal", [*host(), *(it for name in names for it in (bad_create(FIRST, name), destroy(0)))]
+    yield "create, each refusal", [*host(), *(item for name in names for item in (bad_create(FIRST, name), destroy(0)))]
     pairs = [bad_create(FIRST, one, other) for n, one in enumerate(names) for other in names[n + 1:]]
-    yield "create, two refusals at once", [*host(), *(it for pair in pairs for it in (pair, destroy(0)))]
+    yield "create, two refusals at once", [*host(), *(item for pair in pairs for item in (pair, destroy(0)))]
     full = [create(0x80014000 + n * PAGE, PAGE) for n in range(13)]
     late = [bad_create(end - PAGE, name) for name in names]
     yield "create, each refusal before NoSlot", [*host(), *full, *late]
@@ -322,7 +321,7 @@ def state_scripts() -> Iterator[tuple[str, list[Item]]]:
         ("that does not exist", []), ("that is Fresh", [create0()]), ("that is Stopped", [create0(), run(0), stop(1)]),
         ("that is Exited", [create0(), run(0), leave(1)]), ("that was interrupted", [create0(), run(0), timer(is_on=True), nop()]))
     for name, before in states:
-        items = [it for ask in (run(0), resume(0), destroy(0), measure(WINDOW)) for it in (*before, ask, nop(), leave(9), destroy(0))]
+        items = [item for ask in (run(0), resume(0), destroy(0), measure(WINDOW)) for item in (*before, ask, nop(), leave(9), destroy(0))]
         yield "each call of an enclave " + name, [*host(), *items]
     for number in (2, 3, 4):
         yield "slots of call %d" % number, [*host(), create0(), run(0), stop(1), *(call(number, a0=slot) for slot in INVALID_SLOTS)]
@@ -352,18 +351,18 @@ def boundary_scripts(end: int) -> Iterator[tuple[str, list[Item]]]:
     blocks += [(at, PAGE) for at in (0, 0x7FFFF000, RAM_BASE, 0x8000F000, HOST, end - PAGE, end, 0xFFFFF000)]
     blocks += [(end - 2 * PAGE, 2 * PAGE), (end - PAGE, 2 * PAGE), (RAM_BASE, 0x10000), (RAM_BASE, 0x20000), (0, RAM_BASE), (RAM_BASE, RAM_BASE)]
     after = [run(0), stop(1), destroy(0)]
-    yield "regions", [*host(), *(it for base, size in blocks for it in (create(base, size, WINDOW, PAGE), *after))]
-    yield "windows", [*host(), *(it for base, size in blocks for it in (create(THIRD, PAGE, base, size), *after))]
+    yield "regions", [*host(), *(item for base, size in blocks for item in (create(base, size, WINDOW, PAGE), *after))]
+    yield "windows", [*host(), *(item for base, size in blocks for item in (create(THIRD, PAGE, base, size), *after))]
     offsets = (-4, -1, 0, 1, 2, 3, 4, PAGE - 4, PAGE - 2, PAGE, -FIRST, MASK - FIRST)
-    yield "entries", [*host(), *(it for n in offsets for it in (create(FIRST, PAGE, WINDOW, PAGE, FIRST + n), *after))]
+    yield "entries", [*host(), *(item for n in offsets for item in (create(FIRST, PAGE, WINDOW, PAGE, FIRST + n), *after))]
 
 
 class ReferenceState(NamedTuple):
     """The state of the reference, on which the next items depend."""
-    world: str  # that runs
-    mode: str  # of the world
-    pc: int  # of the world
-    table: Sequence[Enclave]  # of the enclaves
+    world: str  # the world that runs
+    mode: str  # the mode of the world
+    pc: int  # the pc of the world
+    table: Sequence[Enclave]  # the table of the enclaves
 
 
 class RandomScript:
@@ -397,7 +396,7 @@ class RandomScript:
 
     def running_enclave(self, state: ReferenceState) -> Enclave | None:
         """Returns the enclave that runs, or None."""
-        return next((it for it in state.table if it.world == state.world), None)
+        return next((enclave for enclave in state.table if enclave.world == state.world), None)
 
     def boundary(self, state: ReferenceState) -> int:
         """Returns a boundary of a range."""
@@ -426,14 +425,14 @@ class RandomScript:
     def slot_call(self, state: ReferenceState, kind: str) -> list[Item]:
         """Returns a call of the host that names a slot."""
         draw = self.draw
-        slots = [it.slot for it in state.table if it.state in STATES.get(kind, ANY_STATE)]
+        slots = [enclave.slot for enclave in state.table if enclave.state in STATES.get(kind, ANY_STATE)]
         slot = draw.choice(slots) if slots and draw.random() < .8 else draw.choice((0, 1, 2, 3, 12, 13, MASK, draw.getrandbits(32)))
         if kind == "measure":
             return [self.random_measure(state, slot)]
         if kind == "odd":
             return [call(draw.choice((0, 6, 7, 8, MASK)), draw.choice((KEY, KEY, 0)), a0=slot)]
         if kind == "run":
-            fresh = next((it for it in state.table if it.slot == slot and it.state == "Fresh"), None)
+            fresh = next((enclave for enclave in state.table if enclave.slot == slot and enclave.state == "Fresh"), None)
             return [run(slot), *(set_up(fresh.base, str(draw.random())) if fresh else ())]
         return [resume(slot) if kind == "resume" else destroy(slot)]
 

@@ -29,10 +29,10 @@ MARK_BITS = 0x40000001  # bits that every mark has, so that it is not a small nu
 
 class Violation(NamedTuple):
     """A check that failed."""
-    check: str  # its name
+    check: str  # the name of the check
     text: str  # what was found
     step: int  # below M, after which it was found
-    pc: int  # of the world that had trapped, or of the host before the first trap
+    pc: int  # the pc of the world that had trapped, or of the host before the first trap
     pc_in_m: int = 0  # pc of M if M itself fails, else 0
 
 
@@ -40,11 +40,11 @@ class Violation(NamedTuple):
 class Guard:
     """One run with marks, and its checks."""
     setup: MonitorSetup  # the monitor
-    ownership: Ownership  # of the memory, at the present step
+    ownership: Ownership  # the ownership of the memory, at the present step
     limit: int  # steps below M
     timers: str = ""  # seed of the steps before which the timer is raised; empty: never
     violation: Violation | None = None  # the first one; None if there is none
-    counts: Counter[str] = field(default_factory=Counter)  # of steps, returns and other events, by name
+    counts: Counter[str] = field(default_factory=Counter)  # the counts of steps, returns and other events, by name
     activity: dict[str, Counter[str]] = field(default_factory=lambda: defaultdict(Counter))  # of each owner: entered, left, continued, given_back
     log: list[str] = field(default_factory=list)  # the lines that repeat the run
     vectors: set[int] = field(default_factory=set)  # addresses to which traps go
@@ -53,13 +53,13 @@ class Guard:
 
     def __post_init__(self) -> None:
         self.draw = random.Random("guard %s" % self.timers)  # draws the steps before which the timer is raised
-        self.world, self.calls = HOST, 0  # that continues; calls of the host so far
+        self.world, self.calls = HOST, 0  # the world that continues; the calls of the host so far
         # what the author declares; `ownership` has the ranges that exist at the present step
         self.declared = getattr(self, "declared", self.ownership)
         self.live: set[OwnedRange] = set()  # the live ranges
         self.left_worlds: dict[str, LeftWorld] = {}  # the enclaves and the host, as each was left
         self.loaded: dict[OwnedRange, int] = {}  # ranges that are not live and that M loaded, and pc of the trap
-        self.exposed: dict[OwnedRange, int] = {}  # of these the ranges to which the host may store after it, and pc of the host
+        self.exposed: dict[OwnedRange, int] = {}  # the ranges of these to which the host may store after it, and the pc of the host
         # the world that was left last
         self.last_left = LeftWorld(HartState(registers=(), csrs={}, pc=0, mode="S", entries=b"", pc_in_m=0), registers={}, csrs={}, is_call=False)
 
@@ -109,11 +109,11 @@ class Guard:
             return
         self.calls += cause == ECALL_FROM_S and self.world == HOST
         tval = value_of(machine.do("csr %x" % CSRS["mtval"])[0])
-        left = self.set_marks(entry, cause)
+        left_world = self.set_marks(entry, cause)
         before, rights = machine.memory(), rights_of(entry.entries, self.setup.ram)
-        machine.set_state(left.registers, left.csrs)
-        stay = machine.to_return(cause, entry, [it.first for it in self.ownership.private() if it not in self.live])
-        self.last_left = left
+        machine.set_state(left_world.registers, left_world.csrs)
+        stay = machine.to_return(cause, entry, [range_.first for range_ in self.ownership.private() if range_ not in self.live])
+        self.last_left = left_world
         self.counts["returns from M"] += 1
         if stay.fault:
             self.check(stay.fault, "trap in M", machine, stay.fault_pc)
@@ -163,33 +163,34 @@ class Guard:
 
     def check_same_world(self, machine: Guarded, stay: StayInM, tval: int) -> None:
         """Checks a trap after which the same world continues."""
-        left, world = self.last_left, self.world
+        left_world, world = self.last_left, self.world
         if stay.cause not in checks.SWITCHING and checks.is_redirect(stay):
-            self.check(checks.wrong_redirect(world, left, stay, tval), "redirect", machine)
-            csrs = {"sscratch": left.state.csrs["sscratch"], "sstatus": checks.redirected_status(left.state.csrs["sstatus"], left.state.mode)}
-            machine.set_state(self.restored(left, stay.exit, is_call=False), csrs)
+            self.check(checks.wrong_redirect(world, left_world, stay, tval), "redirect", machine)
+            old = left_world.state
+            csrs = {"sscratch": old.csrs["sscratch"], "sstatus": checks.redirected_status(old.csrs["sstatus"], old.mode)}
+            machine.set_state(self.restored(left_world, stay.exit, is_call=False), csrs)
             return
         if stay.cause in checks.SWITCHING:
-            self.check(checks.changed_context(self.ownership, world, left, stay.exit), "context", machine)
+            self.check(checks.changed_context(self.ownership, world, left_world, stay.exit), "context", machine)
         else:
-            self.check(checks.wrong_emulation(world, left, stay), "context", machine)
-        machine.set_state(self.restored(left, stay.exit, left.is_call), {name: left.state.csrs[name] for name in left.csrs})
+            self.check(checks.wrong_emulation(world, left_world, stay), "context", machine)
+        machine.set_state(self.restored(left_world, stay.exit, left_world.is_call), {name: left_world.state.csrs[name] for name in left_world.csrs})
 
-    def restored(self, left: LeftWorld, state: HartState, is_call: bool) -> dict[int, int]:
+    def restored(self, left_world: LeftWorld, state: HartState, is_call: bool) -> dict[int, int]:
         """Returns the registers before the marks, for the registers that still have their marks."""
-        return {n: left.state.registers[n] for n, mark in left.registers.items()
+        return {n: left_world.state.registers[n] for n, mark in left_world.registers.items()
                 if state.registers[n] == mark and not (is_call and n in self.ownership.hands)}
 
     def check_switch(self, machine: Guarded, left_name: str, state: HartState) -> None:
         """Checks a switch to another world, which continues or is entered for the first time."""
-        left, continued = self.last_left, self.left_worlds.pop(self.world, None)
-        self.left_worlds[left_name] = left
+        left_world, continued = self.last_left, self.left_worlds.pop(self.world, None)
+        self.left_worlds[left_name] = left_world
         self.activity[left_name]["left"] += 1
         self.activity[self.world]["entered"] += 1
         self.activity[self.world]["continued"] += continued is not None
-        self.check(checks.visible_mark(self.ownership, left_name, left, self.world, state), "registers", machine)
+        self.check(checks.visible_mark(self.ownership, left_name, left_world, self.world, state), "registers", machine)
         if continued is None:
-            self.check(checks.leftover(left_name, left, self.world, state), "registers", machine)
+            self.check(checks.leftover(left_name, left_world, self.world, state), "registers", machine)
             return
         self.counts["worlds that continue"] += 1
         self.check(checks.changed_context(self.ownership, self.world, continued, state), "context", machine)
@@ -200,7 +201,7 @@ class Guard:
         state = stay.exit
         rights = rights_of(state.entries, self.setup.ram)
         private, closed = self.ownership.private(), checks.closed_ranges(self.ownership, rights)
-        for part in [it for it in self.live if it.is_timed and it not in private]:
+        for part in [range_ for range_ in self.live if range_.is_timed and range_ not in private]:
             self.give_back(machine, part, memory, rights=())
         for part in private:
             self.activity.setdefault(part.owner, Counter())
@@ -242,10 +243,10 @@ class Guard:
 class GuardPlan(NamedTuple):
     """The runs to do: one without timer interrupts, then `timers` runs with them."""
     setup: MonitorSetup  # the monitor
-    ownership: Ownership  # of the memory
-    symbols: Symbols  # of the monitor
+    ownership: Ownership  # the ownership of the memory
+    symbols: Symbols  # the symbols of the monitor
     limit: int  # steps below M of each run
-    seed: int  # of the timer interrupts
+    seed: int  # the seed of the timer interrupts
     timers: int  # number of runs with timer interrupts
     jobs: int  # runs at the same time
 
@@ -264,18 +265,18 @@ class GuardPlan(NamedTuple):
 class GuardResults:
     """The results of all runs. A result is None if its task was not done, because of a violation or Ctrl-C."""
     guards: list[Guard] = field(default_factory=list)  # the runs with marks
-    pairs: list[TwinResult] | None = None  # of runs with different secrets
-    code: MonitorBlocks | None = None  # of the monitor
+    pairs: list[TwinResult] | None = None  # the pairs of runs with different secrets
+    code: MonitorBlocks | None = None  # the code of the monitor
     never: list[Block] | None = None  # blocks that no run executes
     is_interrupted: bool = False  # whether Ctrl-C ended the runs
 
     @property
     def violation(self) -> Violation | None:
         """Returns the first violation."""
-        found = [it.violation for it in self.guards if it.violation]
-        found += [Violation("noninterference", "%s, which depends on %s" % (it.difference, it.secret.text), it.step, it.pc)
-                  for it in self.pairs or () if it.difference]
-        return found[0] if found else None
+        violations = [guard.violation for guard in self.guards if guard.violation]
+        violations += [Violation("noninterference", "%s, which depends on %s" % (pair.difference, pair.secret.text), pair.step, pair.pc)
+                       for pair in self.pairs or () if pair.difference]
+        return violations[0] if violations else None
 
     @property
     def finding(self) -> str:
@@ -285,20 +286,20 @@ class GuardResults:
     @property
     def activity(self) -> dict[str, Counter[str]]:
         """Returns the activity of each owner in all runs with marks."""
-        found: dict[str, Counter[str]] = defaultdict(Counter)
-        for owner, activity in ((owner, it) for guard in self.guards for owner, it in guard.activity.items()):
-            found[owner].update(activity)
-        return found
+        counts_by_owner: dict[str, Counter[str]] = defaultdict(Counter)
+        for owner, activity in ((owner, counts) for guard in self.guards for owner, counts in guard.activity.items()):
+            counts_by_owner[owner].update(activity)
+        return counts_by_owner
 
     @property
     def handled(self) -> Counter[int]:
         """Returns how often each instruction of M trapped, and M returned from the trap."""
-        return sum((it.handled for it in self.guards), Counter())
+        return sum((guard.handled for guard in self.guards), Counter())
 
     @property
     def loops(self) -> list[int]:
         """Returns pc of each run that ended in a loop of traps."""
-        return [it.loop for it in self.guards if it.loop is not None]
+        return [guard.loop for guard in self.guards if guard.loop is not None]
 
 
 def do_runs(plan: GuardPlan, progress: Progress, show: Callable[[int, Guard], None]) -> GuardResults:
@@ -315,7 +316,7 @@ def do_runs(plan: GuardPlan, progress: Progress, show: Callable[[int, Guard], No
         compare_pairs(plan, results, progress)
         if not results.violation:
             results.code = code_of(plan.setup, plan.ownership, plan.symbols, results.guards[0].vectors)
-            results.never = unexecuted(plan.setup, results.code, [it.log for it in results.guards], progress)
+            results.never = unexecuted(plan.setup, results.code, [guard.log for guard in results.guards], progress)
     except KeyboardInterrupt:
         results.is_interrupted = True
     return results
@@ -323,10 +324,10 @@ def do_runs(plan: GuardPlan, progress: Progress, show: Callable[[int, Guard], No
 
 def compare_pairs(plan: GuardPlan, results: GuardResults, progress: Progress) -> None:
     """Does the pairs of runs up to the first difference."""
-    vectors = set().union(*(it.vectors for it in results.guards))
+    vectors = set().union(*(guard.vectors for guard in results.guards))
     secrets = secrets_of(plan.setup, plan.ownership, plan.limit, vectors)
     results.pairs = []
-    compare = [TwinRuns(plan.setup, plan.ownership, plan.limit, vectors, it).compare for it in secrets]
+    compare = [TwinRuns(plan.setup, plan.ownership, plan.limit, vectors, secret).compare for secret in secrets]
     for pair in results_of(lambda number: compare[number](), len(compare), plan.jobs):
         results.pairs.append(pair)
         progress.bar(len(results.pairs), len(compare), "pairs of runs")

@@ -17,7 +17,7 @@ from rvlook.protocol.symbols import Symbols
 
 COUNTS = {"steps": "steps below M", "returns": "returns from M", "switches": "switches", "continued": "worlds that continue",
           "given_back": "ranges given back"}
-MAX_FUNCTIONS_SHOWN = 40  # in one list
+MAX_FUNCTIONS_SHOWN = 40  # the most functions in one list
 
 
 def show_guard(plan: GuardPlan, printer: Printer, findings: ReportedCases) -> None:
@@ -51,35 +51,35 @@ def show_results(plan: GuardPlan, results: GuardResults, printer: Printer) -> No
 
 def enclaves_of(activity: dict[str, Counter[str]], ownership: Ownership) -> list[str]:
     """Returns the names of the declared enclaves and of those that a table had. If a table had no enclave, its own name is in the list."""
-    seen = [it for it in activity if it != HOST]
-    unused = [it.name for it in ownership.tables if not any(owner.rstrip("0123456789") == it.name for owner in seen)]
-    tables = [it.name for it in ownership.tables]
-    return list(dict.fromkeys([*(it for it in ownership.enclaves() if it not in tables), *unused, *seen]))
+    seen = [world for world in activity if world != HOST]
+    unused = [table.name for table in ownership.tables if not any(owner.rstrip("0123456789") == table.name for owner in seen)]
+    tables = [table.name for table in ownership.tables]
+    return list(dict.fromkeys([*(enclave for enclave in ownership.enclaves() if enclave not in tables), *unused, *seen]))
 
 
 def rest_of(results: GuardResults, plan: GuardPlan) -> list[str]:
     """Returns what was not examined: a run that ended early, and enclaves that were not entered, not left, or did not continue."""
-    found = ["a run ended in a loop of traps at %s: the instruction traps each time it continues" % place_text("%08x" % it, plan.symbols)
-             for it in results.loops[:1]]
+    texts = ["a run ended in a loop of traps at %s: the instruction traps each time it continues" % place_text("%08x" % loop, plan.symbols)
+             for loop in results.loops[:1]]
     if results.violation:
-        return found
-    found += ["guard compared only %d steps of the two runs that differ in %s: %s" % (it.step, it.secret.text, it.why_cut)
-              for it in results.pairs or () if it.why_cut]
+        return texts
+    texts += ["guard compared only %d steps of the two runs that differ in %s: %s" % (pair.step, pair.secret.text, pair.why_cut)
+              for pair in results.pairs or () if pair.why_cut]
     activity, ownership = results.activity, plan.ownership
     enclaves = enclaves_of(activity, ownership)
-    if not any(it.counts["returns from M"] for it in results.guards):
-        found.append("no world trapped, so that M never ran after its boot")
-    never_entered = [it for it in enclaves if not activity[it]["entered"]]
-    never_left = [it for it in enclaves if activity[it]["entered"] and not activity[it]["left"]]
-    never_continued = [it for it in enclaves if activity[it]["left"] and not activity[it]["continued"] and not ownership.runs_once(it)]
+    if not any(guard.counts["returns from M"] for guard in results.guards):
+        texts.append("no world trapped, so that M never ran after its boot")
+    never_entered = [enclave for enclave in enclaves if not activity[enclave]["entered"]]
+    never_left = [enclave for enclave in enclaves if activity[enclave]["entered"] and not activity[enclave]["left"]]
+    never_continued = [name for name in enclaves if activity[name]["left"] and not activity[name]["continued"] and not ownership.runs_once(name)]
     if never_continued:
-        found.append("after they were left, these enclaves never continued: %s; let the host continue them, or add 'once OWNER' to RANGES"
+        texts.append("after they were left, these enclaves never continued: %s; let the host continue them, or add 'once OWNER' to RANGES"
                      % ", ".join(never_continued))
     if never_left:
-        found.append("these enclaves were entered and never left: %s; use more --steps, or let them call the monitor" % ", ".join(never_left))
+        texts.append("these enclaves were entered and never left: %s; use more --steps, or let them call the monitor" % ", ".join(never_left))
     if never_entered:
-        found.append("these enclaves never ran: %s; let the host enter them, or remove them from RANGES" % ", ".join(never_entered))
-    return found
+        texts.append("these enclaves never ran: %s; let the host enter them, or remove them from RANGES" % ", ".join(never_entered))
+    return texts
 
 
 def show_handled(printer: Printer, symbols: Symbols, handled: Counter[int]) -> None:
@@ -99,15 +99,15 @@ def show_activity(printer: Printer, activity: dict[str, Counter[str]], ownership
 
 def show_run(printer: Printer, name: str, guard: Guard) -> None:
     """Shows how much one run did."""
-    printer.show("%-12s %s" % (name + ":", ", ".join("%d %s" % (guard.counts[it], it) for it in COUNTS.values())), "guarded_run", name=name,
-                 **{name: guard.counts[it] for name, it in COUNTS.items()}, holds=guard.violation is None)
+    printer.show("%-12s %s" % (name + ":", ", ".join("%d %s" % (guard.counts[count], count) for count in COUNTS.values())), "guarded_run", name=name,
+                 **{name: guard.counts[count] for name, count in COUNTS.items()}, holds=guard.violation is None)
 
 
 def show_twins(printer: Printer, results: Sequence[TwinResult]) -> None:
     """Shows how much the pairs of runs compared."""
-    changes, returns = sum(it.changes for it in results), sum(it.returns for it in results)
+    changes, returns = sum(result.changes for result in results), sum(result.returns for result in results)
     printer.show("two runs:    %d pairs, private state changed at %d returns, %d returns compared" % (len(results), changes, returns),
-                 "guarded_twins", points=changes, compared=returns, pairs=len(results), alike=not any(it.difference for it in results))
+                 "guarded_twins", points=changes, compared=returns, pairs=len(results), alike=not any(result.difference for result in results))
 
 
 def report(printer: Printer, symbols: Symbols, violation: Violation) -> None:
@@ -126,16 +126,16 @@ def report(printer: Printer, symbols: Symbols, violation: Violation) -> None:
         printer.line("  no trap came before it; the host begins at %s" % place_text("%08x" % violation.pc, symbols))
 
 
-def show_unexecuted(printer: Printer, symbols: Symbols, code: MonitorBlocks, found: Sequence[Block]) -> None:
+def show_unexecuted(printer: Printer, symbols: Symbols, code: MonitorBlocks, unexecuted_blocks: Sequence[Block]) -> None:
     """Shows blocks that were not executed: as objects, or a line for each function."""
     if printer.as_json:
-        for first, end in joined(found):
+        for first, end in joined(unexecuted_blocks):
             printer.object("unexecuted", first=hex8(first), last=hex8(end - 4), function=symbols.function(first), line=symbols.source(first))
         return
-    missing = sum(it.end - it.first for it in found) // 4
+    missing = sum(block.end - block.first for block in unexecuted_blocks) // 4
     total = code.instructions
-    printer.line("code of M:   %d of %d instructions executed%s" % (total - missing, total, "; not executed:" if found else ""))
-    lines = list(lines_of(symbols, code, found))
+    printer.line("code of M:   %d of %d instructions executed%s" % (total - missing, total, "; not executed:" if unexecuted_blocks else ""))
+    lines = list(lines_of(symbols, code, unexecuted_blocks))
     for line in lines[:MAX_FUNCTIONS_SHOWN]:
         printer.line("  " + line)
     if len(lines) > MAX_FUNCTIONS_SHOWN:
@@ -144,17 +144,17 @@ def show_unexecuted(printer: Printer, symbols: Symbols, code: MonitorBlocks, fou
 
 def joined(ranges: Iterable[tuple[int, int]]) -> list[tuple[int, int]]:
     """Joins adjacent ones of sorted ranges, each its first address or number and its end."""
-    found: list[tuple[int, int]] = []
+    joined_ranges: list[tuple[int, int]] = []
     for first, end in ranges:
-        if found and found[-1][1] == first:
-            first = found.pop()[0]
-        found.append((first, end))
-    return found
+        if joined_ranges and joined_ranges[-1][1] == first:
+            first = joined_ranges.pop()[0]
+        joined_ranges.append((first, end))
+    return joined_ranges
 
 
-def lines_of(symbols: Symbols, code: MonitorBlocks, found: Sequence[Block]) -> Iterator[str]:
+def lines_of(symbols: Symbols, code: MonitorBlocks, unexecuted_blocks: Sequence[Block]) -> Iterator[str]:
     """Yields a text for each function that has blocks which were not executed."""
-    for name, members in groupby(found, lambda it: symbols.function(it.first)):
+    for name, members in groupby(unexecuted_blocks, lambda it: symbols.function(it.first)):
         blocks = list(members)
         entry = code.entry_of(blocks[0].first)
         if entry is not None and blocks[0].first == entry and len(blocks) == code.count_in(entry):
@@ -165,13 +165,13 @@ def lines_of(symbols: Symbols, code: MonitorBlocks, found: Sequence[Block]) -> I
 
 def places_of(symbols: Symbols, blocks: Sequence[Block]) -> str:
     """Returns the source lines of blocks. Returns the address of a block that has no source line."""
-    lines = [{it for at in range(block.first, block.end, 4) for it in [symbols.source(at)] if it} for block in blocks]
-    sources = sorted({place_of(it) for members in lines for it in members})
+    lines = [{source for at in range(block.first, block.end, 4) for source in [symbols.source(at)] if source} for block in blocks]
+    sources = sorted({place_of(member) for members in lines for member in members})
     texts = ["%s:%s" % (file, ranges_text([number for _, number in members])) for file, members in groupby(sources, lambda it: it[0])]
-    return "  ".join([*texts, *("%08x-%08x" % (first, end - 4) for first, end in joined([it for it, own in zip(blocks, lines) if not own]))])
+    return "  ".join([*texts, *("%08x-%08x" % (first, end - 4) for first, end in joined([block for block, own in zip(blocks, lines) if not own]))])
 
 
 def ranges_text(numbers: Sequence[int]) -> str:
     """Returns sorted numbers as a text with ranges, as `3, 7-9`."""
-    found = joined((it, it + 1) for it in numbers)
-    return ", ".join("%d" % first if end == first + 1 else "%d-%d" % (first, end - 1) for first, end in found)
+    ranges = joined((number, number + 1) for number in numbers)
+    return ", ".join("%d" % first if end == first + 1 else "%d-%d" % (first, end - 1) for first, end in ranges)

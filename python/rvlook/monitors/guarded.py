@@ -21,13 +21,13 @@ SUPERVISOR = ("sscratch", "sepc", "scause", "stval", "stvec", "sstatus")
 STATE_CSRS = (*SUPERVISOR, "mepc", "mstatus", "mtvec")
 STATE = "".join(["regs\n", *("csr %x\n" % CSRS[name] for name in STATE_CSRS), "pmp\n"]).encode()
 STATE_LINES = REGISTER_LINES + len(STATE_CSRS) + PMP_LINES
-MPP_SHIFT, MPP_M = 11, 3  # of MPP in mstatus, and its value for M
+MPP_SHIFT, MPP_M = 11, 3  # the position of MPP in mstatus, and its value for M
 MODES = "US?M"
 SWITCHED_STATUS = 0x80122  # the bits SIE, SPIE, SPP and MXR of sstatus
 T0 = 5
 STEPS_PER_RUN = 1000000  # steps of one `run` in M
-MAX_WATCHPOINTS = 32  # that the bench can have
-MAX_STOPS_IN_M = 10000  # of the bench in M before M returns: at traps, at each mret, and at watchpoints
+MAX_WATCHPOINTS = 32  # the most watchpoints that the bench can have
+MAX_STOPS_IN_M = 10000  # the most stops of the bench in M before M returns: at traps, at each mret, and at watchpoints
 TIMER_VECTOR = 28  # bytes from the base of mtvec, if it is vectored
 WITHOUT_EFFECT = ("break ", "clear ", "watch ", "unwatch ", "csr ")  # commands that do not change the state of the hart
 
@@ -37,7 +37,7 @@ class NewVector(Exception):
 
     def __init__(self, address: int) -> None:
         super().__init__("%08x" % address)
-        self.address = address  # of the vector
+        self.address = address  # the address of the vector
 
 
 def vector_of_first_trap(setup: MonitorSetup, log: Sequence[str], steps: int) -> int:
@@ -108,7 +108,7 @@ class TrapLoop:
 class HartState(NamedTuple):
     """The state of the hart in M: at the entry, of the world that trapped; at the return, of the world that continues."""
     registers: tuple[int, ...]  # x0 to x31
-    csrs: dict[str, int]  # by name
+    csrs: dict[str, int]  # the csrs by name
     pc: int  # mepc
     mode: str  # MPP
     entries: bytes  # the replies of `pmp`
@@ -117,7 +117,7 @@ class HartState(NamedTuple):
 
 class StayInM(NamedTuple):
     """A stay in M, from a trap to the return."""
-    cause: str  # of the trap, 8 hexadecimal digits; empty for the first stay
+    cause: str  # the cause of the trap, 8 hexadecimal digits; empty for the first stay
     entry: HartState  # state at the entry
     exit: HartState  # state at the return
     spent: int  # steps in M
@@ -173,9 +173,9 @@ class Guarded(MonitorBench):
         """Runs M up to its mret to S or U, which is the next instruction then. Traps in M may come before, from which M must return. Notes which
         of the watched bytes M loads. Raises NewVector if M traps to an address that has no breakpoint."""
         watched = watched[:MAX_WATCHPOINTS - len(self.setup.lowered)]
-        self.do(*("watch %x" % it for it in watched))
+        self.do(*("watch %x" % address for address in watched))
         stay = self.to_mret(cause, entry)
-        self.do(*("unwatch %x" % it for it in watched))
+        self.do(*("unwatch %x" % address for address in watched))
         return stay
 
     def to_mret(self, cause: str, entry: HartState) -> StayInM:
@@ -230,7 +230,7 @@ class Guarded(MonitorBench):
     def stop_at(self, vectors: Iterable[int]) -> None:
         """Stops the bench at addresses to which traps go. Raises Unfinished if there are too many."""
         self.vectors.update(vectors)
-        if any(it.startswith(b"error") for it in self.do(*("break %x" % it for it in vectors))):
+        if any(reply.startswith(b"error") for reply in self.do(*("break %x" % vector for vector in vectors))):
             raise Unfinished("the monitor has %d mret instructions and %d trap vectors, which are more than %d" % (
                 len(self.setup.returns), len(self.vectors), MAX_MRET_BREAKPOINTS + 1))
 
@@ -257,7 +257,7 @@ class Guarded(MonitorBench):
                 commands += ["setreg %d %x" % (T0, value), *poke_commands(pc, struct.pack("<I", csrw(CSRS[name], T0))), "step 1"]
                 commands += [*poke_commands(pc + 4, struct.pack("<I", BACK)), "step 1"]
             self.do(*commands, *poke_commands(pc, struct.pack("<II", *old_code)), "setreg %d %x" % (T0, old_t0))
-        self.do(*("setreg %d %x" % it for it in registers.items() if it[0]))
+        self.do(*("setreg %d %x" % register for register in registers.items() if register[0]))
 
     def memory(self) -> bytes:
         """Returns all bytes after the range of the monitor."""

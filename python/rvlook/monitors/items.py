@@ -10,7 +10,7 @@ from rvlook.monitors.encodings import ECALL, NOP, SRET, csrr, csrw, jump, load, 
 from rvlook.protocol.names import CSRS, KEY, NUMBERED, Call
 
 MASK = 0xFFFFFFFF
-SSTATUS_VALUES = (0x100, 0x20, 2, 0x80000, 0, 0x122, 0x80122)  # of SIE, SPIE, SPP and MXR
+SSTATUS_VALUES = (0x100, 0x20, 2, 0x80000, 0, 0x122, 0x80122)  # values of sstatus with each of SIE, SPIE, SPP and MXR
 T0, T1, T2 = 5, 6, 7  # registers that the instructions of the items use
 
 
@@ -19,7 +19,7 @@ class Item(NamedTuple):
     text: str  # describes the item
     word: int | None = None  # instruction that is poked at pc; None: the instruction there stays
     registers: tuple[tuple[int, int], ...] = ()  # number and value of each register that is set
-    line: str = ""  # on or off: how the timer line is set; empty: unchanged
+    line: str = ""  # the new value of the timer line, on or off; empty: unchanged
     data: tuple[tuple[int, bytes], ...] = ()  # address and bytes that are poked
     steps: int = 1  # 0 or 1
 
@@ -48,7 +48,7 @@ def call_with(number: Call, value: int) -> Item:
     return call(number, a0=value)
 
 
-destroy, run, resume, stop, leave = (partial(call_with, it) for it in (Call.destroy, Call.run, Call.resume, Call.stop, Call.exit))
+destroy, run, resume, stop, leave = (partial(call_with, call) for call in (Call.destroy, Call.run, Call.resume, Call.stop, Call.exit))
 
 
 def measure(address: int, slot: int = 0) -> Item:

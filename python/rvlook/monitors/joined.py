@@ -22,8 +22,8 @@ def joined(monitor: Image, path: str) -> tuple[Image, Symbols]:
     """Returns an image with the segments of both files, which begins where the monitor does, and the symbols of the second file. Raises
     RvlookError if a file cannot be used, or if segments overlap."""
     host = image_of(path)
-    parts = [(it, monitor) for it in segments_of(monitor)] + [(it, host) for it in segments_of(host)]
-    refuse_overlap([(it.address, it.address + it.in_memory, image.name) for it, image in parts])
+    parts = [(segment, monitor) for segment in segments_of(monitor)] + [(segment, host) for segment in segments_of(host)]
+    refuse_overlap([(segment.address, segment.address + segment.in_memory, image.name) for segment, image in parts])
     table, body, start = b"", b"", HEADER + SEGMENT.size * len(parts)
     for (kind, offset, virtual, address, in_file, in_memory, flags, _), image in parts:
         table += SEGMENT.pack(kind, start + len(body), virtual, address, in_file, in_memory, flags, 1)
@@ -35,9 +35,9 @@ def joined(monitor: Image, path: str) -> tuple[Image, Symbols]:
 def refuse_overlap(spans: list[tuple[int, int, str]]) -> None:
     """Raises RvlookError if two segments have a byte in common."""
     ordered = sorted(spans)
-    for (_, end, one), (first, _, other) in zip(ordered, ordered[1:]):
+    for (_, end, name), (first, _, next_name) in zip(ordered, ordered[1:]):
         if first < end:
-            raise RvlookError("a segment of '%s' and one of '%s' overlap at %08x; link the host elsewhere" % (one, other, first))
+            raise RvlookError("a segment of '%s' and one of '%s' overlap at %08x; link the host elsewhere" % (name, next_name, first))
 
 
 def header_of(image: Image, count: int) -> bytes:
@@ -52,5 +52,5 @@ def header_of(image: Image, count: int) -> bytes:
 
 def both(one: Symbols, other: Symbols) -> Symbols:
     """Returns the symbols of two files."""
-    symbols = dict.fromkeys(it for part in (one, other) for it in (*part.ordered, *part.by_name.values()))
+    symbols = dict.fromkeys(symbol for part in (one, other) for symbol in (*part.ordered, *part.by_name.values()))
     return Symbols(list(symbols), [*one.units, *other.units])

@@ -39,16 +39,16 @@ class RangesTable:
         """Yields the ranges of the elements that count."""
         for number in range(self.count):
             at = self.first + number * self.stride
-            if all(it.holds(words, calls, at) for it in self.when):
+            if all(condition.holds(words, calls, at) for condition in self.when):
                 yield from self.ranges_at(words, at, "%s%d" % (self.name, number))
 
     def ranges_at(self, words: Words, at: int, owner: str) -> Iterator[OwnedRange]:
         """Yields the ranges of an element at an address."""
-        base, size = (words(at + it & MASK) for it in self.region)
+        base, size = (words(at + offset & MASK) for offset in self.region)
         if size:
             yield OwnedRange(base, base + size, owner, is_timed=True)
         if size and self.window:
-            base, size = (words(at + it & MASK) for it in self.window)
+            base, size = (words(at + offset & MASK) for offset in self.window)
             if size:
                 yield OwnedRange(base, base + size, SHARED, DATA, (owner,), is_timed=True)
 
@@ -61,7 +61,7 @@ class OwnedRange(NamedTuple):
     may: str = ALL  # what the owner, or each sharer, may do
     sharers: tuple[str, ...] = ()  # the worlds that share it
     is_timed: bool = False  # whether it exists only while its conditions hold, or while a table has it
-    when: tuple[WordCondition, ...] = ()  # its conditions
+    when: tuple[WordCondition, ...] = ()  # the conditions under which the range exists
 
     def has(self, at: int) -> bool:
         """Returns whether an address is in the range."""
@@ -78,7 +78,7 @@ class OwnedRange(NamedTuple):
 @dataclass
 class Ownership:
     """The owners of all memory, and what else the author declares."""
-    ranges: list[OwnedRange] = field(default_factory=list)  # all of them
+    ranges: list[OwnedRange] = field(default_factory=list)  # all ranges of the file
     hands: set[int] = field(default_factory=lambda: {10, 11})  # registers that hand values over at a call
     once: set[str] = field(default_factory=set)  # owners that run once
     tables: list[RangesTable] = field(default_factory=list)  # tables in memory that have further ranges
@@ -86,23 +86,23 @@ class Ownership:
 
     def active(self, words: Words, calls: int) -> Ownership:
         """Returns the ranges that exist with these words of memory after a number of calls. Returns this object if all ranges exist always."""
-        if not self.tables and not any(it.when for it in self.ranges):
+        if not self.tables and not any(range_.when for range_ in self.ranges):
             return self
-        ranges = [it for it in self.ranges if all(condition.holds(words, calls) for condition in it.when)]
-        ranges += [it for table in self.tables for it in table.ranges(words, calls)]
+        ranges = [range_ for range_ in self.ranges if all(condition.holds(words, calls) for condition in range_.when)]
+        ranges += [range_ for table in self.tables for range_ in table.ranges(words, calls)]
         return Ownership(ranges, self.hands, self.once, [], self.secrets)
 
     def enclaves(self) -> list[str]:
         """Returns the names of the enclaves, and the names of tables."""
-        return [*dict.fromkeys(it.owner for it in self.private()), *(it.name for it in self.tables)]
+        return [*dict.fromkeys(range_.owner for range_ in self.private()), *(table.name for table in self.tables)]
 
     def runs_once(self, owner: str) -> bool:
         """Returns whether an enclave, or all of its table, need not continue."""
-        return owner in self.once or any(it.name in self.once and owner.rstrip("0123456789") == it.name for it in self.tables)
+        return owner in self.once or any(table.name in self.once and owner.rstrip("0123456789") == table.name for table in self.tables)
 
     def owner_of(self, at: int) -> str | None:
         """Returns who owns a byte, or None. The smallest range that has the byte decides."""
-        owned = [it for it in self.ranges if it.owner != SHARED and it.has(at)]
+        owned = [range_ for range_ in self.ranges if range_.owner != SHARED and range_.has(at)]
         return min(owned, key=lambda it: it.end - it.first).owner if owned else None
 
     def is_monitor(self, at: int) -> bool:
@@ -111,8 +111,8 @@ class Ownership:
 
     def private(self) -> list[OwnedRange]:
         """Returns the ranges of enclaves."""
-        return [it for it in self.ranges if it.owner not in (SHARED, MONITOR, HOST)]
+        return [range_ for range_ in self.ranges if range_.owner not in (SHARED, MONITOR, HOST)]
 
     def open_to(self, world: str) -> list[OwnedRange]:
         """Returns the ranges that a world owns or shares."""
-        return [it for it in self.ranges if world == it.owner or world in it.sharers]
+        return [range_ for range_ in self.ranges if world == range_.owner or world in range_.sharers]

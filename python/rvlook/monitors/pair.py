@@ -31,21 +31,21 @@ A0 = 10
 @dataclass(frozen=True)
 class Cell:
     """One cell of the coverage table."""
-    group: str  # such as `switch`
-    name: str  # in the group
+    group: str  # the group, such as `switch`
+    name: str  # the name in the group
     count: int  # how often scripts reached it
 
 
 @dataclass
 class ScriptCoverage:
     """The coverage of scripts."""
-    scripts: int = 0  # their number
+    scripts: int = 0  # the number of scripts
     steps: int = 0  # below M
-    returns: int = 0  # from M
+    returns: int = 0  # the number of returns from M
     spent: int = 0  # steps in M
     longest_stay: tuple[int, str] = (0, "")  # steps of the longest stay in M, and its item
     calls: Counter[tuple[str, str, str]] = field(default_factory=Counter)  # side, call, result
-    switches: Counter[str] = field(default_factory=Counter)  # by name, see SWITCHES
+    switches: Counter[str] = field(default_factory=Counter)  # the number of switches by name, see SWITCHES
     redirected: Counter[tuple[str, str, int]] = field(default_factory=Counter)  # side, mode, cause
 
     def add(self, other: ScriptCoverage) -> None:
@@ -61,39 +61,39 @@ class ScriptCoverage:
         """Yields all cells of the table."""
         for side, results in ((HOST, HOST_RESULTS), (ENCLAVE, ENCLAVE_RESULTS)):
             for call, statuses in results.items():
-                yield from (Cell("call of the %s" % side, "%s %s" % (call, it), self.calls[side, call, it]) for it in statuses)
-        yield from (Cell("switch", it, self.switches[it]) for it in SWITCHES)
+                yield from (Cell("call of the %s" % side, "%s %s" % (call, status), self.calls[side, call, status]) for status in statuses)
+        yield from (Cell("switch", switch, self.switches[switch]) for switch in SWITCHES)
         for side in (HOST, ENCLAVE):
             yield from (Cell("exception of the %s" % side, "cause %d in %s" % (cause, mode), self.redirected[side, mode, cause])
                         for mode, causes in CAUSES.items() for cause in causes)
 
     def empty(self) -> list[str]:
         """Returns the names of the empty cells."""
-        return ["%s: %s" % (it.group, it.name) for it in self.cells() if not it.count]
+        return ["%s: %s" % (cell.group, cell.name) for cell in self.cells() if not cell.count]
 
 
 class PairStep(NamedTuple):
     """An item that was done."""
     item: Item
-    world: str  # that did it
-    result: str  # in words; empty without a trap
+    world: str  # the world that did it
+    result: str  # the result in words; empty without a trap
 
 
 @dataclass
 class PlayedScript:
     """A script that was run."""
-    name: str  # of the script
+    name: str  # the name of the script
     steps: list[PairStep] = field(default_factory=list)  # up to the first difference
-    differences: list[MonitorDifference] = field(default_factory=list)  # at that step
-    coverage: ScriptCoverage = field(default_factory=ScriptCoverage)  # of the script
+    differences: list[MonitorDifference] = field(default_factory=list)  # the differences at that step
+    coverage: ScriptCoverage = field(default_factory=ScriptCoverage)  # the coverage of the script
     own_log: list[str] = field(default_factory=list)  # lines of the author's side
     reference_log: list[str] = field(default_factory=list)  # lines of the reference
-    stays: list[Stay] = field(default_factory=list)  # of the author's side in M
+    stays: list[Stay] = field(default_factory=list)  # the stays of the author's side in M
 
     @property
     def items(self) -> list[Item]:
         """Returns the items that were done."""
-        return [it.item for it in self.steps]
+        return [step.item for step in self.steps]
 
 
 class BothSides(Closing):
@@ -103,7 +103,7 @@ class BothSides(Closing):
         self.setup, self.compares_memory, self.played = setup, compares_memory, PlayedScript(name)  # `played`: the script so far
         self.own, self.reference = Side(setup, is_own=True), Side(setup, is_own=False)  # the two monitors
         self.world, self.has_trapped = "host", False  # the world that runs; whether a trap has occurred
-        self.table: list[Enclave] = []  # of the enclaves, as the reference has it
+        self.table: list[Enclave] = []  # the table of the enclaves, as the reference has it
         self.left_by: dict[str, str] = {}  # how each enclave that is Stopped was left
         try:
             self.compare(self.own.begin(), self.reference.begin(), has_trap=True)
@@ -181,7 +181,7 @@ class BothSides(Closing):
         self.played.coverage.calls[side, name, status] += 1
         if (name, status) == ("destroy", DONE):
             slot = dict(item.registers)[A0]
-            destroyed = next(it for it in self.table if it.slot == slot)
+            destroyed = next(enclave for enclave in self.table if enclave.slot == slot)
             self.played.coverage.switches["destroy of %s" % destroyed.state] += 1
             self.left_by.pop(destroyed.world, None)
 

@@ -10,7 +10,7 @@ from rvlook.monitors.items import Item
 from rvlook.protocol.memory_map import MONITOR_END, RAM_BASE
 from rvlook.protocol.replies import Enclave
 
-STEP = 0x10000  # both ends are multiples of it
+STEP = 0x10000  # the ends of a placement are multiples of it
 ADDRESS = re.compile(r"\b[0-9a-f]{8}\b")
 RANGE = re.compile(r"([0-9a-f]{1,8})-([0-9a-f]{1,8})\Z", re.I)
 
@@ -48,7 +48,7 @@ class Placement(NamedTuple):
         """Moves an item."""
         if not self.offset:
             return item
-        text = ADDRESS.sub(lambda found: "%08x" % self.address(int(found[0], 16)), item.text)
+        text = ADDRESS.sub(lambda match: "%08x" % self.address(int(match[0], 16)), item.text)
         return item._replace(text=text, registers=tuple((n, self.address(value)) for n, value in item.registers),
                              data=tuple((self.address(at), data) for at, data in item.data))
 
@@ -69,9 +69,10 @@ def placement_of(text: str | None, ram: int, least: int) -> Placement:
     match = RANGE.match(text)
     if not match:
         raise UsageError("invalid --memory '%s' (expected FIRST-LAST, in hexadecimal digits)" % text)
-    found = Placement(int(match[1], 16), int(match[2], 16) + 1)
-    if found.first < MONITOR_END or found.end > end or found.first % STEP or found.end % STEP:
+    placement = Placement(int(match[1], 16), int(match[2], 16) + 1)
+    if placement.first < MONITOR_END or placement.end > end or placement.first % STEP or placement.end % STEP:
         raise UsageError("--memory %s must be in the RAM from 80010000 to %08x, and its ends at multiples of 10000" % (text, end - 1))
-    if found.ram < least:
-        raise UsageError("--memory %s is too small; it must have %x bytes or more" % (text, least - (0 if found.offset else MONITOR_END - RAM_BASE)))
-    return found
+    if placement.ram < least:
+        size = least - (0 if placement.offset else MONITOR_END - RAM_BASE)
+        raise UsageError("--memory %s is too small; it must have %x bytes or more" % (text, size))
+    return placement

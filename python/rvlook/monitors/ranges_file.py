@@ -23,40 +23,40 @@ MALFORMED = (ValueError, KeyError, IndexError)
 
 def ownership_of(path: str, symbols: Symbols) -> Ownership:
     """Reads a file of ranges. Raises RvlookError if a line is malformed, or if a needed range is missing."""
-    found = Ownership()
+    ownership = Ownership()
     for number, text in enumerate(read_file(path).decode("latin-1").splitlines(), 1):
         words = text.split("#")[0].split()
         try:
             if words:
-                add_line(found, words, symbols)
+                add_line(ownership, words, symbols)
         except MALFORMED:
             raise RvlookError("%s:%d: %s" % (path, number, FORMS)) from None
-    owners = {it.owner for it in found.ranges} - {SHARED} | {it.name for it in found.tables}
+    owners = {range_.owner for range_ in ownership.ranges} - {SHARED} | {table.name for table in ownership.tables}
     missing = sorted({MONITOR, HOST} - owners, reverse=True) or [
-        it for it in sorted(found.once) if not any(it == owner or re.fullmatch(re.escape(owner) + r"\d+", it) for owner in owners)]
+        name for name in sorted(ownership.once) if not any(name == owner or re.fullmatch(re.escape(owner) + r"\d+", name) for owner in owners)]
     if missing:
         raise RvlookError("'%s' has no range of %s" % (path, missing[0]))
-    return found
+    return ownership
 
 
-def add_line(found: Ownership, words: list[str], symbols: Symbols) -> None:
+def add_line(ownership: Ownership, words: list[str], symbols: Symbols) -> None:
     """Adds a line. Raises one of MALFORMED."""
     cut = words.index(WHILE) if WHILE in words else len(words)
     is_timed, words, conditions = WHILE in words, words[:cut], words[cut + 1:]
     if is_timed != bool(conditions) or not words:
         raise ValueError
     if words[0] == TABLE:
-        found.tables.append(table_of(words, conditions, symbols))
+        ownership.tables.append(table_of(words, conditions, symbols))
     elif words[0] in (HANDS, ONCE, SECRET) and (conditions or words[0] == ONCE and len(words) == 1):
         raise ValueError
     elif words[0] == HANDS:
-        found.hands = {NUMBER_OF[it] for it in words[1:]}
+        ownership.hands = {NUMBER_OF[word] for word in words[1:]}
     elif words[0] == ONCE:
-        found.once.update(words[1:])
+        ownership.once.update(words[1:])
     elif words[0] == SECRET:
-        found.secrets.append(secret_of(words, symbols))
+        ownership.secrets.append(secret_of(words, symbols))
     else:
-        found.ranges.append(range_of(words, tuple(condition_of(it, symbols) for it in conditions)))
+        ownership.ranges.append(range_of(words, tuple(condition_of(condition, symbols) for condition in conditions)))
 
 
 def condition_of(text: str, symbols: Symbols | None) -> WordCondition:
@@ -80,11 +80,11 @@ def address_of(text: str, symbols: Symbols) -> int:
 def range_of(words: list[str], when: tuple[WordCondition, ...]) -> OwnedRange:
     """Returns the range of a line. Raises ValueError if the line is malformed."""
     match = RANGE.match(words[-1])
-    owner, *others = words[:-1] or [""]
-    may = others.pop() if others and LETTERS.match(others[-1]) else ALL
-    if not match or not owner or bool(others) != (owner == SHARED) or int(match[1], 16) > int(match[2], 16):
+    owner, *sharers = words[:-1] or [""]
+    may = sharers.pop() if sharers and LETTERS.match(sharers[-1]) else ALL
+    if not match or not owner or bool(sharers) != (owner == SHARED) or int(match[1], 16) > int(match[2], 16):
         raise ValueError
-    return OwnedRange(int(match[1], 16), int(match[2], 16) + 1, owner, may, tuple(others), bool(when), when)
+    return OwnedRange(int(match[1], 16), int(match[2], 16) + 1, owner, may, tuple(sharers), bool(when), when)
 
 
 def secret_of(words: list[str], symbols: Symbols) -> OwnedRange:
@@ -102,4 +102,4 @@ def table_of(words: list[str], conditions: list[str], symbols: Symbols) -> Range
     if region != REGION or window and (len(window) != 3 or window[0] != WINDOW) or not 0 < int(count) <= MOST_ELEMENTS:
         raise ValueError
     return RangesTable(name, int(count), address_of(place, symbols), int(stride, 16), (int(base, 16), int(size, 16)),
-                       (int(window[1], 16), int(window[2], 16)) if window else None, tuple(condition_of(it, None) for it in conditions))
+                       (int(window[1], 16), int(window[2], 16)) if window else None, tuple(condition_of(condition, None) for condition in conditions))

@@ -28,30 +28,30 @@ def rights_of(lines: bytes, ram: int) -> tuple[Right, ...]:
     entries = [entry_of(line.decode()) for line in lines.splitlines()]
     covered = [entry_range(entries, index) for index in range(len(entries))]
     ends = boundaries(entries, ram)
-    found: list[Right] = []
+    rights: list[Right] = []
     for first, end in zip(ends, ends[1:]):
-        index = next((n for n, it in enumerate(covered) if it and it.first <= first < it.end), None)
+        index = next((n for n, entry in enumerate(covered) if entry and entry.first <= first < entry.end), None)
         cfg = 0 if index is None else entries[index].cfg
         may = "".join(letter if cfg & bit else "-" for letter, bit in BITS)
-        if found and found[-1].may == may and (may == NOTHING or found[-1].entry == index):
-            found[-1] = Right(found[-1].first, end, may, index)
+        if rights and rights[-1].may == may and (may == NOTHING or rights[-1].entry == index):
+            rights[-1] = Right(rights[-1].first, end, may, index)
         else:
-            found.append(Right(first, end, may, index))
-    return tuple(found)
+            rights.append(Right(first, end, may, index))
+    return tuple(rights)
 
 
 def closed_outside(rights: tuple[Right, ...], first: int, end: int, last: int) -> tuple[Right, ...]:
     """Returns access rights that permit nothing outside the range from `first` up to before `end`. `last` is the end of the RAM."""
-    inside = [Right(max(it.first, first), min(it.end, end), it.may, it.entry) for it in rights if it.first < end and first < it.end]
-    found: list[Right] = []
+    inside = [right._replace(first=max(right.first, first), end=min(right.end, end)) for right in rights if right.first < end and first < right.end]
+    closed: list[Right] = []
     for right in (Right(RAM_BASE, first, NOTHING, None), *inside, Right(end, last, NOTHING, None)):
-        if found and found[-1].may == right.may == NOTHING:
-            found[-1] = Right(found[-1].first, right.end, NOTHING, found[-1].entry)
+        if closed and closed[-1].may == right.may == NOTHING:
+            closed[-1] = Right(closed[-1].first, right.end, NOTHING, closed[-1].entry)
         elif right.first < right.end:
-            found.append(right)
-    return tuple(found)
+            closed.append(right)
+    return tuple(closed)
 
 
 def shape(rights: tuple[Right, ...]) -> list[tuple[int, int, str]]:
     """Returns the rights without the entries that decide, which may differ between two monitors."""
-    return [(it.first, it.end, it.may) for it in rights]
+    return [(right.first, right.end, right.may) for right in rights]

@@ -22,7 +22,7 @@ from rvlook.protocol.replies import ROW, Enclave, RanTrap, bytes_of, enclave_of,
 from rvlook.protocol.run import Setup, error_of
 
 MAX_MRET_BREAKPOINTS = 31  # breakpoints at `mret` instructions; the bench has 32
-MAX_STEPS_IN_M = 60000000  # in M, in one trap, with a small RAM
+MAX_STEPS_IN_M = 60000000  # the most steps in M, in one trap, with a small RAM
 MAX_STEPS_PER_BYTE = 100  # further steps in M for each byte of RAM: a measurement and its checks
 RUN_TO_MRET = "run 1000000"  # stops at the breakpoint of the next `mret`
 REGISTER_LINES = 33  # lines of `regs`
@@ -43,18 +43,18 @@ def size_line(ram: int) -> str:
 
 class MonitorSetup(NamedTuple):
     """The author's monitor and how it is run."""
-    image: Image  # of the monitor
+    image: Image  # the image of the monitor
     ram: int  # bytes
     boot: tuple[str, ...]  # lines before the first step
     returns: tuple[int, ...]  # addresses of its mret instructions
     lowered: tuple[int, ...] = ()  # a store to one of them clears the timer line; empty: taking the interrupt clears it
     exact: bool = False  # whether PMP entries are compared as stored
-    memory: Placement | None = None  # of host and enclaves; None: all RAM from 80010000 on
+    memory: Placement | None = None  # the memory of host and enclaves; None: all RAM from 80010000 on
 
     def with_ram(self, ram: int) -> MonitorSetup:
         """Returns the configuration with another size of the RAM. The default boot passes the size to the monitor."""
         old, new = size_line(self.ram), size_line(ram)
-        return self._replace(ram=ram, boot=tuple(new if it == old else it for it in self.boot))
+        return self._replace(ram=ram, boot=tuple(new if path == old else path for path in self.boot))
 
     @property
     def placement(self) -> Placement:
@@ -77,7 +77,7 @@ def return_addresses(image: Image) -> tuple[int, ...]:
     data = image.data or b""
     if not image.is_elf_32:
         raise RvlookError("'%s' is not a 32-bit ELF file, which a monitor must be" % image.name)
-    addresses = [at for it in image.segments() for at in addresses_of_word(data[it.offset:it.offset + it.in_file], it.address, MRET)]
+    addresses = [at for part in image.segments() for at in addresses_of_word(data[part.offset:part.offset + part.in_file], part.address, MRET)]
     if not 0 < len(addresses) <= MAX_MRET_BREAKPOINTS:
         raise RvlookError("'%s' has %d mret instructions; a monitor must have 1 to %d" % (image.name, len(addresses), MAX_MRET_BREAKPOINTS))
     return tuple(sorted(addresses))
@@ -96,10 +96,10 @@ def addresses_of_word(data: bytes, address: int, word: int) -> list[int]:
 
 class SideState(NamedTuple):
     """The state after a step, as S and U can observe it."""
-    pc: int  # after the step
-    mode: str  # after the step
+    pc: int  # the pc after the step
+    mode: str  # the mode after the step
     trap: str  # cause and value of the trap of the step, or a hyphen
-    world: str  # after the step
+    world: str  # the world after the step
     below: bytes  # the replies of x0 to x31, pc and the S-mode registers
     above: tuple[int, ...]  # the values of DECIDING_BITS and EXACT_CSRS
     entries: bytes  # the replies of `pmp`
@@ -145,7 +145,7 @@ class MonitorBench(Closing):
             self.bench.one("reg 0")
         except BenchEnded as error:
             raise error_of(self.run, error) from None
-        self.do(*("break %x" % it for it in self.setup.returns), *("watch %x" % it for it in self.setup.lowered))
+        self.do(*("break %x" % address for address in self.setup.returns), *("watch %x" % address for address in self.setup.lowered))
 
     def boot(self) -> None:
         """Does the lines of the boot. Raises RvlookError if the bench refuses one."""
@@ -161,8 +161,8 @@ class Side(MonitorBench):
     def __init__(self, setup: MonitorSetup, is_own: bool) -> None:
         super().__init__(setup, setup.own if is_own else setup.reference)
         self.is_own, self.placement = is_own, setup.placement  # whether it is the author's monitor
-        self.stays: list[Stay] = []  # in M so far
-        self.pc, self.mode = self.placement.host, "S"  # of S or U before the next step, and their mode
+        self.stays: list[Stay] = []  # the stays in M so far
+        self.pc, self.mode = self.placement.host, "S"  # pc and mode of S or U before the next step
 
     def begin(self) -> SideState:
         """Goes to the first instruction below M. Raises RvlookError if the bench refuses the image or a line of the boot."""
@@ -190,7 +190,7 @@ class Side(MonitorBench):
     def lines_of(self, item: Item) -> list[str]:
         """Returns the lines that prepare an item."""
         lines = [line for address, data in item.data for line in poke_commands(address, data)]
-        lines += ["setreg %d %x" % it for it in item.registers if it[0]]
+        lines += ["setreg %d %x" % register for register in item.registers if register[0]]
         if item.word is not None and self.placement.first <= self.pc and self.pc + 4 <= self.placement.end:
             lines += poke_commands(self.pc, struct.pack("<I", item.word))
         return lines + (["timer " + item.line] if item.line else [])
@@ -199,7 +199,7 @@ class Side(MonitorBench):
         """Does the steps in M up to the return. If M does not return, the fault of the state says why."""
         first, spent, fault = len(self.log), 0, ""
         while self.mode == "M" and not fault:
-            ran, last = (step_of(it.decode()) for it in self.do(RUN_TO_MRET, "step 1"))
+            ran, last = (step_of(reply.decode()) for reply in self.do(RUN_TO_MRET, "step 1"))
             spent += ran.steps + 1
             fault = self.fault_of(ran.mode, ran.trap or last.trap, spent, MAX_STEPS_IN_M + MAX_STEPS_PER_BYTE * self.setup.ram)
             if ran.why.startswith("watch") and is_store(word_at(self.bench, int(ran.pc, 16) - 4)):
@@ -233,7 +233,7 @@ class Side(MonitorBench):
 
     def enclaves(self) -> list[Enclave]:
         """Returns the enclave table of the reference."""
-        return [enclave_of(it) for it in self.bench.ask("enclaves")[0]]
+        return [enclave_of(line) for line in self.bench.ask("enclaves")[0]]
 
 
 @lru_cache(maxsize=None)

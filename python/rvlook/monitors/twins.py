@@ -29,12 +29,12 @@ class Track:
     """One run up to a return from M.
 
     A range becomes live at the return at which it is closed to the host or its owner runs. It stays live until the host gets it back."""
-    machine: Guarded  # that runs
+    machine: Guarded  # the machine that runs
     declared: Ownership  # what the author declares
     limit: int  # steps below M
-    world: str = HOST  # that continues
-    returns: int = 0  # from M so far
-    calls: int = 0  # of the host so far
+    world: str = HOST  # the world that continues
+    returns: int = 0  # the number of returns from M so far
+    calls: int = 0  # the number of calls of the host so far
     live: set[OwnedRange] = field(default_factory=set)  # the live ranges
     closed: list[OwnedRange] = field(default_factory=list)  # the live ranges that are closed to the world that continues
     inverted: list[OwnedRange] = field(default_factory=list)  # ranges that were inverted at the last trap
@@ -73,24 +73,24 @@ class Track:
         arguments = entry.registers[A0:A7 + 1] if cause == ECALL_FROM_S else ()
         registers = {n: entry.registers[n] ^ MASK for n in range(1, 32) if not (arguments and A0 <= n <= A7)}
         self.machine.set_state(registers, {name: entry.csrs[name] ^ MASK for name in MARKED_CSRS})
-        self.inverted = [it for it in self.ownership.private() if it.owner == self.world and not any(map(it.has, arguments))]
+        self.inverted = [range_ for range_ in self.ownership.private() if range_.owner == self.world and not any(map(range_.has, arguments))]
         for inverted in self.inverted:
             self.machine.do(*poke_commands(inverted.first, bytes(byte ^ 0xFF for byte in self.machine.bytes_of(inverted.first, inverted.end))))
 
     def note_closed(self, stay: StayInM) -> None:
         """Notes which ranges are live and closed to the world that continues."""
         closed = closed_ranges(self.ownership, rights_of(stay.exit.entries, self.machine.setup.ram))
-        self.live = {it for it in self.ownership.private()
-                     if it.is_timed or self.world == it.owner or (it in closed if self.world == HOST else it in self.live)}
-        self.closed = [it for it in closed if it in self.live and it.owner != self.world]
+        self.live = {range_ for range_ in self.ownership.private()
+                     if range_.is_timed or self.world == range_.owner or (range_ in closed if self.world == HOST else range_ in self.live)}
+        self.closed = [range_ for range_ in closed if range_ in self.live and range_.owner != self.world]
 
 
 class TwinSecret(NamedTuple):
     """The private state that the second run of a pair inverts. A field is empty if nothing of its kind is inverted."""
-    name: str  # for the report
-    owners: frozenset[str] = frozenset()  # of ranges
-    world: str = ""  # whose registers are inverted
-    ranges: tuple[OwnedRange, ...] = ()  # of the monitor
+    name: str  # the name for the report
+    owners: frozenset[str] = frozenset()  # the owners of ranges
+    world: str = ""  # the world whose registers are inverted
+    ranges: tuple[OwnedRange, ...] = ()  # the ranges of the monitor
 
     @property
     def text(self) -> str:
@@ -103,9 +103,9 @@ class TwinResult(NamedTuple):
     secret: TwinSecret  # the inverted state
     difference: str = ""  # the first difference in words; empty if there is none
     step: int = 0  # below M, at the difference
-    pc: int = 0  # of the trap before the difference
+    pc: int = 0  # the pc of the trap before the difference
     changes: int = 0  # how often the secret was inverted
-    returns: int = 0  # from M that were compared
+    returns: int = 0  # the number of returns from M that were compared
     why_cut: str = ""  # why the comparison ended early; empty if it did not
 
 
@@ -119,28 +119,28 @@ def secrets_of(setup: MonitorSetup, ownership: Ownership, limit: int, vectors: s
         unused = list(zero_pages(machine, unloaded_pages(setup, ownership)))
         while stay:
             entered[track.world] = None
-            closed.update({it.owner: None for it in track.closed})
+            closed.update({range_.owner: None for range_ in track.closed})
             stay = track.next_return()
         unused = list(zero_pages(machine, unused))
-    secrets = [TwinSecret(it, frozenset({it}), it) for it in entered if it in closed]
-    others = frozenset(closed.keys() - entered.keys())
-    if others:
-        secrets.append(TwinSecret(OTHERS, others))
+    secrets = [TwinSecret(owner, frozenset({owner}), owner) for owner in entered if owner in closed]
+    other_owners = frozenset(closed.keys() - entered.keys())
+    if other_owners:
+        secrets.append(TwinSecret(OTHERS, other_owners))
     return secrets + [TwinSecret(name, ranges=tuple(ranges)) for name, ranges in ((UNUSED, unused), (SECRETS, ownership.secrets)) if ranges]
 
 
 def unloaded_pages(setup: MonitorSetup, ownership: Ownership) -> Iterator[OwnedRange]:
     """Yields the pages of the monitor that are in no segment of the image."""
     segments = list(setup.image.segments())
-    for part in [it for it in ownership.ranges if it.owner == MONITOR]:
+    for part in [range_ for range_ in ownership.ranges if range_.owner == MONITOR]:
         for first in range(-(-part.first // PAGE) * PAGE, min(part.end, RAM_BASE + setup.ram) - PAGE + 1, PAGE):
-            if not any(it.address < first + PAGE and first < it.address + it.in_memory for it in segments):
+            if not any(segment.address < first + PAGE and first < segment.address + segment.in_memory for segment in segments):
                 yield OwnedRange(first, first + PAGE, MONITOR)
 
 
 def zero_pages(machine: Guarded, pages: Iterator[OwnedRange] | list[OwnedRange]) -> Iterator[OwnedRange]:
     """Yields the pages whose bytes are all 0."""
-    return (it for it in pages if not any(machine.bytes_of(it.first, it.end)))
+    return (page for page in pages if not any(machine.bytes_of(page.first, page.end)))
 
 
 class TwinRuns:
@@ -164,9 +164,9 @@ class TwinRuns:
             if stays[0]:
                 self.invert(tracks, self.secret.ranges)
             while stays[0] and stays[1]:
-                found = self.at_return(tracks, stays[0], stays[1])
-                if found:
-                    return found
+                result = self.at_return(tracks, stays[0], stays[1])
+                if result:
+                    return result
                 stays = tracks[0].next_return(), tracks[1].next_return(self.secret.world)
             is_different = stays[0] is not stays[1] and tracks[0].world not in self.secret.owners
             return self.result("only one of two runs has another return from M" if is_different else "", one.steps)
@@ -174,7 +174,7 @@ class TwinRuns:
     def at_return(self, tracks: tuple[Track, Track], one: StayInM, other: StayInM) -> TwinResult | None:
         """Returns the difference of the runs at a return from M. An owner of the secret gets the state of the first run instead."""
         steps = tracks[0].machine.steps
-        self.inverted += [it for it in tracks[1].inverted if it not in self.inverted]
+        self.inverted += [range_ for range_ in tracks[1].inverted if range_ not in self.inverted]
         self.changes += bool(tracks[1].inverted)
         if tracks[0].world in self.secret.owners and tracks[1].world == tracks[0].world:
             if (one.exit.pc, one.exit.mode) != (other.exit.pc, other.exit.mode):
@@ -182,10 +182,10 @@ class TwinRuns:
                 return self.result("", steps, why_cut="%s then continues at %08x in one run, and at %08x in the other" % places)
             self.restore(tracks, one, other)
             return None
-        self.inverted = [it for it in self.inverted if it in tracks[0].closed or it in self.secret.ranges]
+        self.inverted = [range_ for range_ in self.inverted if range_ in tracks[0].closed or range_ in self.secret.ranges]
         self.returns += 1
         text = state_difference(one, other) or memory_difference(tracks, self.inverted)
-        self.invert(tracks, [it for it in tracks[0].closed if it.owner in self.secret.owners and it not in self.inverted])
+        self.invert(tracks, [range_ for range_ in tracks[0].closed if range_.owner in self.secret.owners and range_ not in self.inverted])
         return self.result(text, steps, one.entry.pc) if text else None
 
     def invert(self, tracks: tuple[Track, Track], ranges: list[OwnedRange] | tuple[OwnedRange, ...]) -> None:
@@ -198,7 +198,7 @@ class TwinRuns:
 
     def restore(self, tracks: tuple[Track, Track], one: StayInM, other: StayInM) -> None:
         """Gives the owner that continues in the second run the bytes and registers of the first run."""
-        for inverted in [it for it in self.inverted if it not in self.secret.ranges]:
+        for inverted in [range_ for range_ in self.inverted if range_ not in self.secret.ranges]:
             data, old = (track.machine.bytes_of(inverted.first, inverted.end) for track in tracks)
             pokes = poke_commands(inverted.first, data)
             tracks[1].machine.do(*(line for line, byte, other in zip(pokes, data, old) if byte != other))
@@ -208,7 +208,7 @@ class TwinRuns:
         tracks[1].machine.set_state(registers, csrs)
 
     def result(self, difference: str, step: int, pc: int = 0, why_cut: str = "") -> TwinResult:
-        """Returns the result of the pair."""
+        """Returns the result of the comparison of the two runs."""
         return TwinResult(self.secret, difference, step, pc, self.changes, self.returns, why_cut)
 
 
@@ -226,11 +226,11 @@ def state_difference(one: StayInM, other: StayInM) -> str:
 
 def memory_difference(tracks: tuple[Track, Track], inverted: list[OwnedRange]) -> str:
     """Returns the first byte of memory that differs, outside the ranges of the monitor and the inverted ranges, or an empty text."""
-    hidden = inverted + [it for it in tracks[0].ownership.ranges if it.owner == MONITOR]
-    left, right = (it.machine.rows_outside(hidden) for it in tracks)
+    hidden = inverted + [range_ for range_ in tracks[0].ownership.ranges if range_.owner == MONITOR]
+    left, right = (track.machine.rows_outside(hidden) for track in tracks)
     if left == right:
         return ""
-    one, other = (without(it.machine.memory(), hidden) for it in tracks)
+    one, other = (without(track.machine.memory(), hidden) for track in tracks)
     offset = next((n for n in range(len(one)) if one[n] != other[n]), None)
     return "" if offset is None else "memory at %08x is %02x or %02x" % (MONITOR_END + offset, one[offset], other[offset])
 

@@ -19,11 +19,11 @@ from rvlook.protocol.symbols import Symbols
 BREAKPOINTS = 32
 EXECUTABLE = 1  # a flag of a segment
 ENTRY_OFFSET = 24  # the offset of the first instruction's address in the header of an ELF file
-MAX_STEPS_PER_RUN = 1000000  # of one `run`
+MAX_STEPS_PER_RUN = 1000000  # the most steps of one `run`
 
 
 class Block(NamedTuple):
-    """A basic block."""
+    """A basic block of the code of a monitor."""
     first: int  # address of its first instruction
     end: int  # address after its last instruction
 
@@ -31,7 +31,7 @@ class Block(NamedTuple):
 @dataclass
 class MonitorBlocks:
     """The basic blocks of a monitor."""
-    blocks: dict[int, Block]  # by first address
+    blocks: dict[int, Block]  # the blocks by first address
     functions: dict[int, int]  # the end of each function, by first address; may be empty
 
     def __post_init__(self) -> None:
@@ -40,7 +40,7 @@ class MonitorBlocks:
     @property
     def instructions(self) -> int:
         """Returns the number of instructions."""
-        return sum(it.end - it.first for it in self.blocks.values()) // 4
+        return sum(block.end - block.first for block in self.blocks.values()) // 4
 
     def entry_of(self, at: int) -> int | None:
         """Returns the first address of the function that has an address, or None."""
@@ -50,14 +50,14 @@ class MonitorBlocks:
 
     def count_in(self, entry: int) -> int:
         """Returns the number of blocks of a function."""
-        return sum(entry <= it < self.functions[entry] for it in self.blocks)
+        return sum(entry <= block < self.functions[entry] for block in self.blocks)
 
 
 def code_of(setup: MonitorSetup, ownership: Ownership, symbols: Symbols, vectors: Iterable[int]) -> MonitorBlocks:
     """Returns the code of the monitor: its functions, and what branches, jumps and calls reach from them, from the entry and from the trap
     vectors. Data in an executable segment is therefore left out."""
     words = {address: word for first, data in segments_of(setup, ownership) for address, word in words_of(first, data)}
-    functions = {it.address: it.address + it.size for it in symbols.ordered if it.is_function and it.size and it.address in words}
+    functions = {each.address: each.address + each.size for each in symbols.ordered if each.is_function and each.size and each.address in words}
     start = struct.unpack_from("<I", setup.image.data or b"", ENTRY_OFFSET)[0]
     roots = {start, *vectors, *functions}
     reached = reachable(words, roots) | {at for first, end in functions.items() for at in range(first, end, 4) if at in words}
@@ -67,7 +67,7 @@ def code_of(setup: MonitorSetup, ownership: Ownership, symbols: Symbols, vectors
 def segments_of(setup: MonitorSetup, ownership: Ownership) -> Iterator[tuple[int, bytes]]:
     """Yields the address and the bytes of the part of each executable segment that is in a range of the monitor."""
     data = setup.image.data or b""
-    for segment in (it for it in setup.image.segments() if it.flags & EXECUTABLE):
+    for segment in (segment for segment in setup.image.segments() if segment.flags & EXECUTABLE):
         for part in (part for part in ownership.ranges if part.owner == MONITOR):
             first, end = max(segment.address, part.first), min(segment.address + segment.in_file, part.end)
             if first < end:
@@ -83,9 +83,9 @@ def targets_of(words: dict[int, int], at: int) -> list[int]:
     """Returns the addresses to which a branch, a jump or a call at an address goes, and the address after it if execution may come there."""
     word = words[at]
     kind, target = word & 0x7F, word >> 7 & 31
-    found = [at + branch_offset(word)] if kind == BRANCH else [at + jump_offset(word)] if kind == JAL else far_target(words, at)
+    targets = [at + branch_offset(word)] if kind == BRANCH else [at + jump_offset(word)] if kind == JAL else far_target(words, at)
     is_end = kind in (JAL, JALR) and target == 0 or word in (MRET, SRET)
-    return found if is_end else [*found, at + 4]
+    return targets if is_end else [*targets, at + 4]
 
 
 def far_target(words: dict[int, int], at: int) -> list[int]:
@@ -98,37 +98,37 @@ def far_target(words: dict[int, int], at: int) -> list[int]:
 
 def reachable(words: dict[int, int], roots: Iterable[int]) -> set[int]:
     """Returns the addresses of the instructions that are reached from some addresses without an indirect jump."""
-    found: set[int] = set()
+    reached: set[int] = set()
     rest = list(roots)
     while rest:
         at = rest.pop()
-        if at in words and at not in found:
-            found.add(at)
+        if at in words and at not in reached:
+            reached.add(at)
             rest += targets_of(words, at)
-    return found
+    return reached
 
 
 def leaders_of(words: dict[int, int], reached: set[int]) -> set[int]:
     """Returns the addresses at which a basic block begins: the targets of branches and jumps, and what follows them."""
-    found: set[int] = set()
+    leaders: set[int] = set()
     for at in reached:
         word = words[at]
         if word & 0x7F in (BRANCH, JAL, JALR) or word in (MRET, SRET):
-            found.update(targets_of(words, at))
-            found.add(at + 4)
-    return found
+            leaders.update(targets_of(words, at))
+            leaders.add(at + 4)
+    return leaders
 
 
 def blocks_of(addresses: Sequence[int], leaders: set[int]) -> dict[int, Block]:
     """Returns the basic blocks of instructions whose addresses are sorted."""
-    found: dict[int, Block] = {}
+    blocks: dict[int, Block] = {}
     first = end = -1
     for at in addresses:
         if at != end or at in leaders:
             first = at
         end = at + 4
-        found[first] = Block(first, end)
-    return found
+        blocks[first] = Block(first, end)
+    return blocks
 
 
 class BlockReplay:
@@ -136,10 +136,10 @@ class BlockReplay:
 
     def __init__(self, setup: MonitorSetup, blocks: Sequence[Block]) -> None:
         self.bench = setup.own.bench()  # does the run
-        self.waiting = [it.first for it in blocks]  # blocks without a breakpoint, by first address
+        self.waiting = [block.first for block in blocks]  # blocks without a breakpoint, by first address
         self.decided = set(self.waiting[:BREAKPOINTS])  # a breakpoint is set there during the whole run
-        self.missing = set(self.waiting)  # which were not executed so far
-        self.pc = 0  # where the run is
+        self.missing = set(self.waiting)  # the addresses of blocks that were not executed so far
+        self.pc = 0  # the pc that the run has reached
 
     def run(self, log: Sequence[str]) -> None:
         """Repeats a run up to its end."""
@@ -164,7 +164,7 @@ class BlockReplay:
 
     def do(self, lines: Sequence[str]) -> None:
         """Does lines with one line of reply each, and notes pc."""
-        ran = next((it for it in reversed(self.bench.replies_to(lines)) if it.startswith(b"ran ")), None)
+        ran = next((reply for reply in reversed(self.bench.replies_to(lines)) if reply.startswith(b"ran ")), None)
         self.pc = int(step_of(ran.decode()).pc, 16) if ran else self.pc
 
     def go(self, steps: int) -> None:
@@ -178,7 +178,7 @@ class BlockReplay:
                 break
 
     def note(self, at: int) -> None:
-        """Notes that an instruction is executed."""
+        """Notes that the instruction at an address is executed, and removes its breakpoint."""
         if at in self.missing:
             self.missing.discard(at)
             if at in self.waiting:
@@ -195,8 +195,8 @@ def unexecuted_in(setup: MonitorSetup, logs: Sequence[Sequence[str]], blocks: Se
         while rest:
             replay = BlockReplay(setup, rest)
             replay.run(log)
-            missed += [it for it in rest if it.first in replay.missing and it.first in replay.decided]
-            rest = [it for it in rest if it.first in replay.missing and it.first not in replay.decided]
+            missed += [block for block in rest if block.first in replay.missing and block.first in replay.decided]
+            rest = [block for block in rest if block.first in replay.missing and block.first not in replay.decided]
             progress.show("code that was not executed: run %d of %d, %d blocks left", number, len(logs), len(rest))
         missing = missed
     return missing
@@ -204,7 +204,7 @@ def unexecuted_in(setup: MonitorSetup, logs: Sequence[Sequence[str]], blocks: Se
 
 def unexecuted(setup: MonitorSetup, code: MonitorBlocks, logs: Sequence[Sequence[str]], progress: Progress) -> list[Block]:
     """Returns the blocks that no run executed. Function entries are searched first: without its entry no block of a function is executed."""
-    never = {it.first for it in unexecuted_in(setup, logs, [code.blocks[it] for it in code.ordered], progress)}
-    found = [it for it in code.blocks.values() if code.entry_of(it.first) in never]
-    rest = [it for it in code.blocks.values() if it.first not in code.functions and code.entry_of(it.first) not in never]
-    return sorted(found + unexecuted_in(setup, logs, rest, progress), key=lambda it: it.first)
+    never = {block.first for block in unexecuted_in(setup, logs, [code.blocks[address] for address in code.ordered], progress)}
+    blocks_of_functions = [block for block in code.blocks.values() if code.entry_of(block.first) in never]
+    rest = [block for block in code.blocks.values() if block.first not in code.functions and code.entry_of(block.first) not in never]
+    return sorted(blocks_of_functions + unexecuted_in(setup, logs, rest, progress), key=lambda it: it.first)

@@ -20,16 +20,16 @@ from rvlook.protocol.timeline import MOST_STEPS
 
 STEPS_PER_EXCHANGE = 16384  # single steps in one exchange
 MAX_PATH = 64  # instructions before a writer that are kept
-MAX_STAYS = 20  # that are searched, from the last one back
+MAX_STAYS = 20  # the most stays that are searched, from the last one back
 ALSO_WRITTEN_BY = {"sstatus": ("sstatus", "mstatus"), "mstatus": ("mstatus", "sstatus"), "sie": ("sie", "mie"), "sip": ("sip", "mip")}
 MAX_STEPS_SEARCHED = 1 << 18  # steps of a stay, its last ones, that are searched for a writer
 MAX_STEPS_TO_FAULT = 1000000  # steps of a stay that is searched for a trap in M
 Test = Callable[[int], bool]
 ARGUMENTS = range(10, 15)  # a0 to a4
-BASE, ENTRY = 10, 14  # of create
-MAX_SECONDS = 20  # for all similar calls
+BASE, ENTRY = 10, 14  # the registers of these arguments of create
+MAX_SECONDS = 20  # the most seconds for all similar calls
 MAX_STEPS_COMPARED = 1 << 18  # steps in M of each path
-CHANGES: tuple[Callable[[int], int], ...] = (  # of one argument, the smallest ones first
+CHANGES: tuple[Callable[[int], int], ...] = (  # the changes of one argument, the smallest ones first
     lambda it: it + 4, lambda it: it - 4, lambda it: it + 1, lambda it: it - 1, lambda it: it + 2, lambda it: it + 0x1000, lambda it: it - 0x1000,
     lambda it: it * 2, lambda it: it // 2, lambda it: it ^ 0x1800, lambda it: 0, lambda it: MASK, lambda it: it + 0x10000,
     lambda it: it - 0x10000, lambda it: it ^ 0x80000000)
@@ -37,9 +37,9 @@ CHANGES: tuple[Callable[[int], int], ...] = (  # of one argument, the smallest o
 
 class WritingInstruction(NamedTuple):
     """An instruction in M that wrote a value."""
-    pc: int  # its address
-    text: str  # with ABI names
-    address: int | None = None  # that it accesses; None if unknown
+    pc: int  # the address of the instruction
+    text: str  # the text with ABI names
+    address: int | None = None  # the address that it accesses; None if unknown
     path: tuple[int, ...] = ()  # pcs before it, the last one first: a compiler may give it no source line
 
 
@@ -47,11 +47,11 @@ class StayReplay(Closing):
     """The author's side of a script, brought to the begin of one of its stays in M."""
 
     def __init__(self, setup: MonitorSetup, played: PlayedScript, stay: Stay) -> None:
-        self.bench, self.stay = setup.own.bench(), stay  # at the beginning of `stay`
+        self.bench, self.stay = setup.own.bench(), stay  # a bench at the beginning of `stay`
         self.bench.replies_to(played.own_log[:stay.line])
 
     def close(self) -> None:
-        """Ends the bench."""
+        """Ends the process of the bench."""
         self.bench.close()
 
     def addresses(self, first: int = 0) -> list[int]:
@@ -62,7 +62,7 @@ class StayReplay(Closing):
         """Does instructions; yields the address of the one after each."""
         for done in range(0, count, STEPS_PER_EXCHANGE):
             part = min(STEPS_PER_EXCHANGE, count - done)
-            yield from (int(step_of(it.decode()).pc, 16) for it in self.bench.block(b"step 1\n" * part, part).splitlines())
+            yield from (int(step_of(line.decode()).pc, 16) for line in self.bench.block(b"step 1\n" * part, part).splitlines())
 
     def last_match(self, test: Test) -> int | None:
         """Returns the number of the last instruction of the stay that a test accepts, or None. Searches only the last steps of a long stay."""
@@ -82,13 +82,13 @@ class StayReplay(Closing):
     def last_store(self, address: int, before: int) -> int | None:
         """Returns the number of the last instruction among the first `before` ones of the stay that stores to a byte, or None."""
         self.bench.one("watch %x" % address)
-        found, done = None, 0
+        last_step, done = None, 0
         while done < before:
             ran = step_of(self.bench.one("run %d" % min(before - done, MOST_STEPS)))
             done += ran.steps
             if ran.why.startswith("watch") and is_store(word_at(self.bench, int(ran.pc, 16) - 4)):
-                found = done - 1
-        return found
+                last_step = done - 1
+        return last_step
 
     def go(self, number: int) -> int:
         """Does the instructions before the one with a number; returns its address."""
@@ -109,8 +109,8 @@ def writers_of(setup: MonitorSetup, played: PlayedScript, difference: MonitorDif
     if difference.kind is DifferenceKind.trap:
         return []
     if difference.kind is DifferenceKind.memory:
-        found = last_store(setup, played, difference.place or 0)
-        return [found] if found else []
+        writer = last_store(setup, played, difference.place or 0)
+        return [writer] if writer else []
     return list(chain_of(setup, played, test_of(difference)))
 
 
@@ -137,9 +137,9 @@ def written_csrs(difference: MonitorDifference) -> set[int]:
     if difference.kind is DifferenceKind.mode:
         return {CSRS["mstatus"]}
     if difference.kind is DifferenceKind.csr:
-        return {CSRS[it] for it in ALSO_WRITTEN_BY.get(difference.name, (difference.name,))}
+        return {CSRS[name] for name in ALSO_WRITTEN_BY.get(difference.name, (difference.name,))}
     if difference.place is None:
-        return {CSRS["pmpcfg%d" % it] for it in range(4)}
+        return {CSRS["pmpcfg%d" % number] for number in range(4)}
     return {CSRS["pmpcfg%d" % (difference.place // 4)], CSRS["pmpaddr%d" % difference.place]}
 
 
@@ -188,7 +188,7 @@ class Divergence(NamedTuple):
     own_next: int  # pc after it in the call of the script
     other_next: int  # pc after it in the similar call
     call: str  # the similar call
-    result: str  # of the similar call on both monitors
+    result: str  # the result of the similar call on both monitors
 
 
 def similar_calls(item: Item) -> Iterator[Item]:

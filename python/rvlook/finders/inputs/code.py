@@ -20,9 +20,9 @@ class Kind(Enum):
     LOAD = "r"  # any load
     STORE = "w"  # any store
     BRANCH = "branch"  # conditional
-    CALL = "call"  # with its target in the instruction
+    CALL = "call"  # a call with its target in the instruction
     INDIRECT = "indirect"  # a call or jump to the address in a register
-    RETURN = "return"  # to the address in ra or t0
+    RETURN = "return"  # a return to the address in ra or t0
     TRAP_RETURN = "trap return"  # sret
     ECALL = "ecall"  # a call of the monitor
     OTHER = "other"  # any other instruction
@@ -35,10 +35,10 @@ ENDS_BLOCK = (Kind.BRANCH, Kind.CALL, Kind.INDIRECT, Kind.RETURN, Kind.TRAP_RETU
 class Code:
     """A decoded instruction. A register is given by its number; 0 means no register."""
     kind: Kind
-    text: str  # as `dis` writes it; empty if it cannot be fetched
+    text: str  # the text of `dis`; empty if the instruction cannot be fetched
     probes: Tuple[int, ...] = ()  # registers to read before it: base and stored register, or a6 and a1
     width: int = 0  # bytes of a load or store
-    offset: int = 0  # of a load or store, signed
+    offset: int = 0  # the offset of a load or store, signed
     link: int = 0  # receives the return address
     writes: int = 0  # the destination register
     sources: Tuple[int, ...] = ()  # the operands

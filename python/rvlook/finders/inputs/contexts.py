@@ -14,7 +14,7 @@ class Contexts:
     """The call contexts of all traces, by number. A context is the context of the caller with one more call."""
 
     def __init__(self) -> None:
-        self.numbers: dict[tuple[int, int], int] = {}  # by the context and the pc of the call
+        self.numbers: dict[tuple[int, int], int] = {}  # the number of each context, by the caller's context and the pc of the call
         # by number: the caller's context, the pc of the call, the open calls, and whether a trap opened it
         self.parents, self.calls, self.depths, self.traps = [ROOT], [0], [0], [False]
         self.frames: dict[int, int] = {}  # sp of each context
@@ -30,7 +30,7 @@ class Contexts:
         if code.kind is Kind.RETURN:
             return self.returned(context, following)
         if code.kind is Kind.TRAP_RETURN:
-            return next((self.parents[it] for it in self.chain(context) if self.traps[it]), ROOT)
+            return next((self.parents[caller] for caller in self.chain(context) if self.traps[caller]), ROOT)
         return context
 
     def called(self, context: int, pc: int, is_trap: bool) -> int:
@@ -48,7 +48,7 @@ class Contexts:
 
     def returned(self, context: int, pc: int) -> int:
         """Returns the context after a return to an address: that of the innermost call before this address."""
-        return next((self.parents[it] for it in self.chain(context) if self.calls[it] + 4 == pc), ROOT)
+        return next((self.parents[caller] for caller in self.chain(context) if self.calls[caller] + 4 == pc), ROOT)
 
     def is_return_address(self, context: int, pc: int) -> bool:
         """Returns whether the innermost call of a context is right before an address. Outside every call any address is."""

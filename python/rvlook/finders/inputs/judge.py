@@ -19,17 +19,17 @@ MAX_STRIDE = 64  # bytes between two accesses of a loop
 MAX_STEPS_BACK = 400  # steps in which the access of the last round of a loop is searched
 MIN_CHOSEN_ADDRESSES = 3  # an access with so many addresses is at an address that the host chooses
 FAULT = ObjectPlace("a fault")
-JUMPS = (Kind.BRANCH, Kind.CALL, Kind.RETURN)  # whose findings do not depend on the changes of a trace
+JUMPS = (Kind.BRANCH, Kind.CALL, Kind.RETURN)  # the jumps, whose findings do not depend on the changes of a trace
 Key = Tuple[int, int]  # a call context and a pc
 StepKey = Tuple[int, int, int]  # a pc, a call context, and an address
 
 
 class FindingKind(Enum):
     """The kind of a finding, with its name in the report."""
-    LOAD = "load"  # from an object that the instruction usually does not reach
-    STORE = "store"  # to such an object
+    LOAD = "load"  # a load from an object that the instruction usually does not reach
+    STORE = "store"  # a store to such an object
     CALL = "call"  # a call or jump to an address that the host chooses
-    RETURN = "return"  # to another address than that of the call
+    RETURN = "return"  # a return to another address than that of the call
     FAULT = "fault"  # a trap that the run itself does not have
     STUCK = "no return"  # the enclave does not return
     SECRET = "secret"  # the secret comes out at an input
@@ -39,13 +39,13 @@ class FindingKind(Enum):
 
 @dataclass
 class InputFinding:
-    """A finding in a trace."""
-    kind: FindingKind  # its kind
-    trace: Trace  # has the changes that lead to it
-    index: int  # of the step in the trace
-    pc: int  # of the step
+    """A finding of `inputs`: a step of a trace that does what the run itself does not do."""
+    kind: FindingKind  # the kind of the finding
+    trace: Trace  # the trace, which has the changes that lead to the finding
+    index: int  # the index of the step in the trace
+    pc: int  # the pc of the step
     place: ObjectPlace = ObjectPlace("")  # the object at the address
-    address: int = 0  # of the access, or the target of the jump
+    address: int = 0  # the address of the access, or the target of the jump
     usual: tuple[str, ...] = ()  # names of the objects that the instruction reaches in other runs
     is_walk: bool = False  # whether the access moves over the end of a usual object
     note: str = ""  # a further text for the report
@@ -56,20 +56,20 @@ class InputFinding:
     @property
     def cost(self) -> tuple[int, int]:
         """Returns the number of changes and of changed bytes."""
-        return len(self.trace.changes), sum(len(it.value) for it in self.trace.changes)
+        return len(self.trace.changes), sum(len(change.value) for change in self.trace.changes)
 
 
 @dataclass
 class Seen:
     """The results of the traces so far."""
     pairs: set[tuple[int, int]] = field(default_factory=set)  # pcs before and after the end of a block
-    usual_objects: dict[Key, set[ObjectPlace]] = field(default_factory=dict)  # that each access reaches in the run itself
-    first_objects: dict[Key, set[ObjectPlace]] = field(default_factory=dict)  # that each other access reached when it was first seen
-    addresses: dict[Key, set[int]] = field(default_factory=lambda: defaultdict(set))  # of each access
-    reached_objects: set[tuple[Key, ObjectPlace]] = field(default_factory=set)  # by accesses, in any trace
-    usual_targets: dict[Key, set[int]] = field(default_factory=lambda: defaultdict(set))  # of jumps, in the run itself
+    usual_objects: dict[Key, set[ObjectPlace]] = field(default_factory=dict)  # the objects that each access reaches in the run itself
+    first_objects: dict[Key, set[ObjectPlace]] = field(default_factory=dict)  # the objects that each other access reached when it was first seen
+    addresses: dict[Key, set[int]] = field(default_factory=lambda: defaultdict(set))  # the addresses of each access
+    reached_objects: set[tuple[Key, ObjectPlace]] = field(default_factory=set)  # the objects that accesses reach in any trace
+    usual_targets: dict[Key, set[int]] = field(default_factory=lambda: defaultdict(set))  # the targets of jumps in the run itself
     usual_traps: set[tuple[int, int]] = field(default_factory=set)  # pc and cause, in the run itself
-    pcs: set[int] = field(default_factory=set)  # of all steps
+    pcs: set[int] = field(default_factory=set)  # the pcs of all steps
 
 
 class TraceJudge:
@@ -79,7 +79,7 @@ class TraceJudge:
         self.tracer, self.objects, self.base, self.seen = tracer, objects, base, Seen()  # `base` is the trace of the run itself
         self.findings: dict[tuple[object, ...], InputFinding] = {}  # the best one for each access, object and kind
         self.usual_steps: set[StepKey] = set()  # steps without a trap that are no finding
-        self.version = 0  # of the contexts when `usual_steps` was last cleared
+        self.version = 0  # the version of the contexts when `usual_steps` was last cleared
         for index in range(len(base)):
             self.learn(base, index)
 
@@ -109,7 +109,7 @@ class TraceJudge:
                 continue
             finding = self.finding_of(trace, index)
             if finding:
-                finding.after = tuple(it for it in unsure_accesses if it[1] != pc)
+                finding.after = tuple(access for access in unsure_accesses if access[1] != pc)
                 self.add(finding)
                 if finding.is_sure or finding.kind is not FindingKind.LOAD:
                     sure_finding = finding
@@ -134,7 +134,7 @@ class TraceJudge:
             self.version = self.tracer.contexts.version
             self.usual_steps.clear()
         for indices, part in trace.differences():
-            pcs, begin = part.pcs if part else [trace.pcs[it] for it in indices], 0
+            pcs, begin = part.pcs if part else [trace.pcs[index] for index in indices], 0
             unusual: list[int] = []
             for n in self.indices_to_judge(trace, indices, pcs, part):
                 if indices[n] in trace.traps or self.step_key(trace, indices[n]) not in self.usual_steps:
@@ -208,9 +208,9 @@ class TraceJudge:
         code, pc = self.code(trace, index), trace.pcs[index]
         key, trap = (trace.contexts[index], pc), trace.traps.get(index)
         if code.is_access and not code.is_sp_relative and (trap is None or trap[0] not in CALL_CAUSES or code.kind is Kind.ECALL):
-            found = self.access_finding(trace, index, key) if self.is_access(trace, index) else None
-            if found:
-                return found
+            finding = self.access_finding(trace, index, key) if self.is_access(trace, index) else None
+            if finding:
+                return finding
         if code.kind in (Kind.INDIRECT, Kind.RETURN):
             return self.jump_finding(trace, index, key)
         if trap and trap[0] not in CALL_CAUSES and (pc, trap[0]) not in self.seen.usual_traps:
@@ -230,7 +230,7 @@ class TraceJudge:
         places = self.places(trace, index)
         usual = self.seen.usual_objects.get(key) or self.seen.first_objects.setdefault(key, set(places))
         self.seen.addresses[key].add(address)
-        unusual = next((it for it in places if it not in usual), None)
+        unusual = next((place for place in places if place not in usual), None)
         if unusual is None:
             self.usual_steps.add((pc, context, address))
             return None
@@ -244,7 +244,7 @@ class TraceJudge:
     @staticmethod
     def is_inner(place: ObjectPlace, usual: set[ObjectPlace]) -> bool:
         """Returns whether an object is a member of a variable with a usual object, and no array ends between them: it may be accessed."""
-        return any(it.variable and it.variable == place.variable and not it.is_array for it in usual)
+        return any(other.variable and other.variable == place.variable and not other.is_array for other in usual)
 
     def previous(self, trace: Trace, index: int, key: Key) -> Optional[int]:
         """Returns the index of the last step before `index` with this pc and call context, or None."""
@@ -261,14 +261,14 @@ class TraceJudge:
         if is_return:
             is_found = not self.tracer.contexts.is_return_address(context, target)
         else:
-            host_values, function = {int.from_bytes(it.value, "little") for it in trace.changes}, self.objects.symbols.function
-            is_table = not self.code(trace, index).link and function(target) == function(pc)  # of a switch
+            host_values, function = {int.from_bytes(change.value, "little") for change in trace.changes}, self.objects.symbols.function
+            is_table = not self.code(trace, index).link and function(target) == function(pc)  # whether it is the jump of a switch
             is_found = not self.objects.is_function(target) and not is_table or target in host_values
         if not is_found:
             return None
-        kind, usual = FindingKind.RETURN if is_return else FindingKind.CALL, {it for it in self.seen.usual_targets[key] if it != NO_PC}
+        kind, usual = FindingKind.RETURN if is_return else FindingKind.CALL, {target for target in self.seen.usual_targets[key] if target != NO_PC}
         return InputFinding(kind, trace, index, pc, self.objects.object_at(target, context, pc), target,
-                            names({self.objects.object_at(it, context, pc) for it in usual}), context=context)
+                            names({self.objects.object_at(other, context, pc) for other in usual}), context=context)
 
     def sure_findings(self) -> Iterator[InputFinding]:
         """Yields the findings that are sure now: also an access whose address the host chooses. Leaves out findings that follow from another."""
@@ -283,4 +283,4 @@ class TraceJudge:
 
 def names(places: set[ObjectPlace]) -> tuple[str, ...]:
     """Returns the names of objects in order."""
-    return tuple(sorted(it.name for it in places))
+    return tuple(sorted(place.name for place in places))

@@ -9,18 +9,18 @@ from rvlook.image.variables import Member, Variables
 from rvlook.protocol.replies import Enclave
 from rvlook.protocol.symbols import Symbol, Symbols
 
-LINKER_SUFFIXES = ("_stack_top", "_stack_bottom", "region_base", "region_size")  # of symbols of a linker script, which name no object
+LINKER_SUFFIXES = ("_stack_top", "_stack_bottom", "region_base", "region_size")  # the ends of the names of a linker script, which name no object
 
 
 class ObjectPlace(NamedTuple):
     """An object in memory."""
-    name: str  # in the report
+    name: str  # the name in the report
     variable: str = ""  # the variable that it is, or whose member it is; empty for no variable
     is_array: bool = False  # whether it is an array
 
 
 # places outside all objects
-WINDOW, OUTSIDE, UNUSED, NOTHING = (ObjectPlace(it) for it in ("the window", "memory outside region and window", "the unused stack", "no object"))
+WINDOW, OUTSIDE, UNUSED, NOTHING = (ObjectPlace(text) for text in ("the window", "memory outside region and window", "the unused stack", "no object"))
 
 
 class Objects:
@@ -28,14 +28,14 @@ class Objects:
 
     def __init__(self, enclave: Enclave, symbols: Symbols, variables: Variables, contexts: Contexts) -> None:
         self.enclave, self.symbols, self.contexts = enclave, symbols, contexts  # `contexts`: have the stack frames
-        self.fixed = [it for it in variables.fixed if enclave.has(it.at)]  # variables at fixed addresses, down to their members
-        self.starts = [it.at for it in self.fixed]  # the addresses of `fixed`
-        self.locals, self.parameters = variables.locals, variables.parameters  # of functions
-        region_symbols = [it for it in symbols.ordered if enclave.has(it.address) and not it.name.endswith(LINKER_SUFFIXES)]
-        self.own, self.own_starts = region_symbols, [it.address for it in region_symbols]  # the symbols in the region, and their addresses
-        bottoms = [it.address for it in symbols.ordered if it.name.endswith("_stack_bottom") and enclave.has(it.address)]
+        self.fixed = [variable for variable in variables.fixed if enclave.has(variable.at)]  # variables at fixed addresses, down to their members
+        self.starts = [variable.at for variable in self.fixed]  # the addresses of `fixed`
+        self.locals, self.parameters = variables.locals, variables.parameters  # the local variables and the parameters of functions
+        region_symbols = [symbol for symbol in symbols.ordered if enclave.has(symbol.address) and not symbol.name.endswith(LINKER_SUFFIXES)]
+        self.own, self.own_starts = region_symbols, [symbol.address for symbol in region_symbols]  # the symbols in the region, and their addresses
+        bottoms = [symbol.address for symbol in symbols.ordered if symbol.name.endswith("_stack_bottom") and enclave.has(symbol.address)]
         # the lowest address of the stacks
-        self.stack = min(bottoms, default=max((it.address + max(4, it.size) for it in region_symbols), default=enclave.base + enclave.size))
+        self.stack = min(bottoms, default=max((each.address + max(4, each.size) for each in region_symbols), default=enclave.base + enclave.size))
 
     def object_at(self, address: int, context: int, pc: int) -> ObjectPlace:
         """Returns the object at an address, for an instruction in a call context."""
@@ -86,12 +86,12 @@ class Objects:
 
     def object_starts(self, executed: set[int]) -> list[int]:
         """Returns the addresses at which objects begin. Leaves out functions that were executed."""
-        fixed = [it.at for it in self.fixed]
-        return list(dict.fromkeys(fixed + [it.address for it in self.own if it.address not in executed and it.address < self.stack]))
+        fixed = [variable.at for variable in self.fixed]
+        return list(dict.fromkeys(fixed + [symbol.address for symbol in self.own if symbol.address not in executed and symbol.address < self.stack]))
 
     def is_function(self, address: int) -> bool:
         """Returns whether a symbol begins at an address."""
-        return any(it.address == address for it in self.own)
+        return any(symbol.address == address for symbol in self.own)
 
 
 def place_of(member: Member) -> ObjectPlace:

@@ -28,7 +28,7 @@ from rvlook.protocol.run import End, Run
 from rvlook.protocol.symbols import Symbols
 from rvlook.protocol.timeline import Timeline
 
-Group = Sequence[InputFinding]  # of one instruction and kind; the first one has the fewest changes, and is replayed
+Group = Sequence[InputFinding]  # the findings of one instruction and kind; the first one has the fewest changes, and is replayed
 Models = Callable[[InputSearch, Trace], Iterator[Child]]
 TIME_LIMIT_OPTION, INTERRUPT = "--seconds", "Ctrl-C"  # the names of what ends a search early
 GRACE_SECONDS = 2.0  # seconds after the limit in which the findings are completed, and again in which they are replayed
@@ -43,14 +43,14 @@ def replay_of(search: InputSearch, finding: InputFinding) -> Timeline:
 
 def lines_to_input(replay: Timeline, finding: InputFinding) -> list[str]:
     """Returns the commands up to the last change."""
-    return replay.lines_to(max((it.step for it in finding.trace.changes), default=0)) + replay.lines_up_to_next()
+    return replay.lines_to(max((change.step for change in finding.trace.changes), default=0)) + replay.lines_up_to_next()
 
 
 def lines_after(search: InputSearch, replay: Timeline, finding: InputFinding) -> list[str]:
     """Returns the commands from the last change to the step of the finding, with its instruction and operands, and the step."""
     trace, index = finding.trace, finding.index
     commands = replay.lines_to(trace.steps[index] - 1) + ["dis %x" % trace.pcs[index]]
-    commands += ["reg %d" % it for it in search.tracer.code[trace.pcs[index]].probes] + ["step 1"]
+    commands += ["reg %d" % probe for probe in search.tracer.code[trace.pcs[index]].probes] + ["step 1"]
     if finding.kind is FindingKind.SECRET and finding.address:
         commands.append("mem %x %d" % (finding.address, min(ROW, len(search.rules.secret.bytes) if search.rules else ROW)))
     return commands
@@ -63,9 +63,9 @@ def check_replay(search: InputSearch, finding: InputFinding) -> None:
         before, after = lines_to_input(replay, finding), lines_after(search, replay, finding)
         replies = replay.bench.ask(*before, *after)
     shown = replies[len(before) + after.index("dis %x" % trace.pcs[index]):]
-    reached = [it[0] for it in replies if it and it[0].startswith("ran ")][-2]
+    reached = [reply[0] for reply in replies if reply and reply[0].startswith("ran ")][-2]
     probes = search.tracer.code[trace.pcs[index]].probes
-    values = register_values(it[0] for it in shown[1:1 + len(probes)])
+    values = register_values(reply[0] for reply in shown[1:1 + len(probes)])
     is_same = not probes or access_of(search.tracer.code[trace.pcs[index]], values)[0] == trace.addresses[index]
     if " pc=%08x " % trace.pcs[index] not in reached or not is_same:
         raise Unfinished("a finding at step %d differs in its replay on rvbench" % trace.steps[index])
@@ -88,13 +88,13 @@ def write_scripts(folder: str, search: InputSearch, findings: Sequence[InputFind
 
 class InputsOptions(NamedTuple):
     """The options of `inputs`."""
-    slot: int = 0  # of the enclave
+    slot: int = 0  # the slot of the enclave
     at: Optional[str] = None  # the place of its secret; None for no secret
     public: Sequence[str] = ()  # outputs that may depend on the secret
     entry: bool = False  # whether the registers at the entry are inputs
-    runs: int = 300  # at most
-    seed: int = 0  # of the random values
-    seconds: Optional[float] = None  # at most; None: no limit
+    runs: int = 300  # the most runs
+    seed: int = 0  # the seed of the random values
+    seconds: Optional[float] = None  # the most seconds; None: no limit
     expected: Sequence[str] = ()  # names of failures of the run itself that are no findings
     scripts: Optional[str] = None  # the folder for the inputs of findings; None: not written
     jobs: int = 1  # number of processes
@@ -102,15 +102,15 @@ class InputsOptions(NamedTuple):
 
 @dataclass
 class Inputs:
-    """A search and its result."""
-    options: InputsOptions  # of the command
-    limit: TimeLimit  # of the time
+    """A search of `inputs`, and its result."""
+    options: InputsOptions  # the options of the command
+    limit: TimeLimit  # the limit of the time
     models: Optional[Models]  # proposes inputs; None without a solver
-    failures: Sequence[Failure]  # of the run itself
+    failures: Sequence[Failure]  # the failures of the run itself
     search: Optional[InputSearch] = None  # None if the run itself was not traced
     states: list[InputFinding] = field(default_factory=list)  # findings about older states
     groups: Sequence[Group] = ()  # the findings, grouped
-    headings: Sequence[str] = ()  # of the groups
+    headings: Sequence[str] = ()  # the headings of the groups
     cut: str = ""  # what ended the search early; empty if nothing did
     not_replayed: str = ""  # why findings were not replayed; empty if they were
 
@@ -142,15 +142,15 @@ class Inputs:
         """Returns the findings of the search. Findings about the secret come last."""
         search = self.search
         assert search is not None
-        found = [*search.judge.sure_findings(), *self.states]
+        findings = [*search.judge.sure_findings(), *self.states]
         if search.rules:
-            found += search.rules.findings
+            findings += search.rules.findings
             try:
                 with self.limit.until(1.0, GRACE_SECONDS):
-                    found += search.rules.unchecked_outputs()
+                    findings += search.rules.unchecked_outputs()
             except OutOfTime:
                 self.cut = TIME_LIMIT_OPTION
-        return found
+        return findings
 
     @property
     def cut_text(self) -> str:
@@ -162,14 +162,14 @@ class Inputs:
 def find_inputs(run: Run, variables: Variables, options: InputsOptions, heard: Callable[[Sequence[Failure]], None] = lambda it: None,
                 models: Optional[Models] = None) -> Inputs:
     """Searches inputs, proposed by `models` too, and replays the findings. Calls `heard` first, with the failures of the run itself."""
-    found = Inputs(options, TimeLimit(options.seconds), models, failures_in(run, options.slot))
-    heard(found.failures)
-    found.work(run, run.setup.symbols, variables)
-    if found.search:
-        found.groups = groups_of(found.search, found.findings())
-        found.not_replayed = replay_all(found.limit, found.search, found.groups)
-        found.headings = [heading_of(found.search, it) for it in found.groups]
-    return found
+    result = Inputs(options, TimeLimit(options.seconds), models, failures_in(run, options.slot))
+    heard(result.failures)
+    result.work(run, run.setup.symbols, variables)
+    if result.search:
+        result.groups = groups_of(result.search, result.findings())
+        result.not_replayed = replay_all(result.limit, result.search, result.groups)
+        result.headings = [heading_of(result.search, group) for group in result.groups]
+    return result
 
 
 def show_inputs(run: Run, variables: Variables, printer: Printer, options: InputsOptions, findings: ReportedCases, models: Models) -> None:
@@ -177,26 +177,26 @@ def show_inputs(run: Run, variables: Variables, printer: Printer, options: Input
     symbols = run.setup.symbols
     if printer.as_json:
         run_object(printer, run, symbols)
-    report = FailureReport([expectation_of(it, symbols) for it in options.expected], symbols, printer, findings)
-    found = find_inputs(run, variables, options, report.show, models)
-    if found.not_replayed:
-        findings.cut_short(found.not_replayed)
-    if found.search:
-        show_findings(found, found.search, printer, findings)
-    if found.cut:
+    report = FailureReport([expectation_of(text, symbols) for text in options.expected], symbols, printer, findings)
+    result = find_inputs(run, variables, options, report.show, models)
+    if result.not_replayed:
+        findings.cut_short(result.not_replayed)
+    if result.search:
+        show_findings(result, result.search, printer, findings)
+    if result.cut:
         printer.stream.flush()
-        findings.cut_short(found.cut_text)
-    if found.cut == INTERRUPT:
+        findings.cut_short(result.cut_text)
+    if result.cut == INTERRUPT:
         raise KeyboardInterrupt
 
 
-def show_findings(found: Inputs, search: InputSearch, printer: Printer, findings: ReportedCases) -> None:
+def show_findings(result: Inputs, search: InputSearch, printer: Printer, findings: ReportedCases) -> None:
     """Prints the findings of a search, and its coverage."""
-    options, groups = found.options, found.groups
+    options, groups = result.options, result.groups
     if options.scripts:
-        write_scripts(options.scripts, search, [it[0] for it in groups], found.headings)
+        write_scripts(options.scripts, search, [group[0] for group in groups], result.headings)
     (write_objects if printer.as_json else print_text)(search, groups, printer, options)
-    for number, (group, heading) in enumerate(zip(groups, found.headings), 1):
+    for number, (group, heading) in enumerate(zip(groups, result.headings), 1):
         findings.add("finding %d" % number, "\n".join([heading, *details_of(search, group)]))
     if not groups:
         findings.add("e%d: inputs of the host" % options.slot)
@@ -211,26 +211,26 @@ def replay_all(limit: TimeLimit, search: InputSearch, groups: Sequence[Group]) -
                 group[0].trace.changes = with_old_values(search.run, group[0].trace.changes)
                 check_replay(search, group[0])
     except OutOfTime:
-        left = len(groups) - done + 1
-        return "--seconds ended inputs before rvbench replayed the last %d of %d findings; use a larger --seconds" % (left, len(groups))
+        not_replayed = len(groups) - done + 1
+        return "--seconds ended inputs before rvbench replayed the last %d of %d findings; use a larger --seconds" % (not_replayed, len(groups))
     return ""
 
 
 def failures_in(run: Run, slot: int) -> list[Failure]:
     """Returns the traps and the refused calls of the enclave in the run itself, before any input is changed."""
-    last = next(it.steps for it in run.stretches() if isinstance(it, End))
-    return [it for it in failures_of(run, "", last) if it.at.world == "e%d" % slot]
+    last = next(stretch.steps for stretch in run.stretches() if isinstance(stretch, End))
+    return [failure for failure in failures_of(run, "", last) if failure.at.world == "e%d" % slot]
 
 
 def groups_of(search: InputSearch, findings: Sequence[InputFinding]) -> list[Group]:
     """Returns the findings in groups. A group has one kind at one source line, or at one instruction without source lines."""
-    found: dict[tuple[object, ...], list[InputFinding]] = {}
+    findings_by_key: dict[tuple[object, ...], list[InputFinding]] = {}
     for finding in findings:
         where = search.symbols.line(finding.pc) or finding.pc
         key = (finding.kind, finding.note if finding.kind in (FindingKind.SECRET, FindingKind.CHECK, FindingKind.REPLAY) else where)
-        found.setdefault(key if finding.kind is not FindingKind.STUCK else (finding.kind, finding.place), []).append(finding)
+        findings_by_key.setdefault(key if finding.kind is not FindingKind.STUCK else (finding.kind, finding.place), []).append(finding)
     order = list(FindingKind)
-    groups = [sorted(it, key=priority) for it in found.values()]
+    groups = [sorted(group, key=priority) for group in findings_by_key.values()]
     return sorted(groups, key=lambda it: (order.index(it[0].kind), it[0].pc, it[0].trace.steps[it[0].index]))
 
 
@@ -292,13 +292,13 @@ def change_text(change: Change) -> str:
 
 def with_old_values(run: Run, changes: Changes) -> Changes:
     """Returns changes with the values that they replace: those of a run with only the earlier changes, at the step of each change."""
-    found: list[Change] = []
+    changes_with_old: list[Change] = []
     for change in changes:
         with run.replay() as replay:
             replay.go(change.step)
-            found.append(change._replace(old=value_in(replay, change).hex()))
+            changes_with_old.append(change._replace(old=value_in(replay, change).hex()))
         run = run.with_lines(change.step, change.lines())
-    return tuple(found)
+    return tuple(changes_with_old)
 
 
 def value_in(replay: Timeline, change: Change) -> bytes:
@@ -321,9 +321,9 @@ def coverage_of(search: InputSearch) -> dict[str, int]:
             branches.setdefault(pc, set()).add(following)
     enclave, symbols = search.objects.enclave, search.symbols
     lines = {symbols.source(pc) for pc in search.judge.seen.pcs} - {None}
-    all_lines = {it for it in symbols.sources_in(enclave.base, enclave.base + enclave.size) if it}
+    all_lines = {source for source in symbols.sources_in(enclave.base, enclave.base + enclave.size) if source}
     return dict(inputs=len(search.inputs), values=search.tracer.runs - 1, branches=len(branches),
-                both_ways=sum(len(it) > 1 for it in branches.values()), lines=len(lines), all_lines=len(all_lines),
+                both_ways=sum(len(branch) > 1 for branch in branches.values()), lines=len(lines), all_lines=len(all_lines),
                 instructions=len(search.judge.seen.pcs))
 
 
@@ -355,16 +355,17 @@ def print_text(search: InputSearch, groups: Sequence[Group], printer: Printer, o
 def inputs_text(search: InputSearch) -> list[str]:
     """Returns the inputs of the run itself, one line for each instruction that loads any."""
     rows: dict[tuple[object, ...], list[str]] = {}
-    for own in search.inputs.values():
-        where = "activation %d" % (own.visit + 1) if own.register else search.symbols.line(own.pc) or search.symbols.name(own.pc) or "%08x" % own.pc
-        name = "a%d" % (own.register - 10) if own.register else search.values.name(own.at)
-        rows.setdefault(("again" if own.is_loaded_again else "", where), []).append(name)
-    found = []
+    for input_ in search.inputs.values():
+        source = search.symbols.line(input_.pc) or search.symbols.name(input_.pc) or "%08x" % input_.pc
+        where = "activation %d" % (input_.visit + 1) if input_.register else source
+        name = "a%d" % (input_.register - 10) if input_.register else search.values.name(input_.at)
+        rows.setdefault(("again" if input_.is_loaded_again else "", where), []).append(name)
+    lines = []
     for (again, place), named in rows.items():
         several = list(dict.fromkeys(named))
         more = ", ..." if len(several) > MAX_NAMES else ""
-        found.append("input%s  %s  %s" % (" again" if again else "", ", ".join(several[:MAX_NAMES]) + more, place))
-    return found
+        lines.append("input%s  %s  %s" % (" again" if again else "", ", ".join(several[:MAX_NAMES]) + more, place))
+    return lines
 
 
 def write_objects(search: InputSearch, groups: Sequence[Group], printer: Printer, options: InputsOptions) -> None:

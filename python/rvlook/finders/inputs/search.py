@@ -33,7 +33,7 @@ RUNS_AHEAD = 2  # runs that are started before the one that is traced is complet
 
 class TracerKnowledge(NamedTuple):
     """The knowledge of a tracer before some runs."""
-    pcs: frozenset[int]  # of decoded instructions
+    pcs: frozenset[int]  # the pcs of decoded instructions
     contexts: int  # the number of call contexts
     frames: Mapping[int, int]  # sp of each context
 
@@ -60,7 +60,7 @@ def news_since(tracer: Tracer, known: TracerKnowledge) -> News:
 
 def new_frames(contexts: Contexts, known: TracerKnowledge) -> dict[int, int]:
     """Returns the stack frames that are new or differ from the known ones, by context."""
-    return {it: sp for it, sp in contexts.frames.items() if known.frames.get(it) != sp}
+    return {context: sp for context, sp in contexts.frames.items() if known.frames.get(context) != sp}
 
 
 def traces_of(tracer: Tracer, parent: Trace, children: Sequence[Child], jobs: int) -> Iterator[Trace]:
@@ -87,11 +87,11 @@ def has_taken_over(tracer: Tracer, known: TracerKnowledge, trace: Trace, news: N
     contexts, numbers = tracer.contexts, list(range(known.contexts))
     for caller, pc, is_trap in news.contexts:
         numbers.append(contexts.called(numbers[caller], pc, is_trap))
-    frames = {numbers[it]: sp for it, sp in news.frames.items()}
-    visited_contexts = {numbers[it] for it in {*trace.contexts, trace.context}}
-    used_contexts = {*frames, *visited_contexts, *(contexts.parents[it] for it in visited_contexts)}
-    if any(it in known.frames for it in frames) or any(tracer.code.get(pc, code) != code for pc, code in news.code.items()) or \
-            any(it in used_contexts and frames.get(it) != sp for it, sp in new_frames(contexts, known).items()):
+    frames = {numbers[context]: sp for context, sp in news.frames.items()}
+    visited_contexts = {numbers[context] for context in {*trace.contexts, trace.context}}
+    used_contexts = {*frames, *visited_contexts, *(contexts.parents[context] for context in visited_contexts)}
+    if any(frame in known.frames for frame in frames) or any(tracer.code.get(pc, code) != code for pc, code in news.code.items()) or \
+            any(frame in used_contexts and frames.get(frame) != sp for frame, sp in new_frames(contexts, known).items()):
         return False
     for pc, code in news.code.items():
         tracer.learn(pc, code)
@@ -99,7 +99,7 @@ def has_taken_over(tracer: Tracer, known: TracerKnowledge, trace: Trace, news: N
     for context, saved_addresses in news.saved.items():
         contexts.saved.setdefault(numbers[context], set()).update(saved_addresses)
     contexts.version += 1
-    trace.contexts, trace.context = array("I", [numbers[it] for it in trace.contexts]), numbers[trace.context]
+    trace.contexts, trace.context = array("I", [numbers[context] for context in trace.contexts]), numbers[trace.context]
     tracer.runs += 1
     tracer.count_end(trace)
     return True
@@ -109,8 +109,8 @@ def has_taken_over(tracer: Tracer, known: TracerKnowledge, trace: Trace, news: N
 class Parent:
     """A trace from which the search goes on."""
     trace: Trace
-    details: Details  # its loads and branches
-    inputs: list[Input]  # that can be changed
+    details: Details  # the loads and branches of the trace
+    inputs: list[Input]  # the inputs that can be changed
     children: Iterator[Child]  # the runs that are still to be tried
 
 
@@ -127,13 +127,13 @@ class InputSearch:
         self.reader = DetailReader(self.tracer, self.objects, self.fields)  # reads loads and branches of traces
         self.values = Values(self.tracer, self.objects, self.fields, self.reader, seed)  # finds the values to try
         self.judge = TraceJudge(self.tracer, self.objects, self.base)  # has the findings
-        self.rules: Optional[SecretRules] = None  # of the secret; None for no secret
+        self.rules: Optional[SecretRules] = None  # the rules of the secret; None for no secret
         self.models: Callable[[InputSearch, Trace], Iterator[Child]] = lambda *_: iter(())  # a solver proposes these inputs
-        self.base_details: Details  # of the trace of the run itself
+        self.base_details: Details  # the details of the trace of the run itself
         self.root: Optional[Parent] = None  # the run itself, until all its values were tried
         self.parents: deque[Parent] = deque()  # the other traces from which the search goes on
         self.tried_changes: set[tuple[object, ...]] = set()  # the changes of all runs so far
-        self.inputs: dict[tuple[object, ...], Input] = {}  # by visit, address, width, kind and register
+        self.inputs: dict[tuple[object, ...], Input] = {}  # the inputs by visit, address, width, kind and register
         self.continued_traces, self.is_exhausted = 0, False  # number of traces from which the search went on; whether all values were tried
         self.jobs = 1  # processes that trace the runs
 
@@ -164,9 +164,9 @@ class InputSearch:
 
     def requests(self, trace: Trace, details: Details) -> list[HostRequest]:
         """Returns what each activation of a trace loads from the window. A byte that is loaded twice counts as it was first."""
-        loads = [reversed(list(self.values.loads(trace, details, it))) for it in trace.visits]
+        loads = [reversed(list(self.values.loads(trace, details, visit))) for visit in trace.visits]
         contents = [{at + n: value for _, at, data in loads_of_visit for n, value in enumerate(data)} for loads_of_visit in loads]
-        return [HostRequest(trace.steps[it.first] - 1, it.first, content) for it, content in zip(trace.visits, contents)]
+        return [HostRequest(trace.steps[visit.first] - 1, visit.first, content) for visit, content in zip(trace.visits, contents)]
 
     def go(self, runs: int, progress: Progress) -> None:
         """Tries values up to a number of runs. Ends the runs that were started if an exception stops it."""
@@ -174,8 +174,8 @@ class InputSearch:
         try:
             self.try_values(runs, progress, started)
         finally:
-            for it in started:
-                it.replay.bench.close()
+            for item in started:
+                item.replay.bench.close()
 
     def try_values(self, runs: int, progress: Progress, started: deque[Started]) -> None:
         """Tries values up to a number of runs. `started` has the runs that are started and not complete."""
@@ -213,7 +213,7 @@ class InputSearch:
         """Returns the next runs from a trace that were not tried before: BATCH_RUNS of them, unless fewer are left."""
         batch: list[Child] = []
         for child in parent.children if self.tracer.runs < runs else ():
-            key = tuple((it.step, it.at, it.register, it.value) for it in child.changes)
+            key = tuple((change.step, change.at, change.register, change.value) for change in child.changes)
             if key not in self.tried_changes:
                 self.tried_changes.add(key)
                 batch.append(child)

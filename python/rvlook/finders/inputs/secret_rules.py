@@ -15,16 +15,16 @@ if TYPE_CHECKING:
     from rvlook.finders.inputs.search import InputSearch
 
 ANSWER_SIZE = 4  # bytes of a1
-MIN_NONZERO_BYTES = 3  # of a state that is loaded from another address than it was stored at
+MIN_NONZERO_BYTES = 3  # the least number of bytes that are not 0 in a state that is loaded from another address than it was stored at
 
 
 @dataclass(frozen=True)
 class Output:
     """A part of the secret that comes out of the enclave."""
-    offset: int  # of the part in the secret
+    offset: int  # the offset of the part in the secret
     size: int  # bytes
-    address: int | None  # in the window; None for a1 of the host
-    index: int  # of the step that stored its last byte; for a1 of the step by which the enclave leaves
+    address: int | None  # the address in the window; None for a1 of the host
+    index: int  # the index of the step that stored its last byte; for a1 of the step by which the enclave leaves
     end: int  # index of the step by which the enclave leaves
     is_public: bool  # whether --public names it
 
@@ -51,7 +51,7 @@ class SecretRules:
         outputs = list(self.outputs(trace))
         self.report(trace, outputs)
         if self.usual_outputs:
-            self.note_check(trace, {trace.visit_at(it.end) for it in outputs})
+            self.note_check(trace, {trace.visit_at(output.end) for output in outputs})
             if outputs:
                 self.traces_with_outputs.append((trace, outputs))
 
@@ -123,7 +123,7 @@ class SecretRules:
         if len(trace.changes) != 1 or not 0 <= branch < min(len(trace), len(base)) - 1:
             return
         code, number = self.search.tracer.code[base.pcs[branch]], base.visit_at(branch)
-        withheld = {base.visit_at(it.end) for it in self.usual_outputs} - visits
+        withheld = {base.visit_at(output.end) for output in self.usual_outputs} - visits
         is_other_answer = number < len(trace.visits) and trace.visits[number].answer != base.visits[number].answer
         if code.kind is Kind.BRANCH and (withheld and number <= min(withheld) or is_other_answer and self.is_private(branch)):
             self.targets_of_failed_checks[base.pcs[branch]] = trace.following(branch)
@@ -131,7 +131,7 @@ class SecretRules:
     def is_private(self, index: int) -> bool:
         """Returns whether a branch of the run itself depends on memory of the region."""
         base = self.search.base
-        return any(self.search.reader.is_private(base, index, it) for it in self.search.tracer.code[base.pcs[index]].sources)
+        return any(self.search.reader.is_private(base, index, source) for source in self.search.tracer.code[base.pcs[index]].sources)
 
     def unchecked_outputs(self) -> Iterator[InputFinding]:
         """Yields the findings that the secret came out although a check failed, or without the check."""
@@ -141,7 +141,7 @@ class SecretRules:
         usual_branches = [branches for *_, branches in self.segments([(base, self.usual_outputs)])]
         for trace, output, branches in self.segments(self.traces_with_outputs):
             for pc, target in sorted(self.targets_of_failed_checks.items()):
-                is_skipped = pc not in branches and all(pc in it for it in usual_branches) and not self.has_passed(trace, pc, target, output)
+                is_skipped = pc not in branches and all(pc in branch for branch in usual_branches) and not self.has_passed(trace, pc, target, output)
                 is_failed = branches.get(pc) == {target} and target not in usual_targets.get(pc, ())
                 if (is_skipped or is_failed) and pc not in reported_pcs:
                     reported_pcs.add(pc)
@@ -194,8 +194,8 @@ def older_states(search: InputSearch, loaded: dict[int, bytes]) -> Iterator[Olde
     that the enclave stored in an earlier activation and loads now, at any address: the host may have kept it. A state is older if the enclave made
     the present state from it. Values that exist side by side, such as handles, are not older states."""
     base = search.base
-    stores = [dict(window_bytes(search, base, it, Kind.STORE, loaded)) for it in base.visits]
-    loads = [dict(window_bytes(search, base, it, Kind.LOAD, loaded)) for it in base.visits]
+    stores = [dict(window_bytes(search, base, visit, Kind.STORE, loaded)) for visit in base.visits]
+    loads = [dict(window_bytes(search, base, visit, Kind.LOAD, loaded)) for visit in base.visits]
     for number, visit in enumerate(base.visits):
         for at, data in runs_of(loads[number]):
             for state, size in stored_states(at, data, stores[:number]):
@@ -208,7 +208,7 @@ def older_states(search: InputSearch, loaded: dict[int, bytes]) -> Iterator[Olde
 
 class StoredState(NamedTuple):
     """A state that an earlier activation stored."""
-    offset: int  # in the loaded bytes
+    offset: int  # the offset in the loaded bytes
     at: int  # address at which the state was stored
 
 

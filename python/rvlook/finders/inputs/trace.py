@@ -13,7 +13,7 @@ from rvlook.finders.inputs.code import ENDS_BLOCK, Code, Kind
 from rvlook.protocol.replies import Enclave, poke_commands
 
 ROOT = 0  # the context outside every call
-NO_PC = -1  # in place of a pc: the enclave does not run
+NO_PC = -1  # the value in place of a pc when the enclave does not run
 READ_RESULT = b"reg 10\nreg 11\n"  # reads a0 and a1 of the host, after an activation
 
 
@@ -22,8 +22,8 @@ class Change(NamedTuple):
     step: int  # number of the step of the run after which the host gives it
     at: int  # address; 0 for a register
     value: bytes  # the new bytes, little-endian in a register
-    register: int = 0  # its number; 0 for bytes in memory
-    name: str = ""  # of the input, for the report
+    register: int = 0  # the number of the register; 0 for bytes in memory
+    name: str = ""  # the name of the input, for the report
     old: str = ""  # the value without the change, as hexadecimal digits
 
     def lines(self) -> list[str]:
@@ -37,7 +37,7 @@ Changes = Tuple[Change, ...]
 
 
 class TraceVisit(NamedTuple):
-    """An activation in a trace."""
+    """An activation of the enclave in a trace."""
     first: int  # index of its first step
     last: Optional[int] = None  # index of its last step; None if the trace ends inside
     ended_by: str = ""  # exit, stop or timer; empty if the trace ends inside
@@ -50,10 +50,10 @@ class Trace:
 
     `end` is `halted` if the host halts, and `limit` if the trace was cut. It is `waits` if the enclave waits for the host to change the window,
     and `stuck` if the enclave does not return for another reason. An index counts the steps of the trace from 0."""
-    changes: Changes = ()  # that were made to the inputs of the run
+    changes: Changes = ()  # the changes that were made to the inputs of the run
     steps: array[int] = field(default_factory=lambda: array("I"))  # the number of each step in the run
-    pcs: array[int] = field(default_factory=lambda: array("I"))  # of each step
-    addresses: array[int] = field(default_factory=lambda: array("I"))  # of each load and store; a1 of a call of the monitor
+    pcs: array[int] = field(default_factory=lambda: array("I"))  # the pc of each step
+    addresses: array[int] = field(default_factory=lambda: array("I"))  # the address of each load and store; a1 of a call of the monitor
     values: array[int] = field(default_factory=lambda: array("I"))  # stored to the window; a6 of a call of the monitor
     contexts: array[int] = field(default_factory=lambda: array("I"))  # the number of the call context
     traps: dict[int, tuple[int, int]] = field(default_factory=dict)  # the cause and the value of each trap, by index of the step
@@ -73,13 +73,13 @@ class Trace:
 
     def prefix(self, count: int, changes: Changes) -> Trace:
         """Returns the first steps as a trace with other changes. Its last activation is open."""
-        visits = [it for it in self.visits if it.first < count]
+        visits = [visit for visit in self.visits if visit.first < count]
         if visits:
             last = visits[-1].last
             if last is None or last >= count:
                 visits[-1] = TraceVisit(visits[-1].first)
         return Trace(changes, self.steps[:count], self.pcs[:count], self.addresses[:count], self.values[:count], self.contexts[:count],
-                     {n: it for n, it in self.traps.items() if n < count}, visits,
+                     {n: trap for n, trap in self.traps.items() if n < count}, visits,
                      context=self.contexts[count] if count < len(self) else self.context)
 
     def since(self, begin: int) -> Trace:
@@ -93,18 +93,18 @@ class Trace:
         first = self.prefix(count, self.changes)
         self.steps, self.pcs, self.addresses, self.values, self.contexts = first.steps, first.pcs, first.addresses, first.values, first.contexts
         self.traps, self.visits, self.context = first.traps, first.visits, first.context
-        self.changed_indices = [it for it in self.changed_indices if it < count]
+        self.changed_indices = [index for index in self.changed_indices if index < count]
         self.parts = [(at, part) for at, part in self.parts if at + len(part) <= count]
 
     def append(self, parent: Trace, first: int, end: int, later: int) -> None:
         """Adds steps of another trace, by their indices there; each is done a number of steps later."""
         shift = len(self) - first
-        self.steps.extend([it + later for it in parent.steps[first:end]] if later else parent.steps[first:end])
+        self.steps.extend([step + later for step in parent.steps[first:end]] if later else parent.steps[first:end])
         self.pcs += parent.pcs[first:end]
         self.addresses += parent.addresses[first:end]
         self.values += parent.values[first:end]
         self.contexts += parent.contexts[first:end]
-        self.traps.update((n + shift, it) for n, it in parent.traps.items() if first <= n < end)
+        self.traps.update((n + shift, trap) for n, trap in parent.traps.items() if first <= n < end)
         self.context = parent.contexts[end] if end < len(parent) else parent.context
         is_open = bool(self.visits) and self.visits[-1].last is None
         for visit in parent.visits:
@@ -122,7 +122,7 @@ class Trace:
             single_indices.update(range(max(0, first - 1), end))
         for at, part in self.parts:
             single_indices.difference_update(range(at, at + len(part)))
-        indices = [it for it in sorted(single_indices) if it < len(self.pcs)]
+        indices = [index for index in sorted(single_indices) if index < len(self.pcs)]
         for at, part in self.parts:
             end = bisect_left(indices, at)
             yield indices[begin:end], None
@@ -132,12 +132,12 @@ class Trace:
 
     def visit_at(self, index: int) -> int:
         """Returns the number, from 0, of the activation that has a step."""
-        return max(n for n, it in enumerate(self.visits) if it.first <= index)
+        return max(n for n, visit in enumerate(self.visits) if visit.first <= index)
 
     def following(self, index: int) -> int:
         """Returns the pc after a step of the enclave, or NO_PC if the enclave leaves with it."""
-        for it in self.visits:
-            if it.last == index:
+        for visit in self.visits:
+            if visit.last == index:
                 return NO_PC
         return self.pcs[index + 1] if index + 1 < len(self.pcs) else self.next_pc
 
@@ -148,7 +148,7 @@ def runs_of(content: Mapping[int, int]) -> Iterator[tuple[int, bytes]]:
     start = 0
     for n in range(1, len(addresses) + 1):
         if n == len(addresses) or addresses[n] != addresses[n - 1] + 1:
-            yield addresses[start], bytes(content[it] for it in addresses[start:n])
+            yield addresses[start], bytes(content[address] for address in addresses[start:n])
             start = n
 
 
@@ -172,8 +172,8 @@ class Probes:
     """The probes of a trace, in order, and the replies to them. A probe has one reply to its first command, and one for each register."""
 
     def __init__(self, probes: Sequence[TraceProbe]) -> None:
-        self.probes = probes  # in the order of the run
-        self.indices = [it.step_index for it in probes]  # of their steps
+        self.probes = probes  # the probes in the order of the run
+        self.indices = [probe.step_index for probe in probes]  # the indices of their steps
         self.texts = [b""] * len(probes)  # the commands of each probe
         self.replies_before = [0]  # number of replies before those to each probe
         self.probe_of_reply: list[int] = []  # the number of the probe of each reply
@@ -226,7 +226,7 @@ def is_same_pc(reply: bytes, expected: bytes) -> bool:
 
 def each_probe(trace: Trace, code: Mapping[int, Code], enclave: Enclave) -> Iterator[TraceProbe]:
     """Yields the probes of a trace: before each access whose address may change, after each branch, and at the end of each activation."""
-    last_steps, previous_kind = {it.last for it in trace.visits}, Kind.BRANCH
+    last_steps, previous_kind = {visit.last for visit in trace.visits}, Kind.BRANCH
     for index, pc in enumerate(trace.pcs):
         instruction = code[pc]
         question = question_of(instruction, enclave.shares(trace.addresses[index]))
@@ -243,4 +243,4 @@ def question_of(code: Code, is_window: bool) -> bytes:
     if not code.probes or code.is_sp_relative:
         return b""
     registers = code.probes if is_window or code.kind is Kind.ECALL else code.probes[:1]
-    return b"".join(b"reg %d\n" % it for it in registers)
+    return b"".join(b"reg %d\n" % register for register in registers)

@@ -44,7 +44,7 @@ JoinPoints = Mapping[int, Mapping[bytes, Sequence[int]]]  # indices of a trace, 
 
 class AddedSteps(NamedTuple):
     """The steps of a part as they were added to a trace. They are the same in another trace with this context, these registers and these frames."""
-    context: int  # before the steps
+    context: int  # the context before the steps
     registers: bytes  # the replies with the registers that the steps need
     frames: Sequence[Tuple[int, Optional[int]]]  # the contexts of the steps, with the sp of each
     first: int  # number of the first step of the part
@@ -73,12 +73,12 @@ def pc_and_tail(line: bytes) -> tuple[int, bytes]:
     return int(line[9:17], 16), line[31:]
 
 
-def part_of(block: bytes, own: bytes, pc: int, is_own: bool) -> TracePart:
+def part_of(block: bytes, prefix: bytes, pc: int, is_own: bool) -> TracePart:
     """Decodes the replies to single steps."""
     lines = block.split(b"\n")[:-1]
     next_pcs, tails = zip(*map(pc_and_tail, lines))
-    is_inside = {it: it.startswith(own) for it in set(tails)}
-    after, pcs = [is_inside[it] for it in tails], [pc, *next_pcs[:-1]]
+    is_inside = {tail: tail.startswith(prefix) for tail in set(tails)}
+    after, pcs = [is_inside[tail] for tail in tails], [pc, *next_pcs[:-1]]
     inside = list(compress(range(len(lines)), [is_own, *after[:-1]]))
     starts = {0, *(at + 1 for at, n in enumerate(inside) if not after[n])}
     return TracePart(lines, pcs, after, next_pcs[-1], inside, array("I", [pcs[n] for n in inside]), [tails[n] for n in inside], starts)
@@ -87,11 +87,11 @@ def part_of(block: bytes, own: bytes, pc: int, is_own: bool) -> TracePart:
 @dataclass(frozen=True)
 class Started:
     """A run to which the probes of its parent were sent."""
-    run: Run  # with the changed inputs
-    parent: Trace  # whose inputs were changed
+    run: Run  # the run with the changed inputs
+    parent: Trace  # the trace whose inputs were changed
     joined: Joined  # index of the parent and position of the run, from where it is expected to follow the parent
-    changes: Changes  # of the inputs
-    replay: Timeline  # of the run
+    changes: Changes  # the changes of the inputs
+    replay: Timeline  # the replay of the run
     first: Optional[int] = None  # number of the first probe; None if there are none
     before: int = 0  # lines of the replies before those to the probes
     count: int = 0  # lines of the replies to the probes
@@ -102,12 +102,12 @@ class Tracer:
 
     def __init__(self, run: Run, slot: int) -> None:
         self.run, self.slot, self.world = run, slot, b"e%d " % slot  # `world` begins the world in a reply
-        self.code: dict[int, Code] = {}  # by pc
+        self.code: dict[int, Code] = {}  # the code by pc
         self.part_of = lru_cache(maxsize=CACHED_PARTS)(part_of)  # runs that take the same way have parts in common
         self.questions: dict[int, bytes] = {}  # by pc: commands that read the registers of an instruction
         self.plain: set[int] = set()  # pcs of plain instructions
         self.moving: set[int] = set()  # pcs of instructions that may change the context or note a frame
-        self.contexts = Contexts()  # of all traces
+        self.contexts = Contexts()  # the contexts of all traces
         self.enclave: Enclave | None = None  # None before the first trace
         self.limit = run.length + run.setup.limit  # steps of the run after which it is cut
         self.runs = self.cut = self.waiting = 0  # numbers of runs, of runs that were cut, and of runs that wait for the host
@@ -171,7 +171,7 @@ class Tracer:
         probes = self.probes(parent)
         first = bisect_left(probes.indices, index)
         text, count = probes.text_from(first, parent.steps[index] - 1)
-        replay.bench.send("".join(it + "\n" for it in before).encode() + text)
+        replay.bench.send("".join(command + "\n" for command in before).encode() + text)
         replay.bench.begin()
         return Started(run, parent, joined, changes, replay, first=first, before=len(before), count=count)
 
@@ -216,9 +216,9 @@ class Tracer:
             probes = Probes(list(each_probe(parent, self.code, self.enclave)))
             text, counts = [], []
             with self.with_changes(parent.changes).replay() as replay:
-                for it, lines in zip(probes.probes, advances(replay, [it.position for it in probes.probes])):
+                for probe, lines in zip(probes.probes, advances(replay, [probe.position for probe in probes.probes])):
                     counts.append(lines.count(b"\n") or 1)
-                    text += [lines or b"reg 0\n", it.question]
+                    text += [lines or b"reg 0\n", probe.question]
                 block = iter(replay.bench.block(b"".join(text), sum(counts) + len(probes.probe_of_reply) - len(counts)).split(b"\n"))
             for number, (probe, count) in enumerate(zip(probes.probes, counts)):
                 place = [next(block) for _ in range(count)][-1]
@@ -274,7 +274,7 @@ class Tracer:
     def go(self, replay: Timeline, position: int) -> tuple[int, bool]:
         """Goes to a position; returns the pc there, and whether the enclave runs."""
         commands = replay.lines_to(position)
-        replies = [it[0] for it in replay.bench.ask(*commands) if it[0].startswith("ran ")] if commands else []
+        replies = [reply[0] for reply in replay.bench.ask(*commands) if reply[0].startswith("ran ")] if commands else []
         if not replies:
             return int(self.run.pc, 16), False
         return int(replies[-1].partition("pc=")[2][:8], 16), (" world=%s" % self.world.decode()) in replies[-1]
@@ -287,7 +287,7 @@ class Tracer:
             return ""
         if is_own:
             replies = leader.bench.block(b"step %d\n" % STEPS_PER_CHECK * CHECKS, CHECKS).splitlines()
-            if all(b" world=" + self.world in it for it in replies):
+            if all(b" world=" + self.world in reply for reply in replies):
                 return "waits" if self.is_waiting(leader) else "stuck"
         return "limit"
 
@@ -309,7 +309,7 @@ class Tracer:
         """Brings a reader before the first own step of a part, and marks the steps that need more than a pc. `first` numbers the first step."""
         reader.bench.replies_to(reader.lines_to(first + part.own_steps[0] - 1))
         if self.enclave is None:
-            self.enclave = next(it for it in map(enclave_of, reader.bench.ask("enclaves")[0]) if it.slot == self.slot)
+            self.enclave = next(enclave for enclave in map(enclave_of, reader.bench.ask("enclaves")[0]) if enclave.slot == self.slot)
         if part.marked_steps is None:
             self.decode(reader, set(part.own_pcs) - self.code.keys())
             plain_tail, pcs, indices = self.world + NO_TRAP, part.own_pcs, range(len(part.own_pcs))
@@ -323,13 +323,13 @@ class Tracer:
         """Adds the steps of the enclave in a marked part to a trace: as an earlier trace has them, if they are the same. `registers` are the replies
         with the registers that these steps need."""
         begin, context, version, frames, added = len(trace), trace.context, self.contexts.version, self.contexts.frames, part.last_added
-        if added and (context, registers) == added[:2] and all(frames.get(it) == sp for it, sp in added.frames):
+        if added and (context, registers) == added[:2] and all(frames.get(frame) == sp for frame, sp in added.frames):
             trace.append(added.trace, 0, len(added.trace), first - added.first)
         else:
             self.add(trace, part, first, iter(values_of(registers)))
             if self.contexts.version != version:
                 return
-            used_frames = [(it, frames.get(it)) for it in set(trace.contexts[begin:])]
+            used_frames = [(context, frames.get(context)) for context in set(trace.contexts[begin:])]
             added = part.last_added = AddedSteps(context, registers, used_frames, first, trace.since(begin))
         trace.parts.append((begin, added.trace))
 
@@ -362,15 +362,15 @@ class Tracer:
     def decode(self, reader: Timeline, pcs: set[int]) -> None:
         """Decodes instructions that are not yet known."""
         new = sorted(pcs)
-        replies = reader.bench.block(b"".join(b"dis %x\n" % it for it in new), len(new)).split(b"\n") if new else []
+        replies = reader.bench.block(b"".join(b"dis %x\n" % pc for pc in new), len(new)).split(b"\n") if new else []
         for pc, code in zip(new, map(code_of, replies)):
             self.learn(pc, code)
 
     def learn(self, pc: int, code: Code) -> None:
-        """Adds a decoded instruction."""
+        """Adds a decoded instruction to the code of the tracer."""
         self.code[pc] = code
         if code.probes:
-            self.questions[pc] = b"".join([b"reg %d\n" % it for it in code.probes])
+            self.questions[pc] = b"".join([b"reg %d\n" % probe for probe in code.probes])
         if code.is_plain:
             self.plain.add(pc)
         if code.kind in CONTEXT_KINDS or code.moves_sp or code.is_saving:
@@ -387,11 +387,11 @@ class Tracer:
                 if not part.is_own_after[n]:
                     questions.append((first + n, READ_RESULT))
             if reader.future:
-                text = b"".join(chain.from_iterable(zip(advances(reader, [position for position, _ in questions]), [it for _, it in questions])))
+                text = b"".join(chain.from_iterable(zip(advances(reader, [position for position, _ in questions]), [text for _, text in questions])))
                 return reader.bench.block(text, text.count(b"\n"))
             positions = [reader.position, *(position for position, _ in questions), first + part.own_steps[-1]]
             pairs = zip(positions, positions[1:], [*questions, (0, b"")])
-            text = part.text = b"".join([step_command(now - before) + it for before, now, (_, it) in pairs])
+            text = part.text = b"".join([step_command(now - before) + question for before, now, (_, question) in pairs])
         reader.lines_to(first + part.own_steps[-1])
         return reader.bench.block(text, text.count(b"\n"))
 
@@ -424,13 +424,13 @@ class Tracer:
 @lru_cache(maxsize=CACHED_PARTS)
 def join_points_of(trace: Trace, start: int) -> JoinPoints:
     """Returns the first occurrences of each pc in the next steps of a trace, by the pc and by the pcs from there on."""
-    found: dict[int, dict[bytes, list[int]]] = defaultdict(dict)
+    join_points: dict[int, dict[bytes, list[int]]] = defaultdict(dict)
     counts: dict[int, int] = defaultdict(int)
     for at, pc in enumerate(trace.pcs[start:start + JOIN_DISTANCE], start):
         counts[pc] += 1
         if counts[pc] <= JOIN_OCCURRENCES:
-            found[pc].setdefault(trace.pcs[at:at + JOIN_LENGTH].tobytes(), []).append(at)
-    return found
+            join_points[pc].setdefault(trace.pcs[at:at + JOIN_LENGTH].tobytes(), []).append(at)
+    return join_points
 
 
 def access_of(code: Code, values: Sequence[int]) -> tuple[int, int | None]:
@@ -445,17 +445,17 @@ def access_of(code: Code, values: Sequence[int]) -> tuple[int, int | None]:
 
 def advances(replay: Timeline, positions: Sequence[int], has_next: bool = False) -> Iterator[bytes]:
     """Yields the commands that bring a replay to each of these positions, one after another; with `has_next` also those before the next step."""
-    now, left = replay.position, 0  # the present position; steps of a command that are not yet done
+    now, remaining = replay.position, 0  # the present position; steps of a command that are not yet done
     lines = deque(replay.lines_to(positions[-1]) + (replay.lines_up_to_next() if has_next else []) if positions else ())
     for position in positions:
         text = []
-        while now < position or has_next and not left and lines and not lines[0].startswith("step "):
-            if left:
-                done = min(left, position - now)
+        while now < position or has_next and not remaining and lines and not lines[0].startswith("step "):
+            if remaining:
+                done = min(remaining, position - now)
                 text.append(step_command(done))
-                now, left = now + done, left - done
+                now, remaining = now + done, remaining - done
             elif lines[0].startswith("step "):
-                left = int(lines.popleft()[5:])
+                remaining = int(lines.popleft()[5:])
             else:
                 text.append(lines.popleft().encode() + b"\n")
         yield b"".join(text)
@@ -467,7 +467,7 @@ def steps_with_registers(replay: Timeline, count: int) -> tuple[bytes, list[list
     step_text = b"step 1\n" + READ_REGISTERS
     text = READ_REGISTERS + b"".join([step_text * int(line[5:]) if line.startswith("step ") else line.encode() + b"\n" for line in lines])
     replies = replay.bench.block(text, text.count(b"\n") + (REGISTER_LINES - 1) * (1 + count)).split(b"\n")
-    steps = [n for n, it in enumerate(replies) if it.startswith(b"ran ")]
+    steps = [n for n, reply in enumerate(replies) if reply.startswith(b"ran ")]
     return b"".join([replies[n] + b"\n" for n in steps]), [replies[n:n + REGISTER_LINES] for n in (0, *(n + 1 for n in steps))]
 
 
@@ -476,4 +476,4 @@ def single_steps(replay: Timeline, count: int) -> bytes:
     lines = replay.lines_to(replay.position + count)
     text = b"".join([b"step 1\n" * int(line[5:]) if line.startswith("step ") else line.encode() + b"\n" for line in lines])
     block = replay.bench.block(text, text.count(b"\n"))
-    return b"".join([it for it in block.splitlines(keepends=True) if it.startswith(b"ran ")]) if len(lines) > 1 else block
+    return b"".join([line for line in block.splitlines(keepends=True) if line.startswith(b"ran ")]) if len(lines) > 1 else block

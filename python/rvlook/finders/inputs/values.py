@@ -24,7 +24,7 @@ WORD = 4  # bytes
 STEPS_AHEAD = 400  # steps after a load in which branches and accesses are considered
 MAX_VALUES, MAX_MOVED_ACCESSES, MAX_TARGET_OBJECTS = 64, 6, 6  # for each input: values, accesses that it may move, objects that values point to
 MAX_FIRST_WORDS = 4  # words at the start of a buffer that are inputs
-MAX_CONSTANTS = 12  # of instructions after a load
+MAX_CONSTANTS = 12  # the most constants that are taken from instructions after a load
 NEAR = 1 << 12  # the distance of operands that an input may make equal is smaller
 VALUES_PER_PART = 3  # values of other inputs for each value of a part of a buffer
 IMMEDIATE = re.compile(r"(?:lui|addi|xori|slti|sltiu) x(\d+), (?:x(\d+), )?(-?(?:0x)?[0-9a-f]+)\Z")
@@ -38,7 +38,7 @@ Content = Mapping[int, int]  # bytes by address
 class Details:
     """Loads and branches of a trace, by index of the step."""
     loaded: dict[int, bytes] = field(default_factory=dict)  # the bytes of each load from the window
-    operands: dict[int, tuple[int, int]] = field(default_factory=dict)  # of each branch
+    operands: dict[int, tuple[int, int]] = field(default_factory=dict)  # the operands of each branch
 
 
 class DetailReader:
@@ -46,7 +46,7 @@ class DetailReader:
 
     def __init__(self, tracer: Tracer, objects: Objects, fields: WindowFields) -> None:
         self.tracer, self.objects, self.fields = tracer, objects, fields  # `fields`: names of the fields of the window
-        self.parameters_of: dict[int, list[tuple[int, object]]] = {}  # by address: number and members of each parameter
+        self.parameters_of: dict[int, list[tuple[int, object]]] = {}  # number and members of each parameter, by address
         for parameter in objects.parameters:
             self.parameters_of.setdefault(parameter.function, []).append((parameter.number, parameter.members))
 
@@ -59,7 +59,7 @@ class DetailReader:
             for step, (_, lines) in zip(steps, questions):
                 text += [step, lines]
                 count += step.count(b"\n") + lines.count(b"\n")
-            replies = [it for it in replay.bench.block(b"".join(text), count).split(b"\n") if it[:1] in (b"x", b"8") or it[8:9] == b":"]
+            replies = [reply for reply in replay.bench.block(b"".join(text), count).split(b"\n") if reply[:1] in (b"x", b"8") or reply[8:9] == b":"]
         return self.decoded_details(trace, questions, replies)
 
     def detail_questions(self, trace: Trace) -> Iterator[tuple[int, bytes]]:
@@ -99,7 +99,7 @@ class DetailReader:
                 continue
             if code.kind is Kind.LOAD:
                 return self.objects.enclave.has(trace.addresses[at]) and trace.addresses[at] < self.objects.stack
-            return any(self.is_private(trace, at, it, depth + 1) for it in code.sources)
+            return any(self.is_private(trace, at, source, depth + 1) for source in code.sources)
         return False
 
 
@@ -107,14 +107,14 @@ class DetailReader:
 class Input:
     """Bytes that a step loads from the window, or a register at an entry."""
     visit: int  # number of the activation, from 0
-    index: int  # of the load in the trace
+    index: int  # the index of the load in the trace
     start: int  # index of the first step that depends on the bytes
     step: int  # number of the step of the run after which they are changed
     at: int  # address; 0 for a register
-    value: bytes  # without a change
+    value: bytes  # the value without a change
     is_loaded_again: bool = False  # whether the enclave has loaded them before
-    register: int = 0  # its number; 0 for memory
-    pc: int = 0  # of the load
+    register: int = 0  # the number of the register; 0 for memory
+    pc: int = 0  # the pc of the load
     is_first: bool = False  # whether it is the first that the instruction loads in the activation
     is_part: bool = False  # whether it is a part of a buffer
 
@@ -131,9 +131,9 @@ class Input:
 
 @dataclass(frozen=True)
 class Child:
-    """A trace to be tried."""
-    changes: Changes  # of the inputs
-    index: int  # up to which it equals the trace of its parent
+    """A run to be tried: the changed inputs, and how far it equals the run of its parent."""
+    changes: Changes  # the changes of the inputs
+    index: int  # the index up to which its trace equals the trace of its parent
 
 
 class Values:
@@ -149,8 +149,8 @@ class Values:
 
     def inputs(self, trace: Trace, details: Details) -> list[Input]:
         """Returns the inputs of a trace, in the order of their steps."""
-        found = [it for number, visit in enumerate(trace.visits) for it in self.visit_inputs(trace, details, number, visit)]
-        return sorted(found, key=lambda it: (it.index, it.at, it.width, it.register))
+        inputs = [input_ for number, visit in enumerate(trace.visits) for input_ in self.visit_inputs(trace, details, number, visit)]
+        return sorted(inputs, key=lambda it: (it.index, it.at, it.width, it.register))
 
     def loads(self, trace: Trace, details: Details, visit: TraceVisit) -> Iterator[tuple[int, int, bytes]]:
         """Yields index, address and bytes of each load of an activation from the window, without bytes that the activation has stored."""
@@ -181,8 +181,8 @@ class Values:
             groups[trace.pcs[index], is_again].append(
                 Input(number, index, start, trace.steps[index] - 1 if is_again else entry, at, data, is_again, register=0, pc=trace.pcs[index]))
         for inputs in groups.values():
-            is_part = len({it.at for it in inputs}) > 1
-            yield from (replace(it, is_first=n == 0, is_part=is_part) for n, it in enumerate(sample_of(inputs)))
+            is_part = len({input_.at for input_ in inputs}) > 1
+            yield from (replace(input_, is_first=n == 0, is_part=is_part) for n, input_ in enumerate(sample_of(inputs)))
         for word in word_inputs(content, first_loads, number, entry):
             yield replace(word, pc=trace.pcs[word.index], is_part=True)
         yield from self.register_inputs(trace, number, visit)
@@ -216,7 +216,7 @@ class Values:
     def round_robin(self, trace: Trace, details: Details, inputs: list[Input]) -> Iterator[Child]:
         """Yields the first value of each input, then the second of each, and so on. From the third value on, other inputs get VALUES_PER_PART values
         for each value of a part of a buffer: branches and addresses depend on other inputs more often."""
-        values_of_inputs = [(it, list(self.values(trace, details, it))) for it in inputs]
+        values_of_inputs = [(input_, list(self.values(trace, details, input_))) for input_ in inputs]
         for turn in range(VALUES_PER_PART * max((len(values) for _, values in values_of_inputs), default=0)):
             for input_, values in values_of_inputs:
                 number, is_turn = turn, True
@@ -258,8 +258,8 @@ class Values:
             candidates += [*self.target_addresses[:MAX_TARGET_OBJECTS], *self.moving_values(trace, input_), number + 0x10000, number + (1 << 31)]
             candidates += [0xFF, 0x100, enclave.window + enclave.window_size - WORD, enclave.base, RAM_BASE + self.rng.getrandbits(16)]
         candidates += [self.rng.getrandbits(8 * input_.width), 2, 3, 4]
-        found = list(dict.fromkeys(value & max_value for value in candidates if value & max_value != number))
-        return iter([value.to_bytes(input_.width, "little") for value in found[:MAX_VALUES]])
+        values = list(dict.fromkeys(value & max_value for value in candidates if value & max_value != number))
+        return iter([value.to_bytes(input_.width, "little") for value in values[:MAX_VALUES]])
 
     def branch_values(self, trace: Trace, details: Details, input_: Input) -> Iterator[int]:
         """Yields values at which branches after the load go another way. If one operand is the input, it becomes the other operand. If an operand
@@ -281,7 +281,7 @@ class Values:
 
     def constants(self, trace: Trace, input_: Input) -> list[int]:
         """Returns the constants of the instructions after the load, without addresses."""
-        known_registers, found = {0: 0}, []
+        known_registers, constants = {0: 0}, []
         for index in range(input_.start, min(len(trace), input_.start + STEPS_AHEAD // 2)):
             code = self.tracer.code[trace.pcs[index]]
             match = IMMEDIATE.match(code.text)
@@ -289,12 +289,12 @@ class Values:
             if match and base is not None:
                 value = int(match[3], 0) << 12 if code.text.startswith("lui") else base + int(match[3], 0)
                 known_registers[int(match[1])] = value & WORD_MASK
-                found.append(value & WORD_MASK)
+                constants.append(value & WORD_MASK)
             elif code.writes:
                 known_registers.pop(code.writes, None)
             if match and not code.text.startswith(("lui", "addi")):
-                found.append(int(match[3], 0) & WORD_MASK)
-        return list(dict.fromkeys(value for value in found if value < RAM_BASE))[:MAX_CONSTANTS]
+                constants.append(int(match[3], 0) & WORD_MASK)
+        return list(dict.fromkeys(value for value in constants if value < RAM_BASE))[:MAX_CONSTANTS]
 
     def moving_values(self, trace: Trace, input_: Input) -> Iterator[int]:
         """Yields values that move an access after the load to an object, if its address moves with the input, by bytes or by words."""
@@ -332,8 +332,9 @@ def word_inputs(content: dict[int, int], first_loads: dict[int, int], visit: int
 
 def with_change(changes: Changes, change: Change) -> Changes:
     """Returns the changes with one more, in the order of their steps. The new change replaces one of the same bytes at the same step."""
-    kept = [it for it in changes if (it.step, it.at, it.register, len(it.value)) != (change.step, change.at, change.register, len(change.value))]
-    return tuple(sorted([*kept, change], key=lambda it: it.step))
+    place = change.step, change.at, change.register, len(change.value)
+    kept = [old for old in changes if (old.step, old.at, old.register, len(old.value)) != place]
+    return tuple(sorted([*kept, change], key=lambda each: each.step))
 
 
 class HostRequest(NamedTuple):
@@ -346,12 +347,12 @@ class HostRequest(NamedTuple):
 def reordered(trace: Trace, requests: Sequence[HostRequest], name: Callable[[int], str]) -> Iterator[Child]:
     """Yields a trace with two requests exchanged, then with one in place of another, and then with a part of one in another. Activations that follow
     each other come first. `name` returns the name of an address."""
-    pairs = [it for it in combinations(requests, 2) if it[0].content != it[1].content]
+    pairs = [combination for combination in combinations(requests, 2) if combination[0].content != combination[1].content]
     pairs.sort(key=lambda it: requests.index(it[1]) - requests.index(it[0]))
     both = [(one, other) for pair in pairs for one, other in (pair, pair[::-1])]
     orders = chain((((one, other.content), (other, one.content)) for one, other in pairs), (((one, other.content),) for one, other in both),
                    (((one, part),) for one, other in both for part in halves(one, other)))
-    return (with_requests(trace, it, name) for it in islice(orders, MAX_ORDERS))
+    return (with_requests(trace, order, name) for order in islice(orders, MAX_ORDERS))
 
 
 def halves(one: HostRequest, other: HostRequest) -> Iterator[Content]:

@@ -27,7 +27,7 @@ class HartEnd(NamedTuple):
 
 class OutcomeState(NamedTuple):
     """A state in which the outcome has some values, and the schedule that leads to it."""
-    vertex: Vertex  # of the strongly connected component
+    vertex: Vertex  # a vertex of the strongly connected component
     state: CachedState  # the state, at the vertex or after it
     tail: Tuple[Segment, ...] = ()  # the schedule from the vertex to the state
 
@@ -36,18 +36,18 @@ class OutcomeState(NamedTuple):
 class FinalState:
     """A final state: a report of the harts and the outcome, with a schedule that leads to it."""
     harts: tuple[HartEnd, ...]  # how and where each hart ended
-    values: tuple[Value, ...]  # of the outcome, in its order
+    values: tuple[Value, ...]  # the values of the outcome, in its order
     node: SearchNode  # has the simplest schedule
     round: tuple[Segment, ...]  # the schedule of an endless loop from the state; empty for no loop
     orders: int  # number of schedules that lead to the final state
-    state: CachedState  # of the machine
+    state: CachedState  # the state of the machine
     tail: tuple[Segment, ...] = ()  # schedule from the node to the state, if a hart runs on alone
     number: int = 0  # from 1 on; 0 before the numbering
 
     @property
     def steps(self) -> int:
         """Returns the number of steps of the schedule."""
-        return self.node.cost.steps + sum(it.steps for it in self.tail)
+        return self.node.cost.steps + sum(move.steps for move in self.tail)
 
     def schedule(self) -> list[Segment]:
         """Returns the schedule that leads to the final state."""
@@ -59,7 +59,7 @@ class FinalStates:
 
     def __init__(self, search: ScheduleSearch, outcome: Sequence[Observed]) -> None:
         self.search, self.machine, self.outcome, self.orders = search, search.machine, outcome, 0  # `orders`: number of schedules
-        self.by_report: dict[tuple[tuple[HartEnd, ...], tuple[Value, ...]], FinalState] = {}  # by their reports
+        self.by_report: dict[tuple[tuple[HartEnd, ...], tuple[Value, ...]], FinalState] = {}  # the final states by their reports
         self.are_hidden = self.is_cut = False  # values may be missing; the time limit was reached
         try:
             with search.limit.until(1 + GRACE, SLACK):
@@ -80,7 +80,7 @@ class FinalStates:
     def keep(self, wanted: Sequence[FinalState]) -> None:
         """Leaves out all final states but `wanted`, because the time was over before the others were replayed."""
         self.is_cut = self.is_cut or len(wanted) < len(self.ends)
-        self.ends = [it for it in self.ends if it in wanted]
+        self.ends = [end for end in self.ends if end in wanted]
         self.renumber()
 
     def add(self, end: FinalState) -> None:
@@ -96,8 +96,8 @@ class FinalStates:
         """Yields the final states of one round of the search."""
         if self.search.bounds.preemptions is not None:
             graph = with_preemptions(graph, self.search.bounds.preemptions)
-        found = Components(graph)
-        parts, component_of = found.parts, found.component_of
+        components = Components(graph)
+        parts, component_of = components.parts, components.component_of
         paths = paths_of(graph, parts, component_of)
         for index, vertices in enumerate(parts):
             part = Component(self.search, graph, vertices, component_of)
@@ -110,12 +110,12 @@ class FinalStates:
         """Yields the final states of a component: one for each set of values, or one if the values are not known."""
         hart_ends = tuple(part.hart_end(hart) if how == ENDED else HartEnd(how, None) for hart, how in enumerate(harts))
         vertex = part.vertices[0]
-        found = {(): OutcomeState(vertex, part.graph.nodes[vertex].point.state)}  # type: dict[tuple[Value, ...], OutcomeState]
+        states_by_values = {(): OutcomeState(vertex, part.graph.nodes[vertex].point.state)}  # type: dict[tuple[Value, ...], OutcomeState]
         if NOT_SEARCHED not in harts and (UNFINISHED not in harts or ENDED in harts):
-            found, is_hidden = part.values(self.outcome)
+            states_by_values, is_hidden = part.values(self.outcome)
             self.are_hidden = self.are_hidden or is_hidden
         endless_harts = [hart for hart, how in enumerate(harts) if how in (WAITS, RUNS_ON)]
-        for values, (vertex, state, tail) in found.items():
+        for values, (vertex, state, tail) in states_by_values.items():
             yield FinalState(hart_ends, values, part.graph.nodes[vertex], part.round(vertex, state, endless_harts, tail), orders, state, tail)
 
 
@@ -124,10 +124,10 @@ class Component:
 
     def __init__(self, search: ScheduleSearch, graph: Graph, vertices: Iterable[Vertex], component_of: Mapping[Vertex, int]) -> None:
         self.search, self.machine, self.graph = search, search.machine, graph  # the vertices and edges are those of `graph`
-        self.vertices = sorted((it for it in vertices if it in graph.nodes), key=lambda it: graph.nodes[it].cost)  # by cost
+        self.vertices = sorted((vertex for vertex in vertices if vertex in graph.nodes), key=lambda it: graph.nodes[it].cost)  # the vertices by cost
         self.all_vertices = set(vertices)  # also vertices that were not visited
-        self.moves = moves_inside(graph, vertices, component_of) if self.vertices else {}  # of each hart, within the component
-        self.state = graph.nodes[self.vertices[0]].point.state if self.vertices else search.machine.start  # of the first vertex
+        self.moves = moves_inside(graph, vertices, component_of) if self.vertices else {}  # the moves of each hart, within the component
+        self.state = graph.nodes[self.vertices[0]].point.state if self.vertices else search.machine.start  # the state of the first vertex
 
     def loop(self, hart: int) -> Loop | None:
         """Returns the endless loop of a hart that no other hart can affect, or None."""
@@ -142,7 +142,7 @@ class Component:
         is_still = is_still and not any(loop and loop.has_changes for loop in map(self.loop, count))
         is_given_up = any((self.state, hart) in self.graph.unended_alone for hart in count)
         harts = [self.how_ended(hart, is_still, is_given_up) for hart in count]
-        ended = tuple(it for it in harts if it is not None)
+        ended = tuple(hart for hart in harts if hart is not None)
         return ended if len(ended) == len(harts) else None
 
     def how_ended(self, hart: int, is_still: bool, is_given_up: bool) -> str | None:
@@ -162,7 +162,7 @@ class Component:
     def hart_end(self, hart: int) -> HartEnd:
         """Returns how and where a hart ended. The hart HALTS if it was expected to end elsewhere."""
         machine, nodes = self.machine, self.graph.nodes
-        pc = min(machine.pc(nodes[it].point.state, hart) for it in self.vertices)
+        pc = min(machine.pc(nodes[vertex].point.state, hart) for vertex in self.vertices)
         if hart in self.moves:
             pc = min(pc, *(work.pc for work in self.run_alone(hart)))
         return HartEnd(HALTS if machine.ends and not machine.limit and pc not in machine.ends else ENDED, pc)
@@ -180,36 +180,36 @@ class Component:
 
     def values(self, outcome: Sequence[Observed]) -> tuple[dict[tuple[Value, ...], OutcomeState], bool]:
         """Returns the recurring values of the outcome, each with a vertex, a state and the schedule between them; and whether some may be missing."""
-        found: dict[tuple[Value, ...], OutcomeState] = {}
+        states_by_values: dict[tuple[Value, ...], OutcomeState] = {}
         for vertex in self.vertices:
             state = self.graph.nodes[vertex].point.state
-            found.setdefault(values_in(self.machine, outcome, state), OutcomeState(vertex, state))
+            states_by_values.setdefault(values_in(self.machine, outcome, state), OutcomeState(vertex, state))
         if self.search.is_outcome_visible:
-            return found, False
-        loops = [it for it in range(self.machine.count) if it not in self.moves and self.loop(it) and len(self.values_alone(it, outcome)) > 1]
-        moving_harts = [*self.moves, *loops]
+            return states_by_values, False
+        others = [hart for hart in range(self.machine.count) if hart not in self.moves]
+        moving_harts = [*self.moves, *(hart for hart in others if self.loop(hart) and len(self.values_alone(hart, outcome)) > 1)]
         if len(moving_harts) == 1:
             for values, state_alone in self.values_alone(moving_harts[0], outcome).items():
-                found.setdefault(values, state_alone)
-        return found, len(moving_harts) > 1 and any(self.search.is_hidden(hart) for hart in moving_harts)
+                states_by_values.setdefault(values, state_alone)
+        return states_by_values, len(moving_harts) > 1 and any(self.search.is_hidden(hart) for hart in moving_harts)
 
     def values_alone(self, hart: int, outcome: Sequence[Observed]) -> dict[tuple[Value, ...], OutcomeState]:
         """Returns the sets of values while a hart runs alone, as `values` does."""
         watched, first = self.search.outcome, self.vertices[0]
-        found: dict[tuple[Value, ...], OutcomeState] = {values_in(self.machine, outcome, self.state): OutcomeState(first, self.state)}
+        states_by_values: dict[tuple[Value, ...], OutcomeState] = {values_in(self.machine, outcome, self.state): OutcomeState(first, self.state)}
         if not watched.registers and not watched.addresses:
-            return found  # all of it is shared, so each value has a node
+            return states_by_values  # all of it is shared, so each value has a node
         previous: object = None
         for work in self.run_alone(hart):
             present = work.digest, work.table, [work.registers[number] for owner, number in watched.registers if owner == hart]
             if present != previous:
                 state, previous = work.cached_state(), present
-                found.setdefault(values_in(self.machine, outcome, state), OutcomeState(first, state, (Segment(hart, work.done),)))
-        return found
+                states_by_values.setdefault(values_in(self.machine, outcome, state), OutcomeState(first, state, (Segment(hart, work.done),)))
+        return states_by_values
 
     def round(self, vertex: Vertex, state: CachedState, harts: Sequence[int], tail: Sequence[Segment]) -> tuple[Segment, ...]:
         """Returns the schedule from a state back to it in which each of these harts moves."""
-        moving = [it for it in harts if it in self.moves]
+        moving = [hart for hart in harts if hart in self.moves]
         if len(moving) == 1 and tail:
             return (Segment(moving[0], sum(1 for _ in self.run_alone(moving[0]))),)
         if not moving and tail:
@@ -219,7 +219,7 @@ class Component:
 
 def values_in(machine: RaceMachine, outcome: Sequence[Observed], state: CachedState) -> tuple[Value, ...]:
     """Returns the values of an outcome in a state."""
-    return tuple(value_in(it, machine, state) for it in outcome)
+    return tuple(value_in(item, machine, state) for item in outcome)
 
 
 def full_state(work: Work) -> tuple[Any, ...]:
@@ -231,23 +231,23 @@ def find_final_states(search: ScheduleSearch, outcome_of: Callable[[ScheduleSear
     """Searches all orders, and returns the final states. `outcome_of` returns the outcome after a search. If two harts run on and change the
     outcome by independent steps, makes these steps dependent and repeats the search."""
     search.run()
-    found = FinalStates(search, outcome_of(search))
-    if found.are_hidden and not search.why_cut:
+    final_states = FinalStates(search, outcome_of(search))
+    if final_states.are_hidden and not search.why_cut:
         search.show_outcome()
-        found = FinalStates(search.run(), outcome_of(search))
-    if found.are_hidden:
+        final_states = FinalStates(search.run(), outcome_of(search))
+    if final_states.are_hidden:
         search.whole = None  # of no level are all values known
-    return found
+    return final_states
 
 
 def moves_inside(graph: Graph, part: Iterable[Vertex], component_of: Mapping[Vertex, int]) -> dict[int, list[Move]]:
     """Returns the moves of each hart that stay in a component."""
-    found = defaultdict(list)
+    moves = defaultdict(list)
     for vertex in part:
         for edge in graph.edges.get(vertex, ()):
             if component_of.get(edge.target) == component_of[vertex]:
-                found[edge.hart].append(edge.move)
-    return found
+                moves[edge.hart].append(edge.move)
+    return moves
 
 
 def with_preemptions(graph: Graph, bound: int) -> Graph:
@@ -259,22 +259,22 @@ def with_preemptions(graph: Graph, bound: int) -> Graph:
         index, preemptions = vertex
         if index in graph.nodes and vertex not in new.nodes:
             new.nodes[vertex] = graph.nodes[index]
-            new.edges[vertex] = [it._replace(target=(it.target, preemptions + it.preemptions)) for it in graph.edges.get(index, ())
-                                 if preemptions + it.preemptions <= bound]
-            waiting += [it.target for it in new.edges[vertex]]
+            new.edges[vertex] = [edge._replace(target=(edge.target, preemptions + edge.preemptions)) for edge in graph.edges.get(index, ())
+                                 if preemptions + edge.preemptions <= bound]
+            waiting += [edge.target for edge in new.edges[vertex]]
     return new
 
 
 def round_of(graph: Graph, vertex: Vertex, moving: Sequence[int], part: Set[Vertex]) -> tuple[tuple[int, Move], ...]:
     """Returns moves from a vertex through its component and back in which each of these harts moves."""
     here = start = vertex
-    found: list[tuple[int, Move]] = []
+    edges: list[tuple[int, Move]] = []
     for hart in moving:
         here, path = path_to(graph, here, part, lambda edge: edge.hart == hart)
-        found += path
-    if found and here != start:
-        found += path_to(graph, here, part, lambda edge: edge.target == start)[1]
-    return tuple(found)
+        edges += path
+    if edges and here != start:
+        edges += path_to(graph, here, part, lambda edge: edge.target == start)[1]
+    return tuple(edges)
 
 
 def path_to(graph: Graph, here: Vertex, part: Set[Vertex], is_wanted: Callable[[Edge], bool]) -> tuple[Vertex, tuple[tuple[int, Move], ...]]:
@@ -296,7 +296,7 @@ class Components:
     """The strongly connected components of the graph (Tarjan). Each component comes after those that it leads to."""
 
     def __init__(self, graph: Graph) -> None:
-        self.graph = graph  # whose components are found
+        self.graph = graph  # the graph whose components are found
         self.number: dict[Vertex, int] = {}  # by vertex: its number in the order of visits
         self.low: dict[Vertex, int] = {}  # the least number that is reachable through open vertices
         self.stack: list[Vertex] = []  # the vertices whose component is not complete

@@ -53,7 +53,7 @@ def loop_of(machine: RaceMachine, work: Work, length: int, schedule: Schedule) -
         has_accesses, has_changes = has_accesses or bool(look.kind), has_changes or work.digest != digest
         if look.kind == "w":
             stored.update(range(look.address, look.address + look.width))
-    other_digest = work.digest  # of the bytes that the loop does not store
+    other_digest = work.digest  # the digest of the bytes that the loop does not store
     for address in stored.intersection(work.memory):
         other_digest ^= digest_of(address, work.memory[address])
     states = []

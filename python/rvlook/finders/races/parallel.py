@@ -20,7 +20,7 @@ from rvlook.protocol.jobs import results_of
 FIRST_PAUSE = 0.1  # seconds that the search computes moves before it gives nodes to other processes
 MIN_SECONDS_PER_MOVE = 0.00015  # seconds to compute a move on average, so that it is worth to send it
 TASKS_PER_JOB = 4  # so that the processes end at about the same time
-MAX_MOVES_PER_TASK = 20000  # of a task; its result is sent through a pipe
+MAX_MOVES_PER_TASK = 20000  # the most moves of a task; its result is sent through a pipe
 
 
 @dataclass(frozen=True, eq=False)
@@ -42,7 +42,7 @@ class AheadMove(NamedTuple):
 
 class MemoryChange(NamedTuple):
     """A memory, as a change of the memory before a move."""
-    digest: int  # its hash
+    digest: int  # the hash of the memory
     before: int  # the hash of the memory before
     changed: Memory  # the new values of bytes that differ
     restored: Set[int]  # addresses of bytes that are again as after the script
@@ -80,13 +80,13 @@ class MoveRecorder:
                 continue
             search.visited.add(node.point)
             try:
-                waiting.extend(it for it in search.next_nodes(node) if it.cost.level == level)
+                waiting.extend(node for node in search.next_nodes(node) if node.cost.level == level)
             except UnknownStep:
                 pass
         return self.news
 
     def new_move(self, key: MoveKey, _schedule: object) -> Move | None:
-        """Computes a move, and records it."""
+        """Computes a move, and records it for the other processes."""
         search, graph = self.search, self.search.graph
         search.touches, graph.loops, graph.unended_in_move = TouchedBytes(), {}, set()
         move = search.compute_move(key, list)
@@ -100,15 +100,15 @@ class MoveRecorder:
 
     def all_touched(self) -> list[Touched]:
         """Returns the bytes that were accessed in a move."""
-        found, touches = [], self.search.touches
+        all_touched, touches = [], self.search.touches
         for agent in list(touches.executed):
             bytes_of = (agent, frozenset(touches.read[agent]), frozenset(touches.written[agent]), frozenset(touches.executed[agent]))
-            found.append(self.touched.setdefault(bytes_of, Touched(*bytes_of)))
-        return found
+            all_touched.append(self.touched.setdefault(bytes_of, Touched(*bytes_of)))
+        return all_touched
 
     def note_state(self, before: CachedState, state: CachedState) -> None:
         """Notes what is new in a state after another one."""
-        self.news.harts.update((it, self.machine.harts[it]) for it in state.harts if it >= self.inherited_harts)
+        self.news.harts.update((hart, self.machine.harts[hart]) for hart in state.harts if hart >= self.inherited_harts)
         if state.memory not in self.memories:
             self.memories.add(state.memory)
             old, new = self.machine.memories[before.memory], self.machine.memories[state.memory]
@@ -142,7 +142,7 @@ class MovesAhead:
         tasks: dict[int, list[SearchNode]] = defaultdict(list)
         for node in nodes:
             harts, last = node.point.state.harts, node.point.last_hart
-            others = tuple(it for hart, it in enumerate(harts) if hart != last) or harts
+            others = tuple(number for hart, number in enumerate(harts) if hart != last) or harts
             tasks[hash((last, others)) % (TASKS_PER_JOB * self.jobs)].append(node)
         return list(tasks.values())
 
@@ -172,7 +172,7 @@ class MovesAhead:
                 machine.memories[change.digest] = memory
 
         def renumbered(state: CachedState) -> CachedState:
-            return state._replace(harts=tuple(numbers.get(it, it) for it in state.harts))
+            return state._replace(harts=tuple(numbers.get(hart, hart) for hart in state.harts))
 
         for (state, hart, is_timer), ahead in news.moves:
             move = ahead.move and ahead.move._replace(state=renumbered(ahead.move.state))

@@ -30,7 +30,7 @@ class Replays:
 
     def ram(self, bench: Bench) -> list[str]:
         """Reads all rows of RAM."""
-        return [it.decode() for it in bench.replies_to(self.commands)]
+        return [reply.decode() for reply in bench.replies_to(self.commands)]
 
     def check_all(self, ends: Sequence[FinalState], jobs: int) -> Iterator[int]:
         """Replays final states in `jobs` processes; yields the index of each. Raises RvlookError if the bench comes to another state."""
@@ -68,8 +68,8 @@ class Replays:
         for hart in range(machine.count):
             number, pc, registers = machine.harts[state.harts[hart]]
             context = machine.contexts[number]
-            found = machine.registers_and_rest(bench.ask(*machine.setup.choice(hart), "regs", *machine.context_commands))
-            self.expect(end, found, ((*registers, pc), context.csrs))
+            registers_and_csrs = machine.registers_and_rest(bench.ask(*machine.setup.choice(hart), "regs", *machine.context_commands))
+            self.expect(end, registers_and_csrs, ((*registers, pc), context.csrs))
             self.expect(end, reached.get(hart, (context.mode, context.world)), (context.mode, context.world))
         self.expect(end, tuple(bench.ask("enclaves")[0]), machine.tables[state.table][0])
         self.expect(end, self.ram(bench), self.expected_rows(machine.memories[state.memory]))
@@ -79,13 +79,13 @@ class Replays:
         rows = list(self.rows)
         for row in {(at - RAM_BASE) // ROW for at in memory}:
             at = RAM_BASE + ROW * row
-            rows[row] = "%08x: %s" % (at, " ".join("%02x" % it for it in self.machine.bytes_at(memory, at, ROW) or ()))
+            rows[row] = "%08x: %s" % (at, " ".join("%02x" % byte for byte in self.machine.bytes_at(memory, at, ROW) or ()))
         return rows
 
     @staticmethod
-    def expect(end: FinalState, found: object, expected: object) -> None:
+    def expect(end: FinalState, actual: object, expected: object) -> None:
         """Raises RvlookError if the bench shows something unexpected."""
-        if found != expected:
+        if actual != expected:
             raise RvlookError("the replay of final state %d on rvbench differs from the search: a dependency was missed" % end.number)
 
 

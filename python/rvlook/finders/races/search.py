@@ -18,21 +18,21 @@ from rvlook.protocol import names
 
 MAX_STATES = 500000  # states, each with the hart that stepped last; at this number the search ends incomplete
 MAX_MOVES_ALONE = 10000  # moves of one hart in succession; beyond it the hart is given up, and the search is incomplete
-SEARCH_SHARE = 0.85  # of the time limit; the rest is for the analysis of the graph and for the replays
+SEARCH_SHARE = 0.85  # the search's part of the time limit; the rest is for the analysis of the graph and for the replays
 
 
 class DependentStep(NamedTuple):
     """The dependent step of a move. In a move of independent steps only, `pc` and `look` are None."""
     steps_before: int  # number of steps of the move before this one
     pc: Optional[int]  # None if the move has no dependent step
-    look: Optional[Look]  # its access; None if the move has no dependent step
-    world: str  # in which the step begins
+    look: Optional[Look]  # the access of the step; None if the move has no dependent step
+    world: str  # the world in which the step begins
     took_timer: bool  # whether the step took the timer interrupt
 
 
 class Move(NamedTuple):
     """A dependent step with the independent steps before and after it, or only independent steps."""
-    state: CachedState  # after the move
+    state: CachedState  # the state after the move
     steps: int  # number of all steps of the move
     dependent: DependentStep  # has the pc None if all steps are independent
     has_changes: bool  # whether memory or the enclave table changed
@@ -56,8 +56,8 @@ class Cost(NamedTuple):
     """The cost of a schedule. Costs are compared by the first part that differs."""
     preemptions: int = 0  # switches from a hart that could make progress
     timers: int = 0  # timer interrupts
-    switches: int = 0  # all changes of the hart
-    steps: int = 0  # of all harts
+    switches: int = 0  # the number of all changes of the hart
+    steps: int = 0  # the number of steps of all harts
 
     @property
     def level(self) -> tuple[int, int]:
@@ -76,9 +76,9 @@ class Edge(NamedTuple):
 class SearchNode(NamedTuple):
     """A point with the simplest schedule that leads to it."""
     point: SearchPoint
-    cost: Cost = Cost()  # of the schedule
+    cost: Cost = Cost()  # the cost of the schedule
     parent: Optional[SearchNode] = None  # the node before; None at the start
-    move: Optional[Move] = None  # from the parent; None at the start
+    move: Optional[Move] = None  # the move from the parent; None at the start
     is_timer: bool = False  # whether the timer interrupt came before the move
     moves_alone: int = 0  # moves of the hart in succession
     first_switch: int = 0  # the first step of the run to which the next switch may be attributed
@@ -105,7 +105,7 @@ class SearchNode(NamedTuple):
 
     def schedule(self) -> list[Segment]:
         """Returns the schedule that leads to the node."""
-        return schedule_of((it.hart, it.last_move, it.is_timer) for it in self.path())
+        return schedule_of((node.hart, node.last_move, node.is_timer) for node in self.path())
 
 
 def schedule_of(moves: Iterable[tuple[int, Move, bool]]) -> list[Segment]:
@@ -149,16 +149,16 @@ class Graph:
     nodes: dict[Vertex, SearchNode] = field(default_factory=dict)  # the first node of each vertex
     edges: dict[Vertex, list[Edge]] = field(default_factory=dict)  # the moves from each vertex
     moves: dict[MoveKey, Move | None] = field(default_factory=dict)  # None: the hart stops
-    loops: dict[tuple[CachedState, int], Loop] = field(default_factory=dict)  # by state and hart: endless loops that no other hart can affect
+    loops: dict[tuple[CachedState, int], Loop] = field(default_factory=dict)  # endless loops that no other hart can affect, by state and hart
     unended_in_move: set[tuple[CachedState, int]] = field(default_factory=set)  # states in which a hart was given up within a move
     unended_alone: set[tuple[CachedState, int]] = field(default_factory=set)  # states in which a hart was given up after MAX_MOVES_ALONE moves
 
 
 class SearchBounds(NamedTuple):
-    """The bounds of a search."""
-    preemptions: Optional[int] = None  # at most; None: any number
+    """The bounds of a search of schedules."""
+    preemptions: Optional[int] = None  # the most preemptions; None: any number
     timers: int = 0  # timer interrupts, at most
-    steps: int = 1000000  # of one move; a hart that exceeds them is given up
+    steps: int = 1000000  # the most steps of one move; a hart that exceeds them is given up
     first: int = 0  # the first switch or timer interrupt comes right after this step of the run, or later,
     last: Optional[int] = None  # and at the latest right after this one; None: no limit
 
@@ -185,13 +185,13 @@ class ScheduleSearch:
         self.touches, self.rounds, self.regions = TouchedBytes(), 0, 0  # the accesses so far, the round from 1, and the regions known at its start
         self.why_cut: str | None = None  # what ended the search early; None: nothing did
         self.whole: tuple[int, int] | None = None  # the last level, of preemptions and timers, of which all was searched
-        self.graph = Graph()  # of this round
-        self.earlier_graph: Graph | None = None  # of the round that came to that level
-        self.reduced_graph: Graph | None = None  # of the round before `show_outcome`
+        self.graph = Graph()  # the graph of this round
+        self.earlier_graph: Graph | None = None  # the graph of the round that came to that level
+        self.reduced_graph: Graph | None = None  # the graph of the round before `show_outcome`
         self.reset()
 
     def reset(self) -> None:
-        """Begins a new round."""
+        """Begins a new round of the search, with an empty graph."""
         self.cycles: dict[tuple[CachedState, int], int] = {}  # steps in which a hart returns to a state; 0: never
         self.visited: set[SearchPoint] = set()  # the points that were visited
         self.graph = Graph()
@@ -218,19 +218,19 @@ class ScheduleSearch:
 
     def graphs(self) -> list[Graph]:
         """Returns the graphs whose final states are reported."""
-        return [it for it in (self.reduced_graph, self.earlier_graph, self.graph) if it]
+        return [graph for graph in (self.reduced_graph, self.earlier_graph, self.graph) if graph]
 
     def is_hidden(self, hart: int) -> bool:
         """Returns whether independent steps of a hart may change the outcome."""
         if any(of == hart for of, _ in self.outcome.registers):
             return True
-        agents = [it for it in self.touches.written if hart in (it, it[0] if isinstance(it, tuple) else it)]
-        stored = set().union(*(self.touches.written[it] for it in agents))
-        return any(it in stored or self.machine.overlaps_region(it, 1) for it in self.outcome.addresses - self.shared_bytes)
+        agents = [agent for agent in self.touches.written if hart in (agent, agent[0] if isinstance(agent, tuple) else agent)]
+        stored = set().union(*(self.touches.written[agent] for agent in agents))
+        return any(address in stored or self.machine.overlaps_region(address, 1) for address in self.outcome.addresses - self.shared_bytes)
 
     def is_whole(self) -> bool:
         """Returns whether all orders within the bounds were searched, and no hart was given up."""
-        return not self.why_cut and not any(it.unended_alone or it.unended_in_move for it in self.graphs())
+        return not self.why_cut and not any(graph.unended_alone or graph.unended_in_move for graph in self.graphs())
 
     def has_grown(self) -> bool:
         """Returns whether more bytes are shared, or more regions exist, than at the start of the round. Adds these bytes to the shared bytes."""
@@ -288,7 +288,7 @@ class ScheduleSearch:
             return
         cost, edges = node.cost, self.edges_of(node)
         harts = range(self.machine.count)
-        is_free = last_hart is None or all(it == last_hart for it in harts) or self.is_free(state, last_hart, node.schedule)
+        is_free = last_hart is None or all(hart == last_hart for hart in harts) or self.is_free(state, last_hart, node.schedule)
         for hart in harts:
             is_switch = last_hart is not None and hart != last_hart
             preemptions = cost.preemptions + (is_switch and not is_free)
@@ -454,7 +454,7 @@ class ScheduleSearch:
             state = move.state
             passed_steps.append(passed_steps[-1] + move.steps)
         first = chain[state] if state in chain and move else len(chain)
-        self.cycles.update({(it, hart): passed_steps[-1] - passed_steps[first] if index >= first else 0 for it, index in chain.items()})
+        self.cycles.update({(state, hart): passed_steps[-1] - passed_steps[first] if index >= first else 0 for state, index in chain.items()})
         return bool(self.cycles[first_state, hart])
 
 

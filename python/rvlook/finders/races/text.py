@@ -36,7 +36,7 @@ class Story:
 
     def heading(self) -> str:
         """Returns a final state as a line: its values, and how the harts ended if the values do not show it."""
-        parts = ["%s=%s" % (it.name, value_text(value)) for it, value in zip(self.outcome, self.end.values) if value != ()]
+        parts = ["%s=%s" % (observed.name, value_text(value)) for observed, value in zip(self.outcome, self.end.values) if value != ()]
         for hart, (how, pc) in enumerate(self.end.harts):
             if how == UNFINISHED:
                 parts.append("hart %d not finished after %s" % (hart, self.limit(hart)))
@@ -51,7 +51,7 @@ class Story:
     def limit(self, hart: int) -> str:
         """Returns how far a hart was run."""
         search, state = self.search, self.end.node.point.state
-        is_alone = any((state, hart) in it.unended_alone for it in search.graphs())
+        is_alone = any((state, hart) in graph.unended_alone for graph in search.graphs())
         return "%d transitions alone" % MAX_MOVES_ALONE if is_alone else counted(search.bounds.steps, "step")
 
     def location(self, pc: int | None) -> str:
@@ -77,8 +77,8 @@ class Story:
                 yield "%s before %s" % (timer_text(turn[0].last_move.dependent), self.location(turn[0].last_move.dependent.pc))
             elif 0 < number < len(turns) - 1:
                 before, after = turns[number - 1], turns[number + 1]
-                steps = [[it.last_move.dependent for it in part] for part in (before, turn, after)]
-                pcs = [[it.pc for it in part if it.pc is not None] for part in steps]
+                steps = [[node.last_move.dependent for node in part] for part in (before, turn, after)]
+                pcs = [[node.pc for node in part if node.pc is not None] for part in steps]
                 if all(pcs) and before[0].hart == after[0].hart != turn[0].hart and not after[0].is_timer:
                     yield "hart %d executes %s between %s and %s of hart %d" % (
                         turn[0].hart, self.span(pcs[1]), self.location(pcs[0][-1]), self.location(pcs[2][0]), before[0].hart)
@@ -108,10 +108,10 @@ class Story:
         switches = counted(cost.switches, "switch").replace("switchs", "switches")
         yield "  %d of %s; simplest: %s, %s, %s" % (self.end.orders, counted(total, "schedule"), ", ".join(parts), switches,
                                                     counted(self.end.steps, "step"))
-        yield from ("  " + it for it in self.sentences())
+        yield from ("  " + sentence for sentence in self.sentences())
         for turn in self.turns():
-            yield "    hart %d, %s" % (turn[0].hart, counted(sum(it.last_move.steps for it in turn), "step"))
-            lines = [self.access(it) for it in turn if it.last_move.dependent.pc is not None]
+            yield "    hart %d, %s" % (turn[0].hart, counted(sum(node.last_move.steps for node in turn), "step"))
+            lines = [self.access(node) for node in turn if node.last_move.dependent.pc is not None]
             yield from lines if len(lines) <= 2 * MAX_ACCESSES_SHOWN + 1 else \
                 [*lines[:MAX_ACCESSES_SHOWN], "      ... %d more" % (len(lines) - 2 * MAX_ACCESSES_SHOWN), *lines[-MAX_ACCESSES_SHOWN:]]
         for part in self.end.tail:
@@ -124,13 +124,12 @@ class Story:
         """Writes the final state as an object."""
         end, count = self.end, self.search.machine.count
         cost = end.node.cost
-        turns = [dict(hart=turn[0].hart, steps=sum(it.last_move.steps for it in turn),
-                      accesses=[self.access_object(it) for it in turn if it.last_move.dependent.pc is not None]) for turn in self.turns()]
-        printer.object("final_state", number=end.number, values={it.name: shown(value) for it, value in zip(self.outcome, end.values)},
+        turns = [dict(hart=turn[0].hart, steps=sum(node.last_move.steps for node in turn),
+                      accesses=[self.access_object(node) for node in turn if node.last_move.dependent.pc is not None]) for turn in self.turns()]
+        printer.object("final_state", number=end.number, values={observed.name: shown(value) for observed, value in zip(self.outcome, end.values)},
                        harts=[dict(hart=hart, how=how, pc=hex8(pc)) for hart, (how, pc) in enumerate(end.harts)], schedules=end.orders,
                        preemptions=cost.preemptions, timers=cost.timers, switches=cost.switches, steps=end.steps, summary=list(self.sentences()),
-                       schedule=commands_of(end.schedule(), count), loop=commands_of(end.round, count) if end.round else [],
-                       turns=turns)
+                       schedule=commands_of(end.schedule(), count), loop=commands_of(end.round, count) if end.round else [], turns=turns)
 
     def access_object(self, node: SearchNode) -> dict[str, Json]:
         """Returns the access of a node as an object."""
@@ -165,19 +164,19 @@ def bound_text(bounds: SearchBounds) -> str:
     return bounds_text
 
 
-def covered_text(search: ScheduleSearch, found: FinalStates) -> str:
+def covered_text(search: ScheduleSearch, final_states: FinalStates) -> str:
     """Returns what was searched in words. `all` is used only if no order is missing."""
-    bounds, graph = bound_text(search.bounds), search.graph
+    bounds, graph, schedules = bound_text(search.bounds), search.graph, counted(final_states.orders, "schedule")
     given_up = len(graph.unended_alone) + len(graph.unended_in_move)
     if search.why_cut:
-        text = "stopped by %s after %s%s; completely searched: %s" % (search.why_cut, counted(found.orders, "schedule"), bounds, level_text(search))
-        text += "; not every final state was replayed" if found.is_cut else ""
-    elif found.is_cut:
-        text = "stopped by --seconds before every final state was replayed; %s%s" % (counted(found.orders, "schedule"), bounds)
+        text = "stopped by %s after %s%s; completely searched: %s" % (search.why_cut, schedules, bounds, level_text(search))
+        text += "; not every final state was replayed" if final_states.is_cut else ""
+    elif final_states.is_cut:
+        text = "stopped by --seconds before every final state was replayed; %s%s" % (schedules, bounds)
     elif given_up:
-        text = counted(found.orders, "schedule") + bounds
+        text = schedules + bounds
     else:
-        text = "all %d of %s%s" % (found.orders, counted(found.orders, "schedule"), bounds)
+        text = "all %d of %s%s" % (final_states.orders, schedules, bounds)
     return text + ("; not beyond %s in which a hart did not finish" % counted(given_up, "state") if given_up else "")
 
 
@@ -196,13 +195,13 @@ class RacesOptions(NamedTuple):
     forbid: Sequence[str] = ()  # conditions that no final state may meet
     outcome: Sequence[str] = ()  # what distinguishes final states; empty: all shared memory
     end: Sequence[str] = ()  # the places at which a hart may end; empty: any
-    preemptions: Optional[int] = None  # at most; None: any number
+    preemptions: Optional[int] = None  # the most preemptions; None: any number
     timers: int = 0  # timer interrupts, at most
     first: int = 0  # the first switch or timer interrupt comes right after this step, or later,
     last: Optional[int] = None  # and at the latest right after this one; None: no limit
     limit: int = 0  # steps after which each hart ends; 0: no limit
     plain: bool = False  # whether harts switch before each step, without reduction
-    seconds: Optional[float] = None  # of search and replay, at most; None: no limit
+    seconds: Optional[float] = None  # the seconds of search and replay, at most; None: no limit
     symbols: Optional[str] = None  # the file of variables; None: the image
     scripts: Optional[str] = None  # the folder for inputs that replay the final states; None: not written
     jobs: int = 1  # processes that search and replay
@@ -211,9 +210,9 @@ class RacesOptions(NamedTuple):
 def find_races(run: Run, options: RacesOptions) -> RacesReport:
     """Searches all orders, replays the final states, and writes them to the folder of the options. Raises Unfinished if no search is possible."""
     symbols = run.setup.symbols
-    conditions = [condition_of(it, symbols) for it in options.forbid]
+    conditions = [condition_of(text, symbols) for text in options.forbid]
     outcome = outcomes_of(options.outcome, conditions, run, options.symbols)
-    ends = [address_of(it, symbols) for it in options.end]
+    ends = [address_of(text, symbols) for text in options.end]
     bounds = SearchBounds(options.preemptions, options.timers, run.setup.limit, options.first, options.last)
     limit = TimeLimit(options.seconds)
     machine = RaceMachine(run, ends, options.limit)
@@ -223,8 +222,8 @@ def find_races(run: Run, options: RacesOptions) -> RacesReport:
             if options.jobs > 1:
                 MovesAhead(search, options.jobs)
             search.progress = lambda it: progress.show(PROGRESS, it.rounds, len(it.visited), it.waiting, *it.level, it.machine.runs)
-            found = find_final_states(search, lambda it: outcome or [*ranges_of(it.shared_bytes, symbols), EnclaveStates()])
-        return completed(RacesReport(run, symbols, search, found, conditions), options)
+            final_states = find_final_states(search, lambda it: outcome or [*ranges_of(it.shared_bytes, symbols), EnclaveStates()])
+        return completed(RacesReport(run, symbols, search, final_states, conditions), options)
     except RvlookError as fault:  # the arguments are right, but the program cannot be searched
         raise Unfinished(str(fault)) from None
     finally:
@@ -252,12 +251,12 @@ def address_of(text: str, symbols: Symbols) -> int:
 
 @dataclass
 class RacesReport:
-    """A search and its final states."""
+    """A search of schedules, with its final states and their stories."""
     run: Run  # the run with its script
     symbols: Symbols  # name addresses
     search: ScheduleSearch  # has searched all orders
     found: FinalStates  # the final states
-    conditions: List[Forbidden]  # of --forbid
+    conditions: List[Forbidden]  # the conditions of --forbid
     stories: List[Story] = field(default_factory=list)  # describe the final states; empty before the replay
     bad: List[Tuple[Forbidden, FinalState]] = field(default_factory=list)  # each condition that holds, with a final state that meets it
     scripts: Dict[int, bytes] = field(default_factory=dict)  # the input of the bench for each number
@@ -282,12 +281,12 @@ class RacesReport:
 
 def completed(report: RacesReport, options: RacesOptions) -> RacesReport:
     """Replays the final states, describes them, and writes their inputs if there is a folder; returns the report."""
-    search, found = report.search, report.found
-    replay(search, found, report.conditions, options.jobs)
-    end_pcs = [{pc for it in found.ends for how, pc in it.harts[hart:hart + 1]} for hart in range(search.machine.count)]
-    report.stories = [Story(it, found.outcome, search, report.symbols, end_pcs) for it in found.ends]
-    report.bad = forbidden(report.conditions, found)
-    report.scripts = {it.number: script_of(search.machine, it, found.outcome, report.title(it)) for it in found.ends}
+    search, final_states = report.search, report.found
+    replay(search, final_states, report.conditions, options.jobs)
+    end_pcs = [{pc for end in final_states.ends for how, pc in end.harts[hart:hart + 1]} for hart in range(search.machine.count)]
+    report.stories = [Story(end, final_states.outcome, search, report.symbols, end_pcs) for end in final_states.ends]
+    report.bad = forbidden(report.conditions, final_states)
+    report.scripts = {end.number: script_of(search.machine, end, final_states.outcome, report.title(end)) for end in final_states.ends}
     if options.scripts:
         write_files(options.scripts, (("final_state_%d" % number, text) for number, text in report.scripts.items()))
     return report
@@ -303,50 +302,51 @@ def note(findings: ReportedCases, report: RacesReport) -> None:
         findings.add("--forbid " + condition.text, "\n".join(report.title(it.end) for it in report.stories if (condition, it.end) in report.bad))
 
 
-def replay(search: ScheduleSearch, found: FinalStates, conditions: Sequence[Forbidden], jobs: int) -> None:
+def replay(search: ScheduleSearch, final_states: FinalStates, conditions: Sequence[Forbidden], jobs: int) -> None:
     """Replays the final states on the bench in `jobs` processes, forbidden ones first. Leaves out the final states for which no time is left."""
     replayed: list[FinalState] = []
-    is_forbidden = {id(end) for _, end in forbidden(conditions, found)}
+    is_forbidden = {id(end) for _, end in forbidden(conditions, final_states)}
     try:
         with search.limit.until(1 + GRACE, SLACK):
-            if search.why_cut or found.is_cut:
+            if search.why_cut or final_states.is_cut:
                 search.machine.renew()
-            ends = sorted(found.ends, key=lambda it: id(it) not in is_forbidden)
+            ends = sorted(final_states.ends, key=lambda it: id(it) not in is_forbidden)
             for index in Replays(search.machine).check_all(ends, jobs):
                 replayed.append(ends[index])
     except OutOfTime:
         pass
-    if len(replayed) < len(found.ends):
-        found.keep(replayed)
+    if len(replayed) < len(final_states.ends):
+        final_states.keep(replayed)
 
 
-def forbidden(conditions: Sequence[Forbidden], found: FinalStates) -> list[tuple[Forbidden, FinalState]]:
+def forbidden(conditions: Sequence[Forbidden], final_states: FinalStates) -> list[tuple[Forbidden, FinalState]]:
     """Returns the conditions that hold, each with the final state."""
-    named = [it.name for it in found.outcome]
-    return [(condition, end) for condition in conditions for end in found.ends if condition.holds(end, named)]
+    named = [value.name for value in final_states.outcome]
+    return [(condition, end) for condition in conditions for end in final_states.ends if condition.holds(end, named)]
 
 
-def is_whole(search: ScheduleSearch, found: FinalStates) -> bool:
+def is_whole(search: ScheduleSearch, final_states: FinalStates) -> bool:
     """Returns whether all orders within the bounds were searched, and all final states reported."""
-    return search.is_whole() and not found.is_cut
+    return search.is_whole() and not final_states.is_cut
 
 
 def objects(report: RacesReport, printer: Printer) -> None:
     """Writes a report as objects."""
-    search, found, stories, bad, symbols = report.search, report.found, report.stories, report.bad, report.symbols
+    search, final_states, stories, bad, symbols = report.search, report.found, report.stories, report.bad, report.symbols
     run_object(printer, report.run, symbols)
     for story in stories:
         story.object(printer)
     machine, bounds = search.machine, search.bounds
-    printer.object("races", final_states=len(stories), schedules=found.orders, complete=is_whole(search, found), covered=covered_text(search, found),
-                   forbidden=sorted({end.number for _, end in bad}), preemptions=bounds.preemptions, timers=bounds.timers,
-                   shared=[dict(address=hex8(it.at), size=it.count, symbol=it.name) for it in ranges_of(search.shared_bytes, symbols)],
+    printer.object("races", final_states=len(stories), schedules=final_states.orders, complete=is_whole(search, final_states),
+                   covered=covered_text(search, final_states), forbidden=sorted({end.number for _, end in bad}), preemptions=bounds.preemptions,
+                   timers=bounds.timers,
+                   shared=[dict(address=hex8(part.at), size=part.count, symbol=part.name) for part in ranges_of(search.shared_bytes, symbols)],
                    states=len(search.visited), transitions=search.transitions, rounds=search.rounds, runs=machine.runs, steps=machine.steps_run)
 
 
 def texts(report: RacesReport, printer: Printer) -> None:
     """Writes a report as lines."""
-    search, found, stories, bad = report.search, report.found, report.stories, report.bad
+    search, final_states, stories, bad = report.search, report.found, report.stories, report.bad
     for shared in ranges_of(search.shared_bytes, report.symbols):
         printer.line("shared memory  %08x %d  %s" % (shared.at, shared.count, shared.name))
     forbidden = {end.number for _, end in bad}
@@ -354,10 +354,10 @@ def texts(report: RacesReport, printer: Printer) -> None:
         printer.line()
         style = Style.bad if story.end.number in forbidden else Style.heading
         printer.line(printer.styled("final state %d: %s" % (story.end.number, story.heading()), style))
-        for line in story.lines(found.orders):
+        for line in story.lines(final_states.orders):
             printer.line(line)
     printer.line()
-    printer.line("%s, each replayed on rvbench. Covered: %s" % (counted(len(stories), "final state"), covered_text(search, found)))
+    printer.line("%s, each replayed on rvbench. Covered: %s" % (counted(len(stories), "final state"), covered_text(search, final_states)))
     printer.line("%s and %s in %s; %s of rvbench with %s" % (
         counted(len(search.visited), "state"), counted(search.transitions, "transition"), counted(search.rounds, "round"),
         counted(search.machine.runs, "run"), counted(search.machine.steps_run, "step")))
