@@ -52,7 +52,7 @@ def print_plain(line: str) -> None:
         sys.stderr = open(os.devnull, "w", encoding="utf-8")
 
 
-MESSAGE_LISTS: List[List[str]] = []  # of the bodies that capture messages; the last list gets them
+MESSAGE_LISTS: List[List[str]] = []  # the lists of messages of the bodies that capture messages; the last list gets them
 
 
 @contextmanager

@@ -4,7 +4,7 @@ from __future__ import annotations
 import re
 
 CONTROL = re.compile(r"[\x00-\x1f\x7f]")
-FLIP = 0x40  # from a control character to its letter
+FLIP = 0x40  # the bit that differs between a control character and its letter
 
 
 def visible(text: str) -> str:
@@ -13,7 +13,7 @@ def visible(text: str) -> str:
     if text.isprintable():
         return text
     text = CONTROL.sub(lambda match: "^" + chr(ord(match[0]) ^ FLIP), text)
-    return text if text.isprintable() else "".join(it if it.isprintable() else "<U+%04X>" % ord(it) for it in text)
+    return text if text.isprintable() else "".join(character if character.isprintable() else "<U+%04X>" % ord(character) for character in text)
 
 
 def visible_line(line: str) -> str:

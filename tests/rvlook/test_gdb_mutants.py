@@ -3,8 +3,8 @@ import pytest
 from support.mutants import Mutant, check_noticed, id_of
 
 MUTANTS = (
-    Mutant("watch_of_writes_halts_at_reads", "gdb/stops.py", "met = [it for it in self.watches if kind in it.kinds and it.meets(first, width)]",
-           "met = [it for it in self.watches if it.meets(first, width)]", "test_gdb_stops.py::test_continue_halts_at_each_break_and_watch[table]"),
+    Mutant("watch_of_writes_halts_at_reads", "gdb/stops.py", "met = [watch for watch in self.watches if kind in watch.kinds and watch.meets(first, width)]",
+           "met = [watch for watch in self.watches if watch.meets(first, width)]", "test_gdb_stops.py::test_continue_halts_at_each_break_and_watch[table]"),
     Mutant("watch_halts_after_the_access", "gdb/moves.py", "if halt.reason and not self.stops_after_watch:", "if False:",
            "test_gdb_stops.py::test_continue_halts_at_each_break_and_watch[count]"),
     Mutant("reverse_continue_goes_to_the_first_stop", "gdb/reverse.py", "position, halt = halts[-1]", "position, halt = halts[0]",

@@ -29,20 +29,20 @@ def compared(op: str, left: Any, right: Any) -> Optional[List[str]]:
         return ["access map == the expected one; these rights differ, expected -> actual:", *(left - right)]
     if isinstance(left, View) and isinstance(right, (View, Mapping)):
         wanted = right.values() if isinstance(right, View) else right
-        rows = [row for name, it in wanted.items() for row in difference(left, name, it)]
+        rows = [row for name, value in wanted.items() for row in difference(left, name, value)]
         return ["%s == the expected members; these differ:" % left._type.name, *rows]
     return None
 
 
 def difference(view: View, name: str, wanted: Any) -> List[str]:
     """Explains a member that differs: its first bytes that do, and what last stored the first of them. Empty for an equal member."""
-    found, address = getattr(view, name), view[name]
-    if found == wanted:
+    actual, address = getattr(view, name), view[name]
+    if actual == wanted:
         return []
-    rows = ["  %s: %r; expected: %r" % (name, found, wanted)]
-    if isinstance(found, bytes) and isinstance(wanted, bytes):
-        first = next((n for n, pair in enumerate(zip(found, wanted)) if pair[0] != pair[1]), min(len(found), len(wanted)))
-        rows = ["  %s, from byte %d on: %s; expected: %s" % (name, first, part(found, first), part(wanted, first))]
+    rows = ["  %s: %r; expected: %r" % (name, actual, wanted)]
+    if isinstance(actual, bytes) and isinstance(wanted, bytes):
+        first = next((n for n, pair in enumerate(zip(actual, wanted)) if pair[0] != pair[1]), min(len(actual), len(wanted)))
+        rows = ["  %s, from byte %d on: %s; expected: %s" % (name, first, part(actual, first), part(wanted, first))]
         address += first
     writer = view._memory.writer_of(address) if isinstance(view._memory, Machine) else None
     return rows + (["    last stored by " + writer] if writer else [])
@@ -53,14 +53,14 @@ def part(data: bytes, first: int) -> str:
     return data[first:first + SHOWN].hex() + ("..." if len(data) > first + SHOWN else "")
 
 
-def findings_text(found: Findings, folder: str, name: str) -> str:
+def findings_text(findings: Findings, folder: str, name: str) -> str:
     """Returns the text of a search that found something, and writes the script of each finding."""
-    rows = ["%s, in %s" % (counted(len(found), "finding"), counted(len(found.checks), "check"))]
-    for number, finding in enumerate(found, 1):
+    rows = ["%s, in %s" % (counted(len(findings), "finding"), counted(len(findings.checks), "check"))]
+    for number, finding in enumerate(findings, 1):
         rows.append(str(finding))
         if finding.script:
             rows.append("repeat:        " + command_for(finding.script, write_script(folder, "%s_%d" % (name, number), finding.script)))
-    return "\n".join(rows + (["search again:  " + found.command] if found.command else []))
+    return "\n".join(rows + (["search again:  " + findings.command] if findings.command else []))
 
 
 def write_script(folder: str, name: str, script: str) -> str:
@@ -74,7 +74,7 @@ def write_script(folder: str, name: str, script: str) -> str:
 
 def command_for(script: str, path: str) -> str:
     """Returns the command that runs an input of rvbench: its first comment has it."""
-    line = next((it for it in lines_of(script) if it.startswith(COMMANDS)), "# rvbench run < this file")
+    line = next((line for line in lines_of(script) if line.startswith(COMMANDS)), "# rvbench run < this file")
     return line[2:].replace("this file", path)
 
 
@@ -84,8 +84,8 @@ def machine_rows(machine: Machine, folder: str, name: str) -> List[str]:
     path = write_script(folder, name, script)
     rows = ["after step %d: %s in %s at %s" % (machine.steps, machine.world, machine.mode, machine.where)]
     rows += ["last trap:     %s" % machine.trap] if machine.trap else []
-    rows += ["e%d:            %s" % (it.slot, it.state) for it in machine.enclaves]
-    rows += ["console:       " + it for it in machine.console.split("\n")[-CONSOLE_LINES:] if it]
+    rows += ["e%d:            %s" % (enclave.slot, enclave.state) for enclave in machine.enclaves]
+    rows += ["console:       " + line for line in machine.console.split("\n")[-CONSOLE_LINES:] if line]
     options = "--monitor" if setup.monitor else "--no-monitor"
     harts = " --harts %d" % setup.harts if setup.harts > 1 else ""
     return rows + ["repeat:        " + command_for(script, path),

@@ -50,8 +50,8 @@ class Finding:
     title: str  # the check
     text: str  # what it found
     script: Optional[str] = None  # the input of rvbench that repeats it; None if the finder writes none
-    pc: Optional[int] = None  # of the instruction
-    step: Optional[int] = None  # its number
+    pc: Optional[int] = None  # the pc of the instruction
+    step: Optional[int] = None  # the number of the step
     source: Optional[str] = None  # file and line
 
     def __str__(self) -> str:
@@ -74,8 +74,8 @@ class Findings(List[Finding]):
         if not self:
             what = "did not finish: " + self.unfinished if self.unfinished else "no finding in %d checks" % len(self.checks)
             return "<p>%s</p>" % html.escape(what)
-        rows = "".join("<tr><td>%s<td><pre>%s</pre><td>%s</tr>" % (html.escape(it.title), html.escape(it.text), html.escape(it.source or ""))
-                       for it in self)
+        rows = "".join("<tr><td>%s<td><pre>%s</pre><td>%s</tr>" % (html.escape(item.title), html.escape(item.text), html.escape(item.source or ""))
+                       for item in self)
         return "<table><tr><th>check<th>finding<th>source</tr>%s</table>" % rows
 
 
@@ -83,10 +83,10 @@ class Findings(List[Finding]):
 def searching(finder: str, program: Optional[Program], *words: str, **options: Any) -> Iterator[Tuple[Findings, Printer]]:
     """Gives findings to fill and the printer of their report. The notes and warnings of the body are those of the findings. `words` and `options` are
     for the command line that repeats the search."""
-    found, text = Findings(command=command_of(finder, program, *words, **options)), io.StringIO()
+    findings, text = Findings(command=command_of(finder, program, *words, **options)), io.StringIO()
     with captured_messages() as messages:
-        yield found, Printer(as_json=False, stream=text)
-    found.report, found.notes = text.getvalue(), "".join(it + "\n" for it in messages)
+        yield findings, Printer(as_json=False, stream=text)
+    findings.report, findings.notes = text.getvalue(), "".join(message + "\n" for message in messages)
 
 
 def command_of(finder: str, program: Optional[Program], *words: str, **options: Any) -> str:
@@ -95,20 +95,20 @@ def command_of(finder: str, program: Optional[Program], *words: str, **options: 
     if program is not None and program.has_boot:
         return ""
     arguments = ["rvlook", finder, *(image_arguments(program) if program else []), *words]
-    every = [(name, it) for name, value in options.items() for it in ([value] if isinstance(value, (str, bool, int, float)) else value or ())]
-    for name, it in every:
-        if it is not False:
-            arguments += ["--" + name.replace("_", "-")] + ([] if it is True else [str(it)])
+    every = [(name, item) for name, value in options.items() for item in ([value] if isinstance(value, (str, bool, int, float)) else value or ())]
+    for name, item in every:
+        if item is not False:
+            arguments += ["--" + name.replace("_", "-")] + ([] if item is True else [str(item)])
     return shlex.join(arguments)
 
 
 def image_arguments(program: Program) -> List[str]:
     """Returns the arguments for the image of a program. Leaves out the arguments with their default values."""
     setup = program.setup
-    found = [setup.image.name, "--monitor" if setup.monitor else "--no-monitor", *program.files]
+    words = [setup.image.name, "--monitor" if setup.monitor else "--no-monitor", *program.files]
     for name, value, default in (("harts", setup.harts, 1), ("ram", setup.ram, RAM), ("steps", setup.limit, STEPS)):
-        found += ["--" + name, str(value)] if value != default else []
-    return found
+        words += ["--" + name, str(value)] if value != default else []
+    return words
 
 
 def several(names: Optional[Names]) -> Sequence[str]:
@@ -137,41 +137,41 @@ def leaks(program: Program, secret: str, values: Sequence[bytes] = (), *, tries:
     of `leak`."""
     count = None if values else tries or 8
     options = LeakOptions(secret, slot, several(public), strict, values, count, seed=seed, seconds=seconds)
-    with searching("leak", program, *(it.hex() for it in values), at=secret, tries=tries if values else count, public=public, strict=strict,
-                   slot=slot, seed=seed, seconds=seconds) as (found, printer):
+    with searching("leak", program, *(value.hex() for value in values), at=secret, tries=tries if values else count, public=public, strict=strict,
+                   slot=slot, seed=seed, seconds=seconds) as (findings, printer):
         leak = Leak(ordered(program, "leak"), options, is_hidden)
         if values:
             pair = compare_given(leak)
             pair_text(leak, printer, pair)
-            found += [leak_finding(program, what, text_of_channel(leak, pair, what), pair) for what in pair.channels]
-            found.checks, found.unfinished = tuple(leak.channels), leak.cut
+            findings += [leak_finding(program, what, text_of_channel(leak, pair, what), pair) for what in pair.channels]
+            findings.checks, findings.unfinished = tuple(leak.channels), leak.cut
         else:
             tried, cases = compare_drawn(leak), ReportedCases()
             finish(leak, printer, tried, cases)
-            found += [leak_finding(program, "pair %d" % number, text_of_pair(it), it) for number, it in tried.differing.items()]
-            found.checks, found.unfinished = tuple(it.name for it in cases.cases), leak.cut or tried.cut or cases.cut
-    return found
+            findings += [leak_finding(program, "pair %d" % number, text_of_pair(pair), pair) for number, pair in tried.differing.items()]
+            findings.checks, findings.unfinished = tuple(case.name for case in cases.cases), leak.cut or tried.cut or cases.cut
+    return findings
 
 
 def leak_finding(program: Program, title: str, text: str, pair: ComparedPair) -> Finding:
     """Returns a difference of two runs as a finding, at its first instruction."""
     every = pair.comparison.all()
-    first = next((it for it in every if it.channel == title), every[0])
+    first = next((finding for finding in every if finding.channel == title), every[0])
     return Finding(title, text, step=first.steps[0], **at_place(program, first.pc))
 
 
 def window(program: Program, secret: Optional[str] = None, *, public: Names = (), slot: Optional[int] = None) -> Findings:
     """Finds double fetches from the window, and data that remains there or depends on a secret. Raises Unfinished if no enclave runs."""
-    with searching("window", program, at=secret, public=public, slot=slot) as (found, printer):
+    with searching("window", program, at=secret, public=public, slot=slot) as (findings, printer):
         run = ordered(program, "window")
         search, names = WindowSearch(run, variables_of(None, run.setup.image), WindowOptions(secret, slot, several(public))), []
         for activation, view in search.views():
             names.append("%s, activation %d" % (activation.world, activation.number))
             activation_text(printer, search.context, activation, view, search.secret)
-            found += [Finding(names[-1], text, step=activation.last, **at_place(program, pc))
-                      for text, pc in rows_that_are_findings(activation, view, search.context, search.secret)]
-        found.checks = tuple(names)
-    return found
+            findings += [Finding(names[-1], text, step=activation.last, **at_place(program, pc))
+                         for text, pc in rows_that_are_findings(activation, view, search.context, search.secret)]
+        findings.checks = tuple(names)
+    return findings
 
 
 def inputs(program: Program, secret: Optional[str] = None, *, public: Names = (), runs: int = 300, seed: int = 0, entry: bool = False,
@@ -180,23 +180,24 @@ def inputs(program: Program, secret: Optional[str] = None, *, public: Names = ()
     finding, too. Raises Unfinished if the enclave does not return in the run itself."""
     options = InputsOptions(slot, secret, several(public), entry, runs, seed, seconds, jobs=jobs)
     with searching("inputs", program, at=secret, public=public, runs=runs, seed=seed, entry=entry, slot=slot, seconds=seconds,
-                   jobs=jobs if jobs > 1 else None) as (found, printer):
+                   jobs=jobs if jobs > 1 else None) as (findings, printer):
         run, cases = ordered(program, "inputs"), ReportedCases()
         report = FailureReport((), program.symbols, printer, cases)
         result = find_inputs(run, variables_of(None, run.setup.image), options, report.show, BranchModels())
-        found += [Finding(it.call or it.name, failure_text(it, program.symbols), step=it.step, **at_place(program, int(it.at.pc, 16)))
-                  for it in result.failures]
+        findings += [Finding(failure.call or failure.name, failure_text(failure, program.symbols), step=failure.step,
+                             **at_place(program, int(failure.at.pc, 16))) for failure in result.failures]
         search = result.search
         if search:
             print_text(search, result.groups, printer, options)
         for number, (group, heading) in enumerate(zip(result.groups, result.headings), 1):
             assert search is not None
             script, step = texts_of(search, group[0], heading)[0].decode("latin-1"), group[0].trace.steps[group[0].index]
-            found.append(Finding("finding %d" % number, "\n".join([heading, *details_of(search, group)]), script, step=step,
-                                 **at_place(program, group[0].pc)))
-        found.checks = (*(it.name for it in cases.cases), *(it.title for it in found[len(result.failures):]), "e%d: inputs of the host" % slot)
-        found.unfinished = result.not_replayed or result.cut_text
-    return found
+            findings.append(Finding("finding %d" % number, "\n".join([heading, *details_of(search, group)]), script, step=step,
+                                    **at_place(program, group[0].pc)))
+        titles = [group.title for group in findings[len(result.failures):]]
+        findings.checks = (*(case.name for case in cases.cases), *titles, "e%d: inputs of the host" % slot)
+        findings.unfinished = result.not_replayed or result.cut_text
+    return findings
 
 
 def races(program: Program, *, forbid: Names = (), outcome: Names = (), timers: int = 0, preemptions: Optional[int] = None, end: Names = (),
@@ -204,16 +205,16 @@ def races(program: Program, *, forbid: Names = (), outcome: Names = (), timers: 
     """Searches all schedules of two harts and of `timers` timer interrupts for final states that `forbid` names."""
     options = RacesOptions(several(forbid), several(outcome), several(end), preemptions, timers, limit=limit, seconds=seconds, jobs=jobs)
     with searching("races", program, forbid=forbid, outcome=outcome, timer=timers, preemptions=preemptions, end=end, limit=limit, seconds=seconds,
-                   jobs=jobs if jobs > 1 else None) as (found, printer):
+                   jobs=jobs if jobs > 1 else None) as (findings, printer):
         report = find_races(program.run, options)
         texts(report, printer)
-        bad = [(it[0].text, it[1]) for it in report.bad] if report.conditions else [
-            ("final state %d" % it.end.number, it.end) for it in report.stories if report.is_finding(it)]
-        found += [Finding("--forbid " + name if report.conditions else name, report.title(it),
-                          report.scripts[it.number].decode("latin-1")) for name, it in bad]
-        found.checks = tuple(["--forbid " + it.text for it in report.conditions] or ["final state %d" % it.end.number for it in report.stories])
-        found.unfinished = "" if report.bad else report.cut_text()
-    return found
+        bad = [(bad_end[0].text, bad_end[1]) for bad_end in report.bad] if report.conditions else [
+            ("final state %d" % story.end.number, story.end) for story in report.stories if report.is_finding(story)]
+        findings += [Finding("--forbid " + name if report.conditions else name, report.title(end),
+                             report.scripts[end.number].decode("latin-1")) for name, end in bad]
+        findings.checks = tuple(["--forbid " + it.text for it in report.conditions] or ["final state %d" % it.end.number for it in report.stories])
+        findings.unfinished = "" if report.bad else report.cut_text()
+    return findings
 
 
 def conform(monitor: PathLike, *, only: str = "", tries: int = 60, items: int = 120, jobs: int = 1, exact: bool = False, seed: int = 1,
@@ -221,15 +222,15 @@ def conform(monitor: PathLike, *, only: str = "", tries: int = 60, items: int = 
             seconds: Optional[float] = None) -> Findings:
     """Compares a monitor of your own with the proved one, call by call (docs/OWN_MONITOR.md). `script` of the finding is the shrunk script for it."""
     files = MonitorFiles(os.fspath(monitor), ram=LEAST_RAM if ram is None else ram, boot=boot, exact=exact, memory=memory)
-    has_ram = any(it is not None for it in (ram, boot, memory))
+    has_ram = any(option is not None for option in (ram, boot, memory))
     plan = ScriptPlan(tries, items, str(seed), only, seconds, jobs, deep, has_ram)
     with searching("conform", None, os.fspath(monitor), only=only or None, tries=tries, items=items, jobs=jobs, exact=exact, seed=seed, deep=deep,
-                   ram=ram, boot=boot, memory=memory, seconds=seconds) as (found, printer):
+                   ram=ram, boot=boot, memory=memory, seconds=seconds) as (findings, printer):
         result = find_conform(files, plan, lambda it: show_counts(it, printer))
         if result.shrunk:
-            found.append(Finding("conform", result.finding, "".join(line + "\n" for line in result.shrunk.played.own_log)))
-        found.checks, found.unfinished = ("conform",), rest_of(result.outcome, plan)
-    return found
+            findings.append(Finding("conform", result.finding, "".join(line + "\n" for line in result.shrunk.played.own_log)))
+        findings.checks, findings.unfinished = ("conform",), rest_of(result.outcome, plan)
+    return findings
 
 
 def guard(image: PathLike, ranges: PathLike, *, host: Optional[PathLike] = None, timers: int = 8, seed: int = 1, steps: int = 20000, jobs: int = 1,
@@ -239,7 +240,7 @@ def guard(image: PathLike, ranges: PathLike, *, host: Optional[PathLike] = None,
     path = None if host is None else os.fspath(host)
     files = MonitorFiles(os.fspath(image), path, ram=ram, boot=boot)
     with searching("guard", None, os.fspath(image), os.fspath(ranges), host=path, timers=timers, seed=seed, steps=steps, jobs=jobs, ram=ram,
-                   boot=boot) as (found, printer):
+                   boot=boot) as (findings, printer):
         setup, symbols = files.setup()
         plan = GuardPlan(setup, ownership_of(os.fspath(ranges), symbols), symbols, steps, seed, timers, jobs)
         with Progress() as progress:
@@ -247,15 +248,15 @@ def guard(image: PathLike, ranges: PathLike, *, host: Optional[PathLike] = None,
         show_results(plan, results, printer)
         violation = results.violation
         if violation:
-            found.append(Finding(violation.check, violation.text, pc=violation.pc, step=violation.step, source=symbols.line(violation.pc)))
-        found.checks, found.unfinished = ("guard",), "; ".join(rest_of_guard(results, plan))
-    return found
+            findings.append(Finding(violation.check, violation.text, pc=violation.pc, step=violation.step, source=symbols.line(violation.pc)))
+        findings.checks, findings.unfinished = ("guard",), "; ".join(rest_of_guard(results, plan))
+    return findings
 
 
 def timer(program: Program, *, slot: int = 0, every: int = 1, jobs: int = 1) -> Findings:
     """Interrupts an enclave before every Nth of its steps, and compares the result with that of the run without interrupts. Raises Unfinished if
     there is no enclave in the slot, or if the enclave executes no step."""
-    with searching("timer", program, slot=slot, every=every, jobs=jobs if jobs > 1 else None) as (found, printer):
+    with searching("timer", program, slot=slot, every=every, jobs=jobs if jobs > 1 else None) as (findings, printer):
         run = ordered(program, "timer")
         options = TimerOptions(slot, every, jobs)
         outcome, last_step = find_timer(run, options)
@@ -264,14 +265,15 @@ def timer(program: Program, *, slot: int = 0, every: int = 1, jobs: int = 1) -> 
     if difference is not None:
         pc = None if difference.pc is None else int(difference.pc, 16)
         place = "" if difference.pc is None else " at " + place_text(difference.pc, program.symbols)
-        found.append(Finding("step %d of e%d%s" % (difference.number, slot, place), "%s instead of %s" % (difference.actual, difference.expected),
-                             step=difference.number, **at_place(program, pc)))
-    found.checks = ("e%d: same result with timer interrupts" % slot,)
+        findings.append(Finding("step %d of e%d%s" % (difference.number, slot, place), "%s instead of %s" % (difference.actual, difference.expected),
+                                step=difference.number, **at_place(program, pc)))
+    findings.checks = ("e%d: same result with timer interrupts" % slot,)
     if outcome.not_resumed is not None:
-        found.unfinished = "the host does not resume the enclave in slot %d after the interrupt at its step %d" % (slot, outcome.not_resumed.number)
+        step = outcome.not_resumed.number
+        findings.unfinished = "the host does not resume the enclave in slot %d after the interrupt at its step %d" % (slot, step)
     elif last_step.is_cut:
-        found.unfinished = "the run ended while the enclave in slot %d was running" % slot
-    return found
+        findings.unfinished = "the run ended while the enclave in slot %d was running" % slot
+    return findings
 
 
 def verify(program: Program, secret: Names = (), *, public: Names = (), must_know: Names = (), must_matter: Names = (), wiped: bool = False,
@@ -283,28 +285,28 @@ def verify(program: Program, secret: Names = (), *, public: Names = (), must_kno
                             several(length), several(allow), calm, not each, activations, bound, loops, seconds)
     with searching("verify", program, at=secret, public=public, must_know=must_know, must_matter=must_matter, wiped=wiped, given=given, length=length,
                    allow=allow, calm=calm, each=each, activations=activations, bound=bound, loops=loops, seconds=seconds,
-                   slot=slot) as (found, printer):
+                   slot=slot) as (findings, printer):
         run = ordered(program, "verify")
         search = find_verify(run, program.symbols, variables_of(None, run.setup.image), options)
         asked = answers(search)
-        for example in (it for answer in asked for it in answer.findings):
+        for example in (finding for answer in asked for finding in answer.findings):
             heading = heading_of(search, example)
             script = input_of(run, example, heading).decode("latin-1")
             text = "\n".join(details_of_path(search, example))
-            found.append(Finding(heading, text, script, step=len(example.pcs), **at_place(program, example.pc)))
+            findings.append(Finding(heading, text, script, step=len(example.pcs), **at_place(program, example.pc)))
         print_answers(search, asked, printer)
-        found.checks, found.unfinished = tuple(it.name for it in asked), unfinished_text(search)
+        findings.checks, findings.unfinished = tuple(question.name for question in asked), unfinished_text(search)
     if search.is_cut:
         raise KeyboardInterrupt
-    return found
+    return findings
 
 
 def overflows(program: Program) -> Findings:
     """Finds stack overflows in the run of the program (docs/AUTHORS.md, Stacks)."""
-    found = Findings([Finding("stack overflow", overflow_text(it, program.symbols), step=it.step, **at_place(program, it.pc))
-                      for it in overflows_of(program.run, program.symbols)], command_of("touch", program))
-    found.checks = ("stack",)
-    return found
+    findings = Findings([Finding("stack overflow", overflow_text(overflow, program.symbols), step=overflow.step, **at_place(program, overflow.pc))
+                         for overflow in overflows_of(program.run, program.symbols)], command_of("touch", program))
+    findings.checks = ("stack",)
+    return findings
 
 
 FINDERS: Dict[str, Callable[..., Findings]] = {

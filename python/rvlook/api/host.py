@@ -38,14 +38,14 @@ class HostStepper(Stepper):
 
     def find_words(self, word: int) -> List[int]:
         """Returns the addresses of an instruction in the image. Raises RvlookError if there are too many for breakpoints."""
-        image, found = self.setup.image, []
+        image, addresses = self.setup.image, []
         start = MONITOR_END if self.setup.monitor else RAM_BASE
-        for address, size in [(it.address, it.in_memory) for it in image.segments()] or [(start, len(image.data or b""))]:
-            found += addresses_of_word(self.read_bytes(address, size), address, word)
-        if len(found) > MOST_BREAKS:
+        for address, size in [(segment.address, segment.in_memory) for segment in image.segments()] or [(start, len(image.data or b""))]:
+            addresses += addresses_of_word(self.read_bytes(address, size), address, word)
+        if len(addresses) > MOST_BREAKS:
             raise RvlookError("the image has %d copies of one instruction, and the simulator %d breakpoints; run to a place instead" % (
-                len(found), MOST_BREAKS))
-        return found
+                len(addresses), MOST_BREAKS))
+        return addresses
 
     def registers_now(self) -> List[int]:
         """Returns x0 to x31 and pc of the selected hart."""
@@ -65,10 +65,10 @@ class HostStepper(Stepper):
             ran = self.advance(ecalls, limit=end - self.steps)
             if ran.why != "break":
                 self.fail("calls %s" % call if call else "enters %s" % world, ran)
-            made = names.call_of(self.registers_now()) if self.mode == "S" else None
+            next_call = names.call_of(self.registers_now()) if self.mode == "S" else None
             self.step_once()
             self.leave_m()
-            if call is not None and made is not None and made.name == call:
+            if call is not None and next_call is not None and next_call.name == call:
                 return
 
     def leave_m(self) -> None:
@@ -105,7 +105,7 @@ class HostStepper(Stepper):
                 self.fail("answers the host", ran)
             self.leave_m()
         values = self.registers_now()
-        self.execute(BACK, ["setreg %d %x" % it for it in call.kept.items()])
+        self.execute(BACK, ["setreg %d %x" % register for register in call.kept.items()])
         del self.calls[self.hart]
         if self.pc != call.left_at - WORD:
             raise NotReached("the host cannot go on at %08x after its call: it is at %s; last trap: %s" % (call.left_at, self.where, self.trap))
@@ -132,7 +132,7 @@ class HostStepper(Stepper):
     def read_bytes(self, address: int, size: int) -> bytes:
         """Reads bytes, whatever the access rights are. Raises RvlookError outside the RAM."""
         rows = self.ask(*memory_commands(address, size))
-        return b"".join(bytes_of(it[0]) for it in rows)
+        return b"".join(bytes_of(row[0]) for row in rows)
 
     def is_inside(self) -> bool:
         """Returns whether an enclave that the test has entered has not exited yet."""
@@ -165,10 +165,10 @@ class EnclaveHandle:
     def entry(self) -> Enclave:
         """The entry in the table of enclaves: state, base, size, window, window_size, entry and measurement. Raises RvlookError if the enclave does
         not exist, or the machine has a monitor of your own."""
-        found = next((it for it in self.machine.enclaves if it.slot == self.slot), None)
-        if found is None:
+        enclave = next((enclave for enclave in self.machine.enclaves if enclave.slot == self.slot), None)
+        if enclave is None:
             raise RvlookError("no enclave in slot %d; it is destroyed, or the monitor is your own" % self.slot)
-        return found
+        return enclave
 
     @property
     def state(self) -> str:

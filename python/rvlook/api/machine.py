@@ -28,7 +28,7 @@ class Registers:
     """The registers of the selected hart by name: `registers["a0"] = 1`, `registers["mepc"]`. Control and status registers are only read."""
 
     def __init__(self, machine: Machine) -> None:
-        self.machine = machine  # whose selected hart is read
+        self.machine = machine  # the machine whose selected hart is read
 
     def __getitem__(self, name: str) -> int:
         if name == "pc":
@@ -53,9 +53,9 @@ class Machine(HostStepper):
 
     def __init__(self, program: Program, schedule: str = "", interrupts: Optional[int] = None, at: Optional[Snapshot] = None) -> None:
         super().__init__(program.setup, schedule, interrupts, at)
-        self.program: Program = program  # that was loaded
+        self.program: Program = program  # the program that was loaded
         self.finder = EventFinder(program.run)  # reads access rights
-        self.registers = Registers(self)  # by name
+        self.registers = Registers(self)  # the registers by name
 
     # ---- forward
 
@@ -78,7 +78,7 @@ class Machine(HostStepper):
         loaded or stored a byte of this place.
 
         Raises NotReached, which says where the machine is instead, after `limit` steps (by default 10,000,000, or 200,000 with a schedule)."""
-        if sum(it is not None for it in (place, call, world, touches)) != 1:
+        if sum(goal is not None for goal in (place, call, world, touches)) != 1:
             raise RvlookError("run_until waits for one thing; give a place, call=, world= or touches=")
         if call is not None or world is not None:
             self.run_to_call(call, world, limit)
@@ -113,12 +113,12 @@ class Machine(HostStepper):
         Raises RvlookError for a place that is too large."""
         if place is None:
             return []
-        found = self.program.place(place)
-        size = found.size or WORD
+        watched_place = self.program.place(place)
+        size = watched_place.size or WORD
         every = 1 if size <= MOST_WATCHED else WORD
         if size > MOST_WATCHED * every:
             raise RvlookError("cannot watch %d bytes of %s; name a part of at most %d bytes" % (size, place, MOST_WATCHED * WORD))
-        return [found.address + n for n in range(0, size, every)]
+        return [watched_place.address + n for n in range(0, size, every)]
 
     def raise_timer(self, is_on: bool = True) -> None:
         """Sets or clears the pending timer interrupt of the selected hart."""
@@ -139,7 +139,7 @@ class Machine(HostStepper):
         enclave never gives one."""
         if name not in names.Call.__members__:
             raise RvlookError("no call '%s'; the calls are %s" % (name, ", ".join(names.Call.__members__)))
-        values = {"a%d" % n: self.program.place(it).address for n, it in enumerate(arguments)}
+        values = {"a%d" % n: self.program.place(argument).address for n, argument in enumerate(arguments)}
         return self.ecall(**values, a6=names.Call[name].value, a7=names.KEY)
 
     def ecall(self, **registers: int) -> CallResult:
@@ -191,27 +191,28 @@ class Machine(HostStepper):
     def rights(self, world: str, place: PlaceLike, size: Optional[int] = None) -> Rights:
         """Returns the rights of a world (on the bare machine, of a mode) to all `size` bytes of a place, such as `"rw-"`. The default size is that of
         the place, or 1. Different rights are joined by `/`. Raises RvlookError for a world that does not exist."""
-        found, event = self.program.place(place), self.event()
-        first, end = found.address, found.address + (size or found.size or 1)
+        asked_place, event = self.program.place(place), self.event()
+        first, end = asked_place.address, asked_place.address + (size or asked_place.size or 1)
         is_bare = event.columns[0].world == "bare"
-        worlds = ["M", "S", "U"] if is_bare else [it.world for it in event.columns]
+        worlds = ["M", "S", "U"] if is_bare else [column.world for column in event.columns]
         if world not in worlds:
             raise RvlookError("no world '%s' after step %d; the worlds are %s" % (world, self.steps, ", ".join(dict.fromkeys(worlds))))
         parts, different = [], {}
-        for row in (it for it in event.rows if it.range.first < end and first < it.range.end):
-            own = [rights for it in event.columns if is_bare or it.world == world
-                   for mode, rights in row.may[it.name].items() if not is_bare or mode == world]
-            different.update(dict.fromkeys(own))
-            parts.append("  ".join(filter(None, ("%08x-%08x" % (row.range.first, row.range.end - 1), "/".join(dict.fromkeys(own)), row.what))))
+        for row in (row for row in event.rows if row.range.first < end and first < row.range.end):
+            rights_of_world = [rights for column in event.columns if is_bare or column.world == world
+                               for mode, rights in row.may[column.name].items() if not is_bare or mode == world]
+            different.update(dict.fromkeys(rights_of_world))
+            span, letters = "%08x-%08x" % (row.range.first, row.range.end - 1), "/".join(dict.fromkeys(rights_of_world))
+            parts.append("  ".join(filter(None, (span, letters, row.what))))
         if not parts:
             raise RvlookError("%s is at %08x, outside the RAM" % (place, first))
-        what = "%s at %s, %08x-%08x, after step %d" % (world, found.name, first, end - 1, self.steps)
+        what = "%s at %s, %08x-%08x, after step %d" % (world, asked_place.name, first, end - 1, self.steps)
         return Rights("/".join(different), what + ": " + "; ".join(parts))
 
     @property
     def enclaves(self) -> List[Enclave]:
         """The table of the enclaves of the proved monitor, by slot. It is empty on the bare machine."""
-        return [enclave_of(it) for it in self.ask("enclaves")[0]]
+        return [enclave_of(line) for line in self.ask("enclaves")[0]]
 
     def writer_of(self, place: PlaceLike) -> Optional[str]:
         """Returns what last stored the first byte of a place, as text: an instruction with its source line, step and world, or the test. None if

@@ -19,11 +19,11 @@ PART = re.compile(r"\.(\w+)|\[(\d+)\]")
 
 @dataclass(frozen=True)
 class Place:
-    """A place in a program."""
-    name: str  # as it was asked for
-    address: int  # of its first byte
+    """A place in a program: a name with its address, and the size and type that the debug information gives."""
+    name: str  # the name by which the user asked for it
+    address: int  # the address of its first byte
     size: int = 0  # bytes; 0 if unknown
-    type: Type = UNTYPED  # of C; UNTYPED if unknown
+    type: Type = UNTYPED  # the type of C; UNTYPED if unknown
     inlined: Tuple[int, ...] = ()  # addresses of the copies of a function that the compiler made in place of calls
 
     @property
@@ -73,12 +73,12 @@ class Places:
     def of_line(self, where: str) -> Place:
         """Returns the place of the first instruction of a source line. Raises SymbolError, with the next line that has code."""
         rows = [(source, address) for unit in self.symbols.units for address, source in unit.rows if source]
-        found = min((address for source, address in rows if source == where), default=None)
-        if found is None:
+        address = min((address for source, address in rows if source == where), default=None)
+        if address is None:
             file, number = where.rsplit(":", 1)
-            numbers = sorted({int(it.rsplit(":", 1)[1]) for it, _ in rows if it.rsplit(":", 1)[0] == file})
+            numbers = sorted({int(source.rsplit(":", 1)[1]) for source, _ in rows if source.rsplit(":", 1)[0] == file})
             raise SymbolError("no code at %s; %s" % (where, next_line(file, int(number), numbers)))
-        return Place(where, found)
+        return Place(where, address)
 
 
 def element_of(kind: Type, index: int, path: str) -> tuple[int, Type]:
@@ -94,5 +94,5 @@ def next_line(file: str, number: int, numbers: list[int]) -> str:
     """Returns which lines of a file have code, as the remedy of a message."""
     if not numbers:
         return "no file '%s' has source lines; build with -g" % file
-    following = next((it for it in numbers if it > number), None)
+    following = next((larger for larger in numbers if larger > number), None)
     return "the next line with code is %s:%d" % (file, following) if following else "the last line with code is %s:%d" % (file, numbers[-1])

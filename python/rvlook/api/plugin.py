@@ -26,7 +26,7 @@ SEARCHES = ("finds_nothing", "verified")  # markers that replace the body of a t
 REPEATED = {"schedules": "schedule %s", "interrupts": "interrupt every %s"}  # markers that repeat a test, with the name of each repetition
 FILES = {"conform": 1, "guard": 2}  # finders without a program, and how many arguments are files
 SECTION = "rvbench"  # the heading of the state of a machine
-LOADED: Dict[Tuple[object, ...], Program] = {}  # by path and options
+LOADED: Dict[Tuple[object, ...], Program] = {}  # the loaded programs, by path and options
 BUILT: Dict[str, str] = {}  # the ELF file of each folder
 
 
@@ -53,25 +53,25 @@ def pytest_generate_tests(metafunc: pytest.Metafunc) -> None:
     definition = metafunc.definition
     if any(map(definition.get_closest_marker, SEARCHES)) and "program" not in metafunc.fixturenames:
         metafunc.fixturenames.append("program")
-    own, module = definition.get_closest_marker("program"), definition.getparent(pytest.Module)
-    if own and "program" in metafunc.fixturenames and not (module and module.get_closest_marker("program") is own):
-        metafunc.parametrize("program", [own], ids=[os.path.basename(str(own.args[0]))], indirect=True)
+    marker_of_test, module = definition.get_closest_marker("program"), definition.getparent(pytest.Module)
+    if marker_of_test and "program" in metafunc.fixturenames and not (module and module.get_closest_marker("program") is marker_of_test):
+        metafunc.parametrize("program", [marker_of_test], ids=[os.path.basename(str(marker_of_test.args[0]))], indirect=True)
     for name, text in REPEATED.items():
         marker = definition.get_closest_marker(name)
         if marker and "machine" in metafunc.fixturenames:
             metafunc.fixturenames.append("rvlook_" + name)
-            metafunc.parametrize("rvlook_" + name, marker.args, ids=["uninterrupted" if it is None else text % it for it in marker.args])
+            metafunc.parametrize("rvlook_" + name, marker.args, ids=["uninterrupted" if arg is None else text % arg for arg in marker.args])
 
 
 def path_of(request: Any, path: str) -> str:
     """Returns the path of a file or folder, which is relative to the folder of the test file or to the root of the tests. A folder is built, and
     the path is that of its ELF file. Raises RvlookError if there is no such file or folder, or if the folder cannot be built."""
     for base in (str(request.path.parent), str(request.config.rootpath)):
-        found = os.path.join(base, path)
-        if os.path.isdir(found):
-            return built(request, os.path.realpath(found))
-        if os.path.exists(found):
-            return found
+        full_path = os.path.join(base, path)
+        if os.path.isdir(full_path):
+            return built(request, os.path.realpath(full_path))
+        if os.path.exists(full_path):
+            return full_path
     raise RvlookError("no program '%s' beside %s or in %s; build it with make, or name it by @pytest.mark.program(PATH)" % (
         path, request.path.name, request.config.rootpath))
 
@@ -121,7 +121,7 @@ def constants(program: Program) -> Constants:
 @pytest.hookimpl(tryfirst=True)
 def pytest_pyfunc_call(pyfuncitem: pytest.Function) -> Optional[bool]:
     """Searches in place of the body of a test with the marker `finds_nothing` or `verified`. Raises Found if the search has a finding."""
-    searches = [pyfuncitem.get_closest_marker(it) for it in SEARCHES]
+    searches = [pyfuncitem.get_closest_marker(name) for name in SEARCHES]
     for marker in filter(None, searches):
         if marker.name == "verified":
             search(pyfuncitem, "verify", marker.args, **marker.kwargs)
@@ -136,15 +136,15 @@ def search(item: Any, finder: str, *arguments: Any, **options: Any) -> None:
         raise RvlookError("no finder '%s'%s" % (finder, meant(finder, FINDERS, "the finders are " + ", ".join(FINDERS))))
     if finder in FILES:
         files, rest = arguments[:FILES[finder]], arguments[FILES[finder]:]
-        found = FINDERS[finder](*(path_of(item._request, it) for it in files), *rest, **options)
+        findings = FINDERS[finder](*(path_of(item._request, name) for name in files), *rest, **options)
     else:
-        found = FINDERS[finder](item._request.getfixturevalue("program"), *arguments, **options)
-    item.add_report_section("call", "output of " + finder, found.report + ("" if found else found.notes))
-    if found:
-        raise Found(findings_text(found, folder_of(item), item.nodeid.split("/")[-1]))
-    if found.unfinished:
-        raise Found("the search did not finish: %s" % found.unfinished)
-    if not found.checks:
+        findings = FINDERS[finder](item._request.getfixturevalue("program"), *arguments, **options)
+    item.add_report_section("call", "output of " + finder, findings.report + ("" if findings else findings.notes))
+    if findings:
+        raise Found(findings_text(findings, folder_of(item), item.nodeid.split("/")[-1]))
+    if findings.unfinished:
+        raise Found("the search did not finish: %s" % findings.unfinished)
+    if not findings.checks:
         raise Found("the search checked nothing; does the program run an enclave?")
 
 

@@ -25,7 +25,7 @@ from rvlook.protocol.schedule import LONGEST, alternating, random_schedule
 
 SEED = "seed "  # the prefix of a random schedule
 RAM = 1 << 20  # bytes
-STEPS = 1000000  # of a run that a finder examines
+STEPS = 1000000  # the number of steps of a run that a finder examines
 
 
 class Constants:
@@ -57,7 +57,7 @@ class Program:
     """An image that was loaded. `start` returns a new machine at the end of its script."""
 
     def __init__(self, run: Run, files: Sequence[str] = (), has_boot: bool = False) -> None:
-        self.run, self.setup, self.symbols = run, run.setup, run.setup.symbols  # with its configuration and its symbols
+        self.run, self.setup, self.symbols = run, run.setup, run.setup.symbols  # the run, its configuration and its symbols
         self.files = files  # the options of a command line that name files
         self.has_boot = has_boot  # whether `boot` was given, which no command line repeats
 
@@ -138,5 +138,5 @@ def load(image: Union[str, os.PathLike[str]], *, monitor: Optional[bool] = None,
     run = run_of(setup)
     if run.errors:
         raise RvlookError("\n".join(error_text(line, reply, names) for line, reply in run.errors))
-    files = [it for name, path in (("--symbols", symbols), ("--script", script)) if path is not None for it in (name, path)]
+    files = [word for name, path in (("--symbols", symbols), ("--script", script)) if path is not None for word in (name, path)]
     return Program(run, files, boot)

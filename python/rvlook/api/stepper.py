@@ -18,7 +18,7 @@ from rvlook.protocol.timeline import Action, Timeline
 LIMIT = 10000000  # steps of one call, unless the caller gives another limit
 LIMIT_BY_SCHEDULE = 200000  # the same with a schedule, whose steps take longer
 LONG_BATCH = 1024  # turns of a schedule in one exchange
-TURNS = 64  # of a schedule, after which the harts are checked for an endless loop, and many turns are done at once
+TURNS = 64  # the number of turns of a schedule, after which the harts are checked for an endless loop, and many turns are done at once
 PART, MORE = 1000, 4  # steps before a hart is checked for an endless loop, and the factor for the next part
 LOOP = "jal x0, 0"  # the text of an instruction that jumps to itself
 UNTIL_THE_END = 0  # a breakpoint at an address without RAM, where a trap without a handler leads
@@ -34,23 +34,23 @@ class MadeCall(NamedTuple):
 
 class Snapshot(NamedTuple):
     """A point of a run, to which `restore` returns."""
-    past: Tuple[Action, ...]  # all that was done since reset
-    hart: int  # that is selected
+    past: Tuple[Action, ...]  # all actions since reset
+    hart: int  # the hart that is selected
     scheduled: int = 0  # steps that the schedule has done
     consoles: Tuple[Tuple[int, str, Optional[int]], ...] = ()  # of each: the characters written, the line that has not ended, and the status
     lines: Tuple[str, ...] = ()  # complete lines of the consoles
     trap: Optional[Trap] = None  # the last one; None without one
-    calls: Tuple[Tuple[int, MadeCall], ...] = ()  # of each hart, the call under way
+    calls: Tuple[Tuple[int, MadeCall], ...] = ()  # the call under way of each hart
 
 
 class Stepper(Closing):
-    """A machine that can be moved forward."""
+    """A machine that can be moved forward by steps, runs and turns of a schedule."""
 
     def __init__(self, setup: Setup, schedule: str, at: Optional[Snapshot]) -> None:
         self.setup, self.schedule = setup, schedule  # digits of harts; empty: only the selected hart steps
         self.consoles: List[Console] = consoles_of(setup.symbols)  # that the program has
         self.lines: List[str] = []  # complete lines of the consoles
-        self.calls: Dict[int, MadeCall] = {}  # by hart: the call under way
+        self.calls: Dict[int, MadeCall] = {}  # the call under way, by hart
         self.trap: Optional[Trap] = None  # the last one since the last call that moved the machine; None without one
         self.scheduled = 0  # steps that the schedule has done
         self.turns: Iterator[Tuple[int, int]] = turns_of(schedule) if schedule else iter(())  # hart and steps of the next turns
@@ -117,15 +117,15 @@ class Stepper(Closing):
     def console(self) -> str:
         """The text that host and enclave have printed, without the last line end."""
         self.read_consoles()
-        return "\n".join(self.lines + [it.pending for it in self.consoles if it.pending])
+        return "\n".join(self.lines + [console.pending for console in self.consoles if console.pending])
 
     @property
     def status(self) -> Optional[int]:
         """The exit status of the program, once it has called finish(status); else None."""
-        return next((it.status for it in self.consoles if it.status is not None), None)
+        return next((console.status for console in self.consoles if console.status is not None), None)
 
     def read_consoles(self) -> None:
-        """Reads what is new on the consoles."""
+        """Reads the new characters of each console."""
         for console in self.consoles:
             self.lines += console.read(self.ask)
 
@@ -137,16 +137,16 @@ class Stepper(Closing):
         places = set(breaks)
         self.ask()
         self.set_stops(places, watched)
-        left, part, turns, pause = self.most(limit), PART, 0, TURNS
+        remaining, part, turns, pause = self.most(limit), PART, 0, TURNS
         ran = Ran(steps=0, pc="", mode="", world="", why="done", trap=None)
         self.trap = None
-        while left > 0:
+        while remaining > 0:
             is_long = bool(self.schedule) and turns == pause
             if is_long:
-                done = self.leap(places, left)
-                left, turns, pause = max(1, left - done), 0, TURNS if done > LONG_BATCH else 2 * pause
-            ran = self.turn(min(left, part))
-            left -= max(1, ran.steps)
+                done = self.leap(places, remaining)
+                remaining, turns, pause = max(1, remaining - done), 0, TURNS if done > LONG_BATCH else 2 * pause
+            ran = self.turn(min(remaining, part))
+            remaining -= max(1, ran.steps)
             if ran.why.startswith("watch:"):
                 if int(ran.why[6:], 16) in watched or self.has_finished():
                     break
@@ -163,8 +163,9 @@ class Stepper(Closing):
 
     def set_stops(self, places: Iterable[int], watched: Iterable[int]) -> None:
         """Sets these breakpoints and watchpoints, and the watchpoints that show that a console is written to."""
-        own = {it.address + offset for it in self.consoles for offset in (WRITTEN, ENDED)}
-        self.timeline.set_stops(["break %x" % it for it in sorted(places)] + ["watch %x" % it for it in sorted({*watched, *own})])
+        console_addresses = {console.address + offset for console in self.consoles for offset in (WRITTEN, ENDED)}
+        watches = ["watch %x" % address for address in sorted({*watched, *console_addresses})]
+        self.timeline.set_stops(["break %x" % place for place in sorted(places)] + watches)
 
     def has_finished(self) -> bool:
         """Reads the consoles; returns whether the program has called finish(status)."""
@@ -206,11 +207,11 @@ class Stepper(Closing):
             while True:
                 batch = list(islice(self.turns, LONG_BATCH))
                 rans = runs_of(ahead, batch)
-                stop = next((n for n, it in enumerate(rans) if it.why != "done" or int(it.pc, 16) in places), len(batch))
-                stop = stop if done + sum(it.steps for it in rans) <= most else 0
+                stop = next((n for n, ran in enumerate(rans) if ran.why != "done" or int(ran.pc, 16) in places), len(batch))
+                stop = stop if done + sum(ran.steps for ran in rans) <= most else 0
                 self.turns = chain(batch[stop:], self.turns)
                 self.step_by("".join(str(hart) * steps for hart, steps in batch[:stop]))
-                done += sum(it.steps for it in rans[:stop])
+                done += sum(ran.steps for ran in rans[:stop])
                 if stop < len(batch) or self.are_all_in_loops():
                     return done
 
@@ -219,8 +220,8 @@ class Stepper(Closing):
         parts = [digits[n:n + LONGEST] for n in range(0, len(digits), LONGEST)]
         for n in range(0, len(parts), LONG_BATCH):
             begin, batch = self.timeline.position, parts[n:n + LONG_BATCH]
-            replies = self.do(*["sched " + it for it in batch])
-            last = max((number for number, it in enumerate(replies) if not all(line.endswith("trap=-") for line in it)), default=None)
+            replies = self.do(*["sched " + digits for digits in batch])
+            last = max((number for number, lines in enumerate(replies) if not all(line.endswith("trap=-") for line in lines)), default=None)
             if last is not None:
                 self.trap = self.last_trap(begin + LONGEST * last, batch[last])
         if digits:
@@ -230,8 +231,8 @@ class Stepper(Closing):
     def last_trap(self, position: int, digits: str) -> Optional[Trap]:
         """Returns the last trap in the steps after a position. Another machine does them one by one, since the reply of `sched` has no order."""
         with self.timeline.again(position) as ahead:
-            replies = ahead.do_all([line for it in digits for line in ("hart " + it, "step 1")])
-        traps = [it.trap for it in (step_of(reply[0]) for reply in replies[1::2]) if it.trap]
+            replies = ahead.do_all([line for digit in digits for line in ("hart " + digit, "step 1")])
+        traps = [step.trap for step in (step_of(reply[0]) for reply in replies[1::2]) if step.trap]
         return trap_from(traps[-1])
 
     def took(self, ran: Ran) -> Ran:
@@ -249,14 +250,14 @@ class Stepper(Closing):
     def are_all_in_loops(self) -> bool:
         """Returns whether each hart is at an instruction that jumps to itself."""
         harts, selected = range(self.setup.harts), self.hart
-        pcs = [self.ask("hart %d" % it, "regs")[1][32][3:] for it in harts]
-        return all(LOOP in it[0] for it in self.ask(*["dis %s" % it for it in pcs], "hart %d" % selected)[:-1])
+        pcs = [self.ask("hart %d" % hart, "regs")[1][32][3:] for hart in harts]
+        return all(LOOP in reply[0] for reply in self.ask(*["dis %s" % pc for pc in pcs], "hart %d" % selected)[:-1])
 
     def traps_forever(self) -> bool:
         """Returns whether the selected hart traps in the same way at each step. Another machine finds out, since a step here would count."""
         with self.timeline.again(self.steps) as ahead:
             replies = ahead.do_all(["step 1"] * HALTED_AFTER)
-        return "trap=-" not in replies[0][0] and all(it == replies[0] for it in replies)
+        return "trap=-" not in replies[0][0] and all(reply == replies[0] for reply in replies)
 
     def fail(self, what: str, ran: Ran) -> None:
         """Raises NotReached: the machine never does what was wanted."""
@@ -268,7 +269,7 @@ class Stepper(Closing):
 
     def snapshot(self) -> Snapshot:
         """Returns this point of the run, to which `restore` returns."""
-        consoles = tuple((it.written, it.pending, it.status) for it in self.consoles)
+        consoles = tuple((console.written, console.pending, console.status) for console in self.consoles)
         return Snapshot(tuple(self.timeline.past), self.timeline.hart, self.scheduled, consoles, tuple(self.lines), self.trap,
                         tuple(self.calls.items()))
 
@@ -292,8 +293,8 @@ def checked(commands: Iterable[str], replies: List[List[str]]) -> List[List[str]
 
 def runs_of(timeline: Timeline, turns: Sequence[Tuple[int, int]]) -> List[Ran]:
     """Does turns of a schedule; returns the result of each. They are not kept in the timeline."""
-    text = "".join("hart %d\nrun %d\n" % it for it in turns)
-    return [step_of(it.decode()) for it in timeline.bench.block(text.encode(), 2 * len(turns)).splitlines()[1::2]]
+    text = "".join("hart %d\nrun %d\n" % turn for turn in turns)
+    return [step_of(line.decode()) for line in timeline.bench.block(text.encode(), 2 * len(turns)).splitlines()[1::2]]
 
 
 def trap_from(trap: RanTrap) -> Trap:

@@ -13,17 +13,17 @@ def structure(program: Program, name: str, **members: Any) -> strategies.SearchS
     """Draws the members of a structure as a dictionary, which `View.assign` takes. `members` has a strategy or a fixed value for some of them.
     Raises SymbolError for an unknown structure or member."""
     kind = program.structure(name)
-    own = {member: value_of(it) for member, (_, it) in kind.members.items()}
+    value_strategies = {member: value_of(type_) for member, (_, type_) in kind.members.items()}
     for member, given in members.items():
         kind.member(member)
-        own[member] = given if isinstance(given, strategies.SearchStrategy) else strategies.just(given)
-    return strategies.fixed_dictionaries(own)
+        value_strategies[member] = given if isinstance(given, strategies.SearchStrategy) else strategies.just(given)
+    return strategies.fixed_dictionaries(value_strategies)
 
 
 def value_of(kind: Type) -> strategies.SearchStrategy[Any]:
     """Draws a value of a type: bytes, a list, a dictionary for a structure, or a number. Numbers are often corner values."""
     if kind.members:
-        return strategies.fixed_dictionaries({name: value_of(it) for name, (_, it) in kind.members.items()})
+        return strategies.fixed_dictionaries({name: value_of(type_) for name, (_, type_) in kind.members.items()})
     if kind.is_bytes:
         return strategies.binary(min_size=kind.size, max_size=kind.size)
     if kind.element is not None:

@@ -13,8 +13,8 @@ from rvlook.output.printer import Printer
 from rvlook.protocol import names
 from rvlook.protocol.symbols import Symbols
 
-LEFT = ("exited", "stopped", "interrupted")  # by a0 of the host after an enclave has exited
-COLOURS = {"---": "#eee", "rwx": "#9d9", "rw-": "#bdf"}  # of access rights in a notebook
+LEFT = ("exited", "stopped", "interrupted")  # how the enclave left, by a0 of the host
+COLOURS = {"---": "#eee", "rwx": "#9d9", "rw-": "#bdf"}  # the colours of access rights in a notebook
 OTHER_COLOUR = "#fd9"
 
 
@@ -24,7 +24,7 @@ class NotReached(RvlookError):
 
 @dataclass(frozen=True)
 class Trap:
-    """A trap."""
+    """A trap, with the values of mcause and mtval."""
     cause: int  # mcause
     value: int  # mtval
 
@@ -39,10 +39,10 @@ class Trap:
 
 @dataclass(frozen=True)
 class Ending:
-    """The end of a program."""
+    """The end of a program: why and where it ended, and its status."""
     why: str  # finished, halted (in an endless loop), or fault
-    place: str  # of the next instruction, as text
-    status: Optional[int] = None  # of finish(status); None for another end
+    place: str  # the place of the next instruction, as text
+    status: Optional[int] = None  # the status of finish(status); None for another end
 
 
 @dataclass(frozen=True)
@@ -118,7 +118,7 @@ class AccessMap:
 
     def rows(self) -> list[tuple[int, int, str, dict[str, str]]]:
         """Returns the rows: the first address, the end, the meaning, and the rights of each world (on the bare machine, of each mode)."""
-        return [(it.range.first, it.range.end, it.what, dict(self.rights_in(it.may))) for it in self.event.rows]
+        return [(row.range.first, row.range.end, row.what, dict(self.rights_in(row.may))) for row in self.event.rows]
 
     def rights_in(self, may: dict[str, dict[str, str]]) -> Iterator[tuple[str, str]]:
         """Yields each world or mode with its rights."""
@@ -128,16 +128,16 @@ class AccessMap:
 
     def __sub__(self, before: AccessMap) -> list[str]:
         """Returns the changes since an earlier map, one line for each range."""
-        return ["  ".join(("%08x-%08x" % (it.first, it.end - 1), *changed, what)).rstrip()
-                for it, what, changed in changed_rows(self.event, before.event)]
+        return ["  ".join(("%08x-%08x" % (range_.first, range_.end - 1), *changed, what)).rstrip()
+                for range_, what, changed in changed_rows(self.event, before.event)]
 
     def _repr_html_(self) -> str:
         """Returns the map as an HTML table."""
         rows = self.rows()
         worlds = list(rows[0][3])
-        head = "".join("<th>%s" % html.escape(it) for it in ("bytes", *worlds, ""))
+        head = "".join("<th>%s" % html.escape(title) for title in ("bytes", *worlds, ""))
         body = "".join("<tr><td><code>%08x-%08x</code>%s<td>%s</tr>" % (
-            first, end - 1, "".join(map(cell, (may.get(it, "---") for it in worlds))), html.escape(what)) for first, end, what, may in rows)
+            first, end - 1, "".join(map(cell, (may.get(world, "---") for world in worlds))), html.escape(what)) for first, end, what, may in rows)
         return "<table><tr>%s</tr>%s</table>" % (head, body)
 
 

@@ -30,7 +30,7 @@ def bytes_for(value: Any, kind: Type, what: str) -> bytes:
         return bytes(value)
     if isinstance(value, (list, tuple)) and kind.element and len(value) * kind.element.size == kind.size:
         element = kind.element
-        return b"".join(bytes_for(it, element, what) for it in value)
+        return b"".join(bytes_for(item, element, what) for item in value)
     given = "%d bytes" % len(value) if isinstance(value, (bytes, bytearray)) else repr(value)
     raise RvlookError("cannot write %s to %s, which has %d bytes" % (given, what, kind.size))
 
@@ -39,9 +39,9 @@ class View:
     """A structure in memory. Its members are attributes; each use of one reads or writes the memory of the machine. `view["pin"]` is the address
     of a member."""
     __slots__ = ("_memory", "_address", "_type")
-    _memory: Machine  # that the members read and write
-    _address: int  # of the structure
-    _type: Type  # of the structure
+    _memory: Machine  # the memory that the members read and write
+    _address: int  # the address of the structure
+    _type: Type  # the type of the structure
 
     def __init__(self, memory: Machine, address: int, kind: Type) -> None:
         for name, value in (("_memory", memory), ("_address", address), ("_type", kind)):
@@ -79,11 +79,11 @@ class View:
         return isinstance(other, Mapping) and all(getattr(self, name) == value for name, value in other.items())
 
     def __repr__(self) -> str:
-        return "%s(%s)" % (self._type.name, ", ".join("%s=%r" % it for it in self.values().items()))
+        return "%s(%s)" % (self._type.name, ", ".join("%s=%r" % member for member in self.values().items()))
 
 
 def copied(value: Any) -> Any:
     """Returns a value that does not change with the memory."""
     if isinstance(value, View):
         return value.values()
-    return [copied(it) for it in value] if isinstance(value, list) else value
+    return [copied(item) for item in value] if isinstance(value, list) else value

@@ -8,7 +8,7 @@ from rvlook.protocol.instructions import instruction_of
 from rvlook.protocol.run import Setup
 from rvlook.protocol.timeline import Action, ScheduledSteps, Timeline, actions_between
 
-MOST_ACCESSES = 50  # that are examined, from the last one on
+MOST_ACCESSES = 50  # the most accesses that are examined, from the last one on
 
 Access = Tuple[int, bool]  # the step of a load or store, and whether the test wrote there by a `poke` after that step instead
 
@@ -19,25 +19,25 @@ def writer_of(setup: Setup, past: Sequence[Action], address: int) -> Optional[st
     for step, is_poke in reversed(accesses(setup, past, address)[-MOST_ACCESSES:]):
         if is_poke:
             return "the test, after step %d" % step
-        found = store_at(setup, past, step)
-        if found is not None:
-            return found
+        store = store_at(setup, past, step)
+        if store is not None:
+            return store
     return None
 
 
 def accesses(setup: Setup, past: Iterable[Action], address: int) -> List[Access]:
     """Returns the accesses to a byte, in the order of the run."""
-    found: List[Access] = []
+    accesses: List[Access] = []
     with Timeline(setup) as again:
         again.do("watch %x" % address)
         for action in past:
             if isinstance(action, ScheduledSteps):
-                found += [(step, False) for step in watched_steps(again, action)]
+                accesses += [(step, False) for step in watched_steps(again, action)]
             else:
                 again.do_all([*action.chosen, action.text])
                 if action.text.startswith("poke") and int(action.text.split()[1], 16) == address:
-                    found.append((again.position, True))
-    return found
+                    accesses.append((again.position, True))
+    return accesses
 
 
 def watched_steps(again: Timeline, steps: ScheduledSteps) -> Iterator[int]:
@@ -53,7 +53,7 @@ def watched_steps(again: Timeline, steps: ScheduledSteps) -> Iterator[int]:
 def store_at(setup: Setup, past: Iterable[Action], step: int) -> Optional[str]:
     """Returns the instruction of a step as text if it is a store; else None."""
     before = tuple(actions_between(past, -1, step - 1))
-    hart = next((it.last for it in actions_between(past, step - 1, step) if isinstance(it, ScheduledSteps)), 0)
+    hart = next((action.last for action in actions_between(past, step - 1, step) if isinstance(action, ScheduledSteps)), 0)
     with Timeline(setup, before, hart) as timeline:
         pc = timeline.ask("regs")[0][32][3:]
         done = instruction_of(timeline.ask("dis " + pc)[0][0].encode())

@@ -41,17 +41,17 @@ INTERRUPTED = 130
 
 @dataclass
 class Request:
-    """A command line."""
+    """The parsed command line of a build."""
     compiler: str = ""  # empty: the default
     least: int = 1024  # bytes of the stack, at least
-    monitor: str = ""  # its folder, as it was given; empty for no monitor
-    folder: str = ""  # of the sources, as it was given
+    monitor: str = ""  # the folder of the monitor, as it was given; empty for no monitor
+    folder: str = ""  # the folder of the sources, as it was given
     kept: str = ""  # the file of the ELF; empty: the default
 
 
 class Folders(NamedTuple):
     """The absolute paths of the folders."""
-    folder: str  # of the sources
+    folder: str  # the folder of the sources
     monitor: str  # empty without a monitor
 
     @property
@@ -94,10 +94,10 @@ def take_option(request: Request, rest: List[str]) -> bool:
 
 def folder_of(name: str, examples: str) -> str:
     """Returns the absolute path of a folder, or of the folder in the examples. Raises BuildError if there is no such folder."""
-    found = next((it for it in (os.path.abspath(name), os.path.join(examples, name)) if os.path.isdir(it)), None)
-    if found is None:
+    folder = next((path for path in (os.path.abspath(name), os.path.join(examples, name)) if os.path.isdir(path)), None)
+    if folder is None:
         raise BuildError("error: no folder '%s', neither here nor in examples" % visible(name))
-    return found
+    return folder
 
 
 def folders_of(request: Request, examples: str) -> Folders:
@@ -119,13 +119,13 @@ def build(request: Request, examples: str) -> None:
     kept, shared = os.path.abspath(request.kept) if request.kept else "", os.path.join(examples, "shared")
     cflags = tuple(os.environ.get("CFLAGS", "").split())
     toolchain = toolchain_of(request.compiler)
-    with tempfile.TemporaryDirectory(prefix="build.") as made:
-        workshop = Workshop(toolchain, folders.folder, shared, made, cflags)
+    with tempfile.TemporaryDirectory(prefix="build.") as temporary_folder:
+        workshop = Workshop(toolchain, folders.folder, shared, temporary_folder, cflags)
         elf = link_folders(workshop, folders, request.folder)
         report_lacking(elf, request.kept or request.folder)
         if not folders.is_monitor:
             report_stacks(workshop, elf, request.least)
-        if kept and not any(it.startswith("-O") for it in cflags):
+        if kept and not any(flag.startswith("-O") for flag in cflags):
             print("build: optimised for size; to debug, build with CFLAGS=-Og", flush=True)
         if kept and folders.monitor and not folders.is_monitor:
             install_file(kept, Path(elf).read_bytes())

@@ -27,16 +27,16 @@ DEBUGGING = "N"  # the kind of a symbol that nm shows and no program has
 
 
 class Script(NamedTuple):
-    """The linker scripts of a program."""
-    options: Tuple[str, ...]  # for the linker
-    name: str  # of the script that a message names
+    """The linker scripts of a program, as options and as a name for messages."""
+    options: Tuple[str, ...]  # the options for the linker
+    name: str  # the name of the script that a message names
     copied_to: str | None = None  # the folder into which a user may copy it; None if it is the user's own
 
 
 def link(workshop: Workshop, script: Script, options: Sequence[str]) -> str:
     """Links all objects; returns the path of the ELF file. Raises BuildError if the linker fails, or if a symbol has a control character."""
     target = os.path.join(workshop.made, "program.elf")
-    objects = [os.path.join(workshop.made, it) for it in sorted(os.listdir(workshop.made)) if it.endswith(".o") and not it.startswith(".")]
+    objects = [os.path.join(workshop.made, name) for name in sorted(os.listdir(workshop.made)) if name.endswith(".o") and not name.startswith(".")]
     done = run([*workshop.toolchain.link, *options, *LINKED, *script.options, "-o", target, *objects], workshop.folder)
     if done.returncode:
         raise BuildError(reason(printable(done.stderr), script))
@@ -47,7 +47,7 @@ def link(workshop: Workshop, script: Script, options: Sequence[str]) -> str:
 def reason(output: str, script: Script) -> str:
     """Returns why the link failed: three lines if the reason is known, else the output of the linker."""
     part = TOO_SMALL.search(output)
-    missing = sorted({it for each in UNDEFINED for it in each.findall(output)})
+    missing = sorted({symbol for each in UNDEFINED for symbol in each.findall(output)})
     if part:
         return ("error: %s of %s is too small by %s bytes\n"
                 "  the size of a region or window is a power of two, at least 4096; its address is a multiple of its size\n"
@@ -64,7 +64,7 @@ def check_names(path: str) -> None:
     """Checks that no name in the string tables of an ELF32 file has a control character: a line break would add lines to what nm and objdump
     print. Raises BuildError if a name has one."""
     data = Path(path).read_bytes()
-    tables = (data[it.offset:it.offset + it.size] for it in sections_of(data) if it.kind == STRING_TABLE)
+    tables = (data[section.offset:section.offset + section.size] for section in sections_of(data) if section.kind == STRING_TABLE)
     bad = next((name for table in tables for name in table.split(b"\0") if BAD_NAME.search(name)), None)
     if bad is not None:
         raise BuildError("error: the symbol '%s' has a control character; rename it" % visible(bad.decode("utf-8", "replace")))
@@ -75,13 +75,13 @@ def report_stacks(workshop: Workshop, path: str, least: int) -> None:
     stack."""
     symbols = symbols_in(workshop.toolchain, path)
     sizes = {name: size for name in STACKS for size in [stack_size(symbols, name)] if size is not None}
-    if not any(it.name == "application" for it in symbols):
+    if not any(symbol.name == "application" for symbol in symbols):
         sizes = {name: size for name, size in sizes.items() if name == "host"}
     for name, size in sizes.items():
         if name != "runtime" and size < least:
             print_plain("build: warning: the %s has %d bytes of stack, fewer than %d; increase the LENGTH of %s in link.ld"
                         % (name, size, least, STACKS[name]))
-    print("build: stack sizes in bytes: %s" % ", ".join("%s %d" % it for it in sizes.items()), flush=True)
+    print("build: stack sizes in bytes: %s" % ", ".join("%s %d" % entry for entry in sizes.items()), flush=True)
 
 
 def report_lacking(path: str, name: str) -> None:
@@ -92,7 +92,7 @@ def report_lacking(path: str, name: str) -> None:
 
 def stack_size(symbols: Sequence[NamedSymbol], name: str) -> int | None:
     """Returns the bytes of a stack, or None if its two symbols are not defined."""
-    addresses = {it.name: int(it.address, 16) for it in symbols if it.address}
+    addresses = {symbol.name: int(symbol.address, 16) for symbol in symbols if symbol.address}
     bottom, top = addresses.get(name + "_stack_bottom", 0), addresses.get(name + "_stack_top", 0)
     return top - bottom if bottom and top else None
 
@@ -110,7 +110,8 @@ def install_file(path: str, data: bytes) -> None:
 
 def install_outputs(workshop: Workshop, elf: str, kept: str) -> None:
     """Writes symbols, listing and image into the folder, and the ELF file to `kept`. Strips the ELF file."""
-    symbols = "".join("%s  %s\n" % (it.address, it.name) for it in symbols_in(workshop.toolchain, elf, "-n") if it.kind != DEBUGGING and it.address)
+    placed = [symbol for symbol in symbols_in(workshop.toolchain, elf, "-n") if symbol.kind != DEBUGGING and symbol.address]
+    symbols = "".join("%s  %s\n" % (symbol.address, symbol.name) for symbol in placed)
     listing = output_of([*workshop.toolchain.disassemble, "-d", "-M", "no-aliases,numeric", elf])
     install_file(os.path.join(workshop.folder, "symbols"), symbols.encode("utf-8", "surrogateescape"))
     install_file(os.path.join(workshop.folder, "listing"), (symbols + "".join(listing_of(listing))).encode("utf-8", "surrogateescape"))

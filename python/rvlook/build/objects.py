@@ -15,27 +15,27 @@ OF_CPP = ("-fno-exceptions", "-fno-rtti", "-fno-threadsafe-statics", "-fno-async
 OF_C = ("-ffreestanding", "-fno-builtin", "-Wall", "-Wextra", "-Os", "-I")
 APART = ("-ffunction-sections", "-fdata-sections")  # so that the linker can drop a function that is not used
 NM_LINE = re.compile(r"([0-9a-f]{8,16}|-{8,16}|)\s+(\S) (.*)\Z")  # an address, dashes in bitcode, or nothing if it is undefined
-STRING_FUNCTIONS = {"memcpy", "memmove", "memset", "memcmp"}  # which a compiler may call
+STRING_FUNCTIONS = {"memcpy", "memmove", "memset", "memcmp"}  # the functions that a compiler may call
 
 
 class NamedSymbol(NamedTuple):
     """A line of nm."""
     address: str  # hexadecimal digits; empty if undefined
-    kind: str  # its letter
-    name: str  # of the symbol
+    kind: str  # the letter of the kind
+    name: str  # the name of the symbol
 
 
 def symbols_in(toolchain: Toolchain, path: str, *options: str) -> list[NamedSymbol]:
     """Returns the symbols of an object or of an ELF file, as nm lists them with these options."""
-    matches = (NM_LINE.match(it) for it in output_of([*toolchain.list_symbols, *options, path]).split("\n"))
-    return [NamedSymbol(it[1], it[2], it[3]) for it in matches if it]
+    matches = (NM_LINE.match(line) for line in output_of([*toolchain.list_symbols, *options, path]).split("\n"))
+    return [NamedSymbol(match[1], match[2], match[3]) for match in matches if match]
 
 
 @dataclass
 class Workshop:
     """The folders and the toolchain of a build."""
     toolchain: Toolchain  # the compiler and its tools
-    folder: str  # of the sources
+    folder: str  # the folder of the sources
     shared: str  # the shared folder
     made: str  # a temporary folder for objects
     cflags: Tuple[str, ...]  # the options of CFLAGS
@@ -72,8 +72,8 @@ class Workshop:
     def names(self, objects: Iterable[str]) -> tuple[set[str], set[str]]:
         """Returns the global names that objects define, and the names that they use and that no object defines."""
         symbols = [symbol for path in objects for symbol in self.symbols(path)]
-        defined = {it.name for it in symbols if it.address}
-        return defined, {it.name for it in symbols if not it.address} - defined
+        defined = {symbol.name for symbol in symbols if symbol.address}
+        return defined, {symbol.name for symbol in symbols if not symbol.address} - defined
 
     def symbols(self, path: str) -> Sequence[NamedSymbol]:
         """Returns the global symbols of an object that does not change any more."""

@@ -11,8 +11,8 @@ from rvlook.build.toolchain import BuildError
 from rvlook.escapes import visible
 
 KINDS = (*C, *CPP, ".s", ".S")  # the order in which sources are compiled and linked
-MONITOR_ENTRY = re.compile(rb"\bENTRY\s*\(\s*monitor_entry\s*\)")  # in the link.ld of a monitor
-FIRST = ("start.s", "host.s", "enclave.s", "runtime.s")  # which are compiled before all others
+MONITOR_ENTRY = re.compile(rb"\bENTRY\s*\(\s*monitor_entry\s*\)")  # finds the entry in the link.ld of a monitor
+FIRST = ("start.s", "host.s", "enclave.s", "runtime.s")  # the sources that are compiled before all others
 OF_HOST, OF_ENCLAVE = ("host", "start"), ("runtime", "application", "enclave")  # how the names of the sources of one side begin
 IN_ENCLAVE = "-DIN_ENCLAVE"
 DROP_UNUSED = ("-Wl,--gc-sections", "-Wl,-u,enclave_entry")
@@ -20,7 +20,7 @@ DROP_UNUSED = ("-Wl,--gc-sections", "-Wl,-u,enclave_entry")
 
 @dataclass
 class Programs:
-    """The objects of a program."""
+    """The compiled objects of a program: those of the host and those of the enclave."""
     host: List[str] = field(default_factory=list)  # paths
     enclave: List[str] = field(default_factory=list)  # paths
     drops_unused: bool = False  # whether functions that no one uses are dropped
@@ -28,8 +28,8 @@ class Programs:
 
 def sources_in(folder: str) -> list[str]:
     """Returns the names of the sources of a folder, in the order in which they are compiled."""
-    names = sorted(it for it in os.listdir(folder) if not it.startswith("."))
-    return [it for kind in KINDS for it in names if it.endswith(kind)]
+    names = sorted(name for name in os.listdir(folder) if not name.startswith("."))
+    return [name for kind in KINDS for name in names if name.endswith(kind)]
 
 
 def has(folder: str, name: str) -> bool:
@@ -47,8 +47,8 @@ def is_monitor(folder: str) -> bool:
 
 def compile_monitor(workshop: Workshop, folder: str) -> None:
     """Compiles a monitor to one object whose sections begin with .monitor and whose only global name is monitor_entry."""
-    own = folder == workshop.folder
-    objects = [workshop.compile(it if own else os.path.join(folder, it), "monitor.%s.o" % it, "-O1") for it in sources_in(folder)]
+    prefix = "" if folder == workshop.folder else folder
+    objects = [workshop.compile(os.path.join(prefix, source), "monitor.%s.o" % source, "-O1") for source in sources_in(folder)]
     objects += workshop.string_functions(objects, "monitor.string.o")
     merged = workshop.merge(objects, "merged")
     target = os.path.join(workshop.made, "monitor.o")
@@ -74,8 +74,8 @@ def compile_programs(workshop: Workshop) -> Programs:
 
 def compile_start(workshop: Workshop) -> str:
     """Compiles the code at which the host begins; returns its object."""
-    own = next((it for it in ("start.s", "host.s") if has(workshop.folder, it)), None)
-    return workshop.compile(own or os.path.join(workshop.shared, "host.s"), "start.o")
+    own_start = next((name for name in ("start.s", "host.s") if has(workshop.folder, name)), None)
+    return workshop.compile(own_start or os.path.join(workshop.shared, "host.s"), "start.o")
 
 
 def compile_entry(workshop: Workshop) -> list[str]:
@@ -84,8 +84,8 @@ def compile_entry(workshop: Workshop) -> list[str]:
         return [workshop.compile("enclave.s", "runtime_start.o")]
     if not has(workshop.folder, "runtime.c"):
         return []
-    own = "runtime.s" if has(workshop.folder, "runtime.s") else os.path.join(workshop.shared, "runtime.s")
-    return [workshop.compile(own, "runtime_start.o")]
+    runtime_source = "runtime.s" if has(workshop.folder, "runtime.s") else os.path.join(workshop.shared, "runtime.s")
+    return [workshop.compile(runtime_source, "runtime_start.o")]
 
 
 def compile_source(workshop: Workshop, source: str, programs: Programs) -> None:
@@ -113,4 +113,4 @@ def separate(workshop: Workshop, programs: Programs) -> None:
     both = sorted(of_enclave & of_host)
     if both:
         merged = workshop.merge(programs.enclave, "enclave.o")
-        workshop.copy_object(merged, merged, *("--localize-symbol=" + it for it in both))
+        workshop.copy_object(merged, merged, *("--localize-symbol=" + name for name in both))

@@ -75,4 +75,4 @@ def output_of(words: Sequence[str]) -> str:
 def printable(data: bytes) -> str:
     """Returns the output of a program in printable characters: it quotes file names, symbols and sources."""
     lines = data.decode("utf-8", "surrogateescape").rstrip("\n").split("\n")
-    return "\n".join(visible(it.replace("\t", " ").rstrip("\r")) for it in lines)
+    return "\n".join(visible(line.replace("\t", " ").rstrip("\r")) for line in lines)

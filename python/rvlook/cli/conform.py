@@ -11,7 +11,7 @@ from rvlook.output.printer import Printer
 
 def perform(arguments: Namespace) -> None:
     """Compares a monitor with that of rvbench."""
-    has_ram = any(it is not None for it in (arguments.ram, arguments.boot, arguments.memory))
+    has_ram = any(option is not None for option in (arguments.ram, arguments.boot, arguments.memory))
     plan = ScriptPlan(arguments.tries, arguments.items, str(arguments.seed), arguments.only, arguments.seconds, arguments.jobs, arguments.deep,
                       has_ram)
     show_conform(options_from(MonitorFiles, arguments), plan, Printer(arguments.json), arguments.findings, arguments.scripts, arguments.table)

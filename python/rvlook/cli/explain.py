@@ -20,10 +20,10 @@ MOST_ERRORS = 10000  # errors of an input that are explained
 
 class Explained(NamedTuple):
     """An error of an input."""
-    line: int  # its number; 0 for the whole input
-    text: str  # of the line
-    reply: str  # of the bench
-    meaning: str  # of the reply
+    line: int  # the number of the line; 0 for the whole input
+    text: str  # the text of the line
+    reply: str  # the reply of the bench
+    meaning: str  # the meaning of the reply
     suggestion: Optional[str]  # what to write instead; None if nothing is known
 
 
@@ -59,9 +59,9 @@ def image_errors(lines: Sequence[str]) -> list[Explained]:
     for number, line in enumerate(lines, 1):
         if is_separator(line):
             break
-        found = image_line_error(line)
-        if found:
-            return [Explained(number, shown(line), "rvbench: hex", *found)]
+        reply_and_remedy = image_line_error(line)
+        if reply_and_remedy:
+            return [Explained(number, shown(line), "rvbench: hex", *reply_and_remedy)]
     return [Explained(line=0, text="", reply="rvbench: hex", meaning="a line of the image is malformed", suggestion=None)]
 
 
@@ -94,23 +94,23 @@ def shown(text: str) -> str:
 
 def script_errors(lines: Iterable[tuple[int, str]], replies: Sequence[str], is_twin: bool) -> list[Explained]:
     """Returns the lines of a script that have an error reply."""
-    found: list[Explained] = []
+    errors: list[Explained] = []
     index = 0
     for number, line in lines:
         if not has_reply(line):
             continue
-        if len(found) > MOST_ERRORS:
+        if len(errors) > MOST_ERRORS:
             break
         tokens = tokens_of(line)
         reply = replies[index] if index < len(replies) else ""
         if tokens == ["--"] and is_twin:
             continue
-        if reply.startswith("error ") and tokens != ["enclaves"]:  # which has no error; without enclaves, the reply is that of the next line
+        if reply.startswith("error ") and tokens != ["enclaves"]:  # `enclaves` has no error; without enclaves, the reply is that of the next line
             index += 1
-            found.append(Explained(number, shown(line), reply, *line_error(reply, tokens)))
+            errors.append(Explained(number, shown(line), reply, *line_error(reply, tokens)))
         else:
             index = marked_end(replies, index) or end_of(tokens, replies, index)
-    return found
+    return errors
 
 
 def end_of_run(replies: Sequence[str], index: int, start: str) -> int:
@@ -131,7 +131,7 @@ def end_of(tokens: Sequence[str], replies: Sequence[str], index: int) -> int:
     if tokens[0] == "enclaves":
         return end_of_run(replies, index, "enclave ")
     if tokens[0] == "sched":
-        return index + (2 if [it[:6] for it in replies[index:index + 2]] == ["hart 0", "hart 1"] else 1)
+        return index + (2 if [reply[:6] for reply in replies[index:index + 2]] == ["hart 0", "hart 1"] else 1)
     return index + COUNTS.get(tokens[0], 1)
 
 
@@ -140,7 +140,7 @@ def command_line_errors(arguments: Sequence[str]) -> list[Explained]:
     for count in range(1, len(arguments) + 1):
         tried = [arguments[:count], [*arguments[:count], "1"], [*arguments[:count], "raw"], [*arguments[:count], "65536"],
                  [*arguments[:count], "--monitor"], [*arguments[:count], "1", "--monitor"]]
-        if all(replies_to(it, b"--\n")[-1:] == ["rvbench: command line"] for it in tried):
+        if all(replies_to(path, b"--\n")[-1:] == ["rvbench: command line"] for path in tried):
             return [Explained(0, " ".join(arguments), "rvbench: command line", *argument_error(arguments, count - 1))]
     return [Explained(0, " ".join(arguments), "rvbench: command line", "a value or --monitor is missing", "./rvbench run --help")]
 
@@ -159,8 +159,8 @@ def perform(arguments: Namespace) -> None:
     data = bounded(sys.stdin.buffer, "standard input") if path == "-" else read_file(path)
     if data.count(b"\n") > MOST_LINES:
         raise RvlookError("script '%s' is too long: it has more than %d lines" % (path, MOST_LINES))
-    found = explained(arguments.arguments or ["run"], data)
-    for error in found[:MOST_ERRORS]:
+    errors = explained(arguments.arguments or ["run"], data)
+    for error in errors[:MOST_ERRORS]:
         findings.add("line %d" % error.line if error.line else "input", "%s: %s: %s" % (error.text, error.reply, error.meaning))
         if printer.as_json:
             printer.object("error", line=error.line, text=error.text, reply=error.reply, meaning=error.meaning, suggestion=error.suggestion)
@@ -170,9 +170,9 @@ def perform(arguments: Namespace) -> None:
         printer.line("  " + error.meaning)
         if error.suggestion:
             printer.line("  try: " + error.suggestion)
-    if len(found) > MOST_ERRORS:
+    if len(errors) > MOST_ERRORS:
         findings.cut_short("explain stopped after %d errors; correct them, and run it again" % MOST_ERRORS)
-    if not found:
+    if not errors:
         findings.add("input")
-    if not found and not printer.as_json:
+    if not errors and not printer.as_json:
         printer.line("no errors")

@@ -43,7 +43,7 @@ def segments(path: str, data: bytes) -> list[tuple[int, bytes]]:
     try:
         with budget_of(data).limits():
             file = ELFFile(io.BytesIO(data))
-            return [(it["p_paddr"], it.data()) for it in file.iter_segments() if it["p_type"] == "PT_LOAD"]
+            return [(segment["p_paddr"], segment.data()) for segment in file.iter_segments() if segment["p_type"] == "PT_LOAD"]
     except Exception as error:  # pyelftools has no common class for what it cannot read
         raise RvlookError("cannot read '%s': %s" % (path, reason_of(error))) from None
 
@@ -78,7 +78,7 @@ def perform(arguments: Namespace) -> None:
     values = [symbols.address(text) for text in numbers]
     if None in values:
         raise RvlookError("'%s' is neither a hexadecimal number nor a symbol" % numbers[values.index(None)])
-    base, size, window, window_size, entry = (it for it in values if it is not None)
+    base, size, window, window_size, entry = (value for value in values if value is not None)
     refusal = refusal_of(base, size, window, window_size, entry)
     if refusal:
         raise RvlookError("create rejects these arguments: %s" % refusal)

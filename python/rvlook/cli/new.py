@@ -12,7 +12,7 @@ from rvlook.output.files import create_file
 from rvlook.output.printer import Printer
 
 PACKAGE = os.path.dirname(os.path.dirname(os.path.realpath(__file__)))
-EXAMPLES = ("../../examples", "../../../../share/rvbench/examples")  # of a clone, and of an installation
+EXAMPLES = ("../../examples", "../../../../share/rvbench/examples")  # the folders of examples of a clone, and of an installation
 TEMPLATES = {"Makefile": "Makefile", "ci": "ci", "pytest.ini": "pytest.ini", "tasks.json": os.path.join(".vscode", "tasks.json"),
              "test_enclave.py": os.path.join("tests", "test_enclave.py")}
 SPECIAL = re.compile(r"""["'`$\\#\x00-\x1f\x7f]""")  # characters that make or a shell reads in another way
@@ -39,16 +39,16 @@ def perform(arguments: Namespace) -> None:
         raise RvlookError("the name of the folder is empty; name a new folder")
     if os.path.lexists(folder) and (not os.path.isdir(folder) or os.listdir(folder)):
         raise RvlookError("'%s' exists and is not empty; name a new folder" % folder)
-    was_there, made = os.path.isdir(folder), folder
+    was_there, folder_to_remove = os.path.isdir(folder), folder
     try:
         for target, template in files_of(source).items():
             os.makedirs(os.path.join(folder, os.path.dirname(target)), exist_ok=True)
             fill(template, os.path.join(folder, target), commands)
     except (OSError, ValueError) as fault:  # ValueError: a NUL in the name
-        made = ""
+        folder_to_remove = ""
         raise Unfinished("cannot write '%s': %s" % (folder, getattr(fault, "strerror", None) or fault)) from None
     finally:
-        if not made:
+        if not folder_to_remove:
             remove(folder, was_there)
     Printer().line("made %s; next: cd %s && make run" % (folder, folder))
 
@@ -56,8 +56,8 @@ def perform(arguments: Namespace) -> None:
 def files_of(source: str) -> dict[str, str]:
     """Returns for each file of a new folder its template in the examples."""
     start = os.path.join(source, START)
-    found = {it: os.path.join(start, it) for it in sorted(os.listdir(start)) if it.endswith(".c")}
-    return {**found, **{target: os.path.join(source, "new", name) for name, target in TEMPLATES.items()}}
+    paths = {name: os.path.join(start, name) for name in sorted(os.listdir(start)) if name.endswith(".c")}
+    return {**paths, **{target: os.path.join(source, "new", name) for name, target in TEMPLATES.items()}}
 
 
 def fill(template: str, target: str, commands: dict[str, str]) -> None:
@@ -93,5 +93,5 @@ def quotable(path: str) -> str:
 
 def rvlook() -> str:
     """Returns the path of the command `rvlook`: that of the clone, of the installation, or the name."""
-    found = (os.path.realpath(os.path.join(PACKAGE, it)) for it in ("../../rvlook", "../../../../bin/rvlook"))
-    return next((it for it in found if os.path.isfile(it)), shutil.which("rvlook") or sys.argv[0])
+    paths = (os.path.realpath(os.path.join(PACKAGE, path)) for path in ("../../rvlook", "../../../../bin/rvlook"))
+    return next((path for path in paths if os.path.isfile(path)), shutil.which("rvlook") or sys.argv[0])

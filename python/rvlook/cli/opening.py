@@ -53,7 +53,7 @@ def schedule_of(arguments: Namespace, lines: Iterable[ScriptLine]) -> str:
 
 def sets_order(lines: Iterable[ScriptLine]) -> bool:
     """Returns whether a script executes steps or selects a hart."""
-    return any(tokens_of(it.text)[:1] in MOVING for it in lines)
+    return any(tokens_of(line.text)[:1] in MOVING for line in lines)
 
 
 def has_monitor(arguments: Namespace, image: Image, script: Iterable[ScriptLine]) -> bool:

@@ -14,5 +14,5 @@ def perform(arguments: Namespace) -> None:
         raise RvlookError("page does not support --json; use map --json and trace --json")
     template = page_template()
     run, symbols, printer = opened(arguments)
-    paths = [it for it in (arguments.symbols, arguments.image) if it] if arguments.has_sources else []
+    paths = [path for path in (arguments.symbols, arguments.image) if path] if arguments.has_sources else []
     show_page(run, symbols, printer, template, paths, arguments.sources)

@@ -42,7 +42,7 @@ See 'rvlook SUBCOMMAND --help' and docs/LOOK.md."""
 
 PACKAGE = os.path.dirname(os.path.dirname(os.path.realpath(__file__)))
 INSTALLED = os.path.join(PACKAGE, "../../version")  # what ./install wrote
-PRINTER = os.path.join(PACKAGE, "../../tools/version")  # of a clone
+PRINTER = os.path.join(PACKAGE, "../../tools/version")  # the script of a clone that prints the version
 
 
 def later(name: str) -> Callable[[Namespace], None]:
@@ -69,20 +69,17 @@ class Version(argparse.Action):
 
 
 OVER_AN_IMAGE: Sequence[Any] = (  # a name, its help, and its options
-    ("run", "Run a program to its end, print its console output, and exit with its status", expect_option,
-     schedule_options, findings_options),
+    ("run", "Run a program to its end, print its console output, and exit with its status", expect_option, schedule_options, findings_options),
     ("map", "Show who can access each byte of memory, and each change of these rights", map_options, schedule_options, findings_options),
     ("trace", "Show each step of a run", trace_options, schedule_options, findings_options),
     ("touch", "Show the bytes that each world read, wrote and executed, and the bytes that it could access", lcov_option, schedule_options,
      findings_options),
-    ("window", "Show what an enclave read, wrote and left in its window in each activation", window_options, schedule_options,
-     findings_options),
+    ("window", "Show what an enclave read, wrote and left in its window in each activation", window_options, schedule_options, findings_options),
     ("inputs", "Vary the inputs of an enclave, and show the errors and leaks that the host can cause", slot_option, inputs_options,
      expect_option, findings_options),
     ("verify", "Explore all paths of an enclave, for all inputs of the host and all values of its secrets", slot_option, verify_options,
      schedule_options, findings_options),
-    ("leak", "Compare runs that differ only in a secret of an enclave, and show where they diverge", slot_option, leak_options,
-     findings_options),
+    ("leak", "Compare runs that differ only in a secret of an enclave, and show where they diverge", slot_option, leak_options, findings_options),
     ("timer", "Interrupt an enclave before each of its steps, and check that the result stays the same", slot_option, timer_options,
      findings_options),
     ("races", "Search all schedules of two harts and of timer interrupts, and show the final states", races_options, findings_options),
@@ -104,9 +101,9 @@ def parser_of(name: str = "") -> Parser:
     parser.set_defaults(findings=ReportedCases(), is_report=False, junit=None, subcommand=None, command_line=(NAMES, read))
     parser.add_argument("--version", action=Version, nargs=0, help="print the version, the commit and the Rattle kit")
     subparsers = parser.add_subparsers(prog="rvlook", metavar="SUBCOMMAND", help=argparse.SUPPRESS)
-    over_an_image = [(it, about, partial(image_options, name=it), *options) for it, about, *options in OVER_AN_IMAGE]
-    for it, about, *options in (*over_an_image, *OTHERS):
-        add_subcommand(subparsers, it, about, *(options if it == name or name not in NAMES else ()))
+    over_an_image = [(subcommand, about, partial(image_options, name=subcommand), *options) for subcommand, about, *options in OVER_AN_IMAGE]
+    for subcommand, about, *options in (*over_an_image, *OTHERS):
+        add_subcommand(subparsers, subcommand, about, *(options if subcommand == name or name not in NAMES else ()))
     return parser
 
 
@@ -120,7 +117,7 @@ def complete() -> None:
 def with_secrets(parser: Parser, arguments: Sequence[str]) -> Namespace:
     """Parses the arguments of `leak`, whose two secrets may be anywhere after the image."""
     parsed, rest = parser.parse_known_args(arguments)
-    if len(rest) > 2 or any(it.startswith("-") for it in rest):
+    if len(rest) > 2 or any(word.startswith("-") for word in rest):
         parser.error("unrecognized arguments: %s" % " ".join(rest))
     parsed.secrets = rest
     return parsed

@@ -12,7 +12,7 @@ def perform(arguments: Namespace) -> None:
     """Shows what each world touched."""
     if arguments.lcov:
         refuse_json(arguments, "--lcov")
-        show_lcov(*opened(arguments), [it for it in (arguments.symbols, arguments.image) if it])
+        show_lcov(*opened(arguments), [path for path in (arguments.symbols, arguments.image) if path])
     else:
         run, symbols, printer = opened(arguments)
         show_touch(run, symbols, printer)

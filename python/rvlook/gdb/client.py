@@ -18,7 +18,7 @@ class FrameId:
     """The identity of a frame, by which gdb recognises it."""
 
     def __init__(self, sp: gdb.Value, pc: gdb.Value) -> None:
-        self.sp, self.pc = sp, pc  # of the frame
+        self.sp, self.pc = sp, pc  # sp and pc of the frame
 
 
 class Assembly(Unwinder):
@@ -85,7 +85,7 @@ class Assembly(Unwinder):
 
 
 def signed(value: int) -> int:
-    """Sign-extends 12 bits."""
+    """Returns the lowest 12 bits of a value as a signed number."""
     return (value & 0xFFF) - (1 << 12 if value & 0x800 else 0)
 
 

@@ -62,10 +62,10 @@ class ExpressionStack:
 
     def read(self, size: int) -> None:
         """Replaces the address on the stack by a little-endian number from memory."""
-        found = self.memory(self.stack.pop() & 0xFFFFFFFF, size)
-        if len(found) < size:
+        data = self.memory(self.stack.pop() & 0xFFFFFFFF, size)
+        if len(data) < size:
             raise ExpressionError("it reads outside RAM")
-        self.push(int.from_bytes(found, "little"))
+        self.push(int.from_bytes(data, "little"))
 
     def run(self) -> int:
         """Runs the expression; returns the top of the stack. Raises ExpressionError if it does not end."""

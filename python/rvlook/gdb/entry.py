@@ -15,8 +15,8 @@ PC, CALL = 32, 4  # the register pc, and the bytes of an ecall
 
 class Entered(NamedTuple):
     """The step that entered the enclave."""
-    step: int  # its number
-    pc: str  # of the ecall, eight hexadecimal digits
+    step: int  # the number of the step
+    pc: str  # the pc of the ecall, eight hexadecimal digits
     values: tuple[str, ...]  # the registers of the host before it, in hexadecimal digits
 
     @property
@@ -76,22 +76,22 @@ def last_switch(timeline: Timeline, hart: int, lowest: int) -> int | None:
 
 def blocks_with_traps(timeline: Timeline, hart: int, first: int, end: int) -> list[tuple[int, ScheduledSteps]]:
     """Returns the blocks in which a hart trapped, as it does at each switch of world, each with the step before it."""
-    found = []
+    blocks = []
     with timeline.again(first) as ahead:
         for steps in blocks_of(ahead, actions_between(timeline.past, first, end)):
             start = ahead.position
             if any(ran.trap for other, _, ran in query_steps(ahead, steps.turns, steps.count, is_single=False) if other == hart):
-                found.append((start, steps))
-    return found
+                blocks.append((start, steps))
+    return blocks
 
 
 def switch_in(timeline: Timeline, hart: int, start: int, steps: ScheduledSteps) -> int | None:
     """Returns the last step of a block that brought a hart to another world, or None."""
-    found = None
+    last_switch = None
     with timeline.again(start) as ahead:
         ahead.settle()
         world = ahead.worlds[hart]
         for step, (other, _, ran) in enumerate(query_steps(ahead, steps.turns, steps.count, is_single=True), start + 1):
             if other == hart and ran.world != world:
-                found, world = step, ran.world
-    return found
+                last_switch, world = step, ran.world
+    return last_switch

@@ -22,7 +22,7 @@ def runs_of(turns: str, count: int, is_single: bool) -> list[tuple[int, int]]:
     if len(set(turns)) == 1 and not is_single:
         return [(int(turns[0]), count)]
     rounds, rest = divmod(count, len(turns))
-    pieces = [[(int(it), 1) for it in digits] if is_single else [(int(it[0][0]), len(it[0])) for it in re.finditer("0+|1+", digits)]
+    pieces = [[(int(digit), 1) for digit in digits] if is_single else [(int(match[0][0]), len(match[0])) for match in re.finditer("0+|1+", digits)]
               for digits in (turns, turns[:rest])]
     return pieces[0] * rounds + pieces[1]
 
@@ -58,7 +58,7 @@ def query_steps(timeline: Timeline, turns: str, count: int, is_single: bool,
             timeline.moved[hart] += 1
         runs = runs[-len(turns):]
         block = block[-LONGEST * 2 * len(runs):]
-    rans = [step_of(it) for it in block.decode().splitlines() if it.startswith("ran ")][-len(runs):]
+    rans = [step_of(line) for line in block.decode().splitlines() if line.startswith("ran ")][-len(runs):]
     for (hart, _), ran in zip(runs, rans):
         timeline.reach(hart, ran.mode, ran.world, ran.trap and ran.steps > 1)
     return [(hart, length, ran) for (hart, length), ran in zip(runs, rans)]
@@ -76,7 +76,7 @@ def steps_of(ahead: Timeline, actions: Iterable[Action]) -> Iterator[ScheduledSt
 
 def blocks_of(ahead: Timeline, actions: Iterable[Action]) -> Iterator[ScheduledSteps]:
     """Yields the steps that `steps_of` yields, in blocks: each block has the steps of one exchange."""
-    return (steps_within(it, at, at + BLOCK) for it in steps_of(ahead, actions) for at in range(0, it.count, BLOCK))
+    return (steps_within(step, at, at + BLOCK) for step in steps_of(ahead, actions) for at in range(0, step.count, BLOCK))
 
 
 def by_turns(timeline: Timeline, stops: Stops, turns: str, count: int) -> Iterator[Halt | None]:
@@ -101,14 +101,14 @@ def judged(timeline: Timeline, stops: Stops, hart: int, count: int) -> list[tupl
     runs = min(RUNS, count)
     lines = ["run %d" % max(1, count // RUNS), *questions]
     replies = timeline.bench.block(("\n".join(lines * runs) + "\n").encode(), len(lines) * runs).decode().splitlines()
-    found, done = [], 0
+    verdicts, done = [], 0
     for first in range(0, len(replies), len(lines)):
         ran = step_of(replies[first])
         done += ran.steps
         timeline.reach(hart, ran.mode, ran.world, ran.trap and ran.steps > 1)
-        found.append((done, ran, stops.verdict(timeline, ran, dict(zip(questions, replies[first + 1:first + len(lines)])))))
+        verdicts.append((done, ran, stops.verdict(timeline, ran, dict(zip(questions, replies[first + 1:first + len(lines)])))))
     timeline.add(ScheduledSteps(str(hart), done))
-    return found
+    return verdicts
 
 
 def state_of(ran: Ran) -> RanState:
@@ -116,10 +116,10 @@ def state_of(ran: Ran) -> RanState:
     return ran.pc, ran.mode, ran.world, ran.trap
 
 
-def ends_of(found: Iterable[tuple[int, int, Ran]]) -> dict[int, RanState] | None:
+def ends_of(steps: Iterable[tuple[int, int, Ran]]) -> dict[int, RanState] | None:
     """Returns the state of each hart if all harts have halted, or None."""
     last: dict[int, list[RanState]] = {}
-    for hart, _, ran in found:
+    for hart, _, ran in steps:
         last.setdefault(hart, []).append(state_of(ran))
     if any(len(states) < HALTED_AFTER or len(set(states[-HALTED_AFTER:])) > 1 for states in last.values()):
         return None
@@ -153,5 +153,5 @@ def block_before(timeline: Timeline, first: int, ends: Mapping[int, RanState]) -
         ahead.choose(hart)
         replies = ahead.do_all(["run %d" % BLOCK] * ((timeline.position - first) // BLOCK))
         states = [state_of(step_of(reply)) for reply, in replies]
-    others = [number for number, it in enumerate(states) if it != state]
+    others = [number for number, other in enumerate(states) if other != state]
     return first + BLOCK * others[-1] if others else first

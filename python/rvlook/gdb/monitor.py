@@ -35,7 +35,7 @@ READ_FILES, FOLDERS = ("script", "symbols", "file", "input"), ("scripts", "sourc
 
 class CommandLine(NamedTuple):
     """The command line of rvlook for `monitor`."""
-    names: tuple[str, ...]  # of the subcommands
+    names: tuple[str, ...]  # the names of the subcommands
     read: Callable[[Sequence[str]], Namespace]  # parses the arguments of a subcommand
 
 
@@ -46,7 +46,7 @@ class Monitor:
         self.moves, self.entry, self.refreshes = moves, LastEntries(), False  # `refreshes`: whether the debugger reads registers again
         self.session: PromptSession | None = None  # runs the commands of the prompt; None before the first one
         self.has_files, self.read = has_files, command_line.read  # whether a line may name files; parses the arguments of a subcommand
-        self.subcommands = tuple(it for it in command_line.names if it not in (*OTHERS, *NOT_OFFERED))  # over an image
+        self.subcommands = tuple(name for name in command_line.names if name not in (*OTHERS, *NOT_OFFERED))  # over an image
 
     def line(self, text: str) -> str:
         """Runs a line of `monitor`; returns its output. The notes of `page` go to standard error."""
@@ -105,7 +105,7 @@ class Monitor:
 
     def subcommand(self, tokens: Sequence[str]) -> None:
         """Runs a subcommand of rvlook over a run of what was done so far."""
-        tokens = [it.encode("latin-1", "replace").decode("utf-8", "surrogateescape") for it in tokens]
+        tokens = [token.encode("latin-1", "replace").decode("utf-8", "surrogateescape") for token in tokens]
         if not tokens or tokens[0] not in (*self.subcommands, *OTHERS):
             print("rvlook requires a subcommand over the run so far: %s; or %s" % (" ".join(self.subcommands), " ".join(OTHERS)))
             return
@@ -125,8 +125,8 @@ class Monitor:
     def check_files(self, arguments: Namespace) -> None:
         """Raises RvlookError for an argument that names a file if files are disabled, and for a file that is not regular, since a read of it may
         block."""
-        read_files = [it for it in (getattr(arguments, name, None) for name in READ_FILES) if it]
-        named = read_files + [it for it in (getattr(arguments, name, None) for name in FOLDERS) if it]
+        read_files = [value for value in (getattr(arguments, name, None) for name in READ_FILES) if value]
+        named = read_files + [value for value in (getattr(arguments, name, None) for name in FOLDERS) if value]
         if named and not self.has_files:
             named = named[0] if isinstance(named[0], str) else named[0][0]
             raise RvlookError("cannot use '%s': files are disabled for a debugger on a port; start with rvlook gdb --allow-files --port N" % named)
@@ -142,13 +142,12 @@ class Monitor:
         if what == "none":
             stops.caught.clear()
         elif what in CAUGHT and what != "trap" and not has_worlds:
-            print("this catchpoint requires the monitor; start with ./rvlook gdb --monitor %s"
-                  % self.moves.timeline.setup.image.name)
+            print("this catchpoint requires the monitor; start with ./rvlook gdb --monitor %s" % self.moves.timeline.setup.image.name)
         elif what in CAUGHT:
             stops.caught.add(what)
         elif what:
             print(OWN["catch"])
-        print("catchpoints: %s" % (" ".join(it for it in CAUGHT if it in stops.caught) or "none"))
+        print("catchpoints: %s" % (" ".join(kind for kind in CAUGHT if kind in stops.caught) or "none"))
 
     def schedule(self, digits: str | None = None) -> None:
         """Sets or shows the schedule of two harts."""
@@ -164,10 +163,10 @@ class Monitor:
     def entered(self) -> None:
         """Prints where the host entered the enclave on the hart."""
         timeline, symbols = self.moves.timeline, self.moves.timeline.setup.symbols
-        found = self.entry.find(timeline, timeline.hart)
-        if not found:
+        entry = self.entry.find(timeline, timeline.hart)
+        if not entry:
             print("the hart is not in an enclave, but in %s" % timeline.worlds[timeline.hart])
             return
-        number = int(found.values[16], 16)
+        number = int(entry.values[16], 16)
         call = Call(number).name if number in set(Call) else "a monitor call"
-        print("%s was entered at step %d, by %s at %s" % (timeline.worlds[timeline.hart], found.step, call, place_text(found.pc, symbols)))
+        print("%s was entered at step %d, by %s at %s" % (timeline.worlds[timeline.hart], entry.step, call, place_text(entry.pc, symbols)))

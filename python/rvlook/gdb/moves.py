@@ -35,7 +35,7 @@ class Start(NamedTuple):
     """The start of some steps."""
     position: int  # steps before it
     future: Deque[Action]  # the actions that follow
-    worlds: list[str]  # of each hart; the caller updates them after each step
+    worlds: list[str]  # the world of each hart; the caller updates it after each step
 
 
 class Moves:
@@ -43,11 +43,11 @@ class Moves:
 
     def __init__(self, timeline: Timeline, link: Link) -> None:
         self.timeline, self.view, self.link, self.stops = timeline, CachedView(timeline), link, Stops()  # `link`: the connection
-        self.schedule = timeline.setup.schedule or alternating(TURN)  # of the harts that run
+        self.schedule = timeline.setup.schedule or alternating(TURN)  # the schedule of the harts that run
         self.ready: dict[int, Timeline] = {}  # benches at earlier steps
         self.follower: Timeline | None = None  # a bench that follows `timeline` to stops that `timeline` has passed; None without one
         self.careful = 0  # steps that still have one exchange per run
-        self.notes: list[str] = []  # for the user, not shown yet
+        self.notes: list[str] = []  # the notes for the user, not shown yet
         self.stops_after_watch = False  # whether the debugger expects a watchpoint to halt after the access
 
     def close(self) -> None:
@@ -57,7 +57,7 @@ class Moves:
 
     def discard(self, position: int) -> None:
         """Ends the other benches at or after a step, since their history may no longer be valid."""
-        for ready in [it for it in self.ready if it >= position]:
+        for ready in [key for key in self.ready if key >= position]:
             self.ready.pop(ready).close()
         if self.follower and self.follower.position >= position:
             self.follower.close()
@@ -95,11 +95,11 @@ class Moves:
 
     def followed(self, position: int) -> Timeline | None:
         """Returns the following bench, brought to a step; None if it is past that step."""
-        found = self.follower if self.follower and self.follower.position <= position else None
-        if found:
-            found.follow(actions_between(self.timeline.past, found.position, position))
+        follower = self.follower if self.follower and self.follower.position <= position else None
+        if follower:
+            follower.follow(actions_between(self.timeline.past, follower.position, position))
             self.follower = None
-        return found
+        return follower
 
     def follow(self) -> None:
         """Makes a bench follow to the present step."""
@@ -161,7 +161,7 @@ class Moves:
             if by_turns or self.stops.watches or self.stops.has_conditions:
                 self.follow()
             first, began, room = self.timeline.position, time.monotonic(), self.timeline.room()
-            size = size if by_turns or not self.stops.has_conditions else MOST_STEPS  # of which each break met ends a part
+            size = size if by_turns or not self.stops.has_conditions else MOST_STEPS  # each breakpoint that is met ends a part
             halt = self.advance(self.turns_of(harts), min(size, room or size))
             if not halt and room is None and not self.careful > 0:
                 halt = self.end_of(harts, first)
@@ -225,18 +225,18 @@ class Moves:
     def end_of(self, harts: Sequence[int], first: int) -> Halt | None:
         """Returns the halt at the first step after `first` from which these harts are halted, or None."""
         turns, start = self.turns_of(harts), self.start()
-        found = query_steps(self.timeline, turns, HALTED_AFTER * len(turns), is_single=True)
-        for done, (hart, _, ran) in enumerate(found, 1):
+        answered_steps = query_steps(self.timeline, turns, HALTED_AFTER * len(turns), is_single=True)
+        for done, (hart, _, ran) in enumerate(answered_steps, 1):
             if self.stops.may_meet(self.timeline, ran, start.worlds[hart]):
                 halt = self.met_at(start, ScheduledSteps(turns, done), hart, ran)
-                if halt or done < len(found):
+                if halt or done < len(answered_steps):
                     return halt
             start.worlds[hart] = ran.world
-        ends = ends_of(found)
+        ends = ends_of(answered_steps)
         if ends is None:
             return None
         self.go(first_equal(self.timeline, first, ends))
-        return self.halted(harts, found[-1][0], found[-1][2])
+        return self.halted(harts, answered_steps[-1][0], answered_steps[-1][2])
 
     def halted(self, harts: Sequence[int], hart: int, ran: Ran) -> Halt:
         """Returns the halt of harts that make no progress."""

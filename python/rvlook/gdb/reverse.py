@@ -82,7 +82,7 @@ class Back:
         if halts:
             position, halt = halts[-1]
             moves.go(position)
-            self.prepare(it for it, _ in halts[-2:-2 - AHEAD:-1])
+            self.prepare(position for position, _ in halts[-2:-2 - AHEAD:-1])
             if halt.message:
                 moves.link.show(halt.message)
             return halt
@@ -97,7 +97,7 @@ class Back:
     def stops_between(self, first: int, end: int, harts: Sequence[int]) -> list[tuple[int, Halt]]:
         """Returns the stops after step `first`, up to step `end`."""
         moves = self.moves
-        found: dict[int, Halt] = {}
+        halts: dict[int, Halt] = {}
         pieces = list(actions_between(moves.timeline.past, first, end))
         if not moves.stops.is_single and not self.may_stop(first, pieces):
             return []
@@ -105,22 +105,22 @@ class Back:
             ahead.set_stops(moves.timeline.stops)
             for step in steps_of(ahead, pieces):
                 if moves.stops.is_single:
-                    found.update(self.single_stops(ahead, step))
+                    halts.update(self.single_stops(ahead, step))
                 elif moves.stops.has_conditions and step.chosen:
-                    found.update(self.judged_stops(ahead, step))
+                    halts.update(self.judged_stops(ahead, step))
                 else:
-                    found.update(self.stops_by_turns(ahead, step))
-        return sorted(((position, halt) for position, halt in found.items() if halt.hart in harts), key=lambda it: it[0])
+                    halts.update(self.stops_by_turns(ahead, step))
+        return sorted(((position, halt) for position, halt in halts.items() if halt.hart in harts), key=lambda it: it[0])
 
     def may_stop(self, first: int, pieces: Sequence[Action]) -> bool:
         """Returns whether there may be a stop in steps of two harts. Steps of one hart are searched at once."""
-        if all(it.chosen for it in pieces):
+        if all(piece.chosen for piece in pieces):
             return True
         with self.moves.timeline.again(first) as ahead:
             ahead.set_stops(self.moves.timeline.stops)
             is_quiet = self.moves.stops.is_quiet(ahead)
-            return any(ran.steps < count or self.moves.stops.may_meet(ahead, ran, "") for it in steps_of(ahead, pieces)
-                       for _, count, ran in query_steps(ahead, it.turns, it.count, is_single=False, is_quiet=is_quiet))
+            return any(ran.steps < count or self.moves.stops.may_meet(ahead, ran, "") for step in steps_of(ahead, pieces)
+                       for _, count, ran in query_steps(ahead, step.turns, step.count, is_single=False, is_quiet=is_quiet))
 
     def stops_by_turns(self, ahead: Timeline, steps: ScheduledSteps) -> Iterator[tuple[int, Halt]]:
         """Yields the stops in steps of the past, with an exchange for each run."""

@@ -165,8 +165,7 @@ class Server(Closing):
     def state(self) -> dict[int, str]:
         """Returns mode and world of the hart, by their numbers among the registers."""
         self.timeline.settle()
-        return {PRIV: little("%08x" % MODES[self.timeline.modes[self.shown]]),
-                WORLD: little("%08x" % WORLDS[self.timeline.worlds[self.shown]])}
+        return {PRIV: little("%08x" % MODES[self.timeline.modes[self.shown]]), WORLD: little("%08x" % WORLDS[self.timeline.worlds[self.shown]])}
 
     def changing(self) -> None:
         """Discards what was derived from later steps, since they may change."""
@@ -192,10 +191,10 @@ class Server(Closing):
     def read_memory(self, rest: str) -> str:
         """Replies to m with bytes up to the first that is outside RAM."""
         first, count = map(number_of, rest.split(","))
-        found = self.moves.view.bytes(first, min(count, MOST_READ))
-        if count and not found:
+        data = self.moves.view.bytes(first, min(count, MOST_READ))
+        if count and not data:
             raise Refused("%08x is outside RAM" % first)
-        return found.hex()
+        return data.hex()
 
     def write(self, rest: str, decode: Callable[[str], bytes]) -> str:
         """Replies to M and X, which have the bytes to poke in digits and escaped. Raises Refused if one is outside RAM."""
@@ -216,7 +215,7 @@ class Server(Closing):
         """Replies to Z: sets a breakpoint with its conditions, or a watchpoint."""
         kind, first, count = self.stop_of(rest)
         if kind in BREAKS:
-            conditions = [bytes.fromhex(it[2])[:int(it[1], 16)] for it in CONDITION.finditer(rest)]
+            conditions = [bytes.fromhex(match[2])[:int(match[1], 16)] for match in CONDITION.finditer(rest)]
             self.moves.stops.set_break(self.timeline, kind, first, conditions)
         elif count > MOST_WATCHED or not self.moves.stops.set_watch(self.timeline, Watch(*WATCHES[kind], first, count)):
             report_error("cannot set the watchpoint: rvbench watches at most %d bytes" % MOST_WATCHED)
@@ -244,7 +243,7 @@ class Server(Closing):
         """Returns the reply that reports a halt, with the registers."""
         self.shown = self.last = halt.hart
         values = [*enumerate(map(little, self.moves.view.registers(halt.hart))), *self.state().items()]
-        return "T%02xthread:%x;%s%s" % (halt.signal, halt.hart + 1, halt.reason, "".join("%02x:%s;" % it for it in values))
+        return "T%02xthread:%x;%s%s" % (halt.signal, halt.hart + 1, halt.reason, "".join("%02x:%s;" % value for value in values))
 
     def where(self, _: str) -> str:
         """Replies to ? with the present halt."""
@@ -255,8 +254,8 @@ class Server(Closing):
         self.moves.show_notes()
         self.changing()
         actions: dict[int, str] = {}
-        for it in rest[1:].split(";"):
-            action, _, thread = it.partition(":")
+        for entry in rest[1:].split(";"):
+            action, _, thread = entry.partition(":")
             for hart in range(self.setup.harts) if thread in ("", "-1", "0") else [self.hart_of(thread)]:
                 actions.setdefault(hart, action)
         running = [hart for hart, action in actions.items() if action[0] in "cC"]
@@ -384,7 +383,7 @@ def link_of(setup: Setup, port: int | None) -> Link:
     connection.setsockopt(socket.IPPROTO_TCP, socket.TCP_NODELAY, 1)
     threading.Thread(target=turn_away, args=(listening,), daemon=True).start()
     link = Link(connection.fileno(), connection.fileno())
-    link.kept = connection  # for as long as its number is used
+    link.kept = connection  # keeps the connection for as long as its number is used
     return link
 
 

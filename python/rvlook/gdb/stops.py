@@ -12,15 +12,15 @@ from rvlook.protocol.replies import Ran, RanTrap, value_of
 from rvlook.protocol.timeline import Timeline
 
 STEPPED, INTERRUPTED, STOPPED = 5, 2, 0  # signals, as the protocol numbers them
-SIGNALS = {"00000000": 10, "00000001": 11, "00000002": 4, "00000003": 5, "00000005": 11, "00000007": 11}  # of traps, by their cause
+SIGNALS = {"00000000": 10, "00000001": 11, "00000002": 4, "00000003": 5, "00000005": 11, "00000007": 11}  # the signal of each trap, by its cause
 PC, NO_TRAP = 32, b"trap=-"  # the register pc, and the end of a reply without a trap
 
 
 @dataclass(frozen=True)
 class Watch:
     """A watchpoint of the debugger."""
-    name: str  # of its kind in the protocol: watch, rwatch or awatch
-    kinds: str  # of accesses: r, w or both
+    name: str  # the name of its kind in the protocol: watch, rwatch or awatch
+    kinds: str  # the kinds of accesses: r, w or both
     first: int  # address of the first byte
     count: int  # bytes
 
@@ -36,9 +36,9 @@ class Watch:
 
 class Halt(NamedTuple):
     """A halt on a hart."""
-    hart: int  # its number
-    reason: str = ""  # of the protocol; empty for a step, a breakpoint and a signal
-    signal: int = STEPPED  # its number
+    hart: int  # the number of the hart
+    reason: str = ""  # the reason in words of the protocol; empty for a step, a breakpoint and a signal
+    signal: int = STEPPED  # the number of the signal
     message: str = ""  # a line for the user; may be empty
 
 
@@ -53,7 +53,7 @@ class Stops:
     def __init__(self) -> None:
         self.breaks: dict[int, dict[str, list[bytes]]] = {}  # conditions by address and kind
         self.beyond: set[int] = set()  # addresses of breakpoints for which the bench has no room
-        self.watches: list[Watch] = []  # in the order in which they were set
+        self.watches: list[Watch] = []  # the watches in the order in which they were set
         self.caught: set[str] = set()  # events of `catch`
         self.questions: dict[str, None] = {}  # the commands whose replies decided conditions
 
@@ -65,12 +65,12 @@ class Stops:
     @property
     def has_conditions(self) -> bool:
         """Returns whether a breakpoint has conditions."""
-        return any(code for it in self.breaks.values() for code in it.values())
+        return any(code for codes in self.breaks.values() for code in codes.values())
 
     def key(self, timeline: Timeline) -> tuple[Any, ...]:
         """Returns all that decides where the harts halt."""
         return (frozenset(timeline.stops), frozenset(self.beyond), tuple(self.watches), frozenset(self.caught),
-                repr(sorted((at, sorted(it.items())) for at, it in self.breaks.items())))
+                repr(sorted((at, sorted(codes.items())) for at, codes in self.breaks.items())))
 
     # what is set
 
@@ -102,8 +102,8 @@ class Stops:
         """Removes a watchpoint, if it is set."""
         if watch not in self.watches:
             return
-        self.watches = [it for it in self.watches if it != watch]
-        kept = {at for it in self.watches for at in it.bytes}
+        self.watches = [other for other in self.watches if other != watch]
+        kept = {at for other in self.watches for at in other.bytes}
         timeline.do_all(["unwatch %x" % at for at in watch.bytes if at not in kept])
 
     # what is met
@@ -114,12 +114,12 @@ class Stops:
 
     def is_quiet(self, timeline: Timeline) -> Callable[[bytes, int], bool]:
         """Returns a function that checks the replies to runs, as bytes: whether there is certainly no halt after any of them."""
-        patterns = [b"pc=%s " % it.split()[1].rjust(8, "0").encode() for it in timeline.stops if it.startswith("break")]
+        patterns = [b"pc=%s " % stop.split()[1].rjust(8, "0").encode() for stop in timeline.stops if stop.startswith("break")]
         patterns += [b"pc=%08x " % at for at in self.beyond]
 
         def is_quiet(block: bytes, runs: int) -> bool:
             return block.count(b"why=done") == runs and not (self.caught and block.count(NO_TRAP) < runs) \
-                and not any(it in block for it in patterns)
+                and not any(pattern in block for pattern in patterns)
 
         return is_quiet
 
@@ -129,7 +129,7 @@ class Stops:
 
     def needs_query(self, ran: Ran) -> bool:
         """Returns whether registers or memory decide if there is a halt."""
-        return ran.why.startswith("watch") or any(code for it in self.breaks.get(int(ran.pc, 16), {}).values() for code in it)
+        return ran.why.startswith("watch") or any(code for codes in self.breaks.get(int(ran.pc, 16), {}).values() for code in codes)
 
     def met(self, timeline: Timeline, hart: int, ran: Ran, before: str) -> Halt | None:
         """Returns the halt after a run at the present step, or None."""
@@ -179,10 +179,10 @@ class Stops:
         """Returns the stop reason after an access, or None if no watchpoint is for its kind. A watch that a command of the bench has set is for
         any access."""
         lowest = int(ran.why[6:], 16)
-        if not any(lowest in it.bytes for it in self.watches):
+        if not any(lowest in other.bytes for other in self.watches):
             return ""
         kind, first, width = access_before(timeline, hart, ran)
-        met = [it for it in self.watches if kind in it.kinds and it.meets(first, width)]
+        met = [watch for watch in self.watches if kind in watch.kinds and watch.meets(first, width)]
         return "%s:%x;" % (met[0].name, max(first, met[0].first)) if met else None
 
     def catch(self, hart: int, ran: Ran, before: str) -> Halt | None:

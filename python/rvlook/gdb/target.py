@@ -12,7 +12,7 @@ MODES = {"U": 0, "S": 1, "M": 3}
 WORLDS = {**{"e%d" % slot: slot for slot in range(names.LAST_SLOT + 1)}, "host": names.LAST_SLOT + 1, "bare": names.LAST_SLOT + 2}
 CORE_REGISTERS = [*names.ABI, "pc"]  # what `regs` shows, in its order
 SAVED = ["ra", "sp", *("s%d" % number for number in range(12))]  # what a function keeps for its caller
-ENTERED = ["host_pc", *("host_" + name for name in SAVED)]  # where the host that entered the enclave goes on, and with what
+ENTERED = ["host_pc", *("host_" + name for name in SAVED)]  # the pc at which the host that entered the enclave continues, and its registers
 REGISTERS = [*CORE_REGISTERS, *names.CSRS, "priv", "world", *ENTERED]
 NUMBERS = {name: number for number, name in enumerate(REGISTERS)}
 PC, PRIV, WORLD = (NUMBERS[name] for name in ("pc", "priv", "world"))
@@ -40,15 +40,15 @@ def register(name: str, kind: str = "int", more: str = "") -> str:
 
 def target_text() -> str:
     """Returns target.xml."""
-    core = "".join(register(it, "code_ptr" if it == "pc" else ABI_KINDS.get(it, "int")) for it in CORE_REGISTERS)
-    csrs = "".join(register(it, more=' group="csr" save-restore="no"') for it in names.CSRS)
-    values = "".join('<evalue name="%s" value="%d"/>' % it for it in WORLDS.items())
+    core = "".join(register(name, "code_ptr" if name == "pc" else ABI_KINDS.get(name, "int")) for name in CORE_REGISTERS)
+    csrs = "".join(register(csr, more=' group="csr" save-restore="no"') for csr in names.CSRS)
+    values = "".join('<evalue name="%s" value="%d"/>' % entry for entry in WORLDS.items())
     own = register("world", "world", ' group="general" save-restore="no"')
-    own += "".join(register(it, "code_ptr" if it == "host_pc" else "int", ' group="host" save-restore="no"') for it in ENTERED)
+    own += "".join(register(name, "code_ptr" if name == "host_pc" else "int", ' group="host" save-restore="no"') for name in ENTERED)
     return TARGET % (ARCHITECTURE, core, csrs, register("priv"), values, own)
 
 
 def threads_text(lines: Iterable[str]) -> str:
     """Returns the list of harts with their descriptions."""
-    threads = "".join('<thread id="%x" core="%d" name=%s/>' % (hart + 1, hart, quoteattr(it)) for hart, it in enumerate(lines))
+    threads = "".join('<thread id="%x" core="%d" name=%s/>' % (hart + 1, hart, quoteattr(line)) for hart, line in enumerate(lines))
     return '<?xml version="1.0"?><threads>%s</threads>' % threads

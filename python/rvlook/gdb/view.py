@@ -54,8 +54,8 @@ class CachedView:
         missing = [at for at in lines if at not in self.lines]
         for at, (reply,) in zip(missing, self.timeline.ask(*map(line_of, missing)) if missing else ()):
             self.take_line(at, reply)
-        found = b"".join(takewhile(bool, map(self.lines.__getitem__, lines)))
-        return found[first & LINE - 1:][:count]
+        data = b"".join(takewhile(bool, map(self.lines.__getitem__, lines)))
+        return data[first & LINE - 1:][:count]
 
     def take_line(self, address: int, reply: str) -> None:
         """Keeps the bytes of a reply of `mem`."""

@@ -10,7 +10,7 @@ from functools import lru_cache
 from typing import Any, Iterator, List, NoReturn
 
 MOST_ENTRIES = 500000  # entries of symbol tables and of debugging information; some count more than once
-MOST_SECONDS = 5.0  # of processor time
+MOST_SECONDS = 5.0  # the most seconds of processor time
 MOST_MEMORY = 1 << 28  # bytes more than before
 AGAIN = 1.0  # seconds after which the timer interrupts again, if Python dropped the exception in a finalizer
 PAGE = resource.getpagesize()
@@ -30,7 +30,7 @@ class Budget:
     """The entries and the processor time that are left for reading the symbols and the debugging information of one ELF file."""
 
     def __init__(self) -> None:
-        self.entries, self.seconds = MOST_ENTRIES, MOST_SECONDS  # that are left, of processor time for `seconds`
+        self.entries, self.seconds = MOST_ENTRIES, MOST_SECONDS  # the entries and the seconds of processor time that are left
 
     def spend(self, count: int) -> None:
         """Takes `count` entries from this budget. Raises BudgetExceeded if fewer are left."""
@@ -52,7 +52,7 @@ class Budget:
             with limited_time(self.seconds), limited_memory():
                 yield
         except Exception as error:  # pyelftools hides what its parser meets behind an exception of its own
-            if not any(isinstance(it, (BudgetExceeded, MemoryError)) for it in causes(error)):
+            if not any(isinstance(cause, (BudgetExceeded, MemoryError)) for cause in causes(error)):
                 raise
             self.entries = -1
             raise BudgetExceeded from None

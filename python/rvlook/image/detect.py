@@ -13,7 +13,7 @@ from rvlook.protocol.inputs import Image, ScriptLine, segments_of
 from rvlook.protocol.memory_map import MONITOR_END
 from rvlook.protocol.symbols import Symbol
 
-AT_FLAGS = 36  # in the header of an ELF file
+AT_FLAGS = 36  # the offset of the flags in the header of an ELF file
 COMPRESSED = 1  # EF_RISCV_RVC
 KEY_HIGH, KEY_HIGH_MASK = 0x0A455037, 0xFFFFF07F  # lui of any register, 0xa455
 KEY_LOW, KEY_LOW_MASK = 0xE4300893, 0xFFF07FFF  # addi a7 of any register, -445
@@ -27,7 +27,7 @@ WORD = 4  # bytes of an instruction
 OPCODE, ATOMIC, FENCE = 0x7F, 0x2F, 0x0F  # the bits of the opcode, and two opcodes
 FENCE_I, FENCE_I_MASK = 0x100F, 0x707F
 FLOATING = (0x07, 0x27, 0x43, 0x47, 0x4B, 0x4F, 0x53)
-IS_CANDIDATE = bytes(it & OPCODE in (ATOMIC, FENCE, *FLOATING) for it in range(256))  # by the lowest byte of a word
+IS_CANDIDATE = bytes(byte & OPCODE in (ATOMIC, FENCE, *FLOATING) for byte in range(256))  # whether a word may be one of these, by its lowest byte
 MOST_SHOWN = 3  # functions in a message
 PAGE = "docs/FIRMWARE.md"
 
@@ -40,7 +40,7 @@ def has_compressed(image: Image) -> bool:
 def reason_for_monitor(image: Image, script: Iterable[ScriptLine]) -> str | None:
     """Returns why an image seems to be made for the monitor, or None."""
     if image.is_elf_32:
-        first = min((it.address for it in image.segments()), default=0)
+        first = min((segment.address for segment in image.segments()), default=0)
         return "its first address is %08x" % first if first == MONITOR_END else None
     if has_key(image.data or b"") or any(KEY_SET.match(line.given) for line in script):
         return "it calls the monitor (a7 = 0a454e43)"
@@ -52,14 +52,14 @@ def has_key(data: bytes) -> bool:
     words = array("I", data[:len(data) // 4 * 4])
     if sys.byteorder == "big":
         words.byteswap()
-    has_high = any(it & KEY_HIGH_MASK == KEY_HIGH for it in words)
-    return has_high and any(it & KEY_LOW_MASK == KEY_LOW for it in words) and ECALL in words
+    has_high = any(word & KEY_HIGH_MASK == KEY_HIGH for word in words)
+    return has_high and any(word & KEY_LOW_MASK == KEY_LOW for word in words) and ECALL in words
 
 
 class Section(NamedTuple):
     """A section of an ELF file (ELF, Section Headers)."""
-    kind: int  # its type
-    offset: int  # in the file, bytes
+    kind: int  # the type of the section
+    offset: int  # the offset in the file, bytes
     size: int  # bytes
     link: int  # index of the section that it refers to
 
@@ -75,16 +75,16 @@ def extension_of(word: int) -> str | None:
 
 def lacking_in(image: Image) -> Mapping[str, list[str]]:
     """Returns the functions that have such instructions, by their kind. Looks only at symbols of functions with a size."""
-    found: dict[str, dict[str, None]] = {}
+    functions_by_kind: dict[str, dict[str, None]] = {}
     data = image.data if image.is_elf_32 and image.data else b""
-    words = [word for it in segments_of(data) for word in candidates_in(it.address, data[it.offset:it.offset + it.in_file])] if data else []
+    words = [word for part in segments_of(data) for word in candidates_in(part.address, data[part.offset:part.offset + part.in_file])] if data else []
     functions = sorted(functions_of(data), key=lambda it: it.address) if words else []
-    starts = [it.address for it in functions]
+    starts = [function.address for function in functions]
     for address, word in words:
         kind, index = extension_of(word), bisect_right(starts, address) - 1
         if kind and index >= 0 and address < functions[index].address + functions[index].size:
-            found.setdefault(kind, {})[functions[index].name] = None
-    return {kind: list(names) for kind, names in found.items()}
+            functions_by_kind.setdefault(kind, {})[functions[index].name] = None
+    return {kind: list(names) for kind, names in functions_by_kind.items()}
 
 
 def candidates_in(first: int, code: bytes) -> Iterator[tuple[int, int]]:
@@ -100,17 +100,17 @@ def sections_of(data: bytes) -> list[Section]:
     """Returns the sections of an ELF32 file whose headers are in the file."""
     start = struct.unpack_from("<I", data, SECTIONS_AT)[0]
     size, count = struct.unpack_from("<HH", data, SECTIONS)
-    headers = [SECTION.unpack_from(data, start + size * it) for it in range(count) if start + size * it + SECTION.size <= len(data)]
+    headers = [SECTION.unpack_from(data, start + size * index) for index in range(count) if start + size * index + SECTION.size <= len(data)]
     return [Section(kind, offset, size, link) for _, kind, _, _, offset, size, link, *_ in headers]
 
 
 def functions_of(data: bytes) -> Iterator[Symbol]:
     """Yields the functions of the symbol table of an ELF32 file that have a size."""
     sections = sections_of(data)
-    table = next((it for it in sections if it.kind == SYMBOL_TABLE and it.link < len(sections)), None)
+    table = next((section for section in sections if section.kind == SYMBOL_TABLE and section.link < len(sections)), None)
     if table is None:
         return
-    symbols, names = (data[it.offset:it.offset + it.size] for it in (table, sections[table.link]))
+    symbols, names = (data[section.offset:section.offset + section.size] for section in (table, sections[table.link]))
     for name, address, length, info, _, _ in SYMBOL.iter_unpack(symbols[:len(symbols) // SYMBOL.size * SYMBOL.size]):
         if info & 15 == FUNCTION and length:
             yield Symbol(address, length, name_of(names[name:max(name, names.find(b"\0", name))]), is_function=True)

@@ -10,10 +10,10 @@ from rvlook.image.budget import budget_of
 from rvlook.protocol.inputs import Image, ScriptLine
 
 DIGITS_A_LINE = 120
-MOST_BYTES = 33554432  # of an image, as the bench has it
+MOST_BYTES = 33554432  # the most bytes of an image, as the bench has it
 MOST_READ = 3 * MOST_BYTES  # bytes of a file; two digits for each byte of an image, line ends and a script
 CHUNK = 1 << 20  # bytes that are read at once
-MOST_LINES = 1000000  # of a script
+MOST_LINES = 1000000  # the most lines of a script
 SEPARATOR = re.compile(rb"(?m)^([ \t]*--[ \t]*)(\r?\n|\Z)")
 MARKS = {b"\xef\xbb\xbf": "utf-8", b"\xff\xfe": "utf-16-le", b"\xfe\xff": "utf-16-be"}  # byte order marks
 TEXT = re.compile(rb"[0-9A-Fa-f \t\r\n]*\Z")
@@ -75,7 +75,7 @@ def image_of(path: str, kind: str = "auto") -> Image:
     file cannot be read, is a text but no hex image, or is too large."""
     data = read_file(path)
     budget_of.cache_clear()
-    cut = next((it for it in SEPARATOR.finditer(data) if len(it[1]) <= LONGEST_LINE), None)
+    cut = next((match for match in SEPARATOR.finditer(data) if len(match[1]) <= LONGEST_LINE), None)
     head, rest = (data[:cut.start()], data[cut.end():]) if cut else (data, b"")
     printable = PRINTABLE.match(data) is not None
     if TEXT.match(head) or cut and PRINTABLE.match(head):
@@ -92,7 +92,7 @@ def image_of(path: str, kind: str = "auto") -> Image:
 
 def is_marked_text(data: bytes) -> bool:
     """Returns whether the bytes are a text after a byte order mark, which no image begins with."""
-    mark = next((it for it in MARKS if data.startswith(it)), None)
+    mark = next((mark for mark in MARKS if data.startswith(mark)), None)
     if mark is None:
         return False
     try:

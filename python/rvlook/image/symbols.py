@@ -48,17 +48,17 @@ def symbols_of(path: str, data: bytes | None) -> Symbols:
     if data.startswith(ELF_MAGIC):
         return elf_symbols(path, data)
     matches = [NM_LINE.match(line) for line in lines_of(text_of(data))]
-    return Symbols([Symbol(int(it[1], 16), 0, visible(it[2]), is_function=False) for it in matches if it])
+    return Symbols([Symbol(int(match[1], 16), 0, visible(match[2]), is_function=False) for match in matches if match])
 
 
 def symbols_from(path: str | None, image: Image) -> Symbols:
     """Returns the symbols of the file `path`, or without a path the symbols of an image that is an ELF file. Raises RvlookError if the file has no
     symbols or cannot be read."""
     if path:
-        found = symbols_of(path, read_file(path))
-        if not found:
+        symbols = symbols_of(path, read_file(path))
+        if not symbols:
             raise RvlookError("no symbols in '%s'" % path)
-        return found
+        return symbols
     return symbols_of(image.name, image.data if image.is_elf else None)
 
 
@@ -219,7 +219,7 @@ def source_lines(dwarf: Any, unit: Any) -> Iterator[Row]:
     program = dwarf.line_program_for_CU(unit)
     names = file_names(program)
     states = line_states(program)
-    yield from ((it.address, None if it.end_sequence or not it.line else "%s:%d" % (names.get(it.file, "?"), it.line)) for it in states)
+    yield from ((row.address, None if row.end_sequence or not row.line else "%s:%d" % (names.get(row.file, "?"), row.line)) for row in states)
 
 
 def line_states(program: Any) -> list[Any]:
@@ -278,7 +278,7 @@ def outermost(dwarf: Any, unit: Any) -> Iterator[Any]:
 def entries_of(dwarf: Any, unit: Any) -> Iterator[Any]:
     """Yields the entries of a unit in the order of the file. pyelftools follows sibling references, and does not end if one is circular."""
     from elftools.dwarf.die import DIE
-    unit.get_top_DIE()  # which others need to read indirect values
+    unit.get_top_DIE()  # other units need it to read indirect values
     offset, end = unit.cu_die_offset, unit.cu_offset + unit.size
     while offset < end:
         entry = DIE(unit, dwarf.debug_info_sec.stream, offset)
@@ -289,7 +289,7 @@ def entries_of(dwarf: Any, unit: Any) -> Iterator[Any]:
 
 def cost_of(entry: Any) -> int:
     """Returns what an entry costs: one, and more if it has many attributes, or attributes of many bytes."""
-    sizes = (len(it.value) for it in entry.attributes.values() if isinstance(it.value, (bytes, list)))
+    sizes = (len(attribute.value) for attribute in entry.attributes.values() if isinstance(attribute.value, (bytes, list)))
     return 1 + (len(entry.attributes) >> 4) + (sum(sizes) >> 8)
 
 
@@ -325,16 +325,16 @@ def files_of(path: str) -> dict[str, str]:
 def files_of_tables(file: Any) -> dict[str, str]:
     """Returns the same for an ELF file that was read. Decodes only the line tables that name one of several files with the same last part."""
     tables = [(program, paths_in(program, folder_of(unit))) for unit, program in line_programs(file)]
-    found: dict[str, Counter[bytes]] = defaultdict(Counter)
+    counts_by_name: dict[str, Counter[bytes]] = defaultdict(Counter)
     for _, paths in tables:
         for path in paths.values():
-            found[name_of(os.path.basename(path))][path] += 0
-    ambiguous = {it for paths in found.values() if len(paths) > 1 for it in paths}
+            counts_by_name[name_of(os.path.basename(path))][path] += 0
+    ambiguous = {path for paths in counts_by_name.values() if len(paths) > 1 for path in paths}
     for program, paths in tables:
         for row in line_states(program) if not ambiguous.isdisjoint(paths.values()) else ():
             if not row.end_sequence and row.file in paths:
-                found[name_of(os.path.basename(paths[row.file]))][paths[row.file]] += 1
-    return {name: os.fsdecode(max(paths, key=lambda it: paths[it])) for name, paths in found.items()}
+                counts_by_name[name_of(os.path.basename(paths[row.file]))][paths[row.file]] += 1
+    return {name: os.fsdecode(max(paths, key=lambda it: paths[it])) for name, paths in counts_by_name.items()}
 
 
 def folder_of(unit: Any) -> bytes:
@@ -347,9 +347,9 @@ def paths_in(program: Any, built_in: bytes) -> dict[int, bytes]:
     """Returns the path of each file by its number. Folders and files count from 1 up to DWARF 4, from 0 in DWARF 5."""
     first = 0 if program["version"] >= 5 else 1
     folders = [b""] * first + list(program["include_directory"])
-    found = {}
+    paths = {}
     spend(len(program["file_entry"]))
     for number, entry in enumerate(program["file_entry"], first):
         folder = folders[entry.dir_index] if entry.dir_index < len(folders) else b""
-        found[number] = os.path.normpath(os.path.join(built_in, folder, entry.name))
-    return found
+        paths[number] = os.path.normpath(os.path.join(built_in, folder, entry.name))
+    return paths

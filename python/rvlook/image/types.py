@@ -17,12 +17,12 @@ NUMBERS = (1, 2, 4)  # sizes in bytes of a type that is read as a number
 
 @dataclass(frozen=True)
 class Type:
-    """A type of C."""
-    name: str  # of the type
+    """A type of C: its size, and its elements or members."""
+    name: str  # the name of the type
     size: int  # bytes; 0 if unknown
     is_signed: bool = False  # whether a number is signed
-    element: Optional[Type] = None  # of an array; None for another type
-    members: Mapping[str, tuple[int, Type]] = field(default_factory=dict)  # of a structure or union, with their offsets in bytes
+    element: Optional[Type] = None  # the element of an array; None for another type
+    members: Mapping[str, tuple[int, Type]] = field(default_factory=dict)  # the members of a structure or union, with their offsets in bytes
 
     @property
     def is_number(self) -> bool:
@@ -47,8 +47,8 @@ class Type:
 class Types:
     """The names in the DWARF entries of an image."""
     structures: dict[str, Type] = field(default_factory=dict)  # and unions
-    variables: dict[str, tuple[int, Type]] = field(default_factory=dict)  # with their addresses
-    constants: dict[str, int] = field(default_factory=dict)  # of enumerations
+    variables: dict[str, tuple[int, Type]] = field(default_factory=dict)  # the variables with their addresses
+    constants: dict[str, int] = field(default_factory=dict)  # the constants of enumerations, by name
     inlined: dict[str, set[int]] = field(default_factory=dict)  # of each inlined function the addresses at which its code begins
     ambiguous: set[str] = field(default_factory=set)  # names of several variables, which `variables` leaves out
 
@@ -65,35 +65,35 @@ def types_of(image: Image) -> Types:
 
 def read_types(file: Any) -> Types:
     """Reads the types of an ELF file."""
-    found = Types()
+    types = Types()
     for dwarf, unit in compilation_units(file):
         reader = TypeReader(dwarf, unit)
         for entry in reader.entries.values():
-            reader.take(entry, found)
-    for name in found.ambiguous:
-        del found.variables[name]
-    return found
+            reader.take(entry, types)
+    for name in types.ambiguous:
+        del types.variables[name]
+    return types
 
 
 class TypeReader(UnitEntries):
     """Reads the types of a compilation unit."""
 
-    def take(self, entry: Any, found: Types) -> None:
+    def take(self, entry: Any, types: Types) -> None:
         """Adds what an entry names."""
         if entry.tag == "DW_TAG_inlined_subroutine":
             begin = min((first for first, end in ranges_of(self.dwarf, self.unit, entry) if first < end), default=None)
             if begin is not None:
-                found.inlined.setdefault(self.name(entry), set()).add(begin)
+                types.inlined.setdefault(self.name(entry), set()).add(begin)
         elif entry.tag == "DW_TAG_variable":
             address = self.fixed_address(entry)
             if address is not None:
-                found.add_variable(self.name(entry), address, self.type(self.type_of(entry)))
+                types.add_variable(self.name(entry), address, self.type(self.type_of(entry)))
         elif "DW_AT_name" not in entry.attributes:
             return
         elif entry.tag == "DW_TAG_enumerator" and isinstance(entry.attributes["DW_AT_const_value"].value, int):
-            found.constants.setdefault(self.name(entry), entry.attributes["DW_AT_const_value"].value)
+            types.constants.setdefault(self.name(entry), entry.attributes["DW_AT_const_value"].value)
         elif entry.tag in AGGREGATES or entry.tag == "DW_TAG_typedef" and is_aggregate(self.plain(entry)):
-            found.structures.setdefault(self.name(entry), self.type(entry))
+            types.structures.setdefault(self.name(entry), self.type(entry))
 
     def type(self, entry: Any, depth: int = 0) -> Type:
         """Returns the type that an entry describes. Leaves out bit fields of a structure."""
@@ -103,8 +103,8 @@ class TypeReader(UnitEntries):
         name = self.name(kind) if "DW_AT_name" in kind.attributes else kind.tag[len("DW_TAG_"):].replace("_type", "")
         size = self.size(kind)
         if kind.tag in AGGREGATES:
-            named = [it for it in self.placed_members(kind) if "DW_AT_name" in it[0].attributes and "DW_AT_bit_size" not in it[0].attributes]
-            return Type(name, size, members={self.name(it): (offset, self.type(self.type_of(it), depth + 1)) for it, offset in named})
+            named = [pair for pair in self.placed_members(kind) if "DW_AT_name" in pair[0].attributes and "DW_AT_bit_size" not in pair[0].attributes]
+            return Type(name, size, members={self.name(member): (offset, self.type(self.type_of(member), depth + 1)) for member, offset in named})
         if kind.tag == "DW_TAG_array_type":
             return Type(name, size, element=self.type(self.type_of(kind), depth + 1))
         encoding = kind.attributes.get("DW_AT_encoding")

@@ -23,9 +23,9 @@ AGGREGATES = ("DW_TAG_structure_type", "DW_TAG_union_type", "DW_TAG_class_type")
 VARIABLES = ("DW_TAG_variable", "DW_TAG_formal_parameter")
 SCOPES = ("DW_TAG_inlined_subroutine", "DW_TAG_lexical_block")  # entries with address ranges of their own
 DEEPEST = 12  # nested types
-ADDRESSES = range(-1 << 31, 1 << 32)  # which an address or an offset may have; a damaged number has thousands of digits
+ADDRESSES = range(-1 << 31, 1 << 32)  # the values that an address or an offset may have; a damaged number has thousands of digits
 Ranges = Sequence[Tuple[int, int]]  # first addresses and ends
-MOST_ELEMENTS = 256  # of an array of structures
+MOST_ELEMENTS = 256  # the most elements of an array of structures
 FIRST_REGISTER, LAST_REGISTER = 0x50, 0x6F  # DW_OP_reg0 to DW_OP_reg31
 FIRST_NUMBER, LAST_NUMBER, SIGNED = 0x30, 0x4F, 0x11  # DW_OP_lit0 to DW_OP_lit31, and DW_OP_consts
 WORD = 4  # bytes of a register
@@ -36,7 +36,7 @@ class Member(NamedTuple):
     """A variable, or a member of one."""
     at: int  # address, or offset in bytes
     size: int  # bytes
-    name: str  # with the names of the members that lead to it
+    name: str  # the name with the names of the members that lead to it
     element: int = 0  # bytes of an element of an array; 0 for no array
     row: int = 0  # bytes of a row of an array of arrays, else 0
     is_union: bool = False  # whether its type is a union
@@ -47,21 +47,21 @@ class Local(NamedTuple):
     first: int  # address of the first instruction
     end: int  # address after the last one
     is_sp: bool  # whether the offset is from sp, not from the caller's sp
-    member: Member  # at an offset
+    member: Member  # the member at an offset
 
 
 class Parameter(NamedTuple):
     """A parameter that points to memory."""
     function: int  # address of its function
-    number: int  # from 0; 0 is in a0
-    members: Tuple[Member, ...]  # of that memory
+    number: int  # the number from 0; 0 is in a0
+    members: Tuple[Member, ...]  # the members of the memory to which the parameter points
 
 
 class Variables(NamedTuple):
     """The variables of an image."""
-    fixed: Sequence[Member] = ()  # at fixed addresses
-    locals: Sequence[Local] = ()  # in stack frames
-    parameters: Sequence[Parameter] = ()  # that point to memory
+    fixed: Sequence[Member] = ()  # the variables at fixed addresses
+    locals: Sequence[Local] = ()  # the local variables, in stack frames
+    parameters: Sequence[Parameter] = ()  # the parameters that point to memory
 
 
 def variables_of(path: str | None, image: Image) -> Variables:
@@ -92,7 +92,7 @@ class UnitEntries:
 
     def __init__(self, dwarf: Any, unit: Any) -> None:
         self.dwarf, self.unit = dwarf, unit
-        self.entries: dict[int, Any] = {}  # by offset
+        self.entries: dict[int, Any] = {}  # the entries by offset
         self.children: dict[int, list[Any]] = {}  # the entries below each entry, by offset
         opened: list[list[Any]] = [[]]
         for entry in entries_of(dwarf, unit):
@@ -148,7 +148,7 @@ class UnitEntries:
         """Yields the parameters of functions that point to memory."""
         for function in self.entries.values():
             if function.tag == "DW_TAG_subprogram" and "DW_AT_low_pc" in function.attributes:
-                own = [it for it in self.children.get(function.offset, ()) if it.tag == "DW_TAG_formal_parameter"]
+                own = [child for child in self.children.get(function.offset, ()) if child.tag == "DW_TAG_formal_parameter"]
                 for number, entry in enumerate(own[:8]):
                     pointer, address = self.plain(self.type_of(entry)), function.attributes["DW_AT_low_pc"].value
                     if pointer is not None and pointer.tag == "DW_TAG_pointer_type":
@@ -286,7 +286,7 @@ def is_aggregate(kind: Any) -> bool:
 
 def elements_in(dimension: Any) -> int:
     """Returns the number of elements in a dimension of an array, 0 if it is not known."""
-    known, most = (dimension.attributes.get(it) for it in ("DW_AT_count", "DW_AT_upper_bound"))
+    known, most = (dimension.attributes.get(attribute) for attribute in ("DW_AT_count", "DW_AT_upper_bound"))
     if known and isinstance(known.value, int):
         return known.value
     return most.value + 1 if most and isinstance(most.value, int) else 0
@@ -298,9 +298,9 @@ def places_of(location: bytes) -> list[tuple[int, int]]:
     whole, pieces = WHOLE.fullmatch(location), list(PIECE.finditer(location))
     if whole:
         return [(signed(whole[1]), 0)]
-    if b"".join(it[0] for it in pieces) != location:
+    if b"".join(piece[0] for piece in pieces) != location:
         return []
-    return [(signed(it[1]), sum((byte & 0x7F) << 7 * n for n, byte in enumerate(it[2]))) for it in pieces if it[1]]
+    return [(signed(piece[1]), sum((byte & 0x7F) << 7 * n for n, byte in enumerate(piece[2]))) for piece in pieces if piece[1]]
 
 
 def signed(data: bytes) -> int:
@@ -318,8 +318,8 @@ class Variable(NamedTuple):
     """A variable for a range of instructions of its function."""
     first: int  # address of the first instruction
     end: int  # address after the last one
-    name: str  # of the variable
-    where: Where  # its location
+    name: str  # the name of the variable
+    where: Where  # the location of the variable
     size: int  # bytes
 
 
@@ -327,8 +327,8 @@ def frames_of(path: str | None, image: Image, executed: Sequence[int]) -> Sequen
     """Returns the variables of the ELF file of the symbols, or else of the image. Returns no variables without DWARF. Leaves out each compilation
     unit without an executed instruction. `executed` has the addresses of the executed instructions, in ascending order."""
     return read_elf(*debugged(path, image), "no variables", lambda file: [
-        it for dwarf, unit in compilation_units(file) if has_any(ranges_of(dwarf, unit, unit.get_top_DIE()), executed)
-        for it in UnitEntries(dwarf, unit).variables()]) or ()
+        variable for dwarf, unit in compilation_units(file) if has_any(ranges_of(dwarf, unit, unit.get_top_DIE()), executed)
+        for variable in UnitEntries(dwarf, unit).variables()]) or ()
 
 
 def has_any(ranges: Iterable[tuple[int, int]], executed: Sequence[int]) -> bool:

@@ -11,17 +11,17 @@ from rvlook.output.files import replace_by
 
 
 class Case(NamedTuple):
-    """A check of a subcommand."""
-    name: str  # of the check
+    """A check of a subcommand, with its finding if it has one."""
+    name: str  # the name of the check
     finding: str = ""  # empty if there is none
-    seconds: float = 0  # that the check took
+    seconds: float = 0  # the seconds that the check took
 
 
 class ReportedCases:
     """The cases of one subcommand, and what kept it from finishing."""
 
     def __init__(self) -> None:
-        self.cases: list[Case] = []  # in order
+        self.cases: list[Case] = []  # the cases in order
         self.refused: list[str] = []  # lines of the script that the bench refused
         self.cut = ""  # why the subcommand could not finish; empty if it did
         self.distrusted = False  # whether the result cannot be trusted
@@ -60,7 +60,7 @@ class ReportedCases:
             return self.program_status
         if self.distrusted:
             return UNFINISHED
-        if any(it.finding for it in self.cases) and not is_report:
+        if any(case.finding for case in self.cases) and not is_report:
             return FOUND
         return UNFINISHED if self.cut else 0
 
@@ -80,7 +80,7 @@ def write_junit(path: str, name: str, findings: ReportedCases, error: str = "") 
     suite = TestSuite("rvlook " + name)
     for case in findings.cases:
         suite.add_testcase(case_of(TestCase(visible(case.name), classname="rvlook." + name, time=case.seconds), Failure, case.finding))
-    errors = dict.fromkeys(it for it in (*findings.refused, findings.cut, error) if it)
+    errors = dict.fromkeys(text for text in (*findings.refused, findings.cut, error) if text)
     for text in errors or ([] if findings.cases else [""]):
         suite.add_testcase(case_of(TestCase("the run", classname="rvlook." + name, time=findings.seconds()), Error, text))
     report = JUnitXml()
@@ -98,7 +98,7 @@ def write_junit(path: str, name: str, findings: ReportedCases, error: str = "") 
 def case_of(case: Any, kind: Any, text: str) -> Any:
     """Returns the test case with its result, if it has one: the first line is the message. XML holds no control characters."""
     if text:
-        lines = [visible(it) for it in text.split("\n")]
+        lines = [visible(line) for line in text.split("\n")]
         result = kind(lines[0])
         result.text = "\n".join(lines)
         case.result = [result]

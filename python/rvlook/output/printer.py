@@ -34,7 +34,7 @@ class Style(Enum):
     aside = "2"  # faint
 
 
-OWN_ESCAPES = re.compile("(\033\\[(?:0|%s)m)" % "|".join(it.value for it in Style))
+OWN_ESCAPES = re.compile("(\033\\[(?:0|%s)m)" % "|".join(style.value for style in Style))
 NO_ESCAPES = re.compile(r"(\Z\A.)")  # matches nowhere
 
 
@@ -53,8 +53,8 @@ class Printer:
 
     def clean(self, text: str) -> str:
         """Returns lines of text without control characters, except those of `styled` if there are colours."""
-        own = OWN_ESCAPES if self.colours else NO_ESCAPES
-        return "\n".join("".join(it if own.fullmatch(it) else visible_line(it) for it in own.split(line)) for line in text.split("\n"))
+        escapes = OWN_ESCAPES if self.colours else NO_ESCAPES
+        return "\n".join("".join(it if escapes.fullmatch(it) else visible_line(it) for it in escapes.split(line)) for line in text.split("\n"))
 
     def show(self, __text: str, __kind: str, **members: Json) -> None:
         """Prints a line for a person, or writes an object for a program."""
@@ -106,7 +106,7 @@ def end_text(printer: Printer, end: End, symbols: Symbols) -> None:
 def place_text(pc: str, symbols: Symbols) -> str:
     """Returns an address with its symbol and source line, if there are any."""
     number = int(pc, 16)
-    return "  ".join(it for it in (pc, symbols.name(number), symbols.line(number)) if it)
+    return "  ".join(part for part in (pc, symbols.name(number), symbols.line(number)) if part)
 
 
 def run_object(printer: ObjectWriter, run: Run, symbols: Symbols) -> None:

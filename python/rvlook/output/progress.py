@@ -34,11 +34,11 @@ class Progress:
         self.stream.flush()
         self.width = len(line)
 
-    def bar(self, done: int, of: int, found: str) -> None:
+    def bar(self, done: int, of: int, note: str) -> None:
         """Shows how much of a known amount is done, and what was found."""
         if self.is_shown and of:
             filled = 30 * done // of
-            self.show("[%s%s] %d of %d  %s", "#" * filled, "." * (30 - filled), done, of, found)
+            self.show("[%s%s] %d of %d  %s", "#" * filled, "." * (30 - filled), done, of, note)
 
     def clear(self) -> None:
         """Removes the line."""

@@ -26,10 +26,10 @@ ARRAY_TYPES = "BHI"  # type codes of arrays of unsigned numbers, in ascending or
 COMMON = ("stdin", "image", "program.elf")  # names that do not identify a run
 MAP = ("enclaves", "columns", "rows")  # the members of an event that equal maps share
 REFUSED, NO_VALUE = 2, 4  # added to the kind of an access that trapped, and to that of an access without a value
-LEVEL = 4  # of zlib; level 6 takes twice the time, for 2 % fewer bytes
+LEVEL = 4  # the level of zlib; level 6 takes twice the time, for 2 % fewer bytes
 BRANCH = re.compile(r"b|jal ")
 TOUCH = ("step", "address", "width", "kind", "name", "value")  # the columns for loads and stores; `name` is a number in the list of names
-SITE = ("word", "abi", "symbol", "function", "source", "caller")  # of a site, after its pc
+SITE = ("word", "abi", "symbol", "function", "source", "caller")  # the fields of a site, after its pc
 
 
 class NumberedValues(Dict[Any, int]):
@@ -48,7 +48,7 @@ class NumberColumns:
     """Arrays of numbers as bytes, each aligned to four bytes."""
 
     def __init__(self) -> None:
-        self.bytes = bytearray()  # all arrays so far
+        self.bytes = bytearray()  # the bytes of all arrays so far
 
     def add(self, numbers: array[int]) -> dict[str, int]:
         """Appends an array, in little-endian numbers of the least width that is enough; returns its location."""
@@ -80,12 +80,12 @@ class Collector:
 
     def __init__(self, run: Run, symbols: Symbols) -> None:
         self.objects, self.symbols = ObjectTrace(run, symbols, self), symbols  # makes the objects of steps, and calls `object` of this collector
-        self.path = ""  # of the image
+        self.path = ""  # the path of the image
         self.run: dict[str, Any] = {}  # the object `run`
         self.sites = NumberedValues()  # a pc with the values of SITE, and the text that is shown
         self.places = NumberedValues()  # a hart, a world and a mode
         self.traps = NumberedValues()  # the cause, the value and the name of a trap
-        self.names = NumberedValues()  # of accessed addresses
+        self.names = NumberedValues()  # the names of accessed addresses
         self.kinds: dict[tuple[object, ...], tuple[int, int, int]] = {}  # the numbers of site, place and trap of equal steps
         self.name_numbers: dict[tuple[int, int], int] = {}  # the numbers that `names` gives, by address and width of an access
         self.site, self.place, self.trap = array("I"), array("B"), array("I")  # the numbers for each step; a trap counts from 1, 0 is none
@@ -95,7 +95,7 @@ class Collector:
         self.calls: list[dict[str, Any]] = []  # objects `call`, in the order of steps
         self.events: list[dict[str, Any]] = []  # changes of access rights, in the order of steps
         self.others: dict[str, list[dict[str, Any]]] = {"end": [], "command": [], "console": []}  # objects of other kinds
-        self.granules: set[int] = set()  # of memory that is accessed, by address / GRANULE
+        self.granules: set[int] = set()  # the granules of memory that the run accesses, by address / GRANULE
         self.labels: dict[str, int] = {}  # the lowest accessed address in each symbol
         self.maps = NumberedValues()  # the members MAP of events, as JSON
         self.boundaries: set[str] = set()  # the first addresses of the ranges of all maps
@@ -194,7 +194,7 @@ class Collector:
         """Returns all data as one object, and appends the columns."""
         return {
             "title": self.title, "run": self.run, "end": self.others["end"][-1], "steps": len(self.site), "points": self.drawn_points,
-            "rows": self.rows, "maps": [json.loads(it) for it in self.maps],
+            "rows": self.rows, "maps": [json.loads(text) for text in self.maps],
             "sites": self.sites.rows("pc", *SITE, "shown"),
             "places": self.places.rows("hart", "world", "mode"), "traps": self.traps.rows("cause", "value", "name"),
             "names": list(self.names), "site": columns.add(self.site), "place": columns.add(self.place),

@@ -38,13 +38,14 @@ def page_template() -> Any:
 
 def show_page(run: Run, symbols: Symbols, printer: Printer, template: Any, paths: Sequence[str], folders: Sequence[str]) -> None:
     """Writes the page of a run. `paths` are the ELF files whose source files it has, from below their own folders and `folders`."""
-    found = collected(run, symbols)
-    sources = source_texts(paths, found.source_names(), roots_of(folders))
+    collector = collected(run, symbols)
+    sources = source_texts(paths, collector.source_names(), roots_of(folders))
     columns = NumberColumns()
-    variables = [it._asdict() for it in frames_of(paths[0] if len(paths) > 1 else None, run.setup.image, found.executed())]
-    data = {**found.data(columns), "segments": segments_of(found), "sources": sources, "variables": variables}
+    variables = [frame._asdict() for frame in frames_of(paths[0] if len(paths) > 1 else None, run.setup.image, collector.executed())]
+    data = {**collector.data(columns), "segments": segments_of(collector), "sources": sources, "variables": variables}
     style, script = text_of(STYLES), text_of(SCRIPTS)
-    printer.document(template.render(title=found.title, data=compressed(data, columns), style=style, script=script, policy=policy_of(style, script)))
+    policy = policy_of(style, script)
+    printer.document(template.render(title=collector.title, data=compressed(data, columns), style=style, script=script, policy=policy))
 
 
 def text_of(names: Sequence[str]) -> str:
@@ -71,12 +72,12 @@ def hash_of(text: str) -> str:
 
 def collected(run: Run, symbols: Symbols) -> Collector:
     """Returns all objects of the map and the trace of a run."""
-    found, consoles = Collector(run, symbols), consoles_of(symbols)
-    writer = found.objects
-    run_object(found, run, symbols)
+    collector, consoles = Collector(run, symbols), consoles_of(symbols)
+    writer = collector.objects
+    run_object(collector, run, symbols)
     for item in RunTracer(run).events():
         if isinstance(item, TracedStep):
-            found.step(item)
+            collector.step(item)
             for of, line in lines_of(item, consoles) if consoles else ():
                 writer.console(item.number, of, line)
         elif isinstance(item, End):
@@ -85,23 +86,23 @@ def collected(run: Run, symbols: Symbols) -> Collector:
             writer.command(item)
     for event in events(run):
         if isinstance(event, End):
-            end_object(found, event)
+            end_object(collector, event)
         else:
-            write_event(found, event, symbols)
-    return found
+            write_event(collector, event, symbols)
+    return collector
 
 
-def segments_of(found: Collector) -> list[dict[str, Any]]:
+def segments_of(collector: Collector) -> list[dict[str, Any]]:
     """Returns the segments of RAM in ascending order: first and last address, whether it is accessed, and the names in it. RAM is cut at the
     boundaries of the map, and where accessed memory begins and ends."""
-    boundaries = sorted(int(first, 16) for first in found.boundaries)
-    ends = boundaries[1:] + [RAM_BASE + found.run["ram"]]
-    touched = sorted(it * GRANULE for it in found.granules)
-    below, above = any(it < boundaries[0] for it in touched), any(it >= ends[-1] for it in touched)
-    labels = sorted((address, name) for name, address in found.labels.items())
+    boundaries = sorted(int(first, 16) for first in collector.boundaries)
+    ends = boundaries[1:] + [RAM_BASE + collector.run["ram"]]
+    touched = sorted(granule * GRANULE for granule in collector.granules)
+    below, above = any(address < boundaries[0] for address in touched), any(address >= ends[-1] for address in touched)
+    labels = sorted((address, name) for name, address in collector.labels.items())
     segments = [unmapped(0, RAM_BASE)] if below else []
     for first, end in zip(boundaries, ends):
-        for low, high, is_open in parts_of_range(first, end, [it for it in touched if first <= it < end]):
+        for low, high, is_open in parts_of_range(first, end, [address for address in touched if first <= address < end]):
             names = [{"address": "%08x" % address, "name": name} for address, name in labels if low <= address < high]
             segments.append({"first": "%08x" % low, "last": "%08x" % (high - 1), "range": "%08x" % first, "open": is_open,
                              "labels": names if is_open else []})

@@ -20,7 +20,7 @@ def roots_of(folders: Sequence[str]) -> list[str]:
     for folder in folders:
         if not os.path.isdir(folder):
             raise RvlookError("--sources: no directory '%s'" % folder)
-    return [os.path.realpath(it) for it in folders]
+    return [os.path.realpath(folder) for folder in folders]
 
 
 def source_texts(paths: Sequence[str], wanted: set[str], roots: list[str]) -> dict[str, str]:
@@ -28,11 +28,11 @@ def source_texts(paths: Sequence[str], wanted: set[str], roots: list[str]) -> di
     `paths` are ELF files, `roots` the folders of `--sources`."""
     texts: dict[str, str] = {}
     for path in paths:
-        own = os.path.dirname(os.path.realpath(path))
-        allowed = roots + ([own] if own != os.path.sep else [])
-        found = files_of(path)
-        for name in sorted(set(found) & wanted - set(texts)):
-            text = text_of(found[name], allowed)
+        own_folder = os.path.dirname(os.path.realpath(path))
+        allowed = roots + ([own_folder] if own_folder != os.path.sep else [])
+        files = files_of(path)
+        for name in sorted(set(files) & wanted - set(texts)):
+            text = text_of(files[name], allowed)
             if text is not None:
                 texts[name] = text
     return texts
@@ -48,7 +48,7 @@ def text_of(path: str, roots: Sequence[str]) -> str | None:
     """Returns the text of a source, or None if it may not be shown or is too long. It must be a regular file below one of the folders. Its name must
     end as that of a source, and no part of its path may be hidden. Symbolic links are resolved first."""
     path = os.path.realpath(path)
-    if not path.endswith(ENDINGS) or not any(is_shown_below(path, it) for it in roots):
+    if not path.endswith(ENDINGS) or not any(is_shown_below(path, root) for root in roots):
         return None
     try:
         with open(os.open(path, os.O_RDONLY | os.O_NONBLOCK | os.O_NOFOLLOW | os.O_CLOEXEC), "rb") as file:

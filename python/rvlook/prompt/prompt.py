@@ -39,10 +39,10 @@ LONGEST_INPUT = 1 << 16  # characters of a line; a longer one is read in parts
 
 class Keeper(Protocol):
     """An owner of the timeline of a session."""
-    timeline: Timeline  # of the session
+    timeline: Timeline  # the timeline of the session
 
     def go(self, position: int) -> None:
-        """Goes back to a step."""
+        """Goes back to the state after a step."""
 
 
 class TimelineKeeper:
@@ -64,7 +64,7 @@ class PromptSession:
     def __init__(self, keeper: Keeper, run: Run, symbols: Symbols, printer: Printer) -> None:
         # `finder`: reads access rights
         self.keeper, self.setup, self.symbols, self.printer, self.finder = keeper, run.setup, symbols, printer, EventFinder(run)
-        self.consoles = consoles_of(symbols)  # that the program has
+        self.consoles = consoles_of(symbols)  # the consoles that the program has
 
     @property
     def timeline(self) -> Timeline:
@@ -105,7 +105,7 @@ class PromptSession:
         return True
 
     def print(self, text: str, style: Style | None = None) -> None:
-        """Prints a text."""
+        """Prints a text on standard output."""
         text = visible(text)
         self.printer.line(self.printer.styled(text, style) if style else text)
 
@@ -135,7 +135,7 @@ class PromptSession:
             meaning = "no symbol '%s'%s" % (unknown, "" if self.symbols else ": no symbols are loaded")
             suggestion = None if self.symbols else "an ELF file, or --symbols FILE"
             if near:
-                suggestion = " ".join(near if it == unknown else it for it in tokens)
+                suggestion = " ".join(near if token == unknown else token for token in tokens)
         self.print("  " + meaning)
         if suggestion:
             self.print("  try: " + suggestion)
@@ -144,13 +144,12 @@ class PromptSession:
         """Returns an operand that should be an address or a value and is neither; None if there is no such operand."""
         command = COMMANDS.get(tokens[0])
         pairs = zip(tokens[1:], command.forms) if command and len(tokens) - 1 == len(command.forms) else ()
-        return next((token for token, form in pairs if form in PLACES and not is_form(token, form)
-                     and self.symbols.address(token) is None), None)
+        return next((token for token, form in pairs if form in PLACES and not is_form(token, form) and self.symbols.address(token) is None), None)
 
     def help(self) -> None:
         """Prints the commands."""
         self.print("rvbench commands (operands may be symbols and register names):")
-        usages = [("%s %s" % (name, it.letters)).strip() for name, it in COMMANDS.items()]
+        usages = [("%s %s" % (name, command.letters)).strip() for name, command in COMMANDS.items()]
         for row in (usages[:10], usages[10:]):
             self.print("  " + "  ".join(row))
         self.print("prompt commands:")
@@ -225,9 +224,9 @@ def steps_to(ahead: Timeline, is_end: Callable[[str, str], bool]) -> int | None:
     before = "mode=%s" % ahead.modes[ahead.hart]
     for done in range(0, MOST_STEPS, CHUNK):
         lines = ahead.bench.block(b"step 1\n" * CHUNK, CHUNK).decode().splitlines()
-        found = next((n for n, replies in enumerate(zip([before, *lines], lines), 1) if is_end(*replies)), None)
-        if found:
-            return done + found
+        steps = next((n for n, replies in enumerate(zip([before, *lines], lines), 1) if is_end(*replies)), None)
+        if steps:
+            return done + steps
         if equal_at_end(lines) >= HALTED_AFTER:
             return None
         before = lines[-1]
@@ -270,8 +269,8 @@ def complete_by(session: PromptSession) -> None:
     def complete(text: str, number: int) -> str | None:
         """Returns a completion by its number, or None."""
         tokens = (readline.get_line_buffer()[:readline.get_begidx()] + "|").split()
-        found = [it + " " for it in completions(session, tokens) if it.startswith(text)]
-        return found[number] if number < len(found) else None
+        texts = [completion + " " for completion in completions(session, tokens) if completion.startswith(text)]
+        return texts[number] if number < len(texts) else None
 
     readline.set_completer(complete)
     readline.set_completer_delims(" \t")

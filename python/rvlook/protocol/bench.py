@@ -107,7 +107,7 @@ class Bench(Closing):
         except OSError as error:
             raise Unfinished("cannot run '%s': %s" % (path, error.strerror)) from None
         assert self.process.stdin and self.process.stdout
-        self.stdin, self.stdout = self.process.stdin, self.process.stdout  # its pipes
+        self.stdin, self.stdout = self.process.stdin, self.process.stdout  # the pipes of the process
         os.set_blocking(self.stdin.fileno(), False)
         widen(self.stdin, self.stdout)
         self.harts = harts  # number of harts
@@ -159,13 +159,13 @@ class Bench(Closing):
     def block(self, text: bytes, count: int) -> bytes:
         """Sends commands whose replies have `count` lines; returns the replies."""
         self.send(text)
-        found = sum(part.count(b"\n") for part in self.parts)
-        while found < count:
+        lines_read = sum(part.count(b"\n") for part in self.parts)
+        while lines_read < count:
             part = self.transfer()
             self.parts.append(part)
-            found += part.count(b"\n")
-            if count - found > MIN_LINES_TO_PAUSE and not self.pending:
-                time.sleep(min(MAX_PAUSE, (count - found) * SECONDS_PER_LINE))
+            lines_read += part.count(b"\n")
+            if count - lines_read > MIN_LINES_TO_PAUSE and not self.pending:
+                time.sleep(min(MAX_PAUSE, (count - lines_read) * SECONDS_PER_LINE))
         block, self.parts = b"".join(self.parts), []
         return block
 
@@ -205,9 +205,9 @@ class Bench(Closing):
 
     def queue(self, *commands: str) -> None:
         """Queues commands whose replies `read_replies` will read. Raises RvlookError for a command of more than one line."""
-        if any("\n" in it for it in commands):
+        if any("\n" in command for command in commands):
             raise RvlookError("a command must be a single line")
-        text = "".join(ended(it) + (MARK + "\n" if is_enclaves(it) else "") for it in commands)
+        text = "".join(ended(command) + (MARK + "\n" if is_enclaves(command) else "") for command in commands)
         self.send(text.encode("latin-1", "replace"))
 
     def begin(self, *commands: str) -> None:
@@ -220,7 +220,7 @@ class Bench(Closing):
 
     def read_replies(self, *commands: str) -> list[list[str]]:
         """Returns the replies to commands that were sent."""
-        return [[line.decode("latin-1") for line in self.reply(it)] for it in commands]
+        return [[line.decode("latin-1") for line in self.reply(command)] for command in commands]
 
     def one(self, command: str) -> str:
         """Sends a command; returns the one line of its reply."""
@@ -232,4 +232,4 @@ class Bench(Closing):
 
     def memory(self, address: int, size: int) -> bytes:
         """Returns bytes of memory, which must be in RAM."""
-        return b"".join(bytes_of(it.decode()) for it in self.replies_to(memory_commands(address, size)))
+        return b"".join(bytes_of(reply.decode()) for reply in self.replies_to(memory_commands(address, size)))

@@ -16,7 +16,7 @@ def is_malformed(line: str) -> bool:
 
 def tokens_of(line: str) -> list[str]:
     """Returns the words between spaces and tabs. No other character separates words, as some do for `str.split`."""
-    return [it for it in BLANKS.split(line) if it]
+    return [word for word in BLANKS.split(line) if word]
 
 
 def has_reply(line: str) -> bool:
@@ -38,4 +38,4 @@ def ended(line: str) -> str:
 def lines_of(text: str) -> list[str]:
     """Returns the lines of a text. Text after the last line feed is a line if it is not empty; it keeps a carriage return."""
     *whole, last = text.split("\n")
-    return [it[:-1] if it.endswith("\r") else it for it in whole] + ([last] if last else [])
+    return [line[:-1] if line.endswith("\r") else line for line in whole] + ([last] if last else [])

@@ -37,7 +37,7 @@ INPUT_ERRORS = {"too long": ("the image has more than 33554432 bytes", "a smalle
                 "memory": ("out of memory", "a smaller input"), "read": ("the input cannot be read", "a readable input"),
                 "ram 1": ("--ram must be a multiple of 65536 from 65536 to 16777216", "--ram 1048576"),
                 "ram 2": ("out of memory for the RAM", "a smaller --ram")}
-INPUT_REPLIES = frozenset("rvbench: " + it for it in [*INPUT_ERRORS, *("image %d" % number for number in IMAGE_ERRORS)])
+INPUT_REPLIES = frozenset("rvbench: " + error for error in [*INPUT_ERRORS, *("image %d" % number for number in IMAGE_ERRORS)])
 LONGEST_SHOWN = 160  # characters of a line in a message
 
 
@@ -51,7 +51,7 @@ class Form(Enum):
     byte = "a byte (1 or 2 hexadecimal digits, without 0x)"
     csr = "a CSR number (1 to 3 hexadecimal digits, without 0x)"
     mode = "M, S or U"
-    kind = "r, w or x"  # of an access
+    kind = "r, w or x"  # the kind of an access
     width = "1, 2 or 4"  # bytes of an access
     line = "on or off"
     hart = "0 or 1"
@@ -60,8 +60,8 @@ class Form(Enum):
 
 class Command(NamedTuple):
     """The operands of a command."""
-    letters: str  # as in docs/COMMANDS.md
-    forms: tuple[Form, ...]  # of the operands, in order
+    letters: str  # the letters that docs/COMMANDS.md has for it
+    forms: tuple[Form, ...]  # the forms of the operands, in order
 
 
 COMMANDS = {
@@ -123,8 +123,8 @@ def rewritten_number(token: str, form: Form) -> str | None:
 def written(name: str, operands: Sequence[str], symbols: Symbols | None = None) -> str | None:
     """Returns a command in the syntax of the bench, or None if an operand is not valid."""
     forms = COMMANDS[name].forms
-    found = [rewritten(token, form, symbols) for token, form in zip(operands, forms)]
-    texts = [it for it in found if it is not None]
+    rewritten_or_none = [rewritten(token, form, symbols) for token, form in zip(operands, forms)]
+    texts = [text for text in rewritten_or_none if text is not None]
     return " ".join([name, *texts]) if len(operands) == len(forms) == len(texts) else None
 
 
@@ -200,7 +200,7 @@ def resolved(line: str, symbols: Symbols) -> str:
 
 def resolved_script(lines: Iterable[ScriptLine], symbols: Symbols) -> tuple[ScriptLine, ...]:
     """Returns the lines of a script in the syntax of the bench."""
-    return tuple(resolved_line(it, symbols) for it in lines)
+    return tuple(resolved_line(line, symbols) for line in lines)
 
 
 def resolved_line(line: ScriptLine, symbols: Symbols) -> ScriptLine:

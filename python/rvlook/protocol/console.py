@@ -23,18 +23,18 @@ def word(data: bytes, offset: int) -> int:
 
 @dataclass
 class Console:
-    """A console in the memory of a program."""
+    """A console: bytes in the memory of a program, to which it writes characters and its exit status."""
     writer: str  # who writes to it: host or enclave
-    address: int  # of its first byte
+    address: int  # the address of its first byte
     written: int = 0  # characters so far
     pending: str = ""  # the line that has not ended yet
-    status: int | None = None  # of the program, once it has ended
+    status: int | None = None  # the status of the program, once it has ended
     ring: dict[int, str] = field(default_factory=dict)  # what stores left there, as two hexadecimal digits
 
     def take(self, characters: bytes) -> list[str]:
         """Adds characters; returns the lines that they end."""
         *lines, self.pending = (self.pending + characters.decode("latin-1")).split("\n")
-        return [visible_line(it) for it in lines]
+        return [visible_line(line) for line in lines]
 
     def flush(self) -> list[str]:
         """Returns the last line if it has not ended, and clears it."""
@@ -48,7 +48,7 @@ class Console:
 
     def read(self, ask: Ask) -> list[str]:
         """Reads the console; returns the lines that are new. After a step back, nothing is new."""
-        data = b"".join(bytes_of(it[0]) for it in ask(*self.queries()) if not it[0].startswith("error "))
+        data = b"".join(bytes_of(reply[0]) for reply in ask(*self.queries()) if not reply[0].startswith("error "))
         if len(data) < TEXT + SIZE:
             return []
         written = word(data, WRITTEN)

@@ -14,13 +14,13 @@ LOAD = 1
 class Segment(NamedTuple):
     """A program header (ELF, Program Header)."""
     kind: int  # LOAD for a loaded segment
-    offset: int  # in the file, bytes
+    offset: int  # the offset in the file, bytes
     virtual: int  # the virtual address
     address: int  # the physical address
     in_file: int  # size in the file, bytes
     in_memory: int  # size in memory, bytes
     flags: int  # the access rights
-    alignment: int  # in bytes
+    alignment: int  # the alignment in bytes
 
 
 def segments_of(data: bytes) -> Iterator[Segment]:
@@ -29,24 +29,24 @@ def segments_of(data: bytes) -> Iterator[Segment]:
     size, count = struct.unpack_from("<HH", data, AT_SIZES)
     for at in range(start, start + size * count, size) if size else ():
         if at + SEGMENT.size <= len(data):
-            found = Segment(*SEGMENT.unpack_from(data, at))
-            if found.kind == LOAD and found.in_memory:
-                yield found
+            segment = Segment(*SEGMENT.unpack_from(data, at))
+            if segment.kind == LOAD and segment.in_memory:
+                yield segment
 
 
 class ScriptLine(NamedTuple):
     """A line of a script."""
-    given: str  # as in the file
-    location: str  # its file and line number
-    text: str  # in the syntax of the bench
+    given: str  # the line as the file has it
+    location: str  # the file and the line number
+    text: str  # the text in the syntax of the bench
     refused: str = ""  # why a name in it says no address, if one does not
 
 
 class Image(NamedTuple):
     """An image, and the script that follows it in the input."""
-    name: str  # its path
+    name: str  # the path of the file
     text: bytes  # what the bench reads before the line `--`
-    data: Optional[bytes]  # its bytes; None if the text is malformed
+    data: Optional[bytes]  # the bytes of the image; None if the text is malformed
     script: tuple[ScriptLine, ...] = ()  # the lines after `--`
 
     @property

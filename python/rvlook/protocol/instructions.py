@@ -27,9 +27,9 @@ class MemoryOperand(NamedTuple):
 @dataclass(frozen=True, eq=False)
 class Instruction:
     """A word of memory, as a reply of `dis` has it. Equal replies share one object."""
-    word: str  # in hexadecimal digits
-    text: str  # of the reply
-    name: str  # such as `addi`
+    word: str  # the word in hexadecimal digits
+    text: str  # the text of the reply
+    name: str  # the mnemonic, such as `addi`
     operands: tuple[int, ...]  # numbers of registers and immediates, in the order of the text
     writes: int  # the register, 0 where there is none
 
@@ -70,7 +70,7 @@ def instruction_of(line: bytes) -> Instruction | None:
         return None
     word, text = line.decode().split(": ")[1].split(" ", 1)
     name, _, rest = text.partition(" ")
-    operands = tuple(int(it, 0) for it in OPERAND.findall(rest))
+    operands = tuple(int(number, 0) for number in OPERAND.findall(rest))
     is_written = rest.startswith("x") and name not in STORES and name not in BRANCHES
     return Instruction(word, text, name, operands, operands[0] if is_written else 0)
 

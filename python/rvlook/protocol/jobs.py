@@ -26,26 +26,26 @@ def results_of(task: Callable[[int], Result], count: int, jobs: int) -> Iterator
     program_path()  # builds the program once, if it has to be built
     TASKS[:] = [task]
     processes, futures = map(import_module, ("multiprocessing", "concurrent.futures.process"))  # only here, since this takes time
-    others, numbers, is_done = set(processes.active_children()), iter(range(count)), False
+    earlier_processes, numbers, is_done = set(processes.active_children()), iter(range(count)), False
     pool = futures.ProcessPoolExecutor(min(jobs, count), processes.get_context("fork"), ignore_interrupts)
     waiting: deque[Any] = deque()
     try:
-        waiting.extend(pool.submit(do_number, it) for it in islice(numbers, TASKS_AHEAD * jobs))
+        waiting.extend(pool.submit(do_number, number) for number in islice(numbers, TASKS_AHEAD * jobs))
         while waiting:
             result = waiting.popleft().result()
-            waiting.extend(pool.submit(do_number, it) for it in islice(numbers, 1))
+            waiting.extend(pool.submit(do_number, number) for number in islice(numbers, 1))
             yield result
         is_done = True
     except futures.BrokenProcessPool:
         raise Unfinished("a process of --jobs %d was killed; use fewer jobs, or look for a lack of memory" % jobs) from None
     finally:
-        for process in () if is_done else set(processes.active_children()) - others:
+        for process in () if is_done else set(processes.active_children()) - earlier_processes:
             process.terminate()
         pool.shutdown()
 
 
 def do_number(number: int) -> object:
-    """Does the task for a number."""
+    """Does the task of this process for a number, and returns its result."""
     return TASKS[0](number)
 
 

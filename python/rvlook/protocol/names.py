@@ -34,8 +34,8 @@ class Call(IntEnum):
     run = 3  # enters an enclave for the first time
     resume = 4  # enters a stopped enclave again
     measure = 5  # stores the measurement of an enclave
-    stop = 6  # of an enclave, which can be resumed
-    exit = 7  # of an enclave, which has ended
+    stop = 6  # a stop of an enclave, which can be resumed
+    exit = 7  # an exit of an enclave, which has ended
 
 
 NUMBERED = {call.value: call for call in Call}
@@ -54,10 +54,9 @@ CSRS = {"sstatus": 0x100, "sie": 0x104, "stvec": 0x105, "scounteren": 0x106, "se
         "mideleg": 0x303, "mie": 0x304, "mtvec": 0x305, "mcounteren": 0x306, "menvcfg": 0x30A, "mstatush": 0x310, "menvcfgh": 0x31A,
         "mcountinhibit": 0x320, "mscratch": 0x340, "mepc": 0x341, "mcause": 0x342, "mtval": 0x343, "mip": 0x344, "mcycle": 0xB00,
         "minstret": 0xB02, "mcycleh": 0xB80, "minstreth": 0xB82, "mvendorid": 0xF11, "marchid": 0xF12, "mimpid": 0xF13,
-        "mhartid": 0xF14, "mconfigptr": 0xF15, **{"pmpcfg%d" % n: 0x3A0 + n for n in range(4)},
-        **{"pmpaddr%d" % n: 0x3B0 + n for n in range(16)}}
+        "mhartid": 0xF14, "mconfigptr": 0xF15, **{"pmpcfg%d" % n: 0x3A0 + n for n in range(4)}, **{"pmpaddr%d" % n: 0x3B0 + n for n in range(16)}}
 CSR_NAMES = {number: name for name, number in CSRS.items()}
-CSR_OPERAND = re.compile(r"(?<=, )0x([0-9a-f]+)(?=, )")  # in the text of an instruction on one of them
+CSR_OPERAND = re.compile(r"(?<=, )0x([0-9a-f]+)(?=, )")  # finds the number of a csr in the text of an instruction on it
 
 
 def abi_name(number: int) -> str:

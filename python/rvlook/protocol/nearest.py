@@ -22,10 +22,10 @@ def nearest(name: str, known: Iterable[str]) -> str | None:
     if not name or len(name) > MAX_NAME_LENGTH:
         return None
     longest = len(name) * (2 / MIN_SIMILARITY - 1)  # no longer name is similar enough
-    near = [it for it in known if len(it) <= longest]
+    near = [name for name in known if len(name) <= longest]
     if len(near) > MAX_COMPARED:
         distance = max(1, (len(name) - 1) // MAX_PAIRS)
         pairs = {name[start:start + 2] for start in range(0, len(name) - 1, distance)} or {name}
         near = nlargest(MAX_COMPARED, near, key=lambda it: sum(pair in it for pair in pairs))
-    found = get_close_matches(name, near, n=1, cutoff=MIN_SIMILARITY)
-    return found[0] if found else None
+    matches = get_close_matches(name, near, n=1, cutoff=MIN_SIMILARITY)
+    return matches[0] if matches else None

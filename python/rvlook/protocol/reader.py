@@ -52,7 +52,7 @@ def probe_of(line: bytes, need: Need[Item] | None, has_store: bool) -> Probe | N
     item, registers, is_after = need or (None, (), False)
     skipped = int(store is not None and registers[:1] != (store.base,))
     asked = (*[store.base for _ in range(skipped) if store], *registers)
-    text = b"".join([b"reg %d\n" % it for it in asked])
+    text = b"".join([b"reg %d\n" % number for number in asked])
     return Probe(text, len(asked), is_after, store, skipped, item) if need or store else None
 
 
@@ -60,17 +60,17 @@ def probe_of(line: bytes, need: Need[Item] | None, has_store: bool) -> Probe | N
 class Reads(Generic[Item]):
     """The steps of a stretch as a reader needs them."""
     lines: Sequence[bytes]  # the reply of `dis` before each step
-    indices: Sequence[int]  # of the steps that need something
+    indices: Sequence[int]  # the indices of the steps that need something
     items: Sequence[Item]  # what the reader makes of each of them
     starts: Sequence[int]  # index of the first register of each of them in `values`
-    values: Sequence[int]  # of all registers
+    values: Sequence[int]  # the values of all registers
 
 
 @dataclass(frozen=True)
 class Asked(Generic[Item]):
     """The probes of a stretch as columns, with one element for each probe."""
     lines: Sequence[bytes]  # the reply of `dis` before each step of the stretch
-    indices: Sequence[int]  # of the steps
+    indices: Sequence[int]  # the indices of the steps
     starts: Sequence[int]  # registers that earlier probes read
     stores: Sequence[Optional[MemoryOperand]]  # None without a store
     skipped: Sequence[int]  # registers to skip
@@ -84,7 +84,7 @@ class Reader(Closing, Generic[Item]):
 
     def __init__(self, run: Run, needs: Callable[[bytes], Optional[Need[Item]]]) -> None:
         self.run, self.replay, self.needs = run, run.replay(), needs  # `replay` follows the run
-        self.probes: Dict[Tuple[bytes, bool], Optional[Probe]] = {}  # by the reply of `dis`, and whether stores are read
+        self.probes: Dict[Tuple[bytes, bool], Optional[Probe]] = {}  # the probes by the reply of `dis`, and whether stores are read
 
     def close(self) -> None:
         """Ends the bench."""
@@ -127,11 +127,11 @@ class Reader(Closing, Generic[Item]):
 
     def asked(self, stretch: Stretch, lines: Sequence[bytes], listing: bytes = b"") -> Asked[Item]:
         """Returns what to ask about the steps of a stretch. `listing` lists its instructions, if a write could change them."""
-        found = {line: probe for line in set(lines) for probe in (self.probe(line, bool(listing)),) if probe}
-        indices = [n for n, line in enumerate(lines) if line in found]
+        probes = {line: probe for line in set(lines) for probe in (self.probe(line, bool(listing)),) if probe}
+        indices = [n for n, line in enumerate(lines) if line in probes]
         asking = [lines[n] for n in indices]
         fields: Iterator[list[Any]] = (
-            list(map({line: probe[n] for line, probe in found.items()}.__getitem__, asking)) for n in range(len(Probe._fields)))
+            list(map({line: probe[n] for line, probe in probes.items()}.__getitem__, asking)) for n in range(len(Probe._fields)))
         questions, counts, is_after, stores, skipped, items = fields
         starts = list(accumulate(counts, initial=0))
         calls = calls_in(stretch) if self.run.setup.monitor and listing else []
@@ -154,9 +154,9 @@ def calls_in(stretch: Stretch) -> list[int]:
 
 def reads_of(asked: Asked[Item], values: Sequence[int]) -> Reads[Item]:
     """Returns the values that the reader needs, by the steps."""
-    is_needed = [it is not None for it in asked.items]
+    is_needed = [item is not None for item in asked.items]
     columns = asked.indices, asked.items, map(add, asked.starts, asked.skipped)
-    indices, items, starts = (list(compress(it, is_needed)) for it in columns)
+    indices, items, starts = (list(compress(column, is_needed)) for column in columns)
     return Reads(asked.lines, indices, items, starts, values)
 
 
@@ -172,7 +172,7 @@ def is_changed(asked: Asked[Item], values: Sequence[int], stretch: Stretch, chan
     """Returns whether a step executes an instruction after a write to it. `changed` has the pcs of those that the monitor wrote, each with the index
     of the step of the first call that did."""
     pcs, traps = stretch.columns.pcs, stretch.columns.traps
-    is_store = [it is not None and traps[n] == NO_TRAP for n, it in zip(asked.indices, asked.stores)]
+    is_store = [store is not None and traps[n] == NO_TRAP for n, store in zip(asked.indices, asked.stores)]
     stores, bases = list(compress(asked.stores, is_store)), [values[at] for at in compress(asked.starts, is_store)]
     stored = {address & -4 for memory, base in set(zip(stores, bases)) for address in bytes_at(base, memory)}
     if not changed and stored.isdisjoint([int(pc, 16) for pc in set(pcs)]):
@@ -201,11 +201,11 @@ def lines_of(run: Run, stretch: Stretch) -> list[bytes]:
 
 def changed_after(asked: Asked[Item], block: bytes, code: Mapping[bytes, bytes]) -> dict[bytes, int]:
     """Returns the pcs of the instructions that are others after a call, each with the index of the step of the first such call."""
-    lines = (it for it in block.splitlines() if not it.startswith((b"x", b"ran "))) if asked.calls else iter(())
-    found: dict[bytes, int] = {}
+    lines = (line for line in block.splitlines() if not line.startswith((b"x", b"ran "))) if asked.calls else iter(())
+    calls: dict[bytes, int] = {}
     for call in asked.calls:
-        found.update((pc, found.get(pc, call)) for (pc, was), now in zip(code.items(), lines) if now != was)
-    return found
+        calls.update((pc, calls.get(pc, call)) for (pc, was), now in zip(code.items(), lines) if now != was)
+    return calls
 
 
 def begin(replay: Timeline, stretch: Stretch) -> None:

@@ -6,10 +6,10 @@ from functools import lru_cache
 from typing import AnyStr, Iterable, NamedTuple, Optional, Tuple
 
 RAN = re.compile(r"ran (\d+) pc=(\w+) mode=(\w) world=(\w+) why=(\S+) trap=(\S+)")
-RAN_FIELDS = re.compile(rb"ran 1 pc=(\w+) mode=(\w) world=(\w+) why=\S+ trap=(\S+)")  # of one step: pc, mode, world and trap
+RAN_FIELDS = re.compile(rb"ran 1 pc=(\w+) mode=(\w) world=(\w+) why=\S+ trap=(\S+)")  # finds pc, mode, world and trap in the reply to one step
 ROW = 64  # bytes that `mem` shows at once
 NO_TRAP = b"-"  # the trap of a step that has none
-RanFields = Tuple[bytes, bytes, bytes, bytes]  # of RAN_FIELDS: pc, mode, world and trap
+RanFields = Tuple[bytes, bytes, bytes, bytes]  # the groups of RAN_FIELDS: pc, mode, world and trap
 
 
 class Location(NamedTuple):
@@ -20,31 +20,31 @@ class Location(NamedTuple):
 
 
 class RanTrap(NamedTuple):
-    """A trap of a step."""
+    """The trap of a step, from the field `trap=` of its reply."""
     cause: str  # mcause, eight hexadecimal digits
     value: str  # mtval, eight hexadecimal digits
 
 
 class Ran(NamedTuple):
-    """The reply of `step` and `run`."""
-    steps: int  # that were done
-    pc: str  # after them, eight hexadecimal digits
-    mode: str  # after them
-    world: str  # after them
-    why: str  # why they ended
-    trap: Optional[RanTrap]  # of the last step; None without a trap
+    """The decoded reply of `step` or `run`."""
+    steps: int  # the number of steps that were done
+    pc: str  # the pc after these steps, eight hexadecimal digits
+    mode: str  # the mode after these steps
+    world: str  # the world after these steps
+    why: str  # why the steps ended
+    trap: Optional[RanTrap]  # the trap of the last step; None without a trap
 
 
 class Enclave(NamedTuple):
     """A line of `enclaves`."""
-    slot: int  # its number
+    slot: int  # the number of the slot
     state: str  # Fresh, Running, Stopped or Exited
     base: int  # first address of the region
-    size: int  # of the region, bytes
+    size: int  # the size of the region, bytes
     window: int  # first address of the window
     window_size: int  # bytes
     entry: int  # address of its first instruction
-    measurement: str  # in hexadecimal digits
+    measurement: str  # the measurement in hexadecimal digits
 
     @property
     def world(self) -> str:
@@ -121,7 +121,7 @@ def memory_commands(address: int, size: int) -> list[str]:
 
 def poke_commands(address: int, data: bytes) -> list[str]:
     """Returns the commands that change bytes of memory."""
-    return ["poke %x %02x" % (address + n, it) for n, it in enumerate(data)]
+    return ["poke %x %02x" % (address + n, byte) for n, byte in enumerate(data)]
 
 
 def step_fields(data: bytes) -> list[RanFields]:

@@ -29,20 +29,20 @@ OUTSIDE = "rvbench: image 9"  # the error for a segment that is not in RAM
 @dataclass(frozen=True)
 class Setup:
     """The configuration of a run."""
-    image: Image  # that is loaded
-    lines: tuple[ScriptLine, ...] = ()  # of the script
+    image: Image  # the image that is loaded
+    lines: tuple[ScriptLine, ...] = ()  # the lines of the script
     monitor: bool = False  # whether the security monitor runs
     ram: int = 1 << 20  # bytes
-    kind: str = "auto"  # of the image, see --kind
-    harts: int = 1  # their number, 1 or 2
+    kind: str = "auto"  # the kind of the image, see --kind
+    harts: int = 1  # the number of harts, 1 or 2
     limit: int = 1000000  # the most steps after the script
-    schedule: str = ""  # of the harts after the script: digits that repeat; empty for the chosen hart alone
+    schedule: str = ""  # the schedule of the harts after the script: digits that repeat; empty for the chosen hart alone
     symbols: Symbols = field(default_factory=Symbols, compare=False)  # name addresses
 
     @property
     def script(self) -> tuple[str, ...]:
         """Returns the lines of the script in the syntax of the bench."""
-        return tuple(it.text for it in self.lines)
+        return tuple(line.text for line in self.lines)
 
     def arguments(self) -> list[str]:
         """Returns the arguments of the program."""
@@ -53,10 +53,10 @@ class Setup:
 
     def with_script(self, lines: Iterable[str], limit: int) -> Setup:
         """Returns the configuration with another script, and at most `limit` steps after it."""
-        return replace(self, lines=tuple(ScriptLine(it, "line %d" % at, it) for at, it in enumerate(lines, 1)), limit=limit)
+        return replace(self, lines=tuple(ScriptLine(line, "line %d" % at, line) for at, line in enumerate(lines, 1)), limit=limit)
 
     def bench(self) -> Bench:
-        """Starts a bench."""
+        """Starts a bench with this configuration."""
         return Bench(self.arguments(), self.image.text, self.harts)
 
     def choice(self, hart: int) -> list[str]:
@@ -70,12 +70,12 @@ class Setup:
 
 
 class End(NamedTuple):
-    """The end of a run."""
-    steps: int  # of the run
+    """The end of a run: why it ended, and where its hart was."""
+    steps: int  # the number of steps of the run
     why: str  # halted or limit
     pc: str  # eight hexadecimal digits
-    mode: str  # of the hart
-    world: str  # of the hart
+    mode: str  # the mode of the hart
+    world: str  # the world of the hart
 
 
 class Run:
@@ -85,12 +85,12 @@ class Run:
         self.setup, self.hart, self.length = setup, 0, 0  # `hart`: chosen after the script; `length`: steps of the script
         self.plan: list[Line | ScheduledSteps] = []  # what the script does, and the steps by a schedule after it
         self.errors: list[tuple[ScriptLine, str]] = []  # lines that rvbench rejected, with its replies
-        self.mode, self.world = ("S", "host") if setup.monitor else ("M", "bare")  # at reset, as `world` and `pc`
+        self.mode, self.world = ("S", "host") if setup.monitor else ("M", "bare")  # mode and world of a hart at reset
         self.cached: list[Line | Stretch | End] = []  # the items that `stretches` has yielded
         self.is_cached = False  # whether `cached` has the whole run
         self.ended: str | None = None  # why the run ended, if the plan has its steps after the script
         with setup.bench() as bench:
-            self.pc = bench.ask("regs")[0][32][3:]  # at reset, eight hexadecimal digits
+            self.pc = bench.ask("regs")[0][32][3:]  # the pc at reset, eight hexadecimal digits
             for line in setup.lines:
                 self.play(bench, line)
             if setup.schedule:
@@ -124,10 +124,10 @@ class Run:
 
     def add_turns(self, bench: Bench) -> None:
         """Adds the steps after the script by the schedule, to the limit or until every hart has halted."""
-        left = self.setup.limit
+        remaining = self.setup.limit
         last_replies, equal = [b""] * self.setup.harts, [0] * self.setup.harts  # `equal`: equal replies in succession
         for hart, turn in turns_of(self.setup.schedule):
-            count = min(turn, left)
+            count = min(turn, remaining)
             if not count or min(equal) >= HALTED_AFTER:
                 break
             replies = bench.block(b"hart %d\n" % hart + SINGLE_STEP * count, 1 + count).splitlines()[1:]
@@ -135,8 +135,8 @@ class Run:
             is_same = repeated == count and replies[0] == last_replies[hart]
             last_replies[hart], equal[hart] = replies[-1], repeated + (equal[hart] if is_same else 0)
             self.hart = hart
-            left -= count
-        self.add_steps(self.setup.schedule, self.setup.limit - left)
+            remaining -= count
+        self.add_steps(self.setup.schedule, self.setup.limit - remaining)
         self.ended = "halted" if min(equal) >= HALTED_AFTER else "limit"
 
     def with_lines(self, step: int, lines: Sequence[str]) -> Run:
@@ -177,7 +177,7 @@ class Run:
         self.cached, self.is_cached = cached, is_short
 
     def reply(self, step: int) -> str:
-        """Returns the reply to a single step."""
+        """Returns the reply of the bench to a single step."""
         for item in self.cached:
             if isinstance(item, Stretch) and item.first <= step < item.first + item.count:
                 return item.data.splitlines()[step - item.first].decode()
@@ -204,17 +204,17 @@ class Run:
 
     def tail(self, bench: Bench, position: int, hart: int, last: bytes) -> Iterator[Stretch | End]:
         """Yields the steps after the script, until the hart does nothing more or the limit is reached, and then the end."""
-        pending, waiting, left = b"", 0, 0 if self.ended else self.setup.limit
+        pending, waiting, remaining = b"", 0, 0 if self.ended else self.setup.limit
         why = self.ended or "limit"
-        while left > 0 and why == "limit":
-            count = min(left, STEPS_PER_EXCHANGE)
-            left -= count
+        while remaining > 0 and why == "limit":
+            count = min(remaining, STEPS_PER_EXCHANGE)
+            remaining -= count
             data = pending + bench.block(SINGLE_STEP * count, count)
             equal = equal_lines_at_end(data)
             if equal >= HALTED_AFTER:
                 why, later = "halted", equal - 1
             else:
-                later = HALTED_AFTER - 1 if left else 0
+                later = HALTED_AFTER - 1 if remaining else 0
             cut = begin_of_last(later, data)
             data, pending = data[:cut], data[cut:]
             kept, waiting, last = waiting + count - later, later, data or last
@@ -225,7 +225,7 @@ class Run:
 
     def replay(self) -> Timeline:
         """Starts the run again from reset."""
-        return Timeline(self.setup, future=(it for it in self.plan if isinstance(it, ScheduledSteps) or it.changes_state))
+        return Timeline(self.setup, future=(action for action in self.plan if isinstance(action, ScheduledSteps) or action.changes_state))
 
 
 def equal_at_end(lines: Sequence[AnyStr]) -> int:
@@ -256,12 +256,12 @@ def begin_of_last(count: int, data: bytes) -> int:
 
 def hidden_lines(lines: Iterable[str], hart: int) -> list[Line]:
     """Returns commands as lines that are not in the script. `hart` is the chosen hart before them."""
-    found = []
+    hidden = []
     for line in lines:
         if line.startswith("hart "):
             hart = int(line[5:])
-        found.append(Line(line, hart, hidden=True))
-    return found
+        hidden.append(Line(line, hart, hidden=True))
+    return hidden
 
 
 def single_steps(bench: Bench, position: int, hart: int, steps: ScheduledSteps) -> Iterator[Stretch]:
@@ -273,7 +273,7 @@ def single_steps(bench: Bench, position: int, hart: int, steps: ScheduledSteps) 
             hart = next_hart
         text = b"".join(texts)
         block = bench.block(text, text.count(b"\n"))
-        lines = iter([block] if len(texts) == 2 and not texts[0] else [it for it in block.splitlines(keepends=True) if it.startswith(b"ran ")])
+        lines = iter([block] if len(texts) == 2 and not texts[0] else [line for line in block.splitlines(keepends=True) if line.startswith(b"ran ")])
         for next_hart, count in turns:
             yield Stretch(position + 1, next_hart, b"".join(islice(lines, count)), count)
             position += count
@@ -298,7 +298,7 @@ def error_of(setup: Setup, error: BenchEnded) -> RvlookError:
 def segment_outside(setup: Setup, message: str) -> str | None:
     """Returns the text about the first segment of an ELF file that is not in RAM, if that is the error."""
     first, end = MONITOR_END if setup.monitor else RAM_BASE, RAM_BASE + setup.ram
-    outside = next((it for it in setup.image.segments() if it.address < first or it.address + it.in_memory > end), None)
+    outside = next((segment for segment in setup.image.segments() if segment.address < first or segment.address + segment.in_memory > end), None)
     if message != OUTSIDE or outside is None or first >= end:
         return None
     return ("the segment %08x-%08x is outside the memory of programs, %08x-%08x; link it there, or use a larger --ram"

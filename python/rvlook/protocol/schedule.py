@@ -27,6 +27,6 @@ def random_schedule(seed: int) -> str:
 
 def turns_of(schedule: str) -> Iterator[tuple[int, int]]:
     """Yields the turns of a schedule for ever, each as a hart and its number of steps."""
-    turns = [(int(it[0][0]), len(it[0])) for it in re.finditer("0+|1+", schedule)]
+    turns = [(int(match[0][0]), len(match[0])) for match in re.finditer("0+|1+", schedule)]
     while True:
         yield from turns

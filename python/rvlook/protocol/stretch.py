@@ -17,10 +17,10 @@ MODE_NUMBERS = {b"U": 0, b"S": 1, b"M": 3}
 @dataclass(eq=False)
 class Columns:
     """The steps of a stretch, as the bytes of the replies. Each column has one element for each step."""
-    pcs: Sequence[bytes]  # before the step
-    modes: Sequence[bytes]  # before the step
-    worlds: Sequence[bytes]  # before the step
-    traps: Sequence[bytes]  # of the step, a hyphen without a trap
+    pcs: Sequence[bytes]  # the pc before each step
+    modes: Sequence[bytes]  # the mode before each step
+    worlds: Sequence[bytes]  # the world before each step
+    traps: Sequence[bytes]  # the trap of each step, a hyphen without a trap
     after: Sequence[bytes]  # world after the step
     questions: Dict[Any, Any] = field(default_factory=dict, init=False)  # what readers ask about the steps, by what decides it
 
@@ -35,7 +35,7 @@ class Columns:
         return array("I", map(pc_and_mode, self.pcs, self.modes))
 
     def part(self, first: int, end: int) -> Columns:
-        """Returns some of the steps."""
+        """Returns the columns of some of the steps."""
         return Columns(*(column[first:end] for column in (self.pcs, self.modes, self.worlds, self.traps, self.after)))
 
 
@@ -43,10 +43,10 @@ class Columns:
 class Stretch:
     """Single steps of one hart with their replies."""
     first: int  # number of the first step in the run
-    hart: int  # that steps
+    hart: int  # the hart that steps
     data: bytes  # the replies, a line for each step
     count: int  # number of steps
-    before: RanFields = (b"", b"", b"", NO_TRAP)  # where the hart is before the first step
+    before: RanFields = (b"", b"", b"", NO_TRAP)  # the location of the hart before the first step
     lines: Sequence[bytes] = ()  # the reply of `dis` before each step; empty until a reader has decoded them
     part: Optional[Columns] = None  # the columns, if the stretch is a part of another; None: decoded from the replies
 
@@ -80,11 +80,11 @@ def parts_of(data: bytes, before: RanFields) -> Sequence[tuple[int, bytes, RanFi
     ends = list(compress(range(1, len(columns.pcs)), map(ne, columns.worlds, columns.after)))
     if not ends:
         return [(0, data, before, columns)]
-    lines, found = data.splitlines(keepends=True), []
+    lines, parts = data.splitlines(keepends=True), []
     for end in [*ends, len(lines)]:
-        found.append((begin, b"".join(lines[begin:end]), before, columns.part(begin, end)))
+        parts.append((begin, b"".join(lines[begin:end]), before, columns.part(begin, end)))
         begin, before = end, fields_of(lines[end - 1][:-1])
-    return found
+    return parts
 
 
 @lru_cache(maxsize=CACHED_STRETCHES)

@@ -22,8 +22,8 @@ UNSIZED = 4096  # bytes that a symbol without a size has at most
 
 @dataclass
 class Unit:
-    """A compilation unit."""
-    ranges: Sequence[tuple[int, int]]  # of its addresses, each without its end
+    """A compilation unit: its addresses, its lines and its inlined calls."""
+    ranges: Sequence[tuple[int, int]]  # the ranges of its addresses, each without its end
     read_rows: Callable[[], Iterable[Row]] = tuple  # reads the line table
     read_inlined: Callable[[], Iterable[Inlined]] = tuple  # reads the inlined calls
 
@@ -34,7 +34,7 @@ class Unit:
     @cached_property
     def rows(self) -> list[Row]:
         """The rows of the line table in the order of addresses. Functions that the linker dropped have rows outside RAM, which are left out."""
-        return sorted((it for it in self.read_rows() if it[0] >= RAM_BASE), key=lambda it: (it[0], it[1] is not None))
+        return sorted((row for row in self.read_rows() if row[0] >= RAM_BASE), key=lambda it: (it[0], it[1] is not None))
 
     @cached_property
     def starts(self) -> list[int]:
@@ -48,12 +48,12 @@ class Unit:
 
 
 class Symbol(NamedTuple):
-    """A name at an address."""
+    """A symbol: a name for an address."""
     address: int
     size: int  # bytes; 0 if unknown
     name: str
     is_function: bool  # whether a symbol table says so
-    rank: int = 0  # the lower one names the address where there are more
+    rank: int = 0  # the symbol with the lowest rank names the address if there are several
 
 
 class Symbols:
@@ -61,11 +61,11 @@ class Symbols:
 
     def __init__(self, symbols: Sequence[Symbol] = (), units: Iterable[Unit] = ()) -> None:
         self.units = list(units)  # have the source lines
-        best = {it.address: it for it in sorted(symbols, key=lambda it: (it.rank, it.name), reverse=True)}
+        best = {symbol.address: symbol for symbol in sorted(symbols, key=lambda it: (it.rank, it.name), reverse=True)}
         self.ordered = [best[address] for address in sorted(best) if address >= RAM_BASE]  # one for each address in RAM, in the order of addresses
-        self.addresses = [symbol.address for symbol in self.ordered]  # of `ordered`
-        self.by_name = {it.name: it for it in reversed(symbols)}  # the first one of each name
-        self.addresses_by_name = defaultdict(set)  # of each name
+        self.addresses = [symbol.address for symbol in self.ordered]  # the addresses of `ordered`
+        self.by_name = {symbol.name: symbol for symbol in reversed(symbols)}  # the first one of each name
+        self.addresses_by_name = defaultdict(set)  # the addresses of each name
         for symbol in symbols:
             self.addresses_by_name[symbol.name].add(symbol.address)
 
@@ -159,10 +159,10 @@ class Symbols:
         """Returns the address of a name: the only one, or the first from an address on. Raises SymbolError if there is none or more than one."""
         addresses = sorted(self.addresses_by_name[name])
         if first is not None:
-            addresses = [it for it in addresses if it >= first][:1]
+            addresses = [address for address in addresses if address >= first][:1]
             if not addresses:
                 raise SymbolError("no symbol '%s' at or after %08x" % (name, first))
         if len(addresses) == 1:
             return addresses[0]
-        shown = " and ".join("%08x" % it for it in addresses)
+        shown = " and ".join("%08x" % address for address in addresses)
         raise SymbolError("symbol '%s' is ambiguous (%s); use %s@PLACE for the first at or after PLACE" % (name, shown, name))

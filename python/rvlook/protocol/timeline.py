@@ -18,7 +18,7 @@ if TYPE_CHECKING:
 STATE_COMMANDS = ("poke", "setreg", "timer")  # commands that change the state without a step
 UNDONE_BY = {"break": "clear", "watch": "unwatch", "clear": "break", "unwatch": "watch"}
 MAX_DIGITS = 64  # digits of a sched, at most
-MOST_STEPS = 1000000  # of one command
+MOST_STEPS = 1000000  # the most steps of one command
 
 
 @dataclass(frozen=True)
@@ -40,13 +40,13 @@ class ScheduledSteps:
     def by_hart(self) -> Iterator[tuple[int, int]]:
         """Yields the turns: each is a hart and its number of steps, at most MOST_STEPS."""
         parts = [self.turns] if self.chosen else re.findall("0+|1+", self.turns)
-        left = self.count
-        while left:
+        remaining = self.count
+        while remaining:
             for part in parts:
-                count = min(left, MOST_STEPS if self.chosen else len(part))
+                count = min(remaining, MOST_STEPS if self.chosen else len(part))
                 if count:
                     yield int(part[0]), count
-                left -= count
+                remaining -= count
 
     def lines(self) -> list[str]:
         """Returns the commands that do the steps, after `chosen`."""
@@ -60,11 +60,11 @@ class ScheduledSteps:
 @dataclass(frozen=True)
 class Line:
     """A line of a script that does no step."""
-    text: str  # in the syntax of the bench
-    hart: int  # that is chosen after the line
-    replies: tuple[str, ...] = field(default=(), compare=False)  # to the line
+    text: str  # the text in the syntax of the bench
+    hart: int  # the hart that is chosen after the line
+    replies: tuple[str, ...] = field(default=(), compare=False)  # the replies to the line
     hidden: bool = field(default=False, compare=False)  # whether it is a part of another line
-    given: str = field(default="", compare=False)  # as in the script
+    given: str = field(default="", compare=False)  # the line as the script has it
 
     @property
     def is_refused(self) -> bool:
@@ -142,15 +142,15 @@ class Timeline(Closing):
     back. It stays as long as the user repeats its actions. The caller sends what `lines_to` and `lines_up_to_next` return."""
 
     def __init__(self, setup: Setup, past: Iterable[Action] = (), hart: int = 0, future: Iterable[Action] = ()) -> None:
-        self.setup = setup  # of the bench
+        self.setup = setup  # the setup of the bench
         self.past: list[Action] = []  # the actions so far
         self.future: deque[Action] = deque(future)  # the actions that follow
         self.stops: dict[str, None] = {}  # the commands that set breakpoints and watchpoints
         self.position = self.hart = self.changes = 0  # `position`: steps so far; `changes`: actions that may have changed a register or a byte
         mode, world = ("S", "host") if setup.monitor else ("M", "bare")
-        # of each hart; `moved` counts actions that may have changed its world
+        # these lists have a value for each hart; `moved` counts actions that may have changed its world
         self.modes, self.worlds, self.moved = [mode] * setup.harts, [world] * setup.harts, [0] * setup.harts
-        self.bench = setup.bench()  # after all actions
+        self.bench = setup.bench()  # the bench after all actions
         self.unread_commands: list[tuple[str, int]] = []  # commands whose replies are not read yet, and their harts
         self.follow(past, hart)
 
@@ -164,7 +164,7 @@ class Timeline(Closing):
         return timeline
 
     def close(self) -> None:
-        """Ends the bench."""
+        """Ends the process of the bench."""
         self.bench.close()
 
     # queued commands
@@ -188,14 +188,14 @@ class Timeline(Closing):
         counts = [self.setup.harts if line.startswith("sched") else 1 for line, _ in unread]
         block = self.bench.block(b"", sum(counts)).decode("latin-1") if unread else ""
         if block.count("trap=") > block.count("trap=-"):
-            self.moved = [it + 1 for it in self.moved]
-        replies, left = block.splitlines(), set(range(self.setup.harts))
-        while unread and left:
+            self.moved = [position + 1 for position in self.moved]
+        replies, harts_without_step = block.splitlines(), set(range(self.setup.harts))
+        while unread and harts_without_step:
             (line, hart), count = unread.pop(), counts.pop()
             reply, replies = replies[-count:], replies[:-count]
             if line.startswith(("step", "sched")):
                 self.take(line, hart, reply)
-                left -= {hart} if line.startswith("step") else set(left)
+                harts_without_step -= {hart} if line.startswith("step") else set(harts_without_step)
 
     # commands
 
@@ -231,7 +231,7 @@ class Timeline(Closing):
         return replies
 
     def choose(self, hart: int) -> None:
-        """Chooses a hart."""
+        """Chooses the hart that the next commands concern."""
         if hart != self.hart:
             self.do("hart %d" % hart)
 
@@ -249,7 +249,7 @@ class Timeline(Closing):
             self.reach(hart, ran.mode, ran.world, ran.trap and ran.steps > 1)
         elif line.startswith("sched"):
             for number, reply in enumerate(replies):
-                mode, world, trap = (it.partition("=")[2] for it in reply.split()[4:7])
+                mode, world, trap = (field.partition("=")[2] for field in reply.split()[4:7])
                 self.reach(number, mode, world, trap != "-")
 
     def reach(self, hart: int, mode: str, world: str, trapped: object) -> None:
@@ -342,7 +342,7 @@ class Timeline(Closing):
     @property
     def has_command(self) -> bool:
         """Returns whether the future has a command."""
-        return any(isinstance(it, Line) for it in self.future)
+        return any(isinstance(action, Line) for action in self.future)
 
     def room(self) -> int | None:
         """Returns the number of steps before the first command of the future, or None."""
@@ -377,8 +377,8 @@ class Timeline(Closing):
 
     def set_stops(self, wanted: Iterable[str]) -> None:
         """Sets these breaks and watches, and removes all others."""
-        self.do_all(["%s %s" % (UNDONE_BY[it.split()[0]], it.split()[1]) for it in self.stops if it not in wanted])
-        self.do_all([it for it in wanted if it not in self.stops])
+        self.do_all(["%s %s" % (UNDONE_BY[stop.split()[0]], stop.split()[1]) for stop in self.stops if stop not in wanted])
+        self.do_all([command for command in wanted if command not in self.stops])
 
     def is_break(self, pc: str) -> bool:
         """Returns whether there is a break at pc."""

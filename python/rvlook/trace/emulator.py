@@ -29,25 +29,25 @@ class Why(Enum):
     loop = "endless loop"  # a hart jumps to itself, where a program may end
     hang = "endless loop that is no end"  # a hart jumps to itself in an enclave or in the middle of a function
     fault = "fault"  # a jump to 0, or an instruction that traps again and again
-    limit = "limit"  # of --steps
+    limit = "limit"  # the limit of --steps
 
 
 class ProgramEnd(NamedTuple):
-    """The end of a program."""
+    """The end of a program: why and where it ended."""
     why: Why  # the kind of the end
-    at: Location  # where the hart is
+    at: Location  # the location of the hart
     status: int  # the exit status
     text: str  # the reason
 
 
 class Emulator:
-    """A program that runs."""
+    """A program that runs on rvbench, with its consoles."""
 
     def __init__(self, run: Run, schedule: str, printer: Printer) -> None:
         self.run, self.schedule, self.printer, self.left = run, schedule, printer, run.setup.limit  # `left`: steps to the limit
         self.symbols = run.setup.symbols  # name addresses
         self.probed = 0  # steps that do not count for the limit
-        self.consoles = consoles_of(self.symbols)  # that the program has
+        self.consoles = consoles_of(self.symbols)  # the consoles that the program has
 
     @property
     def steps(self) -> int:
@@ -69,7 +69,7 @@ class Emulator:
         return ending
 
     def show(self) -> None:
-        """Prints what is new on the consoles."""
+        """Prints the new characters of the consoles."""
         for console in self.consoles:
             self.print(console, console.read(self.bench.ask))
 
@@ -80,13 +80,13 @@ class Emulator:
 
     def status(self) -> int | None:
         """Returns the exit status of the program, once it has ended by itself."""
-        return next((it.status for it in self.consoles if it.status is not None), None)
+        return next((console.status for console in self.consoles if console.status is not None), None)
 
-    # one hart
+    # a run of one hart
 
     def alone(self) -> ProgramEnd:
         """Runs the selected hart."""
-        watches = ["watch %x" % (it.address + offset) for it in self.consoles for offset in (WRITTEN, ENDED)]
+        watches = ["watch %x" % (console.address + offset) for console in self.consoles for offset in (WRITTEN, ENDED)]
         self.bench.ask(AT_ZERO, *watches)
         part, ran = FIRST_PART, Ran(steps=0, pc=self.run.pc, mode=self.run.mode, world=self.run.world, why="done", trap=None)
         while self.left:
@@ -107,9 +107,9 @@ class Emulator:
         """Returns the next step if the steps after it change nothing that a reply shows, else None. These steps do not count for the limit."""
         self.probed += HALTED_AFTER
         replies = self.bench.ask(*["step 1"] * HALTED_AFTER)
-        return step_of(replies[0][0]) if all(it == replies[0] for it in replies) else None
+        return step_of(replies[0][0]) if all(reply == replies[0] for reply in replies) else None
 
-    # two harts
+    # a run of two harts
 
     def by_turns(self) -> ProgramEnd:
         """Runs both harts by the schedule."""
@@ -122,19 +122,19 @@ class Emulator:
             self.show()
             if self.status() is not None:
                 return self.finished(ran)
-            if len(last) > 1 and all(len(it) == HALTED_AFTER and len(set(it)) == 1 for it in last.values()):
-                harts = [step_of(it[0]) for it in last.values()]  # a hart which traps or hangs comes before one that ends
-                return self.halted(next((it for it in harts if it.trap), next((it for it in harts if self.hangs(it)), ran)))
+            if len(last) > 1 and all(len(replies) == HALTED_AFTER and len(set(replies)) == 1 for replies in last.values()):
+                harts = [step_of(replies[0]) for replies in last.values()]  # a hart which traps or hangs comes before one that ends
+                return self.halted(next((hart for hart in harts if hart.trap), next((hart for hart in harts if self.hangs(hart)), ran)))
         return self.cut(ran)
 
     def batch(self, turns: Sequence[tuple[int, int]]) -> dict[int, list[str]]:
         """Does turns in one exchange; returns the last replies of each hart, of single steps if it did enough of them at the end."""
         lines: list[tuple[int, str]] = []
-        left = sum(count for _, count in turns)
+        remaining = sum(count for _, count in turns)
         for hart, count in turns:
             lines.append((hart, "hart %d\n" % hart))
-            lines += [(hart, "step %d\n" % count)] if left > SINGLY else [(hart, "step 1\n")] * count
-            left -= count
+            lines += [(hart, "step %d\n" % count)] if remaining > SINGLY else [(hart, "step 1\n")] * count
+            remaining -= count
         last: dict[int, list[str]] = {}
         replies = self.bench.block("".join(line for _, line in lines).encode(), len(lines)).decode().splitlines()
         for (hart, _), reply in zip(lines[-SINGLY - 2 * len(turns):], replies[-SINGLY - 2 * len(turns):]):
@@ -182,7 +182,7 @@ class Emulator:
     def fault(self, ran: Ran) -> ProgramEnd:
         """Returns the end of a program that reached address 0: it trapped without a trap vector, or jumped there."""
         mode = "m" if ran.mode == "M" else "s"
-        cause, pc, value, vector = (self.bench.one("csr %x" % names.CSRS[mode + it]).partition("=")[2] for it in ("cause", "epc", "tval", "tvec"))
+        cause, pc, value, vector = (self.bench.one("csr %x" % names.CSRS[mode + name]).partition("=")[2] for name in ("cause", "epc", "tval", "tvec"))
         if int(vector, 16) or cause == pc == NONE:
             return self.ended(Why.fault, ran, UNFINISHED, "fault: a jump to 00000000 in %s of %s" % (ran.mode, ran.world))
         text = "fault: %s at %s, %stval %s, and %stvec is not set"
@@ -205,7 +205,7 @@ def batch_of(turns: Iterator[tuple[int, int]], most: int) -> Iterator[tuple[int,
 def show_run(run: Run, schedule: str, printer: Printer, options: Namespace) -> None:
     """Runs a program to its end, and reports its failures; `schedule` orders the steps of two harts after the script."""
     symbols, findings = run.setup.symbols, options.findings
-    report = FailureReport([expectation_of(it, symbols) for it in options.expect or ()], symbols, printer, findings)
+    report = FailureReport([expectation_of(text, symbols) for text in options.expect or ()], symbols, printer, findings)
     if printer.as_json:
         run_object(printer, run, symbols)
     emulator = Emulator(run, schedule, printer)

@@ -18,17 +18,17 @@ from rvlook.trace.tracer import CallMade, RunTracer, Touch, TracedCommand, Trace
 SHOWN_REGISTERS = 2  # if more changed, as at a switch, a0 and the number of the others are shown
 SHOWN_REPLY = 60  # characters of a reply to a line of the script
 ARGUMENT_FORMS = {"base": "%x", "size": "%x", "window": " window %x", "window_size": "%x", "entry": " entry %x", "slot": "e%d",
-                  "address": " to %x"}  # of the arguments of a call; every other one is printed with its name
+                  "address": " to %x"}  # the formats of these arguments of a call; every other one is printed with its name
 A0 = 10
-PRIVILEGE = {"M": 3, "S": 1, "U": 0}  # of the log of Spike
+PRIVILEGE = {"M": 3, "S": 1, "U": 0}  # the numbers of the modes in the log of Spike
 
 
 class Filter(NamedTuple):
-    """The steps that are wanted."""
+    """The options that choose the steps to show."""
     first: int = 1  # number of the first step
     last: Optional[int] = None  # number of the last step; None: to the end
-    world: Optional[str] = None  # None: any
-    function: Optional[str] = None  # None: any
+    world: Optional[str] = None  # the only world; None: any
+    function: Optional[str] = None  # the only function; None: any
     traps: bool = False  # whether only steps that trap are wanted
 
     def takes(self, step: TracedStep, symbols: Symbols) -> bool:
@@ -76,7 +76,7 @@ def lines_of(step: TracedStep, consoles: Sequence[Console]) -> Iterable[tuple[st
 @dataclass
 class ObjectTrace:
     """Writes a trace as objects."""
-    run: Run  # that is traced
+    run: Run  # the run that is traced
     symbols: Symbols  # name addresses
     printer: ObjectWriter  # takes the objects
     sites: dict[tuple[str, Optional[Instruction]], dict[str, Optional[str]]] = field(default_factory=dict)  # the constant members of a step, cached
@@ -88,8 +88,7 @@ class ObjectTrace:
             "step", step=step.number, hart=step.hart, world=step.at.world, mode=step.at.mode, pc=step.at.pc, **self.site(step),
             registers={"x%d" % number: value for number, value in step.changed.items()}, touch=self.touch(step.touch),
             target=None if target is None else {"address": hex8(target), "symbol": self.symbols.name(target)},
-            call=self.call(step.call), trap=self.trap(step.trap),
-            next={"pc": step.next.pc, "mode": step.next.mode, "world": step.next.world})
+            call=self.call(step.call), trap=self.trap(step.trap), next={"pc": step.next.pc, "mode": step.next.mode, "world": step.next.world})
 
     def site(self, step: TracedStep) -> dict[str, str | None]:
         """Returns the members that depend only on the pc and the instruction."""
@@ -122,8 +121,7 @@ class ObjectTrace:
 
     def command(self, command: TracedCommand) -> None:
         """Writes a line of the script."""
-        self.printer.object("command", step=command.step, hart=command.hart, line=command.line, given=command.given,
-                            replies=list(command.replies))
+        self.printer.object("command", step=command.step, hart=command.hart, line=command.line, given=command.given, replies=list(command.replies))
 
     def console(self, number: int, writer: str, text: str) -> None:
         """Writes a line of a console."""
@@ -138,8 +136,8 @@ class ObjectTrace:
 
 
 class Site(NamedTuple):
-    """The constant part of a line."""
-    text: str  # of the instruction
+    """The part of a line of the trace that depends only on pc and instruction."""
+    text: str  # the text of the instruction
     function: Optional[str]  # None if unknown
     source: Optional[str]  # source line; None if unknown
 
@@ -147,12 +145,12 @@ class Site(NamedTuple):
 @dataclass
 class Lines:
     """Prints a trace as lines. A heading shows world, mode and function if they change. The source line is also shown only if it changes."""
-    run: Run  # that is traced
+    run: Run  # the run that is traced
     symbols: Symbols  # name addresses
     printer: Printer  # prints the lines
     is_short: bool = False  # whether instructions are in the manual's short form
     heading: tuple[object, ...] = ()  # hart, world, mode and function of the last step
-    source: Optional[str] = None  # of the last step; None if unknown
+    source: Optional[str] = None  # the source of the last step; None if unknown
     sites: dict[tuple[str, Optional[Instruction]], Site] = field(default_factory=dict)  # cached
 
     def step(self, step: TracedStep) -> None:
@@ -195,7 +193,7 @@ class Lines:
         self.heading, self.source = heading, None
         number, world, mode, function = heading
         parts = ("hart %d" % number if self.run.setup.harts > 1 else None, world, mode, function)
-        self.printer.line(self.printer.styled("  ".join(it for it in parts if it), Style.heading))
+        self.printer.line(self.printer.styled("  ".join(part for part in parts if part), Style.heading))
 
     def effects(self, step: TracedStep) -> list[str]:
         """Returns the registers that changed, the access, and the target of a jump to a register."""
@@ -218,8 +216,8 @@ class Lines:
         first = command.replies[0] if command.replies else "(no reply)"
         shown = first if len(first) <= SHOWN_REPLY else first[:SHOWN_REPLY] + " .."
         more = len(command.replies) - 1
-        made = "" if command.line == command.given else "  (%s)" % visible_line(command.line)
-        self.printer.line("%s%s  %s%s" % (self.printer.styled("> " + visible_line(command.given), Style.aside), made, shown,
+        sent_line = "" if command.line == command.given else "  (%s)" % visible_line(command.line)
+        self.printer.line("%s%s  %s%s" % (self.printer.styled("> " + visible_line(command.given), Style.aside), sent_line, shown,
                                           "  and %d more lines" % more if more > 0 else ""))
 
     def console(self, number: int, writer: str, text: str) -> None:

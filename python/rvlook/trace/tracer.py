@@ -20,13 +20,13 @@ REGISTERS = 32
 ALL = b"regs\n"  # shows them and pc, in a line each
 STEP_AND = [b"step 1\n", *(b"step 1\nreg %d\n" % number for number in range(1, REGISTERS))]  # by the register that the step writes, 0 for none
 STEP_AND_ALL = b"step 1\n" + ALL
-VALUE = re.compile(r"x\d+=(.{8})")  # of a register, in a reply
+VALUE = re.compile(r"x\d+=(.{8})")  # finds the value of a register in a reply
 
 
 class Touch(NamedTuple):
     """A load or store, derived from the instruction and the registers before it."""
     kind: str  # r for a load, w for a store
-    address: int  # of the first byte
+    address: int  # the address of the first byte
     width: int  # bytes
     done: bool  # false if the step trapped
     value: Optional[str]  # two digits for each byte; None after a trap, or if the loaded value was discarded
@@ -34,23 +34,23 @@ class Touch(NamedTuple):
 
 class CallMade(NamedTuple):
     """A call of the monitor, derived from the registers before the ecall."""
-    call: names.Call  # by a6
-    arguments: dict[str, int]  # by name
-    slot: Optional[int]  # of the enclave; None if it is unknown
+    call: names.Call  # the call that a6 names
+    arguments: dict[str, int]  # the arguments by name
+    slot: Optional[int]  # the slot of the enclave; None if it is unknown
 
 
 class TracedStep(NamedTuple):
-    """One step."""
-    number: int  # in the run, from 1
-    hart: int  # that did it
-    at: Location  # before the step
+    """One step of a run, with its effects."""
+    number: int  # the number of the step in the run, from 1
+    hart: int  # the hart that did the step
+    at: Location  # the location before the step
     instruction: Optional[Instruction]  # None if it could not be fetched
     changed: dict[int, str]  # registers with another value after the step, in hexadecimal digits
-    touch: Optional[Touch]  # its load or store; None without one
-    call: Optional[CallMade]  # of the monitor; None for another step
+    touch: Optional[Touch]  # the load or store of the step; None without one
+    call: Optional[CallMade]  # the call of the monitor; None for another step
     trap: Optional[RanTrap]  # None without a trap
-    next: Location  # after the step
-    written: Optional[str] = None  # what the register that it writes is after it
+    next: Location  # the location after the step
+    written: Optional[str] = None  # the value after the step of the register that it writes
 
     @property
     def is_interrupt(self) -> bool:
@@ -78,10 +78,10 @@ class TracedStep(NamedTuple):
 class TracedCommand(NamedTuple):
     """A line of the script that does no step."""
     step: int  # number of the step before it
-    hart: int  # that is chosen after it
-    line: str  # in the syntax of the bench
-    replies: tuple[str, ...]  # to the line
-    given: str  # as in the script
+    hart: int  # the hart that is chosen after it
+    line: str  # the line in the syntax of the bench
+    replies: tuple[str, ...]  # the replies to the line
+    given: str  # the line as the script has it
 
 
 Done = Tuple[RanFields, Optional[Instruction]]  # a step: the fields of its reply, and the instruction at pc before it
@@ -101,7 +101,7 @@ class RunTracer:
     def __init__(self, run: Run, first: int = 1, last: int | None = None) -> None:
         self.run, self.first, self.last = run, first, last  # `last`: None: to the end
         start = Location(run.pc, run.mode, run.world)
-        self.harts = [Hart(start) for _ in range(run.setup.harts)]  # before their next steps
+        self.harts = [Hart(start) for _ in range(run.setup.harts)]  # the harts as they are before their next steps
         self.position = self.hart = 0  # steps so far; the chosen hart
 
     def events(self) -> Iterator[TracedCommand | TracedStep | End]:
@@ -154,13 +154,12 @@ def location_of(ran: RanFields) -> Location:
     return Location(pc.decode(), mode.decode(), world.decode())
 
 
-def registers_after(reader: Timeline, hart: Hart, begin: int, rans: Sequence[RanFields],
-                    instructions: Sequence[Instruction | None]) -> Iterator[str]:
+def registers_after(reader: Timeline, hart: Hart, begin: int, rans: Sequence[RanFields], instructions: Sequence[Instruction | None]) -> Iterator[str]:
     """Returns the values of registers after these steps: of the one that each writes, of all after a trap, and of all after the last."""
     reader.go_before(begin)
     if not hart.registers:
         hart.registers = [line[-8:] for line in reader.bench.ask("regs")[0][:REGISTERS]]
-    queries = [STEP_AND_ALL if ran[3] != NO_TRAP else STEP_AND[it.writes if it else 0] for ran, it in zip(rans, instructions)]
+    queries = [STEP_AND_ALL if ran[3] != NO_TRAP else STEP_AND[code.writes if code else 0] for ran, code in zip(rans, instructions)]
     text = b"".join(queries) + ALL
     block = reader.bench.block(text, text.count(b"\n") + text.count(ALL) * REGISTERS)
     reader.lines_to(begin - 1 + len(rans))
@@ -204,7 +203,7 @@ def trapped(step: TracedStep, hart: Hart, values: Iterator[str]) -> TracedStep:
     address = (int(before[memory.base], 16) + memory.offset) & 0xFFFFFFFF if memory else 0
     touch = Touch(memory.kind, address, memory.width, done=False, value=None) if memory else None
     is_call = trap.cause == names.ECALL_FROM_S and at.world != "bare"
-    call = call_of(at.world, [int(it, 16) for it in before], [int(it, 16) for it in after]) if is_call else None
+    call = call_of(at.world, [int(register, 16) for register in before], [int(register, 16) for register in after]) if is_call else None
     return step._replace(changed=changed, touch=touch, call=call)
 
 
