@@ -20,9 +20,9 @@ const FETCH: Cause = Cause::Exception(Exception::InstructionAccessFault);
 
 /// Writes of CSRs, two traps, and the CSRs after each of them.
 const TRAPS: [Line; 12] = [
-    Line::Put(MTVEC, 0x401),
-    Line::Put(MIE, 0x80),
-    Line::Put(MSTATUS, 0x8),
+    Line::Put(MTVEC, 0x401), // base 400, mode Vectored
+    Line::Put(MIE, 0x80), // MTIE
+    Line::Put(MSTATUS, 0x8), // MIE
     Line::Trap {
         mode: Mode::M,
         pc: 0x8000_000C,
@@ -31,8 +31,8 @@ const TRAPS: [Line; 12] = [
         target: 0x41C,
     },
     Line::Reads(MEPC, 0x8000_000C),
-    Line::Reads(MCAUSE, 0x8000_0007),
-    Line::Reads(MSTATUS, 0x1880),
+    Line::Reads(MCAUSE, 0x8000_0007), // machine timer interrupt
+    Line::Reads(MSTATUS, 0x1880), // MPP = M, MPIE
     Line::Trap {
         mode: Mode::M,
         pc: 0x41C,
@@ -41,9 +41,9 @@ const TRAPS: [Line; 12] = [
         target: 0x400,
     },
     Line::Reads(MEPC, 0x41C),
-    Line::Reads(MCAUSE, 3),
+    Line::Reads(MCAUSE, 3), // breakpoint
     Line::Reads(MTVAL, 0x41C),
-    Line::Reads(MSTATUS, 0x1800),
+    Line::Reads(MSTATUS, 0x1800), // MPP = M
 ];
 
 /// A timer interrupt in mode M with mtvec 401 (mode Vectored), followed by an exception.
@@ -125,8 +125,8 @@ const FROM_USER: [Line; 4] = [
         tval: 0,
         target: 0,
     },
-    Line::Reads(MSTATUS, 0x20),
-    Line::Reads(MCAUSE, 1),
+    Line::Reads(MSTATUS, 0x20), // SPIE
+    Line::Reads(MCAUSE, 1), // instruction access fault
 ];
 
 /// sret at reset returns to mode U. A trap from there is taken in mode M.
@@ -142,13 +142,13 @@ const RETURNS: [Line; 12] = [
     Line::Mepc(0x8000_0013),
     Line::Mpp(Mode::S),
     Line::Mret(Mode::S, 0x8000_0010),
-    Line::Reads(MSTATUS, 0x188),
+    Line::Reads(MSTATUS, 0x188), // SPP, MPIE, MIE
     Line::Put(MSTATUS, 0x0002_0188),
     Line::Sret(Mode::S, 0x8000_0020),
-    Line::Mstatus(0xA8),
+    Line::Mstatus(0xA8), // MPIE, SPIE, MIE
     Line::Put(MSTATUS, 0x0002_1800), // MPRV, MPP = M
     Line::Mret(Mode::M, 0x8000_0010),
-    Line::Reads(MSTATUS, 0x0002_0080),
+    Line::Reads(MSTATUS, 0x0002_0080), // MPRV, MPIE
 ];
 
 /// MPRV (bit 17) stays set only if mret returns to mode M. sret clears it.
@@ -183,7 +183,7 @@ const COUNTS: [Line; 16] = [
     },
     Line::Reads(MCYCLE, 1),
     Line::Reads(MINSTRET, 2),
-    Line::Put(MCOUNTINHIBIT, 0x1),
+    Line::Put(MCOUNTINHIBIT, 0x1), // CY
     Line::TickHeld,
     Line::Reads(MCYCLE, 1),
     Line::Reads(MINSTRET, 3),
@@ -211,7 +211,7 @@ const ONES: SContext = SContext {
 /// Returns the lines for the registers of mode S, with their values at the start.
 fn contexts(first: SContext) -> [Line; 18] {
     [
-        Line::Put(MSTATUS, 0x0000_0088),
+        Line::Put(MSTATUS, 0x0000_0088), // MPIE, MIE
         Line::Put(MEPC, 0x8000_0013),
         Line::Context(first),
         Line::SetContext(ONES),
@@ -220,15 +220,15 @@ fn contexts(first: SContext) -> [Line; 18] {
         Line::Reads(SEPC, 0xFFFF_FFFC),
         Line::Reads(SCAUSE, u32::MAX),
         Line::Reads(STVAL, u32::MAX),
-        Line::Reads(SSTATUS, 0x0008_0122),
-        Line::Reads(MSTATUS, 0x0008_01AA),
+        Line::Reads(SSTATUS, 0x0008_0122), // MXR, SPP, SPIE, SIE
+        Line::Reads(MSTATUS, 0x0008_01AA), // MXR, SPP, MPIE, SPIE, MIE, SIE
         Line::StvecIs(0xFFFF_FFFD),
         Line::MepcIs(0x8000_0010),
         Line::SetContext(first),
         Line::Context(first),
         Line::Reads(STVEC, 0),
         Line::Reads(SEPC, 0),
-        Line::Reads(MSTATUS, 0x88),
+        Line::Reads(MSTATUS, 0x88), // MPIE, MIE
     ]
 }
 
