@@ -131,7 +131,7 @@ class Program:
                 state.regs[n] = word(*parts)
         for k in range(256):
             if self.rng.random() < .5:
-                state.sym[self.at + k] = self.byte(state, "d%d" % k, self.data[k], 0)
+                state.symbolic_bytes[self.at + k] = self.byte(state, "d%d" % k, self.data[k], 0)
 
     def byte(self, state, name, value, zeros=.7):
         """Returns a variable with a value, or 0 if the value is 0 and most of these stay."""
