@@ -17,57 +17,62 @@ use Rattle.rv_enclaves.proofs.Prelude.{Block, Call, Enclave, EnclaveState, Entri
 
 -- ---- lists
 
--- if the test p holds for one number of a range, then a search finds that p holds for some number of the range
-any_in : (p : ℕ → Bool) (first n k : ℕ) → first ≤ k → k < first + n → p k ≡ true → list_any p (range_with_len first n) ≡ true
-any_in p first zero k at_least_first before_end holds = absurd (omega (arith, at_least_first, before_end))
-any_in p first (suc n) k at_least_first before_end holds = elim (cases_eq k first) [
-  | inl equal ↦ let passes_here : p first ≡ true = subst (λ (j : ℕ). p j ≡ true) equal holds in rw passes_here refl
-  | inr distinct ↦
-      let rest = any_in p (first + 1) n k (omega (arith, at_least_first, distinct)) (omega (arith, before_end)) holds in
-      rw rest (or-true (p first))
+-- if a test holds for one number of a range, then `list_any` finds that the test holds for some number of the range
+any_in : (test : ℕ → Bool) (start count number : ℕ) → start ≤ number → number < start + count → test number ≡ true
+    → list_any test (range_with_len start count) ≡ true
+any_in test start zero number from_start before_end holds = absurd (omega (arith, from_start, before_end))
+any_in test start (suc count) number from_start before_end holds = elim (cases_eq number start) [
+  | inl is_start ↦ let passes_at_start : test start ≡ true = subst (λ (lower : ℕ). test lower ≡ true) is_start holds in rw passes_at_start refl
+  | inr not_start ↦
+      let passes_later = any_in test (start + 1) count number (omega (arith, from_start, not_start)) (omega (arith, before_end)) holds in
+      rw passes_later (or-true (test start))
 ]
 
--- if the test p holds for each number of a range, then p holds for all numbers of the range
-all_in : (p : ℕ → Bool) (first n : ℕ) → ((k : ℕ) → first ≤ k → k < first + n → p k ≡ true) → list_all p (range_with_len first n) ≡ true
-all_in p first zero each_holds = refl
-all_in p first (suc n) each_holds =
-    let passes_here = each_holds first (omega arith) (omega arith) in
-    let rest = all_in p (first + 1) n (λ k from to. each_holds k (omega (arith, from)) (omega (arith, to))) in
-    rw (passes_here, rest) refl
+-- if a test holds for each number of a range, then `list_all` finds that the test holds for all numbers of the range
+all_in : (test : ℕ → Bool) (start count : ℕ) → ((number : ℕ) → start ≤ number → number < start + count → test number ≡ true)
+    → list_all test (range_with_len start count) ≡ true
+all_in test start zero each_holds = refl
+all_in test start (suc count) each_holds =
+    let passes_at_start = each_holds start (omega arith) (omega arith) in
+    let passes_later =
+    all_in test (start + 1) count (λ number from_start before_end. each_holds number (omega (arith, from_start)) (omega (arith, before_end))) in
+    rw (passes_at_start, passes_later) refl
 
--- the search `find` returns the lowest number of a range that passes the test p
-find_is : (p : ℕ → Bool) (first n k : ℕ) → first ≤ k → k < first + n → ((j : ℕ) → first ≤ j → j < k → p j ≡ false) → p k ≡ true
-    → find p (range_with_len first n) ≡ Some k
-find_is p first zero k at_least_first before_end lower_fail holds = absurd (omega (arith, at_least_first, before_end))
-find_is p first (suc n) k at_least_first before_end lower_fail holds = elim (cases_eq k first) [
-  | inl equal ↦
-      cond-true (p first) _ _ (subst (λ (j : ℕ). p j ≡ true) equal holds) ∙ ap (λ (j : ℕ). Some j) (sym equal)
-  | inr distinct ↦
-      cond-false (p first) _ _ (lower_fail first (omega arith) (omega (arith, at_least_first, distinct)))
-      ∙ find_is p (first + 1) n k (omega (arith, at_least_first, distinct)) (omega (arith, before_end))
-      (λ j from to. lower_fail j (omega (arith, from)) to) holds
+-- the search `find` returns the lowest number of a range that passes the test
+find_is : (test : ℕ → Bool) (start count number : ℕ) → start ≤ number → number < start + count
+    → ((lower : ℕ) → start ≤ lower → lower < number → test lower ≡ false) → test number ≡ true
+    → find test (range_with_len start count) ≡ Some number
+find_is test start zero number from_start before_end lower_fail holds = absurd (omega (arith, from_start, before_end))
+find_is test start (suc count) number from_start before_end lower_fail holds = elim (cases_eq number start) [
+  | inl is_start ↦
+      cond-true (test start) _ _ (subst (λ (lower : ℕ). test lower ≡ true) is_start holds) ∙ ap (λ (lower : ℕ). Some lower) (sym is_start)
+  | inr not_start ↦
+      cond-false (test start) _ _ (lower_fail start (omega arith) (omega (arith, from_start, not_start)))
+      ∙ find_is test (start + 1) count number (omega (arith, from_start, not_start)) (omega (arith, before_end))
+      (λ lower from_start before_end. lower_fail lower (omega (arith, from_start)) before_end) holds
 ]
 
--- if the test p fails for each entry of a list, then p holds for no entry of the list
-any_of : (p : Option SlotInfo → Bool) (xs : List (Option SlotInfo)) → ((k : ℕ) → p (slice_index_or xs k None) ≡ false) → list_any p xs ≡ false
-any_of p [] each_fails = refl
-any_of p (x ∷ xs) each_fails =
-    let passes_here : p x ≡ false = each_fails 0 in
-    let rest = any_of p xs (λ k. each_fails (suc k)) in
-    rw (passes_here, rest) refl
+-- if a test fails for each entry of a list, then `list_any` finds no entry that passes the test
+any_of : (test : Option SlotInfo → Bool) (contents : List (Option SlotInfo)) → ((index : ℕ) → test (slice_index_or contents index None) ≡ false)
+    → list_any test contents ≡ false
+any_of test [] each_fails = refl
+any_of test (content ∷ contents) each_fails =
+    let fails_first : test content ≡ false = each_fails 0 in
+    let fails_later = any_of test contents (λ index. each_fails (suc index)) in
+    rw (fails_first, fails_later) refl
 
 -- ---- the conditions
 
 -- a block that the numbers of a create describe passes the test of a valid block
 is_block_of-passes : (memory : List ℕ) (block : Block) → IsBlockOf memory block → is_block_of memory block ≡ true
 is_block_of-passes memory block valid_block =
-    let size =
-    any_in (λ k. block.size == 2 ^ k) 12 20 valid_block.exponent valid_block.at_least (omega (arith, valid_block.below))
+    let size_holds =
+    any_in (λ exponent. block.size == 2 ^ exponent) 12 20 valid_block.exponent valid_block.at_least (omega (arith, valid_block.below))
     (eq-eqb block.size (2 ^ valid_block.exponent) valid_block.size) in
-    let multiple = eq-eqb (block.base % block.size) 0 valid_block.multiple in
-    let from = le-leb 0x80000000 block.base valid_block.from in
-    let to = le-leb (block.base + block.size) (0x80000000 + length memory) valid_block.to in
-    rw (size, multiple, from, to) refl
+    let multiple_holds = eq-eqb (block.base % block.size) 0 valid_block.multiple in
+    let from_ram_base = le-leb 0x80000000 block.base valid_block.from in
+    let to_ram_end = le-leb (block.base + block.size) (0x80000000 + length memory) valid_block.to in
+    rw (size_holds, multiple_holds, from_ram_base, to_ram_end) refl
 
 -- a window that is empty, or is a valid block, passes the test of a window
 window_is : (memory : List ℕ) (regs : List ℕ) → (register regs 13 ≡ 0) ⊎ IsBlockOf memory (window_named regs)
@@ -77,20 +82,25 @@ window_is memory regs (inr block) =
     let is_valid = is_block_of-passes memory (window_named regs) block in rw is_valid (or-true (register regs 13 == 0))
 
 -- a slot with a record is not free
-live : (o : Option SlotInfo) → is_some o ≡ true → is_none o ≡ false
+live : (maybe_info : Option SlotInfo) → is_some maybe_info ≡ true → is_none maybe_info ≡ false
 live None is_present = cc
 live (Some info) is_present = refl
 
 -- the slot of a create is the lowest free one
 free_is : (shared : Shared) (regs : List ℕ) (slot : ℕ) → IsCreatable shared regs slot → lowest_free shared.table ≡ Some slot
 free_is shared regs slot creatable =
-    find_is (λ k. is_none (record_at shared.table k)) 0 slot_count slot (omega arith) (omega (arith, creatable.in_range))
-    (λ j from to. live (record_at shared.table j) (creatable.lowest j to)) (ap (λ (o : Option SlotInfo). is_none o) creatable.free)
+    find_is (λ number. is_none (record_at shared.table number)) 0 slot_count slot (omega arith) (omega (arith, creatable.in_range))
+    (λ lower from_0 before_slot. live (record_at shared.table lower) (creatable.lowest lower before_slot))
+    (ap (λ (maybe_info : Option SlotInfo). is_none maybe_info) creatable.free)
 
 -- a create has status 0 if none of its five refusals applies
-no_condition_holds : (c1 c2 c3 c4 c5 : Bool) → c1 ≡ true → c2 ≡ true → c3 ≡ false → c4 ≡ true → c5 ≡ false
-    → first_status ((not c1, 0xFFFFFFFE) ∷ (not c2, 0xFFFFFFFD) ∷ (c3, 0xFFFFFFFC) ∷ (not c4, 0xFFFFFFFB) ∷ (c5, 0xFFFFFFFA) ∷ []) ≡ 0
-no_condition_holds c1 c2 c3 c4 c5 holds_1 holds_2 fails_3 holds_4 fails_5 = rw (holds_1, holds_2, fails_3, holds_4, fails_5) refl
+no_condition_holds : (region_valid window_valid overlap entry_valid no_free_slot : Bool) → region_valid ≡ true → window_valid ≡ true
+    → overlap ≡ false → entry_valid ≡ true → no_free_slot ≡ false
+    → first_status
+    ((not region_valid, 0xFFFFFFFE) ∷ (not window_valid, 0xFFFFFFFD) ∷ (overlap, 0xFFFFFFFC) ∷ (not entry_valid, 0xFFFFFFFB)
+    ∷ (no_free_slot, 0xFFFFFFFA) ∷ []) ≡ 0
+no_condition_holds region_valid window_valid overlap entry_valid no_free_slot region_holds window_holds no_overlap entry_holds slot_found =
+    rw (region_holds, window_holds, no_overlap, entry_holds, slot_found) refl
 
 -- a disjunction of four tests fails if each of the four tests fails
 none_of : (a b c d : Bool) → a ≡ false → b ≡ false → c ≡ false → d ≡ false → (a || (b || (c || d))) ≡ false
@@ -110,13 +120,14 @@ create_passes shared regs slot creatable =
     (any_of (overlap_enclave (region_named regs) (window_named regs)) shared.table creatable.others))
     (all_of _ _ _ (eq-eqb (register regs 14 % 4) 0 creatable.aligned) (le-leb (register regs 10) (register regs 14) creatable.entry_from)
     (lt-ltb (register regs 14) (register regs 10 + register regs 11) creatable.entry_to))
-    (ap (λ (o : Option ℕ). is_none o) (free_is shared regs slot creatable))
+    (ap (λ (found : Option ℕ). is_none found) (free_is shared regs slot creatable))
 
 -- a destroy, run or resume has status 0 if the enclave is in a state that the call accepts
-state_passes : (accepts : EnclaveState → Bool) (slots : Slots) (k : ℕ) (info : SlotInfo) → record_at slots k ≡ Some info → accepts info.state ≡ true
-    → first_status (state_rows accepts slots k) ≡ 0
+state_passes : (accepts : EnclaveState → Bool) (table : Slots) (slot : ℕ) (info : SlotInfo) → record_at table slot ≡ Some info
+    → accepts info.state ≡ true
+    → first_status (state_rows accepts table slot) ≡ 0
 unfolding state_rows
-state_passes accepts slots k info held accepted = rw (held, accepted) refl
+state_passes accepts table slot info slot_is accepted = rw (slot_is, accepted) refl
 
 -- destroy accepts an enclave in each state other than Running
 rests : (state : EnclaveState) → state ≢ states.Running → does_not_run state ≡ true
@@ -126,31 +137,31 @@ rests states.Stopped not_running = refl
 rests states.Exited not_running = refl
 
 -- a measure has status 0 if its arguments meet the conditions of measure
-measure_passes : (shared : Shared) (entries : Entries) (k address : ℕ) → IsMeasurable shared entries k address
-    → first_status (measure_rows shared entries k address) ≡ 0
+measure_passes : (shared : Shared) (entries : Entries) (slot address : ℕ) → IsMeasurable shared entries slot address
+    → first_status (measure_rows shared entries slot address) ≡ 0
 unfolding measure_rows
-measure_passes shared entries k address measurable =
+measure_passes shared entries slot address measurable =
     let live = measurable.live in
-    let to_is = measurable.to in
-    let from_is = measurable.from in
-    let stores = all_in (is_storable shared.memory entries) address 32 (λ byte from to.
-    let above = le-leb 0x80000000 byte (omega (arith, from_is, from)) in
-    let below = le-leb (byte + 1) (0x80000000 + length shared.memory) (omega (arith, to_is, to)) in
-    let stores_it = measurable.storable byte from to in
-    rw (above, below, stores_it) refl) in
-    rw (live, stores) refl
+    let end_in_ram = measurable.to in
+    let start_in_ram = measurable.from in
+    let may_store_all = all_in (is_storable shared.memory entries) address 32 (λ byte from_address before_end.
+    let byte_from_ram_base = le-leb 0x80000000 byte (omega (arith, start_in_ram, from_address)) in
+    let byte_before_ram_end = le-leb (byte + 1) (0x80000000 + length shared.memory) (omega (arith, end_in_ram, before_end)) in
+    let may_store_byte = measurable.storable byte from_address before_end in
+    rw (byte_from_ram_base, byte_before_ram_end, may_store_byte) refl) in
+    rw (live, may_store_all) refl
 
 -- ---- the law
 
 -- if the host traps with the key in a7 and the number of a call in a6, then the host requests this call
 asks_host : (a7 a6 number : ℕ) (call : Call) → a7 ≡ 0x0A454E43 → a6 ≡ number → call_numbered Host 0x0A454E43 number ≡ Some call
     → call_numbered Host a7 a6 ≡ Some call
-asks_host a7 a6 number call key same call_numbered_is = rw (key, same) call_numbered_is
+asks_host a7 a6 number call key_in_a7 number_in_a6 call_numbered_is = rw (key_in_a7, number_in_a6) call_numbered_is
 
 -- if an enclave traps with the key in a7 and the number of a call in a6, then the enclave requests this call
-asks_enclave : (k a7 a6 number : ℕ) (call : Call) → a7 ≡ 0x0A454E43 → a6 ≡ number → call_numbered (Enclave k) 0x0A454E43 number ≡ Some call
-    → call_numbered (Enclave k) a7 a6 ≡ Some call
-asks_enclave k a7 a6 number call key same call_numbered_is = rw (key, same) call_numbered_is
+asks_enclave : (slot a7 a6 number : ℕ) (call : Call) → a7 ≡ 0x0A454E43 → a6 ≡ number → call_numbered (Enclave slot) 0x0A454E43 number ≡ Some call
+    → call_numbered (Enclave slot) a7 a6 ≡ Some call
+asks_enclave slot a7 a6 number call key_in_a7 number_in_a6 call_numbered_is = rw (key_in_a7, number_in_a6) call_numbered_is
 
 -- the shared state, the PMP entries of the hart, and its registers at the ecall
 module _ (shared : Shared) (entries : Entries) (regs : List ℕ) where
@@ -158,33 +169,33 @@ module _ (shared : Shared) (entries : Entries) (regs : List ℕ) where
   accepted : (world : World) (call : Call) → call_numbered world (register regs 17) (register regs 16) ≡ Some call
       → first_status (call_rows world shared entries regs call) ≡ 0 → IsAccepted world shared entries regs call
   unfolding call_status
-  accepted world call asks no_status = record { requested = asks; status = rw asks no_status }
+  accepted world call requested status_is_0 = record { requested = requested; status = rw requested status_is_0 }
 
   -- if any world traps with the key in a7 and 5 in a6, then this world requests measure
   numbers_asked : (world : World) → Requests 5 regs → call_numbered world (register regs 17) (register regs 16) ≡ Some Measure
   unfolding call_numbered
-  numbers_asked Host asks = asks_host _ _ 5 Measure asks.a7 asks.a6 refl
-  numbers_asked (Enclave k) asks = asks_enclave k _ _ 5 Measure asks.a7 asks.a6 refl
+  numbers_asked Host requested = asks_host _ _ 5 Measure requested.a7 requested.a6 refl
+  numbers_asked (Enclave slot) requested = asks_enclave slot _ _ 5 Measure requested.a7 requested.a6 refl
 
   -- each call succeeds under the conditions that its numbers must meet
   pub succeeds : AcceptsCalls shared entries regs
   unfolding call_numbered
   succeeds = record {
-    create = λ slot asks conditions. (
-      accepted Host Create (asks_host _ _ 1 Create asks.a7 asks.a6 refl) (create_passes shared regs slot conditions),
+    create = λ slot requested conditions. (
+      accepted Host Create (asks_host _ _ 1 Create requested.a7 requested.a6 refl) (create_passes shared regs slot conditions),
       free_is shared regs slot conditions,
     );
-    destroy = λ asks conditions. accepted Host Destroy (asks_host _ _ 2 Destroy asks.a7 asks.a6 refl)
+    destroy = λ requested conditions. accepted Host Destroy (asks_host _ _ 2 Destroy requested.a7 requested.a6 refl)
         (state_passes does_not_run shared.table (register regs 10) conditions.info conditions.held
         (rests conditions.info.state conditions.not_running));
-    run = λ asks conditions. accepted Host Run (asks_host _ _ 3 Run asks.a7 asks.a6 refl)
+    run = λ requested conditions. accepted Host Run (asks_host _ _ 3 Run requested.a7 requested.a6 refl)
         (state_passes is_fresh shared.table (register regs 10) conditions.info conditions.held (ap is_fresh conditions.is));
-    resume = λ asks conditions. accepted Host Resume (asks_host _ _ 4 Resume asks.a7 asks.a6 refl)
+    resume = λ requested conditions. accepted Host Resume (asks_host _ _ 4 Resume requested.a7 requested.a6 refl)
         (state_passes is_stopped shared.table (register regs 10) conditions.info conditions.held (ap is_stopped conditions.is));
-    measure = λ world asks conditions. accepted world Measure (numbers_asked world asks)
+    measure = λ world requested conditions. accepted world Measure (numbers_asked world requested)
         (measure_passes shared entries (slot_named world regs) (register regs 11) conditions);
-    stop = λ k asks. accepted (Enclave k) Stop (asks_enclave k _ _ 6 Stop asks.a7 asks.a6 refl) refl;
-    exit = λ k asks. accepted (Enclave k) Exit (asks_enclave k _ _ 7 Exit asks.a7 asks.a6 refl) refl;
+    stop = λ slot requested. accepted (Enclave slot) Stop (asks_enclave slot _ _ 6 Stop requested.a7 requested.a6 refl) refl;
+    exit = λ slot requested. accepted (Enclave slot) Exit (asks_enclave slot _ _ 7 Exit requested.a7 requested.a6 refl) refl;
   }
 
 -- proves that each call is accepted under its conditions

@@ -41,10 +41,10 @@ grants-below_M S access cfg mode_below_m = refl
 grants-below_M M access cfg mode_below_m = absurd (mode_below_m refl)
 
 -- a matching PMP entry permits an access if and only if the entry covers all bytes of the access and grants the access
-permits-match_verdict : (e : Entries) (mode : Mode) (access : Access) (i : ℕ) (covers_all : Bool)
-    → permits (match_verdict e mode access i covers_all) ≡ (covers_all && grants mode access (cfg_of e i))
-permits-match_verdict e mode access i false = refl
-permits-match_verdict e mode access i true = elim (cases_Bool (grants mode access (cfg_of e i))) [
+permits-match_verdict : (entries : Entries) (mode : Mode) (access : Access) (entry : ℕ) (covers_all : Bool)
+    → permits (match_verdict entries mode access entry covers_all) ≡ (covers_all && grants mode access (cfg_of entries entry))
+permits-match_verdict entries mode access entry false = refl
+permits-match_verdict entries mode access entry true = elim (cases_Bool (grants mode access (cfg_of entries entry))) [
   | inl granted ↦ rw granted refl
   | inr refused ↦ rw refused refl
 ]
@@ -70,19 +70,21 @@ rwx_permits Read = refl
 rwx_permits Write = refl
 
 -- the PMP entry of a slot gives a permission only to the enclave in this slot
-slot_gives : (w : World) (k : ℕ) (o : Option SlotInfo) (access : Access) → has_permission access (region_entry w k o).cfg ≡ true
-    → is_world_of k w ≡ true
-slot_gives w k None access permission = absurd (both_ways _ (off_refuses access) permission)
-slot_gives w k (Some s) access permission = elim (cases_Bool (is_world_of k w)) [
+slot_gives : (world : World) (slot : ℕ) (maybe_info : Option SlotInfo) (access : Access)
+    → has_permission access (region_entry world slot maybe_info).cfg ≡ true
+    → is_world_of slot world ≡ true
+slot_gives world slot None access permission = absurd (both_ways _ (off_refuses access) permission)
+slot_gives world slot (Some info) access permission = elim (cases_Bool (is_world_of slot world)) [
   | inl runs_enclave ↦ runs_enclave
-  | inr runs_other ↦ let given' = rw runs_other at permission in absurd (both_ways _ (no_permission_refuses access) given')
+  | inr runs_other ↦ let no_permission_given = rw runs_other at permission in absurd (both_ways _ (no_permission_refuses access) no_permission_given)
 ]
 
 -- the PMP entry of a slot whose region has a byte gives every permission to the enclave in this slot
-slot_gives_all : (w : World) (k : ℕ) (o : Option SlotInfo) (access : Access) (b : ℕ) → is_world_of k w ≡ true → has (region_of o) b ≡ true
-    → has_permission access (region_entry w k o).cfg ≡ true
-slot_gives_all w k None access b runs_enclave in_region = absurd (both_ways _ (has_nothing b) in_region)
-slot_gives_all w k (Some s) access b runs_enclave in_region = rw runs_enclave (rwx_permits access)
+slot_gives_all : (world : World) (slot : ℕ) (maybe_info : Option SlotInfo) (access : Access) (address : ℕ) → is_world_of slot world ≡ true
+    → has (region_of maybe_info) address ≡ true
+    → has_permission access (region_entry world slot maybe_info).cfg ≡ true
+slot_gives_all world slot None access address runs_enclave in_region = absurd (both_ways _ (has_nothing address) in_region)
+slot_gives_all world slot (Some info) access address runs_enclave in_region = rw runs_enclave (rwx_permits access)
 
 -- a cfg byte with R and W permits loads and stores
 read_or_write : (access : Access) → access ≢ Fetch → has_permission access read_write ≡ true
@@ -91,354 +93,393 @@ read_or_write Read no_fetch = refl
 read_or_write Write no_fetch = refl
 
 -- PMP entry 15 permits every access while the host runs
-host_gives : (w : World) (access : Access) → is_host w ≡ true → has_permission access (host_entry w).cfg ≡ true
+host_gives : (world : World) (access : Access) → is_host world ≡ true → has_permission access (host_entry world).cfg ≡ true
 host_gives Host access host_runs = rwx_permits access
-host_gives (Enclave k) access host_runs = absurd (false≢true host_runs)
+host_gives (Enclave slot) access host_runs = absurd (false≢true host_runs)
 
 -- if PMP entry 15 permits some access, then the host runs
-host_gives_to_host : (w : World) (access : Access) → has_permission access (host_entry w).cfg ≡ true → is_host w ≡ true
+host_gives_to_host : (world : World) (access : Access) → has_permission access (host_entry world).cfg ≡ true → is_host world ≡ true
 host_gives_to_host Host access permission = refl
-host_gives_to_host (Enclave k) access permission = absurd (both_ways _ (off_refuses access) permission)
+host_gives_to_host (Enclave slot) access permission = absurd (both_ways _ (off_refuses access) permission)
 
 -- the PMP entry of a window permits no fetch
-window_gives_no_fetch : (o : Option SlotInfo) → has_permission Fetch (window_entry_of o).cfg ≡ false
+window_gives_no_fetch : (maybe_info : Option SlotInfo) → has_permission Fetch (window_entry_of maybe_info).cfg ≡ false
 window_gives_no_fetch None = refl
-window_gives_no_fetch (Some s) = elim (cases_Bool (s.window.size == 0)) [
+window_gives_no_fetch (Some info) = elim (cases_Bool (info.window.size == 0)) [
   | inl window_empty ↦ rw window_empty refl
   | inr window_nonempty ↦ rw window_nonempty refl
 ]
 
 -- the PMP entry of a window that has a byte permits loads and stores
-window_gives : (o : Option SlotInfo) (access : Access) (b : ℕ) → access ≢ Fetch → has (window_of o) b ≡ true
-    → has_permission access (window_entry_of o).cfg ≡ true
-window_gives None access b no_fetch in_window = absurd (both_ways _ (has_nothing b) in_window)
-window_gives (Some s) access b no_fetch in_window =
+window_gives : (maybe_info : Option SlotInfo) (access : Access) (address : ℕ) → access ≢ Fetch → has (window_of maybe_info) address ≡ true
+    → has_permission access (window_entry_of maybe_info).cfg ≡ true
+window_gives None access address no_fetch in_window = absurd (both_ways _ (has_nothing address) in_window)
+window_gives (Some info) access address no_fetch in_window =
     let parts = and_parts _ _ in_window in
-    let low = leb-true s.window.base b parts.0 in
-    let high = ltb-true b (s.window.base + s.window.size) parts.1 in
-    let window_nonempty = ne_eqb s.window.size 0 (λ size_is_0. omega arith) in
+    let from_base = leb-true info.window.base address parts.0 in
+    let before_end = ltb-true address (info.window.base + info.window.size) parts.1 in
+    let window_nonempty = ne_eqb info.window.size 0 (λ size_is_0. omega arith) in
     rw window_nonempty (read_or_write access no_fetch)
 
 -- ---- accessible memory, by world
 
--- a world that passes the test `is_world_of k` is enclave k
-pub world_is_enclave : (k : ℕ) (w : World) → is_world_of k w ≡ true → w ≡ Enclave k
-world_is_enclave k Host runs_enclave = absurd (false≢true runs_enclave)
-world_is_enclave k (Enclave j) runs_enclave = ap Enclave (eqb-true j k runs_enclave)
+-- a world that passes the test `is_world_of slot` is the enclave in this slot
+pub world_is_enclave : (slot : ℕ) (world : World) → is_world_of slot world ≡ true → world ≡ Enclave slot
+world_is_enclave slot Host runs_enclave = absurd (false≢true runs_enclave)
+world_is_enclave slot (Enclave running) runs_enclave = ap Enclave (eqb-true running slot runs_enclave)
 
 -- the bytes of a region are accessible to the enclave of this region
-region_reaches : (memory : List ℕ) (t : Slots) (w : World) (access : Access) (bytes : List ℕ) (k : ℕ) → is_world_of k w ≡ true
-    → list_all (has (region t k)) bytes ≡ true → is_accessible memory t w access bytes ≡ true
+region_reaches : (memory : List ℕ) (table : Slots) (world : World) (access : Access) (bytes : List ℕ) (slot : ℕ) → is_world_of slot world ≡ true
+    → list_all (has (region table slot)) bytes ≡ true → is_accessible memory table world access bytes ≡ true
 unfolding is_accessible
-region_reaches memory t w access bytes k runs_enclave all_in_region = rw (world_is_enclave k w runs_enclave) (or_left _ _ all_in_region)
+region_reaches memory table world access bytes slot runs_enclave all_in_region =
+    rw (world_is_enclave slot world runs_enclave) (or_left _ _ all_in_region)
 
 -- the bytes of a window are accessible to the enclave of this window, if PMP entry 14 has the permission for the access
-window_reaches : (memory : List ℕ) (t : Slots) (w : World) (access : Access) (bytes : List ℕ)
-    → has_permission access (window_entry t w).cfg ≡ true → list_all (has (world_window t w)) bytes ≡ true
-    → is_accessible memory t w access bytes ≡ true
+window_reaches : (memory : List ℕ) (table : Slots) (world : World) (access : Access) (bytes : List ℕ)
+    → has_permission access (window_entry table world).cfg ≡ true → list_all (has (world_window table world)) bytes ≡ true
+    → is_accessible memory table world access bytes ≡ true
 unfolding is_accessible
-window_reaches memory t Host access bytes permission all_in_window = absurd (both_ways _ (off_refuses access) permission)
-window_reaches memory t (Enclave k) Fetch bytes permission all_in_window = absurd (both_ways _ (window_gives_no_fetch (slot_at t k)) permission)
-window_reaches memory t (Enclave k) Read bytes permission all_in_window = or_right _ _ (or_left _ _ all_in_window)
-window_reaches memory t (Enclave k) Write bytes permission all_in_window = or_right _ _ (or_left _ _ all_in_window)
+window_reaches memory table Host access bytes permission all_in_window = absurd (both_ways _ (off_refuses access) permission)
+window_reaches memory table (Enclave slot) Fetch bytes permission all_in_window =
+    absurd (both_ways _ (window_gives_no_fetch (slot_at table slot)) permission)
+window_reaches memory table (Enclave slot) Read bytes permission all_in_window = or_right _ _ (or_left _ _ all_in_window)
+window_reaches memory table (Enclave slot) Write bytes permission all_in_window = or_right _ _ (or_left _ _ all_in_window)
 
 -- bytes that belong to the host are accessible to the host
-host_reaches : (memory : List ℕ) (t : Slots) (w : World) (access : Access) (bytes : List ℕ) → is_host w ≡ true
-    → list_all (host_has memory t) bytes ≡ true → is_accessible memory t w access bytes ≡ true
+host_reaches : (memory : List ℕ) (table : Slots) (world : World) (access : Access) (bytes : List ℕ) → is_host world ≡ true
+    → list_all (host_has memory table) bytes ≡ true → is_accessible memory table world access bytes ≡ true
 unfolding is_accessible
-host_reaches memory t Host access bytes host_runs all_of_host = or_left _ _ all_of_host
-host_reaches memory t (Enclave k) access bytes host_runs all_of_host = absurd (false≢true host_runs)
+host_reaches memory table Host access bytes host_runs all_of_host = or_left _ _ all_of_host
+host_reaches memory table (Enclave slot) access bytes host_runs all_of_host = absurd (false≢true host_runs)
 
 -- accessible bytes are all in the region of the running enclave, all in its window, or all bytes of the host
-reach_cases : (memory : List ℕ) (t : Slots) (w : World) (access : Access) (bytes : List ℕ) → is_accessible memory t w access bytes ≡ true →
-    ((is_host w ≡ true) × (list_all (host_has memory t) bytes ≡ true))
-    ⊎ ((k : ℕ) × (w ≡ Enclave k)
-    × ((list_all (has (region t k)) bytes ≡ true) ⊎ ((access ≢ Fetch) × (list_all (has (window t k)) bytes ≡ true))))
+reach_cases : (memory : List ℕ) (table : Slots) (world : World) (access : Access) (bytes : List ℕ)
+    → is_accessible memory table world access bytes ≡ true →
+    ((is_host world ≡ true) × (list_all (host_has memory table) bytes ≡ true))
+    ⊎ ((slot : ℕ) × (world ≡ Enclave slot)
+    × ((list_all (has (region table slot)) bytes ≡ true) ⊎ ((access ≢ Fetch) × (list_all (has (window table slot)) bytes ≡ true))))
 unfolding is_accessible
-reach_cases memory t Host access bytes accessible =
+reach_cases memory table Host access bytes accessible =
     elim (or_cases _ _ accessible) [ inl all_of_host ↦ inl (refl, all_of_host) | inr contradiction ↦ absurd (false≢true contradiction) ]
-reach_cases memory t (Enclave k) Fetch bytes accessible =
-    elim (or_cases _ _ accessible) [ inl all_in_region ↦ inr (k, refl, inl all_in_region) | inr contradiction ↦ absurd (false≢true contradiction) ]
-reach_cases memory t (Enclave k) Read bytes accessible = elim (or_cases _ _ accessible) [
-  | inl all_in_region ↦ inr (k, refl, inl all_in_region)
+reach_cases memory table (Enclave slot) Fetch bytes accessible =
+    elim (or_cases _ _ accessible) [ inl all_in_region ↦ inr (slot, refl, inl all_in_region) | inr contradiction ↦ absurd (false≢true contradiction) ]
+reach_cases memory table (Enclave slot) Read bytes accessible = elim (or_cases _ _ accessible) [
+  | inl all_in_region ↦ inr (slot, refl, inl all_in_region)
   | inr not_in_region ↦
-      elim
-      (or_cases _ _ not_in_region) [
-        | inl all_in_window ↦ inr (k, refl, inr (λ e. cc, all_in_window))
-        | inr contradiction ↦ absurd
-            (false≢true contradiction)
+      elim (or_cases _ _ not_in_region) [
+        | inl all_in_window ↦ inr (slot, refl, inr (λ is_fetch. cc, all_in_window))
+        | inr contradiction ↦ absurd (false≢true contradiction)
       ]
 ]
-reach_cases memory t (Enclave k) Write bytes accessible = elim (or_cases _ _ accessible) [
-  | inl all_in_region ↦ inr (k, refl, inl all_in_region)
+reach_cases memory table (Enclave slot) Write bytes accessible = elim (or_cases _ _ accessible) [
+  | inl all_in_region ↦ inr (slot, refl, inl all_in_region)
   | inr not_in_region ↦
-      elim
-      (or_cases _ _ not_in_region) [
-        | inl all_in_window ↦ inr (k, refl, inr (λ e. cc, all_in_window))
-        | inr contradiction ↦ absurd
-            (false≢true contradiction)
+      elim (or_cases _ _ not_in_region) [
+        | inl all_in_window ↦ inr (slot, refl, inr (λ is_fetch. cc, all_in_window))
+        | inr contradiction ↦ absurd (false≢true contradiction)
       ]
 ]
 
 -- one byte at an address between the two ends of RAM is inside memory
-inside_from : (memory : List ℕ) (b : ℕ) → ram_base ≤ b → b < ram_base + length memory → is_inside memory b 1 ≡ true
-inside_from memory b in_ram before_ram_end = and_from _ _ (le-leb ram_base b in_ram) (le-leb (b + 1) (ram_base + length memory) (omega arith))
+inside_from : (memory : List ℕ) (address : ℕ) → ram_base ≤ address → address < ram_base + length memory → is_inside memory address 1 ≡ true
+inside_from memory address from_ram_base before_ram_end =
+    and_from _ _ (le-leb ram_base address from_ram_base) (le-leb (address + 1) (ram_base + length memory) (omega arith))
 
--- the number of a PMP entry is 0 (the monitor's range), k + 1 (slot k), 14 (the window) or 15 (everything else)
-pub place_cases : (i : ℕ) → i < 16 → (i ≡ 0) ⊎ (((k : ℕ) × (k < slot_count) × (i ≡ k + 1)) ⊎ ((i ≡ 14) ⊎ (i ≡ 15)))
-place_cases i in_range = elim (cases_eq i 0) [
-  | inl equal ↦ inl equal
-  | inr distinct ↦ elim (cases_lt i 14) [
-    | inl slot ↦ inr (inl (i - 1, omega arith, omega arith))
-    | inr last ↦ elim (cases_eq i 14) [ inl window ↦ inr (inr (inl window)) | inr host ↦ inr (inr (inr (omega arith))) ]
+-- the number of a PMP entry is 0 (the monitor's range), `slot` + 1 (a slot's region), 14 (the window) or 15 (the rest of memory)
+pub entry_cases : (entry : ℕ) → entry < 16 → (entry ≡ 0) ⊎ (((slot : ℕ) × (slot < slot_count) × (entry ≡ slot + 1)) ⊎ ((entry ≡ 14) ⊎ (entry ≡ 15)))
+entry_cases entry in_range = elim (cases_eq entry 0) [
+  | inl is_monitor ↦ inl is_monitor
+  | inr not_monitor ↦ elim (cases_lt entry 14) [
+    | inl before_window ↦ inr (inl (entry - 1, omega arith, omega arith))
+    | inr from_window ↦ elim (cases_eq entry 14) [ inl is_window ↦ inr (inr (inl is_window)) | inr is_host_entry ↦ inr (inr (inr (omega arith))) ]
   ]
 ]
 
 -- the host has no window
-no_window : (t : Slots) (w : World) (b : ℕ) → is_host w ≡ true → has (world_window t w) b ≡ false
-no_window t Host b host_runs = has_nothing b
-no_window t (Enclave k) b host_runs = absurd (false≢true host_runs)
+no_window : (table : Slots) (world : World) (address : ℕ) → is_host world ≡ true → has (world_window table world) address ≡ false
+no_window table Host address host_runs = has_nothing address
+no_window table (Enclave slot) address host_runs = absurd (false≢true host_runs)
 
 -- a slot whose region has a byte is one of the slots of the table
-slot_in_range : (memory : List ℕ) (t : Slots) (w : World) (k b : ℕ) → IsValid memory t → has (region t k) b ≡ true → k < slot_count
-slot_in_range memory t w k b table_valid in_region = elim (cases_lt k slot_count) [
+slot_in_range : (memory : List ℕ) (table : Slots) (world : World) (slot address : ℕ) → IsValid memory table
+    → has (region table slot) address ≡ true → slot < slot_count
+slot_in_range memory table world slot address table_valid in_region = elim (cases_lt slot slot_count) [
   | inl in_range ↦ in_range
   | inr past_last ↦
-      let nothing : slot_at t k ≡ None = get_or_past t k None (omega (arith, table_valid.count)) in
-      absurd (both_ways _ (has_nothing b) (sym (ap (λ o. has (region_of o) b) nothing) ∙ in_region))
+      let nothing : slot_at table slot ≡ None = get_or_past table slot None (omega (arith, table_valid.count)) in
+      absurd (both_ways _ (has_nothing address) (sym (ap (λ maybe_info. has (region_of maybe_info) address) nothing) ∙ in_region))
 ]
 
 -- bytes that are accessible to a world are in no region of another enclave
-pub accessible_apart : (memory : List ℕ) (t : Slots) (w : World) (access : Access) (a n k : ℕ) → IsValid memory t → is_world_of k w ≡ false
-    → is_accessible memory t w access (bytes_from a n) ≡ true → (b : ℕ) → a ≤ b → b < a + n → has (region t k) b ≡ false
-accessible_apart memory t w access a n k table_valid runs_other accessible b low high =
-    let apart_bytes = apart memory t table_valid in
-    elim (reach_cases memory t w access (bytes_from a n) accessible) [
+pub accessible_apart : (memory : List ℕ) (table : Slots) (world : World) (access : Access) (start size slot : ℕ) → IsValid memory table
+    → is_world_of slot world ≡ false
+    → is_accessible memory table world access (bytes_from start size) ≡ true → (address : ℕ) → start ≤ address → address < start + size
+    → has (region table slot) address ≡ false
+accessible_apart memory table world access start size slot table_valid runs_other accessible address from_start before_end =
+    let apart_bytes = apart memory table table_valid in
+    elim (reach_cases memory table world access (bytes_from start size) accessible) [
       | inl host ↦
-          let parts =
-          and_parts (not (has monitor_block b)) (not (is_in_region t b))
-          (and_parts (is_inside memory b 1) _ (each_from_all (host_has memory t) a n host.1 b low high)).1 in
+          let of_host_only =
+          and_parts (not (has monitor_block address)) (not (is_in_region table address))
+          (and_parts (is_inside memory address 1) _ (each_from_all (host_has memory table) start size host.1 address from_start before_end)).1 in
           false_from_ne_true _ (λ in_its_region. both_ways _
-          (none_from_any (λ j. has (region t j) b) 0 slot_count (not-true _ parts.1) k (omega arith)
-          (slot_in_range memory t w k b table_valid in_its_region))
+          (none_from_any (λ other. has (region table other) address) 0 slot_count (not-true _ of_host_only.1) slot (omega arith)
+          (slot_in_range memory table world slot address table_valid in_its_region))
           in_its_region)
       | inr enclave ↦
-          let j = enclave.0 in
-          let distinct : j ≢ k = λ same. both_ways _ runs_other (rw enclave.1 (eq-eqb j k same)) in
+          let running = enclave.0 in
+          let other_enclave : running ≢ slot = λ is_equal. both_ways _ runs_other (rw enclave.1 (eq-eqb running slot is_equal)) in
           elim enclave.2 [
-            | inl inner ↦ apart_bytes.regions_apart j k b distinct (each_from_all (has (region t j)) a n inner b low high)
-            | inr outer ↦
+            | inl all_in_region ↦
+                apart_bytes.regions_apart running slot address other_enclave
+                (each_from_all (has (region table running)) start size all_in_region address from_start before_end)
+            | inr all_in_window ↦
                 false_from_ne_true _
-                (λ in_its_region. both_ways _ (apart_bytes.windows_apart k j b in_its_region)
-                (each_from_all (has (window t j)) a n outer.1 b low high))
+                (λ in_its_region. both_ways _ (apart_bytes.windows_apart slot running address in_its_region)
+                (each_from_all (has (window table running)) start size all_in_window.1 address from_start before_end))
           ]
     ]
 
 -- ---- permitted accesses are accessible
 
--- World w accesses the n bytes from address a on, in mode S or U. The bytes are in RAM, t is a valid table, and the hart has the PMP layout of t and
--- w
-module _ (memory : List ℕ) (t : Slots) (w : World) (mode : Mode) (access : Access) (a n : ℕ) (ram_size : length memory ≤ 0x1000000)
-    (table_valid : IsValid memory t) (mode_below_m : mode ≢ M) (has_bytes : 0 < n)
-    (inside : (ram_base ≤ a) × (a + n ≤ ram_base + length memory)) where
-  -- the PMP entries of the layout for table t and world w
+-- A world accesses `size` bytes from the address `start` on, in mode S or U. The bytes are in RAM, and the table is valid. The hart has the PMP
+-- layout of the table and the world.
+module _ (memory : List ℕ) (table : Slots) (world : World) (mode : Mode) (access : Access) (start size : ℕ) (ram_size : length memory ≤ 0x1000000)
+    (table_valid : IsValid memory table) (mode_below_m : mode ≢ M) (has_bytes : 0 < size)
+    (inside : (ram_base ≤ start) × (start + size ≤ ram_base + length memory)) where
+  -- the PMP entries of the layout for the table and the world
   abbrev entries : Entries
-  entries = layout t w
+  entries = layout table world
 
   -- the regions share no byte with each other or with a window
-  apart_bytes : IsApart t
-  apart_bytes = apart memory t table_valid
+  apart_bytes : IsApart table
+  apart_bytes = apart memory table table_valid
 
-  -- the n bytes from address a on
+  -- the addresses of the bytes of the access
   abbrev bytes : List ℕ
-  bytes = bytes_from a n
+  bytes = bytes_from start size
 
-  -- PMP entry k + 1 matches all bytes of the access if and only if all these bytes are in the region of slot k
-  all_slot : (k : ℕ) → k < slot_count → list_all (covers entries (k + 1)) bytes ≡ list_all (has (region t k)) bytes
-  all_slot k in_range = same_all _ _ a n (λ b low high. covers_slot memory t w ram_size table_valid b k in_range)
+  -- PMP entry `slot` + 1 matches all bytes of the access if and only if all these bytes are in the region of this slot
+  all_slot : (slot : ℕ) → slot < slot_count → list_all (covers entries (slot + 1)) bytes ≡ list_all (has (region table slot)) bytes
+  all_slot slot slot_in_bounds =
+      same_all _ _ start size (λ address from_start before_end. covers_slot memory table world ram_size table_valid address slot slot_in_bounds)
 
-  -- PMP entry k + 1 matches some byte of the access if and only if some byte is in the region of slot k
-  any_slot : (k : ℕ) → k < slot_count → list_any (covers entries (k + 1)) bytes ≡ list_any (has (region t k)) bytes
-  any_slot k in_range = same_any _ _ a n (λ b low high. covers_slot memory t w ram_size table_valid b k in_range)
+  -- PMP entry `slot` + 1 matches some byte of the access if and only if some byte is in the region of this slot
+  any_slot : (slot : ℕ) → slot < slot_count → list_any (covers entries (slot + 1)) bytes ≡ list_any (has (region table slot)) bytes
+  any_slot slot slot_in_bounds =
+      same_any _ _ start size (λ address from_start before_end. covers_slot memory table world ram_size table_valid address slot slot_in_bounds)
 
   -- PMP entry 0 matches some byte of the access if and only if some byte is in the monitor's range
   any_monitor : list_any (covers entries 0) bytes ≡ list_any (has monitor_block) bytes
-  any_monitor = same_any _ _ a n (λ b low high. covers_monitor memory t w ram_size table_valid b)
+  any_monitor = same_any _ _ start size (λ address from_start before_end. covers_monitor memory table world ram_size table_valid address)
 
   -- PMP entry 14 matches all bytes of the access if and only if all these bytes are in the window of the world
-  all_window : list_all (covers entries 14) bytes ≡ list_all (has (world_window t w)) bytes
-  all_window = same_all _ _ a n (λ b low high. covers_window memory t w ram_size table_valid b)
+  all_window : list_all (covers entries 14) bytes ≡ list_all (has (world_window table world)) bytes
+  all_window = same_all _ _ start size (λ address from_start before_end. covers_window memory table world ram_size table_valid address)
 
   -- PMP entry 14 matches some byte of the access if and only if some byte is in the window of the world
-  any_window : list_any (covers entries 14) bytes ≡ list_any (has (world_window t w)) bytes
-  any_window = same_any _ _ a n (λ b low high. covers_window memory t w ram_size table_valid b)
+  any_window : list_any (covers entries 14) bytes ≡ list_any (has (world_window table world)) bytes
+  any_window = same_any _ _ start size (λ address from_start before_end. covers_window memory table world ram_size table_valid address)
 
   -- an entry of the layout grants the access if and only if its cfg byte has the permission
-  given_at : (i : ℕ) (cfg : ℕ) → cfg_of entries i ≡ cfg → grants mode access (cfg_of entries i) ≡ has_permission access cfg
-  given_at i cfg cfg_of_is = grants-below_M mode access _ mode_below_m ∙ ap (has_permission access) cfg_of_is
+  grants_if_cfg : (entry : ℕ) (cfg : ℕ) → cfg_of entries entry ≡ cfg → grants mode access (cfg_of entries entry) ≡ has_permission access cfg
+  grants_if_cfg entry cfg cfg_of_is = grants-below_M mode access _ mode_below_m ∙ ap (has_permission access) cfg_of_is
 
-  -- the cfg byte of PMP entry k + 1 is the cfg byte for the region of slot k
-  cfg_of-slot : (k : ℕ) → k < slot_count → cfg_of entries (k + 1) ≡ (region_entry w k (slot_at t k)).cfg
-  cfg_of-slot k in_range = cfg_of-layout t w (k + 1) (omega arith) ∙ ap (λ (x : Entry). x.cfg) (entry_at-slot t w k in_range)
+  -- the cfg byte of PMP entry `slot` + 1 is the cfg byte for the region of this slot
+  cfg_of-slot : (slot : ℕ) → slot < slot_count → cfg_of entries (slot + 1) ≡ (region_entry world slot (slot_at table slot)).cfg
+  cfg_of-slot slot slot_in_bounds =
+      cfg_of-layout table world (slot + 1) (omega arith) ∙ ap (λ (entry : Entry). entry.cfg) (entry_at-slot table world slot slot_in_bounds)
 
   -- the cfg byte of PMP entry 0 has no permission
   cfg_of-monitor : cfg_of entries 0 ≡ nothing_cfg
-  cfg_of-monitor = cfg_of-layout t w 0 (lit< tt) ∙ ap (λ (x : Entry). x.cfg) (entry_at-monitor t w)
+  cfg_of-monitor = cfg_of-layout table world 0 (lit< tt) ∙ ap (λ (entry : Entry). entry.cfg) (entry_at-monitor table world)
 
   -- the cfg byte of PMP entry 14 is the cfg byte for the window of the world
-  cfg_of-window : cfg_of entries 14 ≡ (window_entry t w).cfg
-  cfg_of-window = cfg_of-layout t w 14 (lit< tt) ∙ ap (λ (x : Entry). x.cfg) (entry_at-window t w)
+  cfg_of-window : cfg_of entries 14 ≡ (window_entry table world).cfg
+  cfg_of-window = cfg_of-layout table world 14 (lit< tt) ∙ ap (λ (entry : Entry). entry.cfg) (entry_at-window table world)
 
   -- the cfg byte of PMP entry 15 is the cfg byte of the entry for the host
-  cfg_of-host : cfg_of entries 15 ≡ (host_entry w).cfg
-  cfg_of-host = cfg_of-layout t w 15 (lit< tt) ∙ ap (λ (x : Entry). x.cfg) (entry_at-host t w)
+  cfg_of-host : cfg_of entries 15 ≡ (host_entry world).cfg
+  cfg_of-host = cfg_of-layout table world 15 (lit< tt) ∙ ap (λ (entry : Entry). entry.cfg) (entry_at-host table world)
 
   -- bytes that no PMP entry before entry 15 covers belong to the host
-  uncovered_is_host : ((j : ℕ) → j < 15 → list_any (covers entries j) bytes ≡ false) → list_all (host_has memory t) bytes ≡ true
-  uncovered_is_host none_covers = all_each (host_has memory t) a n (λ b low high.
-      let no_monitor = none_from_any (has monitor_block) a n (sym any_monitor ∙ none_covers 0 (lit< tt)) b low high in
-      let no_region =
-      any_none (λ k. has (region t k) b) 0 slot_count
-      (λ k k_low k_high. none_from_any (has (region t k)) a n (sym (any_slot k k_high) ∙ none_covers (k + 1) (omega arith)) b low high) in
-      let in_ram : is_inside memory b 1 ≡ true = inside_from memory b (omega (arith, inside.0)) (omega (arith, inside.1)) in
-      and_from _ _ in_ram (and_from _ _ (ap not no_monitor) (ap not no_region)))
+  uncovered_is_host : ((entry : ℕ) → entry < 15 → list_any (covers entries entry) bytes ≡ false) → list_all (host_has memory table) bytes ≡ true
+  uncovered_is_host none_covers = all_each (host_has memory table) start size (λ address from_start before_end.
+      let not_in_monitor = none_from_any (has monitor_block) start size (sym any_monitor ∙ none_covers 0 (lit< tt)) address from_start before_end in
+      let in_no_region =
+      any_none (λ slot. has (region table slot) address) 0 slot_count
+      (λ slot _from_0 slot_in_bounds.
+      none_from_any (has (region table slot)) start size
+      (sym (any_slot slot slot_in_bounds) ∙ none_covers (slot + 1) (omega arith)) address from_start before_end) in
+      let in_ram : is_inside memory address 1 ≡ true = inside_from memory address (omega (arith, inside.0)) (omega (arith, inside.1)) in
+      and_from _ _ in_ram (and_from _ _ (ap not not_in_monitor) (ap not in_no_region)))
 
   -- if the first matching PMP entry covers all bytes of the access and grants the access, then these bytes are accessible to the world
-  accessible_by : (i : ℕ) → IsFirst (λ j. list_any (covers entries j) bytes) 0 16 i → list_all (covers entries i) bytes ≡ true
-      → grants mode access (cfg_of entries i) ≡ true → is_accessible memory t w access bytes ≡ true
-  accessible_by i first_match covered permission = elim (place_cases i first_match.high) [
-    | inl first ↦
-        let given' = rw first at permission in
-        absurd (both_ways _ (no_permission_refuses access) (sym (given_at 0 _ cfg_of-monitor) ∙ given'))
-    | inr later ↦ elim later [
-      | inl slot ↦
-          let k = slot.0 in
-          let covered' = rw slot.2 at covered in
-          let given' = rw slot.2 at permission in
-          region_reaches memory t w access bytes k
-          (slot_gives w k (slot_at t k) access (sym (given_at (k + 1) _ (cfg_of-slot k slot.1)) ∙ given'))
-          (sym (all_slot k slot.1) ∙ covered')
-      | inr last ↦ elim last [
-        | inl window ↦
-            let covered' = rw window at covered in
-            let given' = rw window at permission in
-            window_reaches memory t w access bytes (sym (given_at 14 _ cfg_of-window) ∙ given') (sym all_window ∙ covered')
-        | inr host ↦
-            let given' = rw host at permission in
-            host_reaches memory t w access bytes
-            (host_gives_to_host w access (sym (given_at 15 _ cfg_of-host) ∙ given'))
-            (uncovered_is_host (λ j before. first_match.first j (omega arith) (omega arith)))
+  accessible_by : (entry : ℕ) → IsFirst (λ lower. list_any (covers entries lower) bytes) 0 16 entry → list_all (covers entries entry) bytes ≡ true
+      → grants mode access (cfg_of entries entry) ≡ true → is_accessible memory table world access bytes ≡ true
+  accessible_by entry first_match covered permission = elim (entry_cases entry first_match.high) [
+    | inl is_monitor ↦
+        let granted_by_entry = rw is_monitor at permission in
+        absurd (both_ways _ (no_permission_refuses access) (sym (grants_if_cfg 0 _ cfg_of-monitor) ∙ granted_by_entry))
+    | inr not_monitor ↦ elim not_monitor [
+      | inl of_slot ↦
+          let slot = of_slot.0 in
+          let covered_by_entry = rw of_slot.2 at covered in
+          let granted_by_entry = rw of_slot.2 at permission in
+          region_reaches memory table world access bytes slot
+          (slot_gives world slot (slot_at table slot) access (sym (grants_if_cfg (slot + 1) _ (cfg_of-slot slot of_slot.1)) ∙ granted_by_entry))
+          (sym (all_slot slot of_slot.1) ∙ covered_by_entry)
+      | inr from_window ↦ elim from_window [
+        | inl is_window ↦
+            let covered_by_entry = rw is_window at covered in
+            let granted_by_entry = rw is_window at permission in
+            window_reaches memory table world access bytes (sym (grants_if_cfg 14 _ cfg_of-window) ∙ granted_by_entry)
+            (sym all_window ∙ covered_by_entry)
+        | inr is_host_entry ↦
+            let granted_by_entry = rw is_host_entry at permission in
+            host_reaches memory table world access bytes
+            (host_gives_to_host world access (sym (grants_if_cfg 15 _ cfg_of-host) ∙ granted_by_entry))
+            (uncovered_is_host (λ lower is_lower. first_match.first lower (omega arith) (omega arith)))
       ]
     ]
   ]
 
   -- if the layout permits an access, then the accessed bytes are accessible to the world
-  accessible_if_permitted : permits (verdict entries mode access bytes) ≡ true → is_accessible memory t w access bytes ≡ true
+  accessible_if_permitted : permits (verdict entries mode access bytes) ≡ true → is_accessible memory table world access bytes ≡ true
   accessible_if_permitted permitted = elim (verdict_cases entries mode access bytes) [
     | inl found ↦
-        let i = found.0 in
-        let covers_all = list_all (covers entries i) bytes in
-        let parts =
-        and_parts covers_all (grants mode access (cfg_of entries i))
-        (sym (permits-match_verdict entries mode access i covers_all) ∙ ap permits (sym found.1) ∙ permitted) in
-        accessible_by i found.2 parts.0 parts.1
-    | inr nothing ↦ absurd (both_ways _ (no_match_refuses mode mode_below_m) (ap permits (sym nothing) ∙ permitted))
+        let entry = found.0 in
+        let covers_all = list_all (covers entries entry) bytes in
+        let covered_and_granted =
+        and_parts covers_all (grants mode access (cfg_of entries entry))
+        (sym (permits-match_verdict entries mode access entry covers_all) ∙ ap permits (sym found.1) ∙ permitted) in
+        accessible_by entry found.2 covered_and_granted.0 covered_and_granted.1
+    | inr none_matches ↦ absurd (both_ways _ (no_match_refuses mode mode_below_m) (ap permits (sym none_matches) ∙ permitted))
   ]
 
   -- if a PMP entry covers all bytes of the access and grants the access, and no lower entry covers any of these bytes, then the layout permits the
   -- access
-  permitted_by : (i : ℕ) → i < 16 → list_all (covers entries i) bytes ≡ true → grants mode access (cfg_of entries i) ≡ true
-      → ((j : ℕ) → j < i → list_any (covers entries j) bytes ≡ false) → permits (verdict entries mode access bytes) ≡ true
-  permitted_by i in_range covered permission first =
-      let meets =
-      any_at (covers entries i) a n a (omega arith) (omega arith) (each_from_all (covers entries i) a n covered a (omega arith) (omega arith)) in
-      ap permits (verdict_of_match entries mode access bytes i in_range meets first)
-      ∙ permits-match_verdict entries mode access i _
+  permitted_by : (entry : ℕ) → entry < 16 → list_all (covers entries entry) bytes ≡ true → grants mode access (cfg_of entries entry) ≡ true
+      → ((lower : ℕ) → lower < entry → list_any (covers entries lower) bytes ≡ false) → permits (verdict entries mode access bytes) ≡ true
+  permitted_by entry in_range covered permission none_lower_matches =
+      let matches_some =
+      any_at (covers entries entry) start size start (omega arith) (omega arith)
+      (each_from_all (covers entries entry) start size covered start (omega arith) (omega arith)) in
+      ap permits (verdict_of_match entries mode access bytes entry in_range matches_some none_lower_matches)
+      ∙ permits-match_verdict entries mode access entry _
       ∙ and_from _ _ covered permission
 
   -- entry 15 of the layout permits the host to access the bytes that belong to the host
-  permitted_by_host : is_host w ≡ true → list_all (host_has memory t) bytes ≡ true → permits (verdict entries mode access bytes) ≡ true
+  permitted_by_host : is_host world ≡ true → list_all (host_has memory table) bytes ≡ true → permits (verdict entries mode access bytes) ≡ true
   permitted_by_host host_runs all_of_host =
-      let apart_each : (b : ℕ) → a ≤ b → b < a + n → (has monitor_block b ≡ false) × (is_in_region t b ≡ false) = λ b low high.
+      let each_of_host_only : (address : ℕ) → start ≤ address → address < start + size
+      → (has monitor_block address ≡ false) × (is_in_region table address ≡ false) = λ address from_start before_end.
       let parts =
-      and_parts (not (has monitor_block b)) (not (is_in_region t b))
-      (and_parts (is_inside memory b 1) _ (each_from_all (host_has memory t) a n all_of_host b low high)).1 in
+      and_parts (not (has monitor_block address)) (not (is_in_region table address))
+      (and_parts (is_inside memory address 1) _ (each_from_all (host_has memory table) start size all_of_host address from_start before_end)).1 in
       (not-true _ parts.0, not-true _ parts.1) in
+      -- entry 15 covers every byte and grants the access, and each lower entry covers none of the bytes
       permitted_by 15 (lit< tt)
-      (all_each (covers entries 15) a n (λ b low high. covers_host memory t w ram_size table_valid b (omega (arith, inside.1, ram_size)) ∙ host_runs))
-      (given_at 15 _ cfg_of-host ∙ host_gives w access host_runs)
-      (λ j before. elim (place_cases j (omega arith)) [
-        | inl first ↦ rw first (any_monitor ∙ any_none (has monitor_block) a n (λ b low high. (apart_each b low high).0))
-        | inr later ↦ elim later [
-          | inl slot ↦ rw slot.2 (any_slot slot.0 slot.1 ∙ any_none (has (region t slot.0)) a n (λ b low high.
-              none_from_any (λ k. has (region t k) b) 0 slot_count (apart_each b low high).1 slot.0 (omega arith) (omega (arith, slot.1))))
-          | inr last ↦ elim last [
-            | inl window ↦ rw window (any_window ∙ any_none (has (world_window t w)) a n (λ b low high. no_window t w b host_runs))
-            | inr itself ↦ absurd (omega arith)
+      (all_each (covers entries 15) start size
+      (λ address from_start before_end. covers_host memory table world ram_size table_valid address (omega (arith, inside.1, ram_size)) ∙ host_runs))
+      (grants_if_cfg 15 _ cfg_of-host ∙ host_gives world access host_runs)
+      (λ lower is_lower. elim (entry_cases lower (omega arith)) [
+        | inl is_monitor ↦
+            rw is_monitor
+            (any_monitor
+            ∙ any_none (has monitor_block) start size (λ address from_start before_end. (each_of_host_only address from_start before_end).0))
+        | inr not_monitor ↦ elim not_monitor [
+          | inl of_slot ↦
+              rw of_slot.2 (any_slot of_slot.0 of_slot.1 ∙ any_none (has (region table of_slot.0)) start size (λ address from_start before_end.
+              none_from_any (λ slot. has (region table slot) address) 0 slot_count (each_of_host_only address from_start before_end).1 of_slot.0
+              (omega arith) (omega (arith, of_slot.1))))
+          | inr from_window ↦ elim from_window [
+            | inl is_window ↦
+                rw is_window
+                (any_window ∙ any_none (has (world_window table world)) start size
+                (λ address from_start before_end. no_window table world address host_runs))
+            | inr is_host_entry ↦ absurd (omega arith)
           ]
         ]
       ])
 
   -- the PMP entry of a region permits its enclave every access to the bytes of this region
-  permitted_by_region : (k : ℕ) → w ≡ Enclave k → list_all (has (region t k)) bytes ≡ true → permits (verdict entries mode access bytes) ≡ true
-  permitted_by_region k runs_k all_in_region =
-      let each_in_region = each_from_all (has (region t k)) a n all_in_region in
-      let has_first = each_in_region a (omega arith) (omega arith) in
-      let in_range = slot_in_range memory t w k a table_valid has_first in
-      let is_own : is_world_of k w ≡ true = rw runs_k (eq-eqb k k refl) in
-      permitted_by (k + 1) (omega arith)
-      (all_slot k in_range ∙ all_in_region)
-      (given_at (k + 1) _ (cfg_of-slot k in_range) ∙ slot_gives_all w k (slot_at t k) access a is_own has_first)
-      (λ j before. elim (place_cases j (omega arith)) [
-        | inl first ↦
-            rw first (any_monitor ∙ any_none (has monitor_block) a n (λ b low high. apart_bytes.regions_free k b (each_in_region b low high)))
-        | inr later ↦ elim later [
-          | inl slot ↦
-              let other : k ≢ slot.0 = omega (arith, slot.2) in
-              rw slot.2
-              (any_slot slot.0 slot.1
-              ∙ any_none (has (region t slot.0)) a n (λ b low high. apart_bytes.regions_apart k slot.0 b other (each_in_region b low high)))
-          | inr last ↦ absurd (elim last [ inl window ↦ omega arith | inr host ↦ omega arith ])
+  permitted_by_region : (slot : ℕ) → world ≡ Enclave slot → list_all (has (region table slot)) bytes ≡ true
+      → permits (verdict entries mode access bytes) ≡ true
+  permitted_by_region slot world_is_slot all_in_region =
+      let each_in_region = each_from_all (has (region table slot)) start size all_in_region in
+      let first_in_range = each_in_region start (omega arith) (omega arith) in
+      let in_range = slot_in_range memory table world slot start table_valid first_in_range in
+      let runs_enclave : is_world_of slot world ≡ true = rw world_is_slot (eq-eqb slot slot refl) in
+      -- the region shares no byte with the monitor's range or another region, which are the only blocks of lower entries
+      permitted_by (slot + 1) (omega arith)
+      (all_slot slot in_range ∙ all_in_region)
+      (grants_if_cfg (slot + 1) _ (cfg_of-slot slot in_range)
+      ∙ slot_gives_all world slot (slot_at table slot) access start runs_enclave first_in_range)
+      (λ lower is_lower. elim (entry_cases lower (omega arith)) [
+        | inl is_monitor ↦
+            rw is_monitor
+            (any_monitor
+            ∙ any_none (has monitor_block) start size
+            (λ address from_start before_end. apart_bytes.regions_free slot address (each_in_region address from_start before_end)))
+        | inr not_monitor ↦ elim not_monitor [
+          | inl of_slot ↦
+              let other_slot : slot ≢ of_slot.0 = omega (arith, of_slot.2) in
+              rw of_slot.2
+              (any_slot of_slot.0 of_slot.1
+              ∙ any_none (has (region table of_slot.0)) start size
+              (λ address from_start before_end.
+              apart_bytes.regions_apart slot of_slot.0 address other_slot (each_in_region address from_start before_end)))
+          | inr from_window ↦ absurd (elim from_window [ inl is_window ↦ omega arith | inr is_host_entry ↦ omega arith ])
         ]
       ])
 
   -- PMP entry 14 permits the enclave to load and store the bytes of its window
-  permitted_by_window : (k : ℕ) → w ≡ Enclave k → access ≢ Fetch → list_all (has (window t k)) bytes ≡ true
+  permitted_by_window : (slot : ℕ) → world ≡ Enclave slot → access ≢ Fetch → list_all (has (window table slot)) bytes ≡ true
       → permits (verdict entries mode access bytes) ≡ true
-  permitted_by_window k runs_k no_fetch all_in_window =
-      let each_in_window = each_from_all (has (window t k)) a n all_in_window in
-      let has_first = each_in_window a (omega arith) (omega arith) in
+  permitted_by_window slot world_is_slot no_fetch all_in_window =
+      let each_in_window = each_from_all (has (window table slot)) start size all_in_window in
+      let first_in_range = each_in_window start (omega arith) (omega arith) in
+      -- the window shares no byte with the monitor's range or a region, which are the only blocks of lower entries
       permitted_by 14 (lit< tt)
-      (all_window ∙ rw runs_k all_in_window)
-      (given_at 14 _ cfg_of-window ∙ rw runs_k (window_gives (slot_at t k) access a no_fetch has_first))
-      (λ j before. elim (place_cases j (omega arith)) [
-        | inl first ↦
-            rw first (any_monitor ∙ any_none (has monitor_block) a n (λ b low high. apart_bytes.windows_free k b (each_in_window b low high)))
-        | inr later ↦ elim later [
-          | inl slot ↦ rw slot.2 (any_slot slot.0 slot.1 ∙ any_none (has (region t slot.0)) a n (λ b low high.
-              false_from_ne_true _ (λ region. both_ways _ (apart_bytes.windows_apart slot.0 k b region) (each_in_window b low high))))
-          | inr last ↦ absurd (elim last [ inl window ↦ omega arith | inr host ↦ omega arith ])
+      (all_window ∙ rw world_is_slot all_in_window)
+      (grants_if_cfg 14 _ cfg_of-window ∙ rw world_is_slot (window_gives (slot_at table slot) access start no_fetch first_in_range))
+      (λ lower is_lower. elim (entry_cases lower (omega arith)) [
+        | inl is_monitor ↦
+            rw is_monitor
+            (any_monitor
+            ∙ any_none (has monitor_block) start size
+            (λ address from_start before_end. apart_bytes.windows_free slot address (each_in_window address from_start before_end)))
+        | inr not_monitor ↦ elim not_monitor [
+          | inl of_slot ↦
+              rw of_slot.2 (any_slot of_slot.0 of_slot.1 ∙ any_none (has (region table of_slot.0)) start size (λ address from_start before_end.
+              false_from_ne_true _
+              (λ region. both_ways _ (apart_bytes.windows_apart of_slot.0 slot address region) (each_in_window address from_start before_end))))
+          | inr from_window ↦ absurd (elim from_window [ inl is_window ↦ omega arith | inr is_host_entry ↦ omega arith ])
         ]
       ])
 
   -- if the accessed bytes are accessible to the world, then the layout permits the access
-  permitted_if_accessible : is_accessible memory t w access bytes ≡ true → permits (verdict entries mode access bytes) ≡ true
-  permitted_if_accessible accessible = elim (reach_cases memory t w access bytes accessible) [
-    | inl host ↦ permitted_by_host host.0 host.1
-    | inr enclave ↦ elim enclave.2 [
-      | inl region ↦ permitted_by_region enclave.0 enclave.1 region
-      | inr window ↦ permitted_by_window enclave.0 enclave.1 window.0 window.1
+  permitted_if_accessible : is_accessible memory table world access bytes ≡ true → permits (verdict entries mode access bytes) ≡ true
+  permitted_if_accessible accessible = elim (reach_cases memory table world access bytes accessible) [
+    | inl all_of_host ↦ permitted_by_host all_of_host.0 all_of_host.1
+    | inr of_enclave ↦ elim of_enclave.2 [
+      | inl all_in_region ↦ permitted_by_region of_enclave.0 of_enclave.1 all_in_region
+      | inr all_in_window ↦ permitted_by_window of_enclave.0 of_enclave.1 all_in_window.0 all_in_window.1
     ]
   ]
 
   -- the layout permits an access in S or U if and only if the accessed bytes are accessible to the world
-  pub reach_from : permits (verdict entries mode access bytes) ≡ is_accessible memory t w access bytes
+  pub reach_from : permits (verdict entries mode access bytes) ≡ is_accessible memory table world access bytes
   reach_from = equal_if_equivalent _ _ accessible_if_permitted permitted_if_accessible
 
   -- if the layout permits a world an access, then no accessed byte is in the region of another enclave
-  pub permitted_apart : (k : ℕ) → is_world_of k w ≡ false → permits (verdict entries mode access bytes) ≡ true → (b : ℕ) → a ≤ b
-      → b < a + n → has (region t k) b ≡ false
-  permitted_apart k runs_other permitted = accessible_apart memory t w access a n k table_valid runs_other (accessible_if_permitted permitted)
+  pub permitted_apart : (slot : ℕ) → is_world_of slot world ≡ false → permits (verdict entries mode access bytes) ≡ true → (address : ℕ)
+      → start ≤ address
+      → address < start + size → has (region table slot) address ≡ false
+  permitted_apart slot runs_other permitted =
+      accessible_apart memory table world access start size slot table_valid runs_other (accessible_if_permitted permitted)
 
 -- ---- the laws
 
@@ -456,14 +497,15 @@ small_ram memory ram_size =
 
 -- proves that the layout permits exactly the accessible accesses
 pub reach_law : LayoutAccessLaw
-reach_law memory slots world mode access address width valid below inside =
-    reach_from memory slots world mode access address (bytes_in width) (small_ram memory valid.ram) valid below (some_bytes width)
+reach_law memory slots world mode access address width table_valid mode_below_m inside =
+    reach_from memory slots world mode access address (bytes_in width) (small_ram memory table_valid.ram) table_valid mode_below_m (some_bytes width)
     (inside-bounds memory address (bytes_in width) inside)
 
 -- proves that no permitted access of S or U has a byte in the region of another enclave
 pub apart_law : ApartLaw
-apart_law memory slots world mode access address width k byte valid below inside other permitted low high =
+apart_law memory slots world mode access address width slot byte table_valid mode_below_m inside runs_other permitted from_start before_end =
     let outside_other_regions =
-    permitted_apart memory slots world mode access address (bytes_in width) (small_ram memory valid.ram) valid below (some_bytes width)
+    permitted_apart memory slots world mode access address (bytes_in width) (small_ram memory table_valid.ram) table_valid mode_below_m
+    (some_bytes width)
     (inside-bounds memory address (bytes_in width) inside) in
-    outside_other_regions k other permitted byte low high
+    outside_other_regions slot runs_other permitted byte from_start before_end

@@ -1,6 +1,5 @@
 -- Create, destroy, measure and context switches preserve equivalence except `enclave`. If two shared states differ only in what is private to
--- `enclave`, then
--- so do the shared states after the call.
+-- `enclave`, then so do the shared states after the call.
 use Rattle.std.proofs.Common.{◌≡◌, ◌≢◌, ℕ, ◌+◌, ◌<◌, ◌≤◌, Bool, true, false, List, length, replicate, Option, Some, None, IfSome, refl, sym, ◌∙◌, ap, subst}
 use Rattle.std.proofs.Common.{inl, inr, arith}
 use Rattle.std.specs.Prelude.{nat_le, nat_lt, is_some}
@@ -32,185 +31,201 @@ pub itself : (enclave : ℕ) (shared : Shared) → SharedEquivExcept enclave sha
 itself enclave shared = record {
   table = refl;
   memory = record { size = refl; bytes = λ i shown. refl };
-  contexts = record { size = refl; others = λ slot other. refl };
+  contexts = record { size = refl; others = λ slot is_other. refl };
   gone = λ dead. refl;
 }
 
 -- two equal shared states are equivalent except `enclave`
 pub equal_agree : (enclave : ℕ) (one other : Shared) → one ≡ other → SharedEquivExcept enclave one other
-equal_agree enclave one other same = subst (SharedEquivExcept enclave one) same (itself enclave one)
+equal_agree enclave one other equal = subst (SharedEquivExcept enclave one) equal (itself enclave one)
 
 -- two lists of contexts that are equal except `enclave`, and also equal at `enclave`, are equal
-same_contexts : (enclave : ℕ) (contexts_m contexts_n : Contexts) → SameContexts enclave contexts_m contexts_n
-    → context_at contexts_m enclave ≡ context_at contexts_n enclave
-    → contexts_m ≡ contexts_n
-same_contexts enclave contexts_m contexts_n saved own = same_lists contexts_m contexts_n saved.size (λ slot d inside.
-    let inside' : slot < length contexts_n = omega (arith, saved.size) in
-    get_or_default contexts_m slot d None inside
-    ∙ elim (cases_eq slot enclave) [ inl is ↦ rw is own | inr other ↦ saved.others slot other ]
-    ∙ sym (get_or_default contexts_n slot d None inside'))
+same_contexts : (enclave : ℕ) (one_contexts other_contexts : Contexts) → SameContexts enclave one_contexts other_contexts
+    → context_at one_contexts enclave ≡ context_at other_contexts enclave
+    → one_contexts ≡ other_contexts
+same_contexts enclave one_contexts other_contexts equal_elsewhere equal_at_enclave =
+    same_lists one_contexts other_contexts equal_elsewhere.size (λ slot default in_bounds.
+    let in_other_bounds : slot < length other_contexts = omega (arith, equal_elsewhere.size) in
+    get_or_default one_contexts slot default None in_bounds
+    ∙ elim (cases_eq slot enclave) [ inl is_enclave ↦ rw is_enclave equal_at_enclave | inr is_other ↦ equal_elsewhere.others slot is_other ]
+    ∙ sym (get_or_default other_contexts slot default None in_other_bounds))
 
 -- two lists of contexts that are equal except `enclave` stay equal except `enclave` after the same write to `slot`
-contexts_with : (enclave : ℕ) (contexts_m contexts_n : Contexts) (slot : ℕ) (c : Option Context) → SameContexts enclave contexts_m contexts_n
-    → SameContexts enclave (with_context contexts_m slot c) (with_context contexts_n slot c)
-contexts_with enclave contexts_m contexts_n slot c saved = record {
-  size = length_after contexts_m contexts_n slot c saved.size;
-  others = λ j distinct. same_after_set contexts_m contexts_n slot j c None saved.size (saved.others j distinct);
+contexts_with : (enclave : ℕ) (one_contexts other_contexts : Contexts) (slot : ℕ) (maybe_context : Option Context)
+    → SameContexts enclave one_contexts other_contexts
+    → SameContexts enclave (with_context one_contexts slot maybe_context) (with_context other_contexts slot maybe_context)
+contexts_with enclave one_contexts other_contexts slot maybe_context equal_elsewhere = record {
+  size = length_after one_contexts other_contexts slot maybe_context equal_elsewhere.size;
+  others =
+      λ other_slot is_other.
+      same_after_set one_contexts other_contexts slot other_slot maybe_context None equal_elsewhere.size (equal_elsewhere.others other_slot is_other);
 }
 
 -- a block that does not overlap another block has none of the bytes of the other block
-pub seen_block : (p q : Block) → meets p q ≡ false → IsSeen (has q) p.base p.size
-seen_block p q apart b low high = elim (cases_Bool (has q b)) [
-  | inr shown ↦ shown
+pub seen_block : (block hidden_block : Block) → meets block hidden_block ≡ false → IsSeen (has hidden_block) block.base block.size
+seen_block block hidden_block apart address from_base before_end = elim (cases_Bool (has hidden_block address)) [
+  | inr not_hidden ↦ not_hidden
   | inl hidden ↦
-      let in_p : has p b ≡ true = and_from (nat_le p.base b) (nat_lt b (p.base + p.size)) (le-leb p.base b low) (lt-ltb b (p.base + p.size) high) in
-      absurd (both_ways _ apart (meets_at p q b in_p hidden))
+      let in_block : has block address ≡ true =
+      and_from (nat_le block.base address) (nat_lt address (block.base + block.size)) (le-leb block.base address from_base)
+      (lt-ltb address (block.base + block.size) before_end) in
+      absurd (both_ways _ apart (meets_at block hidden_block address in_block hidden))
 ]
 
 -- a read that reads no hidden byte returns the same bytes from both memories
-read_alike : (hidden : ℕ → Bool) (m n : List ℕ) (address count : ℕ) → EqualOutside hidden m n → IsSeen hidden address count
-    → read m address count ≡ read n address count
-read_alike hidden m n address count equiv not_hidden = elim (cases_Bool (is_inside m address count)) [
-  | inl inside ↦ same_read hidden m n address count equiv inside not_hidden
+read_alike : (hidden : ℕ → Bool) (one_memory other_memory : List ℕ) (address count : ℕ) → EqualOutside hidden one_memory other_memory
+    → IsSeen hidden address count
+    → read one_memory address count ≡ read other_memory address count
+read_alike hidden one_memory other_memory address count equal_outside not_hidden = elim (cases_Bool (is_inside one_memory address count)) [
+  | inl inside ↦ same_read hidden one_memory other_memory address count equal_outside inside not_hidden
   | inr outside ↦
-      let same_size = equiv.size in
-      read-none m address count outside ∙ sym (read-none n address count (rw (← same_size) outside))
+      let same_length = equal_outside.size in
+      read-none one_memory address count outside ∙ sym (read-none other_memory address count (rw (← same_length) outside))
 ]
 
 -- ---- a live slot
 
--- Two shared states have the same table, in which `enclave` is live. Their memories m and n are equal outside the region of `enclave`, and their
--- saved
--- contexts are equal except `enclave`.
-module _ (enclave : ℕ) (table : Slots) (m n : List ℕ) (contexts_m contexts_n : Contexts) (equiv : EqualOutside (is_private table enclave) m n)
-    (saved : SameContexts enclave contexts_m contexts_n)
+-- Two shared states have the same table, in which `enclave` is live. Their memories are equal outside the region of `enclave`. Their saved
+-- contexts are equal except that of `enclave`.
+module _ (enclave : ℕ) (table : Slots) (one_memory other_memory : List ℕ) (one_contexts other_contexts : Contexts)
+    (equal_outside : EqualOutside (is_private table enclave) one_memory other_memory)
+    (saved : SameContexts enclave one_contexts other_contexts)
     (live : is_live table enclave ≡ true) where
-  -- the shared state with the memory m and the saved contexts `contexts_m`
-  abbrev shared_m : Shared
-  shared_m = record { memory = m; table = table; contexts = contexts_m }
+  -- the shared state with `one_memory` and `one_contexts`
+  abbrev one : Shared
+  one = record { memory = one_memory; table = table; contexts = one_contexts }
 
-  -- the shared state with the memory n and the saved contexts `contexts_n`
-  abbrev shared_n : Shared
-  shared_n = record { memory = n; table = table; contexts = contexts_n }
+  -- the shared state with `other_memory` and `other_contexts`
+  abbrev other : Shared
+  other = record { memory = other_memory; table = table; contexts = other_contexts }
 
   -- two shared states with a new table, in which `enclave` is live and has its old region, are equivalent except `enclave` if their memories and
   -- contexts are
-  equiv_with_region : (after : Slots) (m' n' : List ℕ) (contexts_m' contexts_n' : Contexts) → region after enclave ≡ region table enclave
+  equiv_with_region : (after : Slots) (one_memory_after other_memory_after : List ℕ) (one_contexts_after other_contexts_after : Contexts)
+      → region after enclave ≡ region table enclave
       → is_live after enclave ≡ true
-      → EqualOutside (is_private table enclave) m' n' → SameContexts enclave contexts_m' contexts_n'
-      → SharedEquivExcept enclave (record { memory = m'; table = after; contexts = contexts_m' })
-      (record { memory = n'; table = after; contexts = contexts_n' })
-  equiv_with_region after m' n' contexts_m' contexts_n' same lives equiv' saved' = record {
-    table = refl;
-    memory = subst (λ (b : Block). EqualOutside (has b) m' n') (sym same) equiv';
-    contexts = saved';
-    gone = λ dead. absurd (both_ways _ dead lives);
-  }
+      → EqualOutside (is_private table enclave) one_memory_after other_memory_after → SameContexts enclave one_contexts_after other_contexts_after
+      → SharedEquivExcept enclave (record { memory = one_memory_after; table = after; contexts = one_contexts_after })
+      (record { memory = other_memory_after; table = after; contexts = other_contexts_after })
+  equiv_with_region after one_memory_after other_memory_after one_contexts_after other_contexts_after same_region live_after equal_after
+      saved_after = record {
+        table = refl;
+        memory = subst (λ (block : Block). EqualOutside (has block) one_memory_after other_memory_after) (sym same_region) equal_after;
+        contexts = saved_after;
+        gone = λ dead. absurd (both_ways _ dead live_after);
+      }
 
   -- two shared states with a new table, in which `enclave` has its old record, are equivalent except `enclave` if their memories and contexts are
-  equiv_with_slot : (after : Slots) (m' n' : List ℕ) (contexts_m' contexts_n' : Contexts) → slot_at after enclave ≡ slot_at table enclave
-      → EqualOutside (is_private table enclave) m' n' → SameContexts enclave contexts_m' contexts_n'
-      → SharedEquivExcept enclave (record { memory = m'; table = after; contexts = contexts_m' })
-      (record { memory = n'; table = after; contexts = contexts_n' })
-  equiv_with_slot after m' n' contexts_m' contexts_n' same_slot =
-      equiv_with_region after m' n' contexts_m' contexts_n' (ap region_of same_slot) (ap (λ (o : Option SlotInfo). is_some o) same_slot ∙ live)
+  equiv_with_slot : (after : Slots) (one_memory_after other_memory_after : List ℕ) (one_contexts_after other_contexts_after : Contexts)
+      → slot_at after enclave ≡ slot_at table enclave
+      → EqualOutside (is_private table enclave) one_memory_after other_memory_after → SameContexts enclave one_contexts_after other_contexts_after
+      → SharedEquivExcept enclave (record { memory = one_memory_after; table = after; contexts = one_contexts_after })
+      (record { memory = other_memory_after; table = after; contexts = other_contexts_after })
+  equiv_with_slot after one_memory_after other_memory_after one_contexts_after other_contexts_after same_slot =
+      equiv_with_region after one_memory_after other_memory_after one_contexts_after other_contexts_after (ap region_of same_slot)
+      (ap (λ (maybe_info : Option SlotInfo). is_some maybe_info) same_slot ∙ live)
 
   -- the two shared states are equivalent except `enclave`
-  pub equiv_before : SharedEquivExcept enclave shared_m shared_n
-  equiv_before = equiv_with_slot table m n contexts_m contexts_n refl equiv saved
+  pub equiv_before : SharedEquivExcept enclave one other
+  equiv_before = equiv_with_slot table one_memory other_memory one_contexts other_contexts refl equal_outside saved
 
   -- ---- create
 
-  -- the measurement of a region that does not meet e's region is equal in both memories
-  measurement_alike : (new : CreateArgs) → meets new.region (region table enclave) ≡ false → measurement_of m new ≡ measurement_of n new
+  -- the measurement of a region that does not meet the region of `enclave` is equal in both memories
+  measurement_alike : (new : CreateArgs) → meets new.region (region table enclave) ≡ false
+      → measurement_of one_memory new ≡ measurement_of other_memory new
   unfolding measurement_of
   measurement_alike new apart =
-      let reads = read_alike (is_private table enclave) m n new.region.base new.region.size equiv
+      let same_bytes = read_alike (is_private table enclave) one_memory other_memory new.region.base new.region.size equal_outside
       (seen_block new.region (region table enclave) apart) in
-      rw reads refl
+      rw same_bytes refl
 
-  -- the record of a new enclave whose region does not meet e's region is equal in both shared states
-  recorded_alike : (new : CreateArgs) → meets new.region (region table enclave) ≡ false → recorded m new ≡ recorded n new
-  recorded_alike new apart = let digests = measurement_alike new apart in rw digests refl
+  -- the record of a new enclave whose region does not meet the region of `enclave` is equal in both shared states
+  recorded_alike : (new : CreateArgs) → meets new.region (region table enclave) ≡ false → recorded one_memory new ≡ recorded other_memory new
+  recorded_alike new apart = let same_digest = measurement_alike new apart in rw same_digest refl
 
   -- a free slot is not `enclave`, because `enclave` is live
   not_free : (slot : ℕ) → slot_at table slot ≡ None → enclave ≢ slot
-  not_free slot slot_is_free same =
-      let dead : is_live table enclave ≡ false = rw (same, slot_is_free) refl in
+  not_free slot slot_is_free is_enclave =
+      let dead : is_live table enclave ≡ false = rw (is_enclave, slot_is_free) refl in
       both_ways _ dead live
 
   -- a new enclave in a free slot leaves the two shared states equivalent except `enclave`
   put_alike : (slot : ℕ) (info : SlotInfo) → slot_at table slot ≡ None
-      → SharedEquivExcept enclave (with_enclave shared_m slot info) (with_enclave shared_n slot info)
+      → SharedEquivExcept enclave (with_enclave one slot info) (with_enclave other slot info)
   put_alike slot info slot_is_free =
-      equiv_with_slot (with_slot table slot (Some info)) m n (with_context contexts_m slot (Some (first_context info)))
-      (with_context contexts_n slot (Some (first_context info)))
-      (at_other_slot table slot enclave (Some info) (not_free slot slot_is_free)) equiv
-      (contexts_with enclave contexts_m contexts_n slot (Some (first_context info)) saved)
+      equiv_with_slot (with_slot table slot (Some info)) one_memory other_memory (with_context one_contexts slot (Some (first_context info)))
+      (with_context other_contexts slot (Some (first_context info)))
+      (at_other_slot table slot enclave (Some info) (not_free slot slot_is_free)) equal_outside
+      (contexts_with enclave one_contexts other_contexts slot (Some (first_context info)) saved)
 
   -- a create that the monitor does not refuse leaves two equivalent shared states equivalent except `enclave`
-  pub created_alike : (new : CreateArgs) → MayCreate shared_m new → SharedEquivExcept enclave (created shared_m new) (created shared_n new)
+  pub created_alike : (new : CreateArgs) → MayCreate one new → SharedEquivExcept enclave (created one new) (created other new)
   unfolding created
   created_alike new no_refusal =
-      let same = recorded_alike new ((free_from table new no_refusal.apart).others enclave).regions in
-      rw (← same) (put_alike (new_slot table) (recorded m new) (free_slot_from table (new_slot table) no_refusal.free).free)
+      let same_record = recorded_alike new ((free_from table new no_refusal.apart).others enclave).regions in
+      rw (← same_record) (put_alike (new_slot table) (recorded one_memory new) (free_slot_from table (new_slot table) no_refusal.free).free)
 
   -- ---- destroy
 
   -- the removal of `enclave` itself leaves the two shared states equal
-  gone_alike : (block : Block) → region table enclave ≡ block → is_inside m block.base block.size ≡ true
-      → without shared_m enclave block ≡ without shared_n enclave block
+  gone_alike : (block : Block) → region table enclave ≡ block → is_inside one_memory block.base block.size ≡ true
+      → without one enclave block ≡ without other enclave block
   gone_alike block region_is inside =
-      let at = inside-bounds m block.base block.size inside in
-      let covers : (b : ℕ) → is_private table enclave b ≡ true → (block.base ≤ b) × (b < block.base + block.size) =
-      λ b hidden. let parts =
-      and_parts (nat_le block.base b) (nat_lt b (block.base + block.size)) (sym (ap (λ (r : Block). has r b) region_is) ∙ hidden) in
+      let in_bounds = inside-bounds one_memory block.base block.size inside in
+      let in_block : (address : ℕ) → is_private table enclave address ≡ true → (block.base ≤ address) × (address < block.base + block.size) =
+      λ address is_private. let parts =
+      and_parts (nat_le block.base address) (nat_lt address (block.base + block.size))
+      (sym (ap (λ (block : Block). has block address) region_is) ∙ is_private) in
       (leb-true _ _ parts.0, ltb-true _ _ parts.1) in
-      let zeros : EqualOutside (λ b. false) (zeroed m block) (zeroed n block) =
-      zeros-alike (is_private table enclave) (λ b. false) m n block.base block.size equiv at covers in
-      let memories : zeroed m block ≡ zeroed n block = same_number_lists _ _ zeros.size (λ i within. zeros.bytes i refl) in
-      let contexts : with_context contexts_m enclave None ≡ with_context contexts_n enclave None =
-      same_contexts enclave (with_context contexts_m enclave None) (with_context contexts_n enclave None)
-      (contexts_with enclave contexts_m contexts_n enclave None saved)
-      (same_at_set contexts_m contexts_n enclave None None saved.size) in
-      rw (memories, contexts) refl
+      let zeroed_alike : EqualOutside (λ address. false) (zeroed one_memory block) (zeroed other_memory block) =
+      zeros-alike (is_private table enclave) (λ address. false) one_memory other_memory block.base block.size equal_outside in_bounds in_block in
+      let same_memories : zeroed one_memory block ≡ zeroed other_memory block =
+      same_number_lists _ _ zeroed_alike.size (λ offset in_bounds. zeroed_alike.bytes offset refl) in
+      let same_contexts_after : with_context one_contexts enclave None ≡ with_context other_contexts enclave None =
+      same_contexts enclave (with_context one_contexts enclave None) (with_context other_contexts enclave None)
+      (contexts_with enclave one_contexts other_contexts enclave None saved)
+      (same_at_set one_contexts other_contexts enclave None None saved.size) in
+      rw (same_memories, same_contexts_after) refl
 
   -- the removal of any enclave leaves the two shared states equivalent except `enclave`
-  without_alike : (slot : ℕ) → is_inside m (region table slot).base (region table slot).size ≡ true
-      → SharedEquivExcept enclave (without shared_m slot (region table slot)) (without shared_n slot (region table slot))
+  without_alike : (slot : ℕ) → is_inside one_memory (region table slot).base (region table slot).size ≡ true
+      → SharedEquivExcept enclave (without one slot (region table slot)) (without other slot (region table slot))
   without_alike slot inside = elim (cases_eq slot enclave) [
-    | inl equal ↦ rw equal (equal_agree enclave _ _ (gone_alike (region table enclave) refl (rw equal at inside)))
-    | inr distinct ↦
+    | inl is_enclave ↦ rw is_enclave (equal_agree enclave _ _ (gone_alike (region table enclave) refl (rw is_enclave at inside)))
+    | inr is_other ↦
         let block = region table slot in
-        equiv_with_slot (with_slot table slot None) (zeroed m block) (zeroed n block) (with_context contexts_m slot None)
-        (with_context contexts_n slot None)
-        (at_other_slot table slot enclave None (λ same. distinct (sym same)))
-        (write-alike (is_private table enclave) m n block.base (replicate block.size 0) equiv)
-        (contexts_with enclave contexts_m contexts_n slot None saved)
+        equiv_with_slot (with_slot table slot None) (zeroed one_memory block) (zeroed other_memory block) (with_context one_contexts slot None)
+        (with_context other_contexts slot None)
+        (at_other_slot table slot enclave None (λ equal. is_other (sym equal)))
+        (write-alike (is_private table enclave) one_memory other_memory block.base (replicate block.size 0) equal_outside)
+        (contexts_with enclave one_contexts other_contexts slot None saved)
   ]
 
   -- the region of a valid record is inside memory
-  region_inside : (o : Option SlotInfo) → IfSome o (IsValidSlot m) → is_some o ≡ true → is_inside m (region_of o).base (region_of o).size ≡ true
+  region_inside : (maybe_info : Option SlotInfo) → IfSome maybe_info (IsValidSlot one_memory) → is_some maybe_info ≡ true
+      → is_inside one_memory (region_of maybe_info).base (region_of maybe_info).size ≡ true
   unfolding is_valid_block
   region_inside None slot_valid is_present = cc
   region_inside (Some info) slot_valid is_present = (and_parts _ _ (and_parts (is_block_size info.region.size) _ slot_valid.region).1).1
 
   -- a destroy that the monitor does not refuse leaves two equivalent shared states equivalent except `enclave`
-  pub destroyed_alike : (slot : ℕ) → IsValid m table → SlotIsAccepted table calls.Destroy slot
-      → SharedEquivExcept enclave (destroyed shared_m slot) (destroyed shared_n slot)
+  pub destroyed_alike : (slot : ℕ) → IsValid one_memory table → SlotIsAccepted table calls.Destroy slot
+      → SharedEquivExcept enclave (destroyed one slot) (destroyed other slot)
   unfolding destroyed
-  destroyed_alike slot table_valid is_taken =
-      without_alike slot (region_inside (slot_at table slot) (table_valid.well_formed slot) (ap (λ (o : Option SlotInfo). is_some o) is_taken.is))
+  destroyed_alike slot table_valid accepted =
+      without_alike slot
+      (region_inside (slot_at table slot) (table_valid.well_formed slot) (ap (λ (maybe_info : Option SlotInfo). is_some maybe_info) accepted.is))
 
   -- ---- measure
 
   -- a measure leaves two equivalent shared states equivalent except `enclave`
-  pub measured_alike : (slot address : ℕ) → SharedEquivExcept enclave (measured shared_m slot address) (measured shared_n slot address)
+  pub measured_alike : (slot address : ℕ) → SharedEquivExcept enclave (measured one slot address) (measured other slot address)
   unfolding measured
   measured_alike slot address =
       let bytes = measurement_at table slot in
-      equiv_with_slot table (with_bytes_at m address bytes) (with_bytes_at n address bytes) contexts_m contexts_n refl
-      (write-alike (is_private table enclave) m n address bytes equiv) saved
+      equiv_with_slot table (with_bytes_at one_memory address bytes) (with_bytes_at other_memory address bytes) one_contexts other_contexts refl
+      (write-alike (is_private table enclave) one_memory other_memory address bytes equal_outside) saved
 
   -- ---- a switch
 
@@ -219,27 +234,33 @@ module _ (enclave : ℕ) (table : Slots) (m n : List ℕ) (contexts_m contexts_n
       → (region (with_state table slot state) enclave ≡ region table enclave) × (is_live (with_state table slot state) enclave ≡ true)
   state_keeps table_length slot state = of_slot (slot_at table slot) refl
     where
-      -- after a change of the state in the record `o` of `slot`, `enclave` is still live and has its old region
-      of_slot : (o : Option SlotInfo) → slot_at table slot ≡ o
-          → (let after = option_case o table (λ info. with_slot table slot (Some (record info { state = state }))) in
+      -- after a change of the state in the record of `slot`, `enclave` is still live and has its old region
+      of_slot : (maybe_info : Option SlotInfo) → slot_at table slot ≡ maybe_info
+          → (let after = option_case maybe_info table (λ info. with_slot table slot (Some (record info { state = state }))) in
           (region after enclave ≡ region table enclave) × (is_live after enclave ≡ true))
       of_slot None slot_is = (refl, live)
       of_slot (Some info) slot_is =
           let new = Some (record info { state = state }) in
           elim (cases_eq enclave slot) [
-            | inl equal ↦
-                let at_k = at_written_slot table slot new (omega (arith, table_length, live_in_range table slot info table_length slot_is)) in
-                rw equal (ap region_of at_k ∙ sym (ap region_of slot_is), ap (λ (o : Option SlotInfo). is_some o) at_k)
-            | inr distinct ↦
-                let same = at_other_slot table slot enclave new distinct in (ap region_of same, ap (λ (o : Option SlotInfo). is_some o) same ∙ live)
+            | inl is_slot ↦
+                let new_record_at_slot =
+                at_written_slot table slot new (omega (arith, table_length, live_in_range table slot info table_length slot_is)) in
+                rw is_slot (
+                  ap region_of new_record_at_slot ∙ sym (ap region_of slot_is),
+                  ap (λ (maybe_info : Option SlotInfo). is_some maybe_info) new_record_at_slot,
+                )
+            | inr is_other ↦
+                let unchanged = at_other_slot table slot enclave new is_other in
+                (ap region_of unchanged, ap (λ (maybe_info : Option SlotInfo). is_some maybe_info) unchanged ∙ live)
           ]
 
   -- the same new state and saved context for `slot` leave two equivalent shared states equivalent except `enclave`
-  pub switched_alike : length table ≡ slot_count → (slot : ℕ) (state : EnclaveState) (c : Option Context)
+  pub switched_alike : length table ≡ slot_count → (slot : ℕ) (state : EnclaveState) (maybe_context : Option Context)
       → (let after = with_state table slot state in
-      SharedEquivExcept enclave (record shared_m { table = after; contexts = with_context contexts_m slot c })
-      (record shared_n { table = after; contexts = with_context contexts_n slot c }))
-  switched_alike table_length slot state c =
-      let kept = state_keeps table_length slot state in
-      equiv_with_region (with_state table slot state) m n (with_context contexts_m slot c) (with_context contexts_n slot c) kept.0 kept.1 equiv
-      (contexts_with enclave contexts_m contexts_n slot c saved)
+      SharedEquivExcept enclave (record one { table = after; contexts = with_context one_contexts slot maybe_context })
+      (record other { table = after; contexts = with_context other_contexts slot maybe_context }))
+  switched_alike table_length slot state maybe_context =
+      let live_with_region = state_keeps table_length slot state in
+      equiv_with_region (with_state table slot state) one_memory other_memory (with_context one_contexts slot maybe_context)
+      (with_context other_contexts slot maybe_context) live_with_region.0 live_with_region.1 equal_outside
+      (contexts_with enclave one_contexts other_contexts slot maybe_context saved)

@@ -21,9 +21,9 @@ use Rattle.rv_enclaves.proofs.Prelude.{destroyed, first_context, is_valid_block,
 
 -- ---- the request
 
--- the test of equality is symmetric
-equality_symmetric : (a b : ℕ) → (a == b) ≡ (b == a)
-equality_symmetric a b = grind (arith, nat_tests)
+-- the Boolean test of equality is symmetric
+equality_symmetric : (left right : ℕ) → (left == right) ≡ (right == left)
+equality_symmetric left right = grind (arith, nat_tests)
 
 -- the requested call is the call whose number is in a6
 requests : (world : World) (a7 a6 : ℕ) → call_requested world a7 a6 ≡ call_numbered world a7 a6
@@ -47,7 +47,7 @@ requests Host a7 a6 =
       and-false (a6 == 7),
     ) refl
 -- the monitor offers the calls 5 to 7 to an enclave
-requests (Enclave k) a7 a6 =
+requests (Enclave slot) a7 a6 =
     rw (
       equality_symmetric 1 a6,
       equality_symmetric 2 a6,
@@ -79,17 +79,19 @@ no_success refusals.BadAddress status_is_0 = cc
 
 -- ---- create
 
--- two tests that are equal for each element hold for some element of the same lists
-any_same : {X : Type 0} (f g : X → Bool) → ((x : X) → f x ≡ g x) → (xs : List X) → list_any f xs ≡ list_any g xs
-any_same f g same_tests [] = refl
-any_same f g same_tests (x ∷ xs) = let same_first = same_tests x in let rest = any_same f g same_tests xs in rw (same_first, rest) refl
+-- two tests that are equal for each element agree on whether a list has an element that passes
+any_same : {X : Type 0} (test other_test : X → Bool) → ((x : X) → test x ≡ other_test x) → (elements : List X)
+    → list_any test elements ≡ list_any other_test elements
+any_same test other_test same_tests [] = refl
+any_same test other_test same_tests (x ∷ elements) =
+    let same_first = same_tests x in let same_rest = any_same test other_test same_tests elements in rw (same_first, same_rest) refl
 
 -- both definitions of the test for overlap agree
-same_overlap : (new : CreateArgs) (slot : Option SlotInfo) → collides new slot ≡ overlap_enclave new.region new.window slot
+same_overlap : (new : CreateArgs) (maybe_info : Option SlotInfo) → collides new maybe_info ≡ overlap_enclave new.region new.window maybe_info
 same_overlap new None = refl
 same_overlap new (Some info) = refl
 
--- the test of a window holds if and only if the window has size 0 or is a valid block
+-- a window passes the test `is_window` if and only if the window has size 0 or is a valid block
 window_by : (memory : List ℕ) (base size : ℕ) (is_empty : Bool) → (size == 0) ≡ is_empty
     → is_window memory (if is_empty then record { base = 0; size = 0 } else record { base = base; size = size })
     ≡ (is_empty || is_block_of memory (if is_empty then record { base = 0; size = 0 } else record { base = base; size = size }))
@@ -101,25 +103,27 @@ window_by memory base size false test_is = rw (test_is, and-false (base == 0)) r
 creates : (shared : Shared) (regs : List ℕ) → in_numbers (create_refusals shared (create_args_of regs)) ≡ create_rows shared regs
 unfolding create_refusals create_rows is_valid_block overlaps is_entry free_slot
 creates shared regs =
-    let window = window_by shared.memory (register regs 12) (register regs 13) (register regs 13 == 0) refl in
-    let overlap =
+    let window_agrees = window_by shared.memory (register regs 12) (register regs 13) (register regs 13 == 0) refl in
+    let overlap_agrees =
     any_same (collides (create_args_of regs)) (overlap_enclave (region_named regs) (window_named regs))
     (same_overlap (create_args_of regs)) shared.table in
-    rw (window, overlap) refl
+    rw (window_agrees, overlap_agrees) refl
 
 -- ---- destroy, run and resume
 
 -- both definitions of a test of an enclave's state agree
 in_state : (call : Call) (accepts : EnclaveState → Bool) → ((state : EnclaveState) → takes call state ≡ accepts state)
-    → (o : Option SlotInfo) → option_case o false (λ info. takes call info.state) ≡ option_case o false (λ info. accepts info.state)
+    → (maybe_info : Option SlotInfo)
+    → option_case maybe_info false (λ info. takes call info.state) ≡ option_case maybe_info false (λ info. accepts info.state)
 in_state call accepts same_tests None = refl
 in_state call accepts same_tests (Some info) = same_tests info.state
 
 -- the refusals of destroy, run and resume agree with the table
-states_by : (slots : Slots) (call : Call) (accepts : EnclaveState → Bool) (k : ℕ) → ((state : EnclaveState) → takes call state ≡ accepts state)
-    → in_numbers (state_refusals slots call k) ≡ state_rows accepts slots k
+states_by : (table : Slots) (call : Call) (accepts : EnclaveState → Bool) (slot : ℕ) → ((state : EnclaveState) → takes call state ≡ accepts state)
+    → in_numbers (state_refusals table call slot) ≡ state_rows accepts table slot
 unfolding state_refusals state_rows
-states_by slots call accepts k same_tests = let rests = in_state call accepts same_tests (slot_at slots k) in rw rests refl
+states_by table call accepts slot same_tests =
+    let state_tests_agree = in_state call accepts same_tests (slot_at table slot) in rw state_tests_agree refl
 
 -- Destroy accepts each state except Running. Each case holds by computation.
 destroy_accepts_idle : (state : EnclaveState) → takes calls.Destroy state ≡ does_not_run state
@@ -145,15 +149,15 @@ resume_accepts_stopped states.Exited = refl
 -- ---- measure
 
 -- the refusals of measure agree with the table
-measures : (shared : Shared) (entries : Entries) (k address : ℕ)
-    → in_numbers (measure_refusals shared entries k address) ≡ measure_rows shared entries k address
+measures : (shared : Shared) (entries : Entries) (slot address : ℕ)
+    → in_numbers (measure_refusals shared entries slot address) ≡ measure_rows shared entries slot address
 unfolding measure_refusals measure_rows may_store_all
-measures shared entries k address = refl
+measures shared entries slot address = refl
 
 -- both definitions of the slot that measure names agree
 measured_slots_agree : (world : World) (regs : List ℕ) → measured_slot world (register regs 10) ≡ slot_named world regs
 measured_slots_agree Host regs = refl
-measured_slots_agree (Enclave k) regs = refl
+measured_slots_agree (Enclave slot) regs = refl
 
 -- ---- the effects
 
@@ -163,15 +167,16 @@ unfolding created shared_with_new measurement_of first_context free_slot
 create_effects_agree shared regs = refl
 
 -- both definitions of the effect of destroy agree
-destroy_effects_agree : (shared : Shared) (k : ℕ) (o : Option SlotInfo) → slot_at shared.table k ≡ o → destroyed shared k ≡ shared_without shared k
+destroy_effects_agree : (shared : Shared) (slot : ℕ) (maybe_info : Option SlotInfo) → slot_at shared.table slot ≡ maybe_info
+    → destroyed shared slot ≡ shared_without shared slot
 unfolding destroyed shared_without
-destroy_effects_agree shared k None slot_is = rw slot_is refl
-destroy_effects_agree shared k (Some info) slot_is = rw slot_is refl
+destroy_effects_agree shared slot None slot_is = rw slot_is refl
+destroy_effects_agree shared slot (Some info) slot_is = rw slot_is refl
 
 -- both definitions of the effect of measure agree
-measure_effects_agree : (shared : Shared) (k address : ℕ) → measured shared k address ≡ shared_with_measurement shared k address
+measure_effects_agree : (shared : Shared) (slot address : ℕ) → measured shared slot address ≡ shared_with_measurement shared slot address
 unfolding measured shared_with_measurement
-measure_effects_agree shared k address = refl
+measure_effects_agree shared slot address = refl
 
 -- proves that the definitions of the calls agree with the tables in numbers
 pub call_numbers : CallNumbersLaw
@@ -179,14 +184,14 @@ call_numbers shared entries regs = record {
   call = λ world. requests world (register regs 17) (register regs 16);
   status = no_success;
   create = creates shared regs;
-  destroy = λ k. states_by shared.table calls.Destroy does_not_run k destroy_accepts_idle;
-  run = λ k. states_by shared.table calls.Run is_fresh k run_accepts_fresh;
-  resume = λ k. states_by shared.table calls.Resume is_stopped k resume_accepts_stopped;
+  destroy = λ slot. states_by shared.table calls.Destroy does_not_run slot destroy_accepts_idle;
+  run = λ slot. states_by shared.table calls.Run is_fresh slot run_accepts_fresh;
+  resume = λ slot. states_by shared.table calls.Resume is_stopped slot resume_accepts_stopped;
   measure = measures shared entries;
   slot = λ world. measured_slots_agree world regs;
   created = create_effects_agree shared regs;
-  destroyed = λ k. destroy_effects_agree shared k (slot_at shared.table k) refl;
+  destroyed = λ slot. destroy_effects_agree shared slot (slot_at shared.table slot) refl;
   measured = measure_effects_agree shared;
   host_mie = refl;
-  enclave_mie = λ k. refl;
+  enclave_mie = λ slot. refl;
 }

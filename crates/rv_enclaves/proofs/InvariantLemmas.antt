@@ -19,71 +19,71 @@ pub record IsPlain (cfg : ℕ) : Type 0 where
   pub unlocked : is_locked cfg ≡ false
 
 -- the cfg byte of a region is stored unchanged and unlocked
-region_is_plain : (w : World) (k : ℕ) (o : Option SlotInfo) → IsPlain (region_entry w k o).cfg
+region_is_plain : (world : World) (slot : ℕ) (maybe_info : Option SlotInfo) → IsPlain (region_entry world slot maybe_info).cfg
 unfolding stored_cfg
-region_is_plain w k None = record { stored = refl; unlocked = refl }
-region_is_plain w k (Some s) = elim (cases_Bool (is_world_of k w)) [
+region_is_plain world slot None = record { stored = refl; unlocked = refl }
+region_is_plain world slot (Some info) = elim (cases_Bool (is_world_of slot world)) [
   | inl runs_enclave ↦ rw runs_enclave (record { stored = refl; unlocked = refl })
   | inr runs_other ↦ rw runs_other (record { stored = refl; unlocked = refl })
 ]
 
 -- the cfg byte of a window is stored unchanged and unlocked
-window_of_is_plain : (o : Option SlotInfo) → IsPlain (window_entry_of o).cfg
+window_of_is_plain : (maybe_info : Option SlotInfo) → IsPlain (window_entry_of maybe_info).cfg
 unfolding stored_cfg
 window_of_is_plain None = record { stored = refl; unlocked = refl }
-window_of_is_plain (Some s) = elim (cases_Bool (s.window.size == 0)) [
+window_of_is_plain (Some info) = elim (cases_Bool (info.window.size == 0)) [
   | inl window_empty ↦ rw window_empty (record { stored = refl; unlocked = refl })
   | inr window_nonempty ↦ rw window_nonempty (record { stored = refl; unlocked = refl })
 ]
 
 -- the cfg byte of entry 14 is stored unchanged and unlocked
-window_is_plain : (t : Slots) (w : World) → IsPlain (window_entry t w).cfg
+window_is_plain : (table : Slots) (world : World) → IsPlain (window_entry table world).cfg
 unfolding stored_cfg
-window_is_plain t Host = record { stored = refl; unlocked = refl }
-window_is_plain t (Enclave k) = window_of_is_plain (slot_at t k)
+window_is_plain table Host = record { stored = refl; unlocked = refl }
+window_is_plain table (Enclave slot) = window_of_is_plain (slot_at table slot)
 
 -- the cfg byte of entry 15 is stored unchanged and unlocked
-host_is_plain : (w : World) → IsPlain (host_entry w).cfg
+host_is_plain : (world : World) → IsPlain (host_entry world).cfg
 unfolding stored_cfg
 host_is_plain Host = record { stored = refl; unlocked = refl }
-host_is_plain (Enclave k) = record { stored = refl; unlocked = refl }
+host_is_plain (Enclave slot) = record { stored = refl; unlocked = refl }
 
--- the cfg byte of each kind of entry is stored unchanged and unlocked
-plain_by : (a b c : Bool) (t : Slots) (w : World) (k : ℕ)
+-- the cfg byte of each kind of entry of the layout (monitor, region, window, host) is stored unchanged and unlocked
+plain_by : (is_monitor is_region is_window : Bool) (table : Slots) (world : World) (slot : ℕ)
     → IsPlain
-    (if a then napot no_permission monitor_block else
-    (if b then region_entry w k (slot_at t k) else (if c then window_entry t w else host_entry w))).cfg
+    (if is_monitor then napot no_permission monitor_block else
+    (if is_region then region_entry world slot (slot_at table slot) else (if is_window then window_entry table world else host_entry world))).cfg
 unfolding stored_cfg
-plain_by true b c t w k = record { stored = refl; unlocked = refl }
-plain_by false true c t w k = region_is_plain w k (slot_at t k)
-plain_by false false true t w k = window_is_plain t w
-plain_by false false false t w k = host_is_plain w
+plain_by true is_region is_window table world slot = record { stored = refl; unlocked = refl }
+plain_by false true is_window table world slot = region_is_plain world slot (slot_at table slot)
+plain_by false false true table world slot = window_is_plain table world
+plain_by false false false table world slot = host_is_plain world
 
 -- no entry of the layout is locked or has a reserved combination of permissions
-pub entry_is_plain : (t : Slots) (w : World) (i : ℕ) → IsPlain (entry_at t w i).cfg
+pub entry_is_plain : (table : Slots) (world : World) (number : ℕ) → IsPlain (entry_at table world number).cfg
 unfolding entry_at
-entry_is_plain t w i = plain_by (i == 0) (nat_lt i 14) (i == 14) t w (i - 1)
+entry_is_plain table world number = plain_by (number == 0) (nat_lt number 14) (number == 14) table world (number - 1)
 
 -- two lists of PMP entries are equal if their cfg bytes and their addresses are equal
-entries_are : (e d : Entries) → e.cfgs ≡ d.cfgs → e.addrs ≡ d.addrs → e ≡ d
-entries_are e d cfgs addrs =
-    let at : List ℕ → List ℕ → Entries = λ xs ys. record { cfgs = xs; addrs = ys } in
-    ap₂ at cfgs addrs
+entries_are : (entries other : Entries) → entries.cfgs ≡ other.cfgs → entries.addrs ≡ other.addrs → entries ≡ other
+entries_are entries other same_cfgs same_addrs =
+    let with_lists : List ℕ → List ℕ → Entries = λ cfgs addrs. record { cfgs = cfgs; addrs = addrs } in
+    ap₂ with_lists same_cfgs same_addrs
 
 -- PMP entries with the layout's cfg byte and address at each number are the PMP entries of the layout
-pub layout_from_each : (t : Slots) (w : World) (cfgs addrs : List ℕ) → length cfgs ≡ 16 → length addrs ≡ 16
-    → ((j : ℕ) → j < 16 → slice_index cfgs j ≡ (entry_at t w j).cfg)
-    → ((j : ℕ) → j < 16 → slice_index addrs j ≡ (entry_at t w j).addr) → with_entries cfgs addrs ≡ layout t w
+pub layout_from_each : (table : Slots) (world : World) (cfgs addrs : List ℕ) → length cfgs ≡ 16 → length addrs ≡ 16
+    → ((number : ℕ) → number < 16 → slice_index cfgs number ≡ (entry_at table world number).cfg)
+    → ((number : ℕ) → number < 16 → slice_index addrs number ≡ (entry_at table world number).addr) → with_entries cfgs addrs ≡ layout table world
 unfolding layout
-layout_from_each t w cfgs addrs cfgs_long addrs_long each_cfg each_addr =
-    entries_are (with_entries cfgs addrs) (layout t w)
-    (fill_by_all (λ i. (entry_at t w i).cfg) (map stored_cfg cfgs) 16 0 (length-map cfgs stored_cfg ∙ cfgs_long)
-    (λ j below. get_or-map stored_cfg cfgs j 0 0 (omega (arith, below, cfgs_long)) ∙ ap stored_cfg (each_cfg j below)
-    ∙ (entry_is_plain t w j).stored))
-    (fill_by_all (λ i. (entry_at t w i).addr) addrs 16 0 addrs_long each_addr)
+layout_from_each table world cfgs addrs sixteen_cfgs sixteen_addrs each_cfg each_addr =
+    entries_are (with_entries cfgs addrs) (layout table world)
+    (fill_by_all (λ number. (entry_at table world number).cfg) (map stored_cfg cfgs) 16 0 (length-map cfgs stored_cfg ∙ sixteen_cfgs)
+    (λ number in_range. get_or-map stored_cfg cfgs number 0 0 (omega (arith, in_range, sixteen_cfgs)) ∙ ap stored_cfg (each_cfg number in_range)
+    ∙ (entry_is_plain table world number).stored))
+    (fill_by_all (λ number. (entry_at table world number).addr) addrs 16 0 sixteen_addrs each_addr)
 
 -- mie stores the monitor's value unchanged
-pub mie_stored : (w : World) → enabled_of (mie_of w) ≡ mie_of w
+pub mie_stored : (world : World) → enabled_of (mie_of world) ≡ mie_of world
 unfolding kept_bits
 mie_stored Host = refl
-mie_stored (Enclave k) = refl
+mie_stored (Enclave slot) = refl

@@ -16,7 +16,7 @@ pub mod Start
 pub mod SavedLists
 -- Reads and writes of two memories that are equal outside the hidden bytes
 pub mod EqualMemory
--- Create, destroy, measure and context switches preserve equivalence except e
+-- Create, destroy, measure and context switches preserve equivalence of two shared states except `enclave`
 pub mod Alike
 -- The facts about two shared states that the noninterference of the trap handler needs
 pub mod WorksAlike
@@ -38,7 +38,7 @@ pub mod ScrambledTwice
 pub mod Measurement
 -- The definitions of the calls agree with the tables of specs/CallNumbers, which describe the calls in numbers
 pub mod CallNumbers
--- Examples of calls in numbers
+-- Examples of calls that the monitor accepts or refuses, with the numbers of the calls and of the statuses
 pub mod CallExamples
 -- The monitor accepts each call whose arguments meet the conditions of the call
 pub mod AcceptedCalls

@@ -23,34 +23,35 @@ use Rattle.rv_enclaves.proofs.Napots.{napot_addr, napot_matches}
 -- ---- blocks
 
 -- a block of size 0 has no byte
-empty_has : (base size b : ℕ) → size ≡ 0 → (nat_le base b && nat_lt b (base + size)) ≡ false
-empty_has base size b empty = grind (arith, nat_tests, empty)
+empty_has : (base size address : ℕ) → size ≡ 0 → (nat_le base address && nat_lt address (base + size)) ≡ false
+empty_has base size address empty = grind (arith, nat_tests, empty)
 
 -- the empty block has no byte
-pub has_nothing : (b : ℕ) → has no_block b ≡ false
-has_nothing b = empty_has 0 0 b refl
+pub has_nothing : (address : ℕ) → has no_block address ≡ false
+has_nothing address = empty_has 0 0 address refl
 
 -- no byte is in two regions, in a region and a window, or in the monitor's range and a region or window
-pub record IsApart (slots : Slots) : Type 0 where
-  pub regions_apart : (j slot b : ℕ) → j ≢ slot → has (region slots j) b ≡ true → has (region slots slot) b ≡ false
-  pub windows_apart : (j slot b : ℕ) → has (region slots j) b ≡ true → has (window slots slot) b ≡ false
-  pub regions_free : (slot b : ℕ) → has (region slots slot) b ≡ true → has monitor_block b ≡ false
-  pub windows_free : (slot b : ℕ) → has (window slots slot) b ≡ true → has monitor_block b ≡ false
+pub record IsApart (table : Slots) : Type 0 where
+  pub regions_apart : (other slot address : ℕ) → other ≢ slot → has (region table other) address ≡ true → has (region table slot) address ≡ false
+  pub windows_apart : (other slot address : ℕ) → has (region table other) address ≡ true → has (window table slot) address ≡ false
+  pub regions_free : (slot address : ℕ) → has (region table slot) address ≡ true → has monitor_block address ≡ false
+  pub windows_free : (slot address : ℕ) → has (window table slot) address ≡ true → has monitor_block address ≡ false
 
 -- the regions of a valid table share no byte with each other, with a window or with the monitor's range
-pub apart : (memory : List ℕ) (slots : Slots) → IsValid memory slots → IsApart slots
-apart memory slots table_valid = record {
-  regions_apart = λ j slot b distinct. apart_at (region slots j) (region slots slot) b (table_valid.regions_apart j slot distinct);
-  windows_apart = λ j slot b. apart_at (region slots j) (window slots slot) b (table_valid.windows_apart j slot);
-  regions_free = λ slot b. apart_from monitor_block (region slots slot) b (table_valid.regions_free slot);
-  windows_free = λ slot b. apart_from monitor_block (window slots slot) b (table_valid.windows_free slot);
+pub apart : (memory : List ℕ) (table : Slots) → IsValid memory table → IsApart table
+apart memory table table_valid = record {
+  regions_apart =
+      λ other slot address is_other. apart_at (region table other) (region table slot) address (table_valid.regions_apart other slot is_other);
+  windows_apart = λ other slot address. apart_at (region table other) (window table slot) address (table_valid.windows_apart other slot);
+  regions_free = λ slot address. apart_from monitor_block (region table slot) address (table_valid.regions_free slot);
+  windows_free = λ slot address. apart_from monitor_block (window table slot) address (table_valid.windows_free slot);
 }
 
 -- ---- the bytes that an entry for a block covers
 
 -- the size of a block is a power of two from 2 ^ 12 on, the base is a multiple of the size, and the block is inside memory
 pub record IsBlock (memory : List ℕ) (base size : ℕ) : Type 0 where
-  pub power : (m : ℕ) × (12 ≤ m) × (m < 32) × (size ≡ 2 ^ m)
+  pub power : (exponent : ℕ) × (12 ≤ exponent) × (exponent < 32) × (size ≡ 2 ^ exponent)
   pub aligned : base % size ≡ 0
   pub low : ram_base ≤ base
   pub high : base + size ≤ ram_base + length memory
@@ -60,36 +61,37 @@ pub valid_block : (memory : List ℕ) (block : Block) → is_valid_block memory 
 unfolding is_valid_block
 valid_block memory block is_valid =
     let parts = and_parts (is_block_size block.size) _ is_valid in
-    let rest = and_parts (block.base % block.size == 0) _ parts.1 in
-    let inside = and_parts (nat_le ram_base block.base) _ rest.1 in
-    let power = some_from_any (λ slot. block.size == 2 ^ slot) 12 20 parts.0 in
+    let aligned_and_inside = and_parts (block.base % block.size == 0) _ parts.1 in
+    let inside = and_parts (nat_le ram_base block.base) _ aligned_and_inside.1 in
+    let power = some_from_any (λ exponent. block.size == 2 ^ exponent) 12 20 parts.0 in
     record {
       power = (power.0, power.1, omega (arith, power.2), eqb-true _ _ power.3);
-      aligned = eqb-true _ _ rest.0;
+      aligned = eqb-true _ _ aligned_and_inside.0;
       low = leb-true _ _ inside.0;
       high = leb-true _ _ inside.1;
     }
 
 -- the NAPOT entry for a valid block matches exactly the bytes of the block
-block_covers : (memory : List ℕ) (block : Block) (before b : ℕ) → length memory ≤ 0x1000000 → is_valid_block memory block ≡ true
-    → matches (matching_of 0x18) before (napot_addr block.base block.size) b ≡ has block b
-block_covers memory block before b ram_size is_valid =
-    let is_block_of-passes = valid_block memory block is_valid in
-    let m = is_block_of-passes.power.0 in
-    let at_least : 12 ≤ m = is_block_of-passes.power.1 in
-    let below : m < 32 = is_block_of-passes.power.2 in
-    let same : m ≡ (m - 3) + 3 = omega arith in
-    let power : block.size ≡ 2 ^ ((m - 3) + 3) = is_block_of-passes.power.3 ∙ ap (λ n. 2 ^ n) same in
-    napot_matches block.base block.size (m - 3) before b (omega arith) power is_block_of-passes.aligned (omega (arith, is_block_of-passes.high))
+block_covers : (memory : List ℕ) (block : Block) (previous address : ℕ) → length memory ≤ 0x1000000 → is_valid_block memory block ≡ true
+    → matches (matching_of 0x18) previous (napot_addr block.base block.size) address ≡ has block address
+block_covers memory block previous address ram_size is_valid =
+    let block_valid = valid_block memory block is_valid in
+    let exponent = block_valid.power.0 in
+    let exponent_at_least_12 : 12 ≤ exponent = block_valid.power.1 in
+    let exponent_below_32 : exponent < 32 = block_valid.power.2 in
+    let exponent_from_3 : exponent ≡ (exponent - 3) + 3 = omega arith in
+    let power : block.size ≡ 2 ^ ((exponent - 3) + 3) = block_valid.power.3 ∙ ap (λ exponent. 2 ^ exponent) exponent_from_3 in
+    napot_matches block.base block.size (exponent - 3) previous address (omega arith) power block_valid.aligned (omega (arith, block_valid.high))
 
 -- the PMP entry of a slot matches exactly the bytes of the slot's region
-region_covers : (memory : List ℕ) (w : World) (slot : ℕ) (o : Option SlotInfo) (before b : ℕ) → length memory ≤ 0x1000000
-    → IfSome o (IsValidSlot memory)
-    → matches (matching_of (region_entry w slot o).cfg) before (region_entry w slot o).addr b ≡ has (region_of o) b
-region_covers memory w slot None before b ram_size slot_valid = sym (has_nothing b)
-region_covers memory w slot (Some info) before b ram_size slot_valid =
-    let covered = block_covers memory info.region before b ram_size slot_valid.region in
-    elim (cases_Bool (is_world_of slot w)) [
+region_covers : (memory : List ℕ) (world : World) (slot : ℕ) (maybe_info : Option SlotInfo) (previous address : ℕ) → length memory ≤ 0x1000000
+    → IfSome maybe_info (IsValidSlot memory)
+    → matches (matching_of (region_entry world slot maybe_info).cfg) previous (region_entry world slot maybe_info).addr address
+    ≡ has (region_of maybe_info) address
+region_covers memory world slot None previous address ram_size slot_valid = sym (has_nothing address)
+region_covers memory world slot (Some info) previous address ram_size slot_valid =
+    let covered = block_covers memory info.region previous address ram_size slot_valid.region in
+    elim (cases_Bool (is_world_of slot world)) [
       | inl runs_enclave ↦ rw runs_enclave covered
       | inr runs_other ↦ rw runs_other covered
     ]
@@ -103,70 +105,76 @@ nonempty_window_is_block memory block is_window_valid nonempty = elim (or_cases 
 ]
 
 -- the PMP entry of a window matches exactly the bytes of the window
-window_covers : (memory : List ℕ) (o : Option SlotInfo) (before b : ℕ) → length memory ≤ 0x1000000 → IfSome o (IsValidSlot memory)
-    → matches (matching_of (window_entry_of o).cfg) before (window_entry_of o).addr b ≡ has (window_of o) b
-window_covers memory None before b ram_size slot_valid = sym (has_nothing b)
-window_covers memory (Some info) before b ram_size slot_valid = elim (cases_eq info.window.size 0) [
-  | inl window_empty ↦ rw (eq-eqb _ _ window_empty) (sym (empty_has info.window.base info.window.size b window_empty))
+window_covers : (memory : List ℕ) (maybe_info : Option SlotInfo) (previous address : ℕ) → length memory ≤ 0x1000000
+    → IfSome maybe_info (IsValidSlot memory)
+    → matches (matching_of (window_entry_of maybe_info).cfg) previous (window_entry_of maybe_info).addr address ≡ has (window_of maybe_info) address
+window_covers memory None previous address ram_size slot_valid = sym (has_nothing address)
+window_covers memory (Some info) previous address ram_size slot_valid = elim (cases_eq info.window.size 0) [
+  | inl window_empty ↦ rw (eq-eqb _ _ window_empty) (sym (empty_has info.window.base info.window.size address window_empty))
   | inr window_nonempty ↦
       rw (ne_eqb _ _ window_nonempty)
-      (block_covers memory info.window before b ram_size (nonempty_window_is_block memory info.window slot_valid.window window_nonempty))
+      (block_covers memory info.window previous address ram_size (nonempty_window_is_block memory info.window slot_valid.window window_nonempty))
 ]
 
 -- ---- the entries of the layout
 
--- the cfg byte of entry i of the layout is the cfg byte of `entry_at` i
-pub cfg_of-layout : (t : Slots) (w : World) (i : ℕ) → i < 16 → cfg_of (layout t w) i ≡ (entry_at t w i).cfg
+-- the cfg byte of an entry of the layout is the cfg byte that `entry_at` gives for the number of the entry
+pub cfg_of-layout : (table : Slots) (world : World) (entry : ℕ) → entry < 16 → cfg_of (layout table world) entry ≡ (entry_at table world entry).cfg
 unfolding layout
-cfg_of-layout t w i in_range = get_or-map-range_with_len (λ j. (entry_at t w j).cfg) 0 16 i i 0 in_range (omega arith)
+cfg_of-layout table world entry in_range =
+    get_or-map-range_with_len (λ number. (entry_at table world number).cfg) 0 16 entry entry 0 in_range (omega arith)
 
--- the pmpaddr value of entry i of the layout is the pmpaddr value of `entry_at` i
-addr_of-layout : (t : Slots) (w : World) (i : ℕ) → i < 16 → addr_of (layout t w) i ≡ (entry_at t w i).addr
+-- the pmpaddr value of an entry of the layout is the pmpaddr value that `entry_at` gives for the number of the entry
+addr_of-layout : (table : Slots) (world : World) (entry : ℕ) → entry < 16 → addr_of (layout table world) entry ≡ (entry_at table world entry).addr
 unfolding layout
-addr_of-layout t w i in_range = get_or-map-range_with_len (λ j. (entry_at t w j).addr) 0 16 i i 0 in_range (omega arith)
+addr_of-layout table world entry in_range =
+    get_or-map-range_with_len (λ number. (entry_at table world number).addr) 0 16 entry entry 0 in_range (omega arith)
 
--- entry i of the layout covers the bytes that `entry_at` i matches
-covers-layout : (t : Slots) (w : World) (i b : ℕ) → i < 16
-    → covers (layout t w) i b ≡ matches (matching_of (entry_at t w i).cfg) (addr_before (layout t w) i) (entry_at t w i).addr b
+-- an entry of the layout covers the bytes that the entry from `entry_at` with the same number matches
+covers-layout : (table : Slots) (world : World) (entry address : ℕ) → entry < 16
+    → covers (layout table world) entry address
+    ≡ matches (matching_of (entry_at table world entry).cfg) (addr_before (layout table world) entry) (entry_at table world entry).addr address
 unfolding covers
-covers-layout t w i b in_range =
-    ap₂ (λ cfg addr. matches (matching_of cfg) (addr_before (layout t w) i) addr b) (cfg_of-layout t w i in_range) (addr_of-layout t w i in_range)
+covers-layout table world entry address in_range =
+    ap₂ (λ cfg addr. matches (matching_of cfg) (addr_before (layout table world) entry) addr address) (cfg_of-layout table world entry in_range)
+    (addr_of-layout table world entry in_range)
 
 -- entry `slot` + 1 of the layout is the entry for the region of `slot`
-pub entry_at-slot : (t : Slots) (w : World) (slot : ℕ) → slot < slot_count → entry_at t w (slot + 1) ≡ region_entry w slot (slot_at t slot)
+pub entry_at-slot : (table : Slots) (world : World) (slot : ℕ) → slot < slot_count
+    → entry_at table world (slot + 1) ≡ region_entry world slot (slot_at table slot)
 unfolding entry_at
-entry_at-slot t w slot in_range =
-    let same : slot + 1 - 1 ≡ slot = omega arith in
-    cond-false _ _ _ (ne_eqb (slot + 1) 0 (λ e. omega arith))
+entry_at-slot table world slot in_range =
+    let slot_number : slot + 1 - 1 ≡ slot = omega arith in
+    cond-false _ _ _ (ne_eqb (slot + 1) 0 (λ is_zero. omega arith))
     ∙ cond-true _ _ _ (lt-ltb (slot + 1) 14 (omega arith))
-    ∙ ap (λ j. region_entry w j (slot_at t j)) same
+    ∙ ap (λ number. region_entry world number (slot_at table number)) slot_number
 
 -- entry 0 of the layout is the entry for the monitor's range, without permissions
-pub entry_at-monitor : (t : Slots) (w : World) → entry_at t w 0 ≡ napot no_permission monitor_block
+pub entry_at-monitor : (table : Slots) (world : World) → entry_at table world 0 ≡ napot no_permission monitor_block
 unfolding entry_at
-entry_at-monitor t w = refl
+entry_at-monitor table world = refl
 
 -- entry 14 of the layout is the entry for the window of the world
-pub entry_at-window : (t : Slots) (w : World) → entry_at t w 14 ≡ window_entry t w
+pub entry_at-window : (table : Slots) (world : World) → entry_at table world 14 ≡ window_entry table world
 unfolding entry_at
-entry_at-window t w = refl
+entry_at-window table world = refl
 
 -- entry 15 of the layout covers all addresses while the host runs, and is off while an enclave runs
-pub entry_at-host : (t : Slots) (w : World) → entry_at t w 15 ≡ host_entry w
+pub entry_at-host : (table : Slots) (world : World) → entry_at table world 15 ≡ host_entry world
 unfolding entry_at
-entry_at-host t w = refl
+entry_at-host table world = refl
 
--- the window of the world
+-- the window of the world: the window of the running enclave, or the empty block for the host
 abbrev pub world_window : Slots → World → Block
-world_window t Host = no_block
-world_window t (Enclave slot) = window t slot
+world_window table Host = no_block
+world_window table (Enclave slot) = window table slot
 
 -- the PMP entry for the window of a world matches exactly the bytes of this window
-window_owned : (memory : List ℕ) (t : Slots) (w : World) (before b : ℕ) → length memory ≤ 0x1000000 → IsValid memory t
-    → matches (matching_of (window_entry t w).cfg) before (window_entry t w).addr b ≡ has (world_window t w) b
-window_owned memory t Host before b ram_size table_valid = sym (has_nothing b)
-window_owned memory t (Enclave slot) before b ram_size table_valid =
-    window_covers memory (slot_at t slot) before b ram_size (table_valid.well_formed slot)
+window_owned : (memory : List ℕ) (table : Slots) (world : World) (previous address : ℕ) → length memory ≤ 0x1000000 → IsValid memory table
+    → matches (matching_of (window_entry table world).cfg) previous (window_entry table world).addr address ≡ has (world_window table world) address
+window_owned memory table Host previous address ram_size table_valid = sym (has_nothing address)
+window_owned memory table (Enclave slot) previous address ram_size table_valid =
+    window_covers memory (slot_at table slot) previous address ram_size (table_valid.well_formed slot)
 
 -- a NAPOT entry whose pmpaddr value has only ones matches 2 ^ 35 bytes
 all_ones_size : napot_size 0xffffffff ≡ 2 ^ 35
@@ -174,36 +182,40 @@ unfolding ones_at_end
 all_ones_size = refl
 
 -- PMP entry 15 matches each byte below 2 ^ 35 while the host runs, and no byte while an enclave runs
-host_owned : (w : World) (before b : ℕ) → b < 2 ^ 35 → matches (matching_of (host_entry w).cfg) before (host_entry w).addr b ≡ is_host w
-host_owned (Enclave slot) before b below = refl
-host_owned Host before b below =
-    rw all_ones_size (eq-eqb _ _ (div-eq_of_lt below))
+host_owned : (world : World) (previous address : ℕ) → address < 2 ^ 35
+    → matches (matching_of (host_entry world).cfg) previous (host_entry world).addr address ≡ is_host world
+host_owned (Enclave slot) previous address address_below = refl
+host_owned Host previous address address_below =
+    rw all_ones_size (eq-eqb _ _ (div-eq_of_lt address_below))
 
--- a byte b, and the PMP layout of the valid table t and the world w
-module _ (memory : List ℕ) (t : Slots) (w : World) (ram_size : length memory ≤ 0x1000000) (table_valid : IsValid memory t) (b : ℕ) where
-  -- if `entry_at` i matches byte b exactly if `owned` holds, then so does entry i of the layout
-  at_entry : (i : ℕ) (x : Entry) (owned : Bool) → i < 16 → entry_at t w i ≡ x
-      → ((before : ℕ) → matches (matching_of x.cfg) before x.addr b ≡ owned) → covers (layout t w) i b ≡ owned
-  at_entry i x owned in_range entry_at_is held =
-      covers-layout t w i b in_range
-      ∙ ap (λ (y : Entry). matches (matching_of y.cfg) (addr_before (layout t w) i) y.addr b) entry_at_is
-      ∙ held (addr_before (layout t w) i)
+-- the address of a byte, and the PMP layout of a valid table and a world
+module _ (memory : List ℕ) (table : Slots) (world : World) (ram_size : length memory ≤ 0x1000000) (table_valid : IsValid memory table)
+    (address : ℕ) where
+  -- if the entry from `entry_at` matches the byte if and only if `owned` holds, then so does the entry of the layout with the same number
+  at_entry : (entry : ℕ) (value : Entry) (owned : Bool) → entry < 16 → entry_at table world entry ≡ value
+      → ((previous : ℕ) → matches (matching_of value.cfg) previous value.addr address ≡ owned) → covers (layout table world) entry address ≡ owned
+  at_entry entry value owned in_range entry_at_is matches_if_owned =
+      covers-layout table world entry address in_range
+      ∙ ap (λ (value : Entry). matches (matching_of value.cfg) (addr_before (layout table world) entry) value.addr address) entry_at_is
+      ∙ matches_if_owned (addr_before (layout table world) entry)
 
   -- entry 0 of the layout covers exactly the bytes of the monitor's range
-  pub covers_monitor : covers (layout t w) 0 b ≡ has monitor_block b
+  pub covers_monitor : covers (layout table world) 0 address ≡ has monitor_block address
   covers_monitor =
-      at_entry 0 _ _ (lit< tt) (entry_at-monitor t w) (λ before. napot_matches ram_base 0x10000 13 before b (lit< tt) refl refl (lit≤ tt))
+      at_entry 0 _ _ (lit< tt) (entry_at-monitor table world)
+      (λ previous. napot_matches ram_base 0x10000 13 previous address (lit< tt) refl refl (lit≤ tt))
 
   -- entry `slot` + 1 of the layout covers exactly the bytes of the region of `slot`
-  pub covers_slot : (slot : ℕ) → slot < slot_count → covers (layout t w) (slot + 1) b ≡ has (region t slot) b
+  pub covers_slot : (slot : ℕ) → slot < slot_count → covers (layout table world) (slot + 1) address ≡ has (region table slot) address
   covers_slot slot in_range =
-      at_entry (slot + 1) _ _ (omega arith) (entry_at-slot t w slot in_range)
-      (λ before. region_covers memory w slot (slot_at t slot) before b ram_size (table_valid.well_formed slot))
+      at_entry (slot + 1) _ _ (omega arith) (entry_at-slot table world slot in_range)
+      (λ previous. region_covers memory world slot (slot_at table slot) previous address ram_size (table_valid.well_formed slot))
 
   -- entry 14 of the layout covers exactly the bytes of the world's window
-  pub covers_window : covers (layout t w) 14 b ≡ has (world_window t w) b
-  covers_window = at_entry 14 _ _ (lit< tt) (entry_at-window t w) (λ before. window_owned memory t w before b ram_size table_valid)
+  pub covers_window : covers (layout table world) 14 address ≡ has (world_window table world) address
+  covers_window =
+      at_entry 14 _ _ (lit< tt) (entry_at-window table world) (λ previous. window_owned memory table world previous address ram_size table_valid)
 
   -- entry 15 of the layout covers every byte while the host runs, and no byte while an enclave runs
-  pub covers_host : b < 2 ^ 35 → covers (layout t w) 15 b ≡ is_host w
-  covers_host below = at_entry 15 _ _ (lit< tt) (entry_at-host t w) (λ before. host_owned w before b below)
+  pub covers_host : address < 2 ^ 35 → covers (layout table world) 15 address ≡ is_host world
+  covers_host address_below = at_entry 15 _ _ (lit< tt) (entry_at-host table world) (λ previous. host_owned world previous address address_below)

@@ -32,48 +32,48 @@ pub record MayCreate (shared : Shared) (new : CreateArgs) : Type 0 where
   pub free : free_slot shared.table ≡ Some (new_slot shared.table)
 
 -- an option of a slot that is not None has some slot
-is_slot : (o : Option ℕ) → is_none o ≡ false → o ≡ Some (option_case o slot_count (λ k. k))
+is_slot : (maybe_slot : Option ℕ) → is_none maybe_slot ≡ false → maybe_slot ≡ Some (option_case maybe_slot slot_count (λ slot. slot))
 is_slot None is_present = cc
-is_slot (Some k) is_present = refl
+is_slot (Some slot) is_present = refl
 
 -- a create without a refusal passes every check
 pub may_create : (shared : Shared) (new : CreateArgs) → first_refusal (create_refusals shared new) ≡ None → MayCreate shared new
 unfolding create_refusals
 may_create shared new no_refusal =
-    let region = no_condition_holds _ _ _ no_refusal in
-    let window = no_condition_holds _ _ _ region.1 in
-    let no_overlap = no_condition_holds _ _ _ window.1 in
-    let entry = no_condition_holds _ _ _ no_overlap.1 in
-    let slot = no_condition_holds _ _ _ entry.1 in
+    let region_passes = no_condition_holds _ _ _ no_refusal in
+    let window_passes = no_condition_holds _ _ _ region_passes.1 in
+    let no_overlap = no_condition_holds _ _ _ window_passes.1 in
+    let entry_passes = no_condition_holds _ _ _ no_overlap.1 in
+    let slot_found = no_condition_holds _ _ _ entry_passes.1 in
     record {
-      well_formed = not-false _ region.0;
-      window = not-false _ window.0;
+      well_formed = not-false _ region_passes.0;
+      window = not-false _ window_passes.0;
       apart = no_overlap.0;
-      entry = not-false _ entry.0;
-      free = is_slot (free_slot shared.table) slot.0;
+      entry = not-false _ entry_passes.0;
+      free = is_slot (free_slot shared.table) slot_found.0;
     }
 
 -- ---- destroy, run and resume
 
--- slot k has an enclave in a state that the call accepts
-pub record SlotIsAccepted (slots : Slots) (call : Call) (k : ℕ) : Type 0 where
+-- `slot` has an enclave in a state that the call accepts, and `info` is its record
+pub record SlotIsAccepted (table : Slots) (call : Call) (slot : ℕ) : Type 0 where
   pub info : SlotInfo
-  pub is : slot_at slots k ≡ Some info
+  pub is : slot_at table slot ≡ Some info
   pub taken : takes call info.state ≡ true
 
 -- a slot that passes the test for a call's state has an enclave in a state that the call accepts
-taken_at : (slots : Slots) (call : Call) (k : ℕ) (o : Option SlotInfo) → slot_at slots k ≡ o
-    → option_case o false (λ info. takes call info.state) ≡ true → SlotIsAccepted slots call k
-taken_at slots call k None slot_is taken = absurd (false≢true taken)
-taken_at slots call k (Some info) slot_is taken = record { info = info; is = slot_is; taken = taken }
+taken_at : (table : Slots) (call : Call) (slot : ℕ) (maybe_info : Option SlotInfo) → slot_at table slot ≡ maybe_info
+    → option_case maybe_info false (λ info. takes call info.state) ≡ true → SlotIsAccepted table call slot
+taken_at table call slot None slot_is state_accepted = absurd (false≢true state_accepted)
+taken_at table call slot (Some info) slot_is state_accepted = record { info = info; is = slot_is; taken = state_accepted }
 
 -- a destroy, run or resume without a refusal names an enclave in a state that the call accepts
-pub may_take : (slots : Slots) (call : Call) (k : ℕ) → first_refusal (state_refusals slots call k) ≡ None → SlotIsAccepted slots call k
+pub may_take : (table : Slots) (call : Call) (slot : ℕ) → first_refusal (state_refusals table call slot) ≡ None → SlotIsAccepted table call slot
 unfolding state_refusals
-may_take slots call k no_refusal =
-    let live = no_condition_holds (not (is_live slots k)) _ _ no_refusal in
-    let taken = no_condition_holds (not (has_state_for slots call k)) _ _ live.1 in
-    taken_at slots call k (slot_at slots k) refl (not-false (has_state_for slots call k) taken.0)
+may_take table call slot no_refusal =
+    let live_row = no_condition_holds (not (is_live table slot)) _ _ no_refusal in
+    let state_row = no_condition_holds (not (has_state_for table call slot)) _ _ live_row.1 in
+    taken_at table call slot (slot_at table slot) refl (not-false (has_state_for table call slot) state_row.0)
 
 -- No call accepts an enclave that runs. Each case holds by computation, or has a false premise.
 pub takes_rests : (call : Call) (state : EnclaveState) → takes call state ≡ true → is_running state ≡ false
@@ -85,46 +85,48 @@ takes_rests call states.Running state_accepted = cc
 -- ---- measure
 
 -- the arguments of a measure pass every check: no condition that refuses the measure holds
-pub record MayMeasure (shared : Shared) (entries : Entries) (k address : ℕ) : Type 0 where
-  pub live : is_live shared.table k ≡ true
+pub record MayMeasure (shared : Shared) (entries : Entries) (slot address : ℕ) : Type 0 where
+  pub live : is_live shared.table slot ≡ true
   pub stores : may_store_all shared.memory entries address ≡ true
 
 -- a measure without a refusal passes every check
-pub may_measure : (shared : Shared) (entries : Entries) (k address : ℕ) → first_refusal (measure_refusals shared entries k address) ≡ None
-    → MayMeasure shared entries k address
+pub may_measure : (shared : Shared) (entries : Entries) (slot address : ℕ) → first_refusal (measure_refusals shared entries slot address) ≡ None
+    → MayMeasure shared entries slot address
 unfolding measure_refusals
-may_measure shared entries k address no_refusal =
-    let live = no_condition_holds (not (is_live shared.table k)) _ _ no_refusal in
-    let stores = no_condition_holds (not (may_store_all shared.memory entries address)) _ _ live.1 in
-    record { live = not-false (is_live shared.table k) live.0; stores = not-false (may_store_all shared.memory entries address) stores.0 }
+may_measure shared entries slot address no_refusal =
+    let live_row = no_condition_holds (not (is_live shared.table slot)) _ _ no_refusal in
+    let stores_row = no_condition_holds (not (may_store_all shared.memory entries address)) _ _ live_row.1 in
+    record { live = not-false (is_live shared.table slot) live_row.0; stores = not-false (may_store_all shared.memory entries address) stores_row.0 }
 
 -- ---- the rows depend on memory only by its size
 
 -- two shared states have the same table, and memories of the same size
-module _ (table : Slots) (m n : List ℕ) (contexts_m contexts_n : Contexts) where
-  -- the shared state with the memory m and the saved contexts `contexts_m`
-  abbrev shared_m : Shared
-  shared_m = record { memory = m; table = table; contexts = contexts_m }
+module _ (table : Slots) (one_memory other_memory : List ℕ) (one_contexts other_contexts : Contexts) where
+  -- the shared state with `one_memory` and `one_contexts`
+  abbrev one : Shared
+  one = record { memory = one_memory; table = table; contexts = one_contexts }
 
-  -- the shared state with the memory n and the saved contexts `contexts_n`
-  abbrev shared_n : Shared
-  shared_n = record { memory = n; table = table; contexts = contexts_n }
+  -- the shared state with `other_memory` and `other_contexts`
+  abbrev other : Shared
+  other = record { memory = other_memory; table = table; contexts = other_contexts }
 
   -- the refusals of create do not depend on the bytes of the memory or on the saved contexts, only on the size of the memory
-  pub same_create_refusals : (new : CreateArgs) → length m ≡ length n → create_refusals shared_m new ≡ create_refusals shared_n new
+  pub same_create_refusals : (new : CreateArgs) → length one_memory ≡ length other_memory → create_refusals one new ≡ create_refusals other new
   unfolding create_refusals
   same_create_refusals new same_length =
-      let well_formed = well_formed_by_size m n new.region same_length in
-      let window = window_by_size m n new.window same_length in
-      rw (← well_formed, ← window) refl
+      let same_region_check = well_formed_by_size one_memory other_memory new.region same_length in
+      let same_window_check = window_by_size one_memory other_memory new.window same_length in
+      rw (← same_region_check, ← same_window_check) refl
 
   -- whether S may store the measurement depends only on the size of the memory
-  same_stores : (entries : Entries) (address : ℕ) → length m ≡ length n → may_store_all m entries address ≡ may_store_all n entries address
+  same_stores : (entries : Entries) (address : ℕ) → length one_memory ≡ length other_memory
+      → may_store_all one_memory entries address ≡ may_store_all other_memory entries address
   unfolding may_store_all
-  same_stores entries address same_length = rw same_length (refl {a = may_store_all n entries address})
+  same_stores entries address same_length = rw same_length (refl {a = may_store_all other_memory entries address})
 
   -- the refusals of measure do not depend on the bytes of the memory or on the saved contexts, only on the size of the memory
-  pub same_measure_refusals : (entries : Entries) (k address : ℕ) → length m ≡ length n
-      → measure_refusals shared_m entries k address ≡ measure_refusals shared_n entries k address
+  pub same_measure_refusals : (entries : Entries) (slot address : ℕ) → length one_memory ≡ length other_memory
+      → measure_refusals one entries slot address ≡ measure_refusals other entries slot address
   unfolding measure_refusals
-  same_measure_refusals entries k address same_length = let stores = same_stores entries address same_length in rw (← stores) refl
+  same_measure_refusals entries slot address same_length =
+      let same_store_check = same_stores entries address same_length in rw (← same_store_check) refl

@@ -4,24 +4,29 @@ use Rattle.std.proofs.lemmas.List.{get_or_past}
 use Rattle.std.proofs.lemmas.Bool.{cases_lt, cases_eq}
 
 -- after the same write to two lists of equal length, the lists have the same element at the index of the write
-pub same_at_set : {X : Type 0} (xs ys : List X) (i : ℕ) (v d : X) → length xs ≡ length ys → get_or (set xs i v) i d ≡ get_or (set ys i v) i d
-same_at_set xs ys i v d same_length = elim (cases_lt i (length xs)) [
+pub same_at_set : {X : Type 0} (list other_list : List X) (index : ℕ) (value default : X) → length list ≡ length other_list
+    → get_or (set list index value) index default ≡ get_or (set other_list index value) index default
+same_at_set list other_list index value default same_length = elim (cases_lt index (length list)) [
   | inl in_range ↦
-      let inside' : i < length ys = omega arith in
-      get_or-set_same xs i v d in_range ∙ sym (get_or-set_same ys i v d inside')
+      let in_other_range : index < length other_list = omega arith in
+      get_or-set_same list index value default in_range ∙ sym (get_or-set_same other_list index value default in_other_range)
   | inr past_last ↦
-      get_or_past (set xs i v) i d (omega (arith, length-set xs i v))
-      ∙ sym (get_or_past (set ys i v) i d (omega (arith, length-set ys i v)))
+      get_or_past (set list index value) index default (omega (arith, length-set list index value))
+      ∙ sym (get_or_past (set other_list index value) index default (omega (arith, length-set other_list index value)))
 ]
 
 -- after the same write to two lists of equal length, the lists still have the same element at each index at which they were equal
-pub same_after_set : {X : Type 0} (xs ys : List X) (i j : ℕ) (v d : X) → length xs ≡ length ys → get_or xs j d ≡ get_or ys j d
-    → get_or (set xs i v) j d ≡ get_or (set ys i v) j d
-same_after_set xs ys i j v d same_length same_element = elim (cases_eq j i) [
-  | inl equal ↦ rw equal (same_at_set xs ys i v d same_length)
-  | inr distinct ↦ get_or-set_other xs i j v d distinct ∙ same_element ∙ sym (get_or-set_other ys i j v d distinct)
+pub same_after_set : {X : Type 0} (list other_list : List X) (index other_index : ℕ) (value default : X) → length list ≡ length other_list
+    → get_or list other_index default ≡ get_or other_list other_index default
+    → get_or (set list index value) other_index default ≡ get_or (set other_list index value) other_index default
+same_after_set list other_list index other_index value default same_length same_element = elim (cases_eq other_index index) [
+  | inl is_index ↦ rw is_index (same_at_set list other_list index value default same_length)
+  | inr is_other ↦
+      get_or-set_other list index other_index value default is_other ∙ same_element
+      ∙ sym (get_or-set_other other_list index other_index value default is_other)
 ]
 
 -- two lists of equal length have equal length after the same write
-pub length_after : {X : Type 0} (xs ys : List X) (i : ℕ) (v : X) → length xs ≡ length ys → length (set xs i v) ≡ length (set ys i v)
-length_after xs ys i v same_length = length-set xs i v ∙ same_length ∙ sym (length-set ys i v)
+pub length_after : {X : Type 0} (list other_list : List X) (index : ℕ) (value : X) → length list ≡ length other_list
+    → length (set list index value) ≡ length (set other_list index value)
+length_after list other_list index value same_length = length-set list index value ∙ same_length ∙ sym (length-set other_list index value)

@@ -6,35 +6,37 @@ use Rattle.rv_pmp.specs.Verdicts.{matching_entry, verdict_by, match_verdict, no_
 use Rattle.rv_pmp.proofs.VerdictLemmas.{IsFirst, find_cases}
 use Rattle.rv_enclaves.proofs.Prelude.{Access, Entries, Mode, covers, verdict}
 
--- two tests that are equal on the n numbers from a on hold for some of these numbers in the same cases
-pub same_any : (p q : ℕ → Bool) (a n : ℕ) → ((b : ℕ) → a ≤ b → b < a + n → p b ≡ q b)
-    → list_any p (range_with_len a n) ≡ list_any q (range_with_len a n)
-same_any p q a zero same_tests = refl
-same_any p q a (suc n) same_tests =
-    ap₂ (λ x y. x || y) (same_tests a (omega arith) (omega arith))
-    (same_any p q (a + 1) n (λ b low high. same_tests b (omega arith) (omega arith)))
+-- two tests that are equal on `count` numbers from `start` on agree on whether some of these numbers passes
+pub same_any : (test other_test : ℕ → Bool) (start count : ℕ)
+    → ((number : ℕ) → start ≤ number → number < start + count → test number ≡ other_test number)
+    → list_any test (range_with_len start count) ≡ list_any other_test (range_with_len start count)
+same_any test other_test start zero same_tests = refl
+same_any test other_test start (suc count) same_tests =
+    ap₂ (λ first rest. first || rest) (same_tests start (omega arith) (omega arith))
+    (same_any test other_test (start + 1) count (λ number from_start before_end. same_tests number (omega arith) (omega arith)))
 
--- two tests that are equal on the n numbers from a on hold for all of these numbers in the same cases
-pub same_all : (p q : ℕ → Bool) (a n : ℕ) → ((b : ℕ) → a ≤ b → b < a + n → p b ≡ q b)
-    → list_all p (range_with_len a n) ≡ list_all q (range_with_len a n)
-same_all p q a zero same_tests = refl
-same_all p q a (suc n) same_tests =
-    ap₂ (λ x y. x && y) (same_tests a (omega arith) (omega arith))
-    (same_all p q (a + 1) n (λ b low high. same_tests b (omega arith) (omega arith)))
+-- two tests that are equal on `count` numbers from `start` on agree on whether all of these numbers pass
+pub same_all : (test other_test : ℕ → Bool) (start count : ℕ)
+    → ((number : ℕ) → start ≤ number → number < start + count → test number ≡ other_test number)
+    → list_all test (range_with_len start count) ≡ list_all other_test (range_with_len start count)
+same_all test other_test start zero same_tests = refl
+same_all test other_test start (suc count) same_tests =
+    ap₂ (λ first rest. first && rest) (same_tests start (omega arith) (omega arith))
+    (same_all test other_test (start + 1) count (λ number from_start before_end. same_tests number (omega arith) (omega arith)))
 
 -- the verdict is the verdict of the lowest entry that matches some byte, or the verdict for no match
-pub verdict_cases : (e : Entries) (mode : Mode) (access : Access) (bytes : List ℕ)
-    → ((i : ℕ) × (verdict e mode access bytes ≡ match_verdict e mode access i (list_all (covers e i) bytes))
-    × IsFirst (λ j. list_any (covers e j) bytes) 0 16 i) ⊎ (verdict e mode access bytes ≡ no_match_verdict mode)
+pub verdict_cases : (entries : Entries) (mode : Mode) (access : Access) (bytes : List ℕ)
+    → ((entry : ℕ) × (verdict entries mode access bytes ≡ match_verdict entries mode access entry (list_all (covers entries entry) bytes))
+    × IsFirst (λ entry. list_any (covers entries entry) bytes) 0 16 entry) ⊎ (verdict entries mode access bytes ≡ no_match_verdict mode)
 unfolding verdict matching_entry
-verdict_cases e mode access bytes = elim (find_cases (λ j. list_any (covers e j) bytes) 0 16) [
-  | inl found ↦ inl (found.0, ap (verdict_by e mode access bytes) found.1, found.2)
-  | inr nothing ↦ inr (ap (verdict_by e mode access bytes) nothing.0)
+verdict_cases entries mode access bytes = elim (find_cases (λ entry. list_any (covers entries entry) bytes) 0 16) [
+  | inl found ↦ inl (found.0, ap (verdict_by entries mode access bytes) found.1, found.2)
+  | inr none_matches ↦ inr (ap (verdict_by entries mode access bytes) none_matches.0)
 ]
 
 -- a test holds for all 32 numbers from `first` to `first + 32` if and only if it holds for 32 numbers from `start` on, if `first` is `start`
-pub all_of_32 : (p : ℕ → Bool) (first start : ℕ) → first ≡ start
-    → list_all p (range_with_len first (first + 32 - first)) ≡ list_all p (range_with_len start 32)
-all_of_32 p first start same =
-    let count : first + 32 - first ≡ 32 = omega arith in
-    ap₂ (λ n a. list_all p (range_with_len a n)) count same
+pub all_of_32 : (test : ℕ → Bool) (first start : ℕ) → first ≡ start
+    → list_all test (range_with_len first (first + 32 - first)) ≡ list_all test (range_with_len start 32)
+all_of_32 test first start equal =
+    let count_is_32 : first + 32 - first ≡ 32 = omega arith in
+    ap₂ (λ count start. list_all test (range_with_len start count)) count_is_32 equal

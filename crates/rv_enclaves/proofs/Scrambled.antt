@@ -27,15 +27,16 @@ inside_agrees memory block inside =
     let fits = inside-index memory block.base block.size inside in
     record {
       size = sym (length-with_complements memory index block.size fits);
-      bytes = λ i not_hidden. elim (cases_lt i index) [
-        | inl before_start ↦ sym (below memory index block.size i fits before_start)
-        | inr from_start ↦ elim (cases_lt i (index + block.size)) [
+      bytes = λ byte_index not_hidden. elim (cases_lt byte_index index) [
+        | inl before_start ↦ sym (below memory index block.size byte_index fits before_start)
+        | inr from_start ↦ elim (cases_lt byte_index (index + block.size)) [
           | inl before_end ↦
-              let from : nat_le block.base (ram_base + i) ≡ true = le-leb block.base (ram_base + i) (omega (arith, bounds.0)) in
-              let to : nat_lt (ram_base + i) (block.base + block.size) ≡ true =
-              lt-ltb (ram_base + i) (block.base + block.size) (omega (arith, bounds.0)) in
-              let contradiction : true ≡ false = sym (and_from _ _ from to) ∙ not_hidden in cc
-          | inr after_end ↦ sym (above memory index block.size i fits after_end)
+              let from_base : nat_le block.base (ram_base + byte_index) ≡ true =
+              le-leb block.base (ram_base + byte_index) (omega (arith, bounds.0)) in
+              let before_block_end : nat_lt (ram_base + byte_index) (block.base + block.size) ≡ true =
+              lt-ltb (ram_base + byte_index) (block.base + block.size) (omega (arith, bounds.0)) in
+              let contradiction : true ≡ false = sym (and_from _ _ from_base before_block_end) ∙ not_hidden in cc
+          | inr after_end ↦ sym (above memory index block.size byte_index fits after_end)
         ]
       ];
     }
@@ -44,19 +45,21 @@ inside_agrees memory block inside =
 block_agrees : (memory : List ℕ) (block : Block) → EqualOutside (has block) memory (complemented_block memory block)
 block_agrees memory block = elim (cases_Bool (is_inside memory block.base block.size)) [
   | inl inside ↦ let complement_is = complemented-is memory block.base block.size inside in rw complement_is (inside_agrees memory block inside)
-  | inr outside ↦ let reads_none = read-none memory block.base block.size outside in rw reads_none (record { size = refl; bytes = λ i shown. refl })
+  | inr outside ↦
+      let reads_none = read-none memory block.base block.size outside in
+      rw reads_none (record { size = refl; bytes = λ byte_index not_hidden. refl })
 ]
 
 -- ---- contexts
 
 -- the complement of a context is a context, and the complement of None is None
-some_after : (o : Option Context) → is_some (option_map complemented_context o) ≡ is_some o
+some_after : (maybe_context : Option Context) → is_some (option_map complemented_context maybe_context) ≡ is_some maybe_context
 some_after None = refl
 some_after (Some context) = refl
 
 -- a hart can continue with the complement of each context with which it can continue
-goes_on_after : (o : Option Context) → IfSome o (λ context. can_go_on context ≡ true)
-    → IfSome (option_map complemented_context o) (λ context. can_go_on context ≡ true)
+goes_on_after : (maybe_context : Option Context) → IfSome maybe_context (λ context. can_go_on context ≡ true)
+    → IfSome (option_map complemented_context maybe_context) (λ context. can_go_on context ≡ true)
 goes_on_after None can_continue = tt
 goes_on_after (Some context) can_continue = can_continue
 
@@ -69,7 +72,8 @@ record MayScramble (shared : Shared) (slot : ℕ) : Type 0 where
   pub in_range : slot < slot_count
 
 -- a slot with a saved context has a live enclave that does not run
-pub slot_rests : (o : Option SlotInfo) → is_held o ≡ true → (is_some o ≡ true) × (option_case o false (λ info. is_running info.state) ≡ false)
+pub slot_rests : (maybe_info : Option SlotInfo) → is_held maybe_info ≡ true
+    → (is_some maybe_info ≡ true) × (option_case maybe_info false (λ info. is_running info.state) ≡ false)
 slot_rests None has_context = cc
 slot_rests (Some info) has_context = (refl, not-true (is_running info.state) has_context)
 
@@ -83,8 +87,8 @@ in_range shared slot (Some info) slot_is table_length has_context = live_in_rang
 module _ (shared : Shared) (worlds : List World) (slot : ℕ) (shared_invariant : SharedInvariant shared worlds)
     (may_scramble : can_scramble shared.table slot ≡ true) where
   -- a slot that may be scrambled has a live enclave that does not run
-  may_be : MayScramble shared slot
-  may_be =
+  slot_may_scramble : MayScramble shared slot
+  slot_may_scramble =
       let parts = slot_rests (slot_at shared.table slot) may_scramble in
       record {
         live = parts.0;
@@ -93,18 +97,18 @@ module _ (shared : Shared) (worlds : List World) (slot : ℕ) (shared_invariant 
       }
 
   -- the saved context of `slot` before the scramble
-  abbrev kept_one : Option Context
-  kept_one = context_at shared.contexts slot
+  abbrev old_context : Option Context
+  old_context = context_at shared.contexts slot
 
   -- the saved contexts after the scramble: the context of `slot` is complemented
   abbrev new_contexts : Contexts
-  new_contexts = with_context shared.contexts slot (option_map complemented_context kept_one)
+  new_contexts = with_context shared.contexts slot (option_map complemented_context old_context)
 
   -- the context of `slot` after the scramble is the complement of the old context
-  context_of_k : context_at new_contexts slot ≡ option_map complemented_context kept_one
-  context_of_k =
-      at_written_slot shared.contexts slot (option_map complemented_context kept_one)
-      (let range = may_be.in_range in omega (arith, shared_invariant.contexts.count, range))
+  new_context_of_slot : context_at new_contexts slot ≡ option_map complemented_context old_context
+  new_context_of_slot =
+      at_written_slot shared.contexts slot (option_map complemented_context old_context)
+      (let slot_in_range = slot_may_scramble.in_range in omega (arith, shared_invariant.contexts.count, slot_in_range))
 
   -- the scrambled shared state satisfies the invariant
   pub scrambled_sound : SharedInvariant (scrambled_shared shared slot) worlds
@@ -113,16 +117,21 @@ module _ (shared : Shared) (worlds : List World) (slot : ℕ) (shared_invariant 
     valid = valid_by_size shared.memory (complemented_block shared.memory (region shared.table slot)) shared.table
         (block_agrees shared.memory (region shared.table slot)).size shared_invariant.valid;
     contexts = record {
-      count = length-set shared.contexts slot (option_map complemented_context kept_one) ∙ shared_invariant.contexts.count;
-      kept = λ j. elim (cases_eq j slot) [
-        | inl equal ↦ rw equal (ap (λ (x : Option Context). is_some x) context_of_k ∙ some_after kept_one ∙ shared_invariant.contexts.kept slot)
-        | inr distinct ↦ ap (λ (x : Option Context). is_some x) (at_other_slot shared.contexts slot j _ distinct) ∙ shared_invariant.contexts.kept j
+      count = length-set shared.contexts slot (option_map complemented_context old_context) ∙ shared_invariant.contexts.count;
+      kept = λ other. elim (cases_eq other slot) [
+        | inl is_slot ↦
+            rw is_slot
+            (ap (λ (maybe_context : Option Context). is_some maybe_context) new_context_of_slot ∙ some_after old_context
+            ∙ shared_invariant.contexts.kept slot)
+        | inr is_other ↦
+            ap (λ (maybe_context : Option Context). is_some maybe_context) (at_other_slot shared.contexts slot other _ is_other)
+            ∙ shared_invariant.contexts.kept other
       ];
-      held = λ j.
-          let P : Option Context → Type 0 = λ x. IfSome x (λ context. can_go_on context ≡ true) in
-          elim (cases_eq j slot) [
-            | inl equal ↦ rw equal (subst P (sym context_of_k) (goes_on_after kept_one (shared_invariant.contexts.held slot)))
-            | inr distinct ↦ subst P (sym (at_other_slot shared.contexts slot j _ distinct)) (shared_invariant.contexts.held j)
+      held = λ other.
+          let CanContinue : Option Context → Type 0 = λ maybe_context. IfSome maybe_context (λ context. can_go_on context ≡ true) in
+          elim (cases_eq other slot) [
+            | inl is_slot ↦ rw is_slot (subst CanContinue (sym new_context_of_slot) (goes_on_after old_context (shared_invariant.contexts.held slot)))
+            | inr is_other ↦ subst CanContinue (sym (at_other_slot shared.contexts slot other _ is_other)) (shared_invariant.contexts.held other)
           ];
     };
     running = shared_invariant.running;
@@ -136,10 +145,10 @@ module _ (shared : Shared) (worlds : List World) (slot : ℕ) (shared_invariant 
     table = refl;
     memory = block_agrees shared.memory (region shared.table slot);
     contexts = record {
-      size = sym (length-set shared.contexts slot (option_map complemented_context kept_one));
-      others = λ j distinct. sym (at_other_slot shared.contexts slot j _ distinct);
+      size = sym (length-set shared.contexts slot (option_map complemented_context old_context));
+      others = λ other is_other. sym (at_other_slot shared.contexts slot other _ is_other);
     };
-    gone = λ dead. let contradiction : true ≡ false = sym may_be.live ∙ dead in cc;
+    gone = λ dead. let contradiction : true ≡ false = sym slot_may_scramble.live ∙ dead in cc;
   }
 
 -- proves that scramble preserves the invariant and changes only what is private to `slot`

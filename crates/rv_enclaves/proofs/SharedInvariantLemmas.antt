@@ -27,68 +27,80 @@ use Rattle.rv_enclaves.proofs.Valid.{FitsInSlot, valid_with, nothing_fits, own_f
 
 -- whether a record has the state Running
 abbrev running_in : Option SlotInfo → Bool
-running_in o = option_case o false (λ info. is_running info.state)
+running_in maybe_info = option_case maybe_info false (λ info. is_running info.state)
 
 -- ---- a change of one slot and its context, and of a memory of the same size
 
--- Slot k gets the record o and the saved context c, and the memory changes but keeps its size. The worlds of the harts change to `after_worlds`. The
--- premises say that the record fits, and that slot k and the new worlds agree.
-module _ (shared : Shared) (worlds after_worlds : List World) (k : ℕ) (o : Option SlotInfo) (c : Option Context) (memory : List ℕ)
-    (shared_invariant : SharedInvariant shared worlds) (in_range : k < slot_count) (same_length : length shared.memory ≡ length memory)
-    (fits : FitsInSlot shared.memory shared.table k o) (saved_if_held : is_some c ≡ is_held o)
-    (can_continue : IfSome c (λ context. can_go_on context ≡ true))
-    (here_runs : running_in o ≡ list_any (is_world_of k) after_worlds)
-    (others_run : (j : ℕ) → j ≢ k → list_any (is_world_of j) worlds ≡ list_any (is_world_of j) after_worlds)
+-- `slot` gets a new record and a new saved context, or none. The memory changes but keeps its size. The worlds of the harts change to
+-- `after_worlds`. The premises say that the record fits, and that the slot and the new worlds agree.
+module _ (shared : Shared) (worlds after_worlds : List World) (slot : ℕ) (maybe_info : Option SlotInfo) (maybe_context : Option Context)
+    (memory : List ℕ) (shared_invariant : SharedInvariant shared worlds) (slot_in_bounds : slot < slot_count)
+    (same_length : length shared.memory ≡ length memory)
+    (fits : FitsInSlot shared.memory shared.table slot maybe_info) (saved_if_held : is_some maybe_context ≡ is_held maybe_info)
+    (can_continue : IfSome maybe_context (λ context. can_go_on context ≡ true))
+    (runs_if_world : running_in maybe_info ≡ list_any (is_world_of slot) after_worlds)
+    (others_unchanged : (other : ℕ) → other ≢ slot → list_any (is_world_of other) worlds ≡ list_any (is_world_of other) after_worlds)
     (worlds_apart : AreApart after_worlds) where
-  -- slot k of the new table has the new record
-  table_here : slot_at (with_slot shared.table k o) k ≡ o
-  table_here = at_written_slot shared.table k o (omega (arith, shared_invariant.valid.count))
+  -- `slot` of the new table has the new record
+  new_slot_at : slot_at (with_slot shared.table slot maybe_info) slot ≡ maybe_info
+  new_slot_at = at_written_slot shared.table slot maybe_info (omega (arith, shared_invariant.valid.count))
 
-  -- slot k of the new contexts has the new context
-  context_here : context_at (with_context shared.contexts k c) k ≡ c
-  context_here = at_written_slot shared.contexts k c (omega (arith, shared_invariant.contexts.count))
+  -- `slot` of the new contexts has the new context
+  new_context_at : context_at (with_context shared.contexts slot maybe_context) slot ≡ maybe_context
+  new_context_at = at_written_slot shared.contexts slot maybe_context (omega (arith, shared_invariant.contexts.count))
 
   -- each other slot of the new table is unchanged
-  table_there : (j : ℕ) → j ≢ k → slot_at (with_slot shared.table k o) j ≡ slot_at shared.table j
-  table_there j distinct = at_other_slot shared.table k j o distinct
+  other_slot_unchanged : (other : ℕ) → other ≢ slot → slot_at (with_slot shared.table slot maybe_info) other ≡ slot_at shared.table other
+  other_slot_unchanged other is_other = at_other_slot shared.table slot other maybe_info is_other
 
   -- each other slot of the new contexts is unchanged
-  context_there : (j : ℕ) → j ≢ k → context_at (with_context shared.contexts k c) j ≡ context_at shared.contexts j
-  context_there j distinct = at_other_slot shared.contexts k j c distinct
+  other_context_unchanged : (other : ℕ) → other ≢ slot
+      → context_at (with_context shared.contexts slot maybe_context) other ≡ context_at shared.contexts other
+  other_context_unchanged other is_other = at_other_slot shared.contexts slot other maybe_context is_other
 
   -- after the change, a slot has a saved context if and only if its enclave is live and does not run
-  saved_after : (j : ℕ) → is_some (context_at (with_context shared.contexts k c) j) ≡ is_held (slot_at (with_slot shared.table k o) j)
-  saved_after j = elim (cases_eq j k) [
-    | inl equal ↦ rw equal (ap (λ (x : Option Context). is_some x) context_here ∙ saved_if_held ∙ ap is_held (sym table_here))
-    | inr distinct ↦
-        ap (λ (x : Option Context). is_some x) (context_there j distinct) ∙ shared_invariant.contexts.kept j
-        ∙ ap is_held (sym (table_there j distinct))
+  saved_after : (each_slot : ℕ)
+      → is_some (context_at (with_context shared.contexts slot maybe_context) each_slot)
+      ≡ is_held (slot_at (with_slot shared.table slot maybe_info) each_slot)
+  saved_after each_slot = elim (cases_eq each_slot slot) [
+    | inl is_slot ↦
+        rw is_slot (ap (λ (maybe_context : Option Context). is_some maybe_context) new_context_at ∙ saved_if_held ∙ ap is_held (sym new_slot_at))
+    | inr is_other ↦
+        ap (λ (maybe_context : Option Context). is_some maybe_context) (other_context_unchanged each_slot is_other)
+        ∙ shared_invariant.contexts.kept each_slot
+        ∙ ap is_held (sym (other_slot_unchanged each_slot is_other))
   ]
 
   -- after the change, a hart can continue with each saved context
-  held_after : (j : ℕ) → IfSome (context_at (with_context shared.contexts k c) j) (λ context. can_go_on context ≡ true)
-  held_after j =
-      let P : Option Context → Type 0 = λ x. IfSome x (λ context. can_go_on context ≡ true) in
-      elim (cases_eq j k) [
-        | inl equal ↦ rw equal (subst P (sym context_here) can_continue)
-        | inr distinct ↦ subst P (sym (context_there j distinct)) (shared_invariant.contexts.held j)
+  held_after : (each_slot : ℕ) → IfSome (context_at (with_context shared.contexts slot maybe_context) each_slot) (λ context. can_go_on context ≡ true)
+  held_after each_slot =
+      let CanContinue : Option Context → Type 0 = λ maybe_context. IfSome maybe_context (λ context. can_go_on context ≡ true) in
+      elim (cases_eq each_slot slot) [
+        | inl is_slot ↦ rw is_slot (subst CanContinue (sym new_context_at) can_continue)
+        | inr is_other ↦ subst CanContinue (sym (other_context_unchanged each_slot is_other)) (shared_invariant.contexts.held each_slot)
       ]
 
   -- after the change, a slot is Running if and only if it is the world of some hart
-  running_after : (j : ℕ) → runs (with_slot shared.table k o) j ≡ list_any (is_world_of j) after_worlds
-  running_after j = elim (cases_eq j k) [
-    | inl equal ↦ rw equal (ap running_in table_here ∙ here_runs)
-    | inr distinct ↦ ap running_in (table_there j distinct) ∙ shared_invariant.running j ∙ others_run j distinct
+  running_after : (each_slot : ℕ) → runs (with_slot shared.table slot maybe_info) each_slot ≡ list_any (is_world_of each_slot) after_worlds
+  running_after each_slot = elim (cases_eq each_slot slot) [
+    | inl is_slot ↦ rw is_slot (ap running_in new_slot_at ∙ runs_if_world)
+    | inr is_other ↦
+        ap running_in (other_slot_unchanged each_slot is_other) ∙ shared_invariant.running each_slot ∙ others_unchanged each_slot is_other
   ]
 
-  -- a change of the record and the saved context of slot k that agrees with the worlds preserves the invariant
+  -- a change of the record and the saved context of `slot` that agrees with the worlds preserves the invariant
   pub shared_invariant-with_slot : SharedInvariant
-      (record { memory = memory; table = with_slot shared.table k o; contexts = with_context shared.contexts k c }) after_worlds
+      (record { memory = memory; table = with_slot shared.table slot maybe_info; contexts = with_context shared.contexts slot maybe_context })
+      after_worlds
   shared_invariant-with_slot = record {
     valid =
-        valid_by_size shared.memory memory (with_slot shared.table k o) same_length
-        (valid_with shared.memory shared.table k o shared_invariant.valid in_range fits);
-    contexts = record { count = length-set shared.contexts k c ∙ shared_invariant.contexts.count; kept = saved_after; held = held_after };
+        valid_by_size shared.memory memory (with_slot shared.table slot maybe_info) same_length
+        (valid_with shared.memory shared.table slot maybe_info shared_invariant.valid slot_in_bounds fits);
+    contexts = record {
+      count = length-set shared.contexts slot maybe_context ∙ shared_invariant.contexts.count;
+      kept = saved_after;
+      held = held_after;
+    };
     running = running_after;
     apart = worlds_apart;
   }
@@ -105,36 +117,37 @@ sound_by_size shared worlds memory shared_invariant same_length = record {
 
 -- ---- create
 
--- slot k is a slot of the table, and is free
-pub record IsFreeSlot (slots : Slots) (k : ℕ) : Type 0 where
-  pub in_range : k < slot_count
-  pub free : slot_at slots k ≡ None
+-- `slot` is a slot of the table, and is free
+pub record IsFreeSlot (table : Slots) (slot : ℕ) : Type 0 where
+  pub in_range : slot < slot_count
+  pub free : slot_at table slot ≡ None
 
 -- an option that passes the test `is_none` is None
-none_from : {A : Type 0} (o : Option A) → is_none o ≡ true → o ≡ None
+none_from : {A : Type 0} (option : Option A) → is_none option ≡ true → option ≡ None
 none_from None no_value = refl
 none_from (Some x) no_value = cc
 
 -- the number that a search of a range finds is in the range, and passes the test
-found-by : (p : ℕ → Bool) (first n k : ℕ) → find p (range_with_len first n) ≡ Some k → (k < first + n) × (p k ≡ true)
-found-by p first zero k found = cc
-found-by p first (suc n) k found = elim (cases_Bool (p first)) [
+found-by : (test : ℕ → Bool) (start count number : ℕ) → find test (range_with_len start count) ≡ Some number
+    → (number < start + count) × (test number ≡ true)
+found-by test start zero number found = cc
+found-by test start (suc count) number found = elim (cases_Bool (test start)) [
   | inl holds ↦
-      let found_here : Some first ≡ Some k = sym (cond-true (p first) _ _ holds) ∙ found in
-      let same : first ≡ k = cc in
-      (omega arith, rw same at holds)
+      let found_start : Some start ≡ Some number = sym (cond-true (test start) _ _ holds) ∙ found in
+      let start_is_number : start ≡ number = cc in
+      (omega arith, rw start_is_number at holds)
   | inr fails ↦
-      let found_here : find p (range_with_len (first + 1) n) ≡ Some k = sym (cond-false (p first) _ _ fails) ∙ found in
-      let rest = found-by p (first + 1) n k found_here in
-      (omega (arith, rest.0), rest.1)
+      let found_start : find test (range_with_len (start + 1) count) ≡ Some number = sym (cond-false (test start) _ _ fails) ∙ found in
+      let found_later = found-by test (start + 1) count number found_start in
+      (omega (arith, found_later.0), found_later.1)
 ]
 
 -- the slot that `free_slot` finds is a slot of the table, and is free
-pub free_slot_from : (slots : Slots) (k : ℕ) → free_slot slots ≡ Some k → IsFreeSlot slots k
+pub free_slot_from : (table : Slots) (slot : ℕ) → free_slot table ≡ Some slot → IsFreeSlot table slot
 unfolding free_slot
-free_slot_from slots k free_slot_is =
-    let found = found-by (λ j. is_none (slot_at slots j)) 0 slot_count k free_slot_is in
-    record { in_range = omega arith; free = none_from (slot_at slots k) found.1 }
+free_slot_from table slot free_slot_is =
+    let found = found-by (λ candidate. is_none (slot_at table candidate)) 0 slot_count slot free_slot_is in
+    record { in_range = omega arith; free = none_from (slot_at table slot) found.1 }
 
 -- a measurement has 32 bytes
 length_measurement : (memory : List ℕ) (new : CreateArgs) → length (measurement_of memory new) ≡ 32
@@ -153,9 +166,10 @@ unfolding is_entry
 entry_inside new entry_passes = (and_parts (new.entry % 4 == 0) (has new.region new.entry) entry_passes).1
 
 -- the record of a create that passes every check fits into a free slot: it is valid, and apart from the other enclaves
-new_fits : (shared : Shared) (new : CreateArgs) (k : ℕ) → is_valid_block shared.memory new.region ≡ true → is_window shared.memory new.window ≡ true
-    → is_entry new ≡ true → IsFree shared.table new → FitsInSlot shared.memory shared.table k (Some (recorded shared.memory new))
-new_fits shared new k is_valid is_window_valid entry_valid free = record {
+new_fits : (shared : Shared) (new : CreateArgs) (slot : ℕ) → is_valid_block shared.memory new.region ≡ true
+    → is_window shared.memory new.window ≡ true
+    → is_entry new ≡ true → IsFree shared.table new → FitsInSlot shared.memory shared.table slot (Some (recorded shared.memory new))
+new_fits shared new slot is_valid is_window_valid entry_valid free = record {
   well_formed = record {
     region = is_valid;
     window = is_window_valid;
@@ -163,9 +177,9 @@ new_fits shared new k is_valid is_window_valid entry_valid free = record {
     entry = entry_inside new entry_valid;
     measured = length_measurement shared.memory new;
   };
-  regions = λ j distinct. (free.others j).regions;
-  windows = λ j distinct. (free.others j).window;
-  window = λ j distinct. (free.others j).own;
+  regions = λ other is_other. (free.others other).regions;
+  windows = λ other is_other. (free.others other).window;
+  window = λ other is_other. (free.others other).own;
   own = free.own;
   region_free = free.region;
   window_free = free.window;
@@ -176,19 +190,20 @@ first_goes_on : (info : SlotInfo) → info.entry % 4 ≡ 0 → can_go_on (first_
 unfolding first_context
 first_goes_on info aligned = rw aligned refl
 
--- a create that passes every check preserves the invariant, if k is the free slot of the table
-created_at_sound : (shared : Shared) (worlds : List World) (new : CreateArgs) (k : ℕ) → SharedInvariant shared worlds
+-- a create that passes every check preserves the invariant, if `slot` is the lowest free slot of the table
+created_at_sound : (shared : Shared) (worlds : List World) (new : CreateArgs) (slot : ℕ) → SharedInvariant shared worlds
     → is_valid_block shared.memory new.region ≡ true → is_window shared.memory new.window ≡ true → overlaps shared.table new ≡ false
-    → is_entry new ≡ true → free_slot shared.table ≡ Some k
-    → SharedInvariant (with_enclave shared k (recorded shared.memory new)) worlds
-created_at_sound shared worlds new k shared_invariant is_valid is_window_valid no_overlap entry_valid free_slot_is =
-    let slot = free_slot_from shared.table k free_slot_is in
+    → is_entry new ≡ true → free_slot shared.table ≡ Some slot
+    → SharedInvariant (with_enclave shared slot (recorded shared.memory new)) worlds
+created_at_sound shared worlds new slot shared_invariant is_valid is_window_valid no_overlap entry_valid free_slot_is =
+    let is_free_slot = free_slot_from shared.table slot free_slot_is in
     let info = recorded shared.memory new in
-    let before : false ≡ list_any (is_world_of k) worlds = sym (ap running_in slot.free) ∙ shared_invariant.running k in
-    shared_invariant-with_slot shared worlds worlds k (Some info) (Some (first_context info)) shared.memory shared_invariant slot.in_range refl
-    (new_fits shared new k is_valid is_window_valid entry_valid (free_from shared.table new no_overlap)) refl
-    (first_goes_on info (entry_aligned new entry_valid)) before
-    (λ j other. refl) shared_invariant.apart
+    let not_among_worlds : false ≡ list_any (is_world_of slot) worlds = sym (ap running_in is_free_slot.free) ∙ shared_invariant.running slot in
+    shared_invariant-with_slot shared worlds worlds slot (Some info) (Some (first_context info)) shared.memory
+    shared_invariant is_free_slot.in_range refl
+    (new_fits shared new slot is_valid is_window_valid entry_valid (free_from shared.table new no_overlap)) refl
+    (first_goes_on info (entry_aligned new entry_valid)) not_among_worlds
+    (λ other is_other. refl) shared_invariant.apart
 
 -- a create that the monitor does not refuse preserves the invariant
 pub created_sound : (shared : Shared) (worlds : List World) (new : CreateArgs) → MayCreate shared new → SharedInvariant shared worlds
@@ -201,127 +216,140 @@ created_sound shared worlds new no_refusal shared_invariant =
 -- ---- a live slot
 
 -- a slot with an enclave is a slot of the table
-pub live_in_range : (slots : Slots) (k : ℕ) (info : SlotInfo) → length slots ≡ slot_count → slot_at slots k ≡ Some info → k < slot_count
-live_in_range slots k info table_length slot_is = elim (cases_lt k slot_count) [
+pub live_in_range : (table : Slots) (slot : ℕ) (info : SlotInfo) → length table ≡ slot_count → slot_at table slot ≡ Some info → slot < slot_count
+live_in_range table slot info table_length slot_is = elim (cases_lt slot slot_count) [
   | inl in_range ↦ in_range
   | inr past_last ↦
-      let nothing : slot_at slots k ≡ None = get_or_past {X = Option SlotInfo} slots k None (omega (arith, table_length)) in
+      let nothing : slot_at table slot ≡ None = get_or_past {X = Option SlotInfo} table slot None (omega (arith, table_length)) in
       let contradiction : None ≡ Some info = sym nothing ∙ slot_is in cc
 ]
 
 -- the slot of a live enclave is a slot of the table
-pub live_slot_in_range : (slots : Slots) (k : ℕ) (o : Option SlotInfo) → length slots ≡ slot_count → slot_at slots k ≡ o → is_some o ≡ true
-    → k < slot_count
-live_slot_in_range slots k None table_length slot_is live = cc
-live_slot_in_range slots k (Some info) table_length slot_is live = live_in_range slots k info table_length slot_is
+pub live_slot_in_range : (table : Slots) (slot : ℕ) (maybe_info : Option SlotInfo) → length table ≡ slot_count → slot_at table slot ≡ maybe_info
+    → is_some maybe_info ≡ true
+    → slot < slot_count
+live_slot_in_range table slot None table_length slot_is live = cc
+live_slot_in_range table slot (Some info) table_length slot_is live = live_in_range table slot info table_length slot_is
 
 -- zeroing a block does not change the size of the memory
-size_zeroed : (memory : List ℕ) (block : Block) (o : Option (List ℕ)) → write memory block.base (replicate block.size 0) ≡ o
-    → length memory ≡ length (option_case o memory (λ after. after))
+size_zeroed : (memory : List ℕ) (block : Block) (result : Option (List ℕ)) → write memory block.base (replicate block.size 0) ≡ result
+    → length memory ≡ length (option_case result memory (λ after. after))
 size_zeroed memory block None written = refl
 size_zeroed memory block (Some after) written = sym (length-write memory block.base (replicate block.size 0) after written)
 
 -- a write, successful or not, does not change the size of the memory
-size_with_bytes : (memory : List ℕ) (address : ℕ) (bytes : List ℕ) (o : Option (List ℕ)) → write memory address bytes ≡ o
-    → length memory ≡ length (option_case o memory (λ after. after))
+size_with_bytes : (memory : List ℕ) (address : ℕ) (bytes : List ℕ) (result : Option (List ℕ)) → write memory address bytes ≡ result
+    → length memory ≡ length (option_case result memory (λ after. after))
 size_with_bytes memory address bytes None written = refl
 size_with_bytes memory address bytes (Some after) written = sym (length-write memory address bytes after written)
 
 -- ---- destroy
 
 -- the removal of an enclave that does not run preserves the invariant
-removed_sound : (shared : Shared) (worlds : List World) (k : ℕ) (info : SlotInfo) → SharedInvariant shared worlds → slot_at shared.table k ≡ Some info
-    → is_running info.state ≡ false → SharedInvariant (without shared k (region shared.table k)) worlds
-removed_sound shared worlds k info shared_invariant slot_is not_running =
-    let before : false ≡ list_any (is_world_of k) worlds = sym not_running ∙ sym (ap running_in slot_is) ∙ shared_invariant.running k in
-    let block = region shared.table k in
-    shared_invariant-with_slot shared worlds worlds k None None (zeroed shared.memory block) shared_invariant
-    (live_in_range shared.table k info shared_invariant.valid.count slot_is)
+removed_sound : (shared : Shared) (worlds : List World) (slot : ℕ) (info : SlotInfo) → SharedInvariant shared worlds
+    → slot_at shared.table slot ≡ Some info
+    → is_running info.state ≡ false → SharedInvariant (without shared slot (region shared.table slot)) worlds
+removed_sound shared worlds slot info shared_invariant slot_is not_running =
+    let not_among_worlds : false ≡ list_any (is_world_of slot) worlds =
+    sym not_running ∙ sym (ap running_in slot_is) ∙ shared_invariant.running slot in
+    let block = region shared.table slot in
+    shared_invariant-with_slot shared worlds worlds slot None None (zeroed shared.memory block) shared_invariant
+    (live_in_range shared.table slot info shared_invariant.valid.count slot_is)
     (size_zeroed shared.memory block (write shared.memory block.base (replicate block.size 0)) refl)
-    (nothing_fits shared.memory shared.table k) refl tt before (λ j other. refl) shared_invariant.apart
+    (nothing_fits shared.memory shared.table slot) refl tt not_among_worlds (λ other is_other. refl) shared_invariant.apart
 
 -- a destroy that the monitor does not refuse preserves the invariant
-pub destroyed_sound : (shared : Shared) (worlds : List World) (k : ℕ) → SlotIsAccepted shared.table calls.Destroy k → SharedInvariant shared worlds
-    → SharedInvariant (destroyed shared k) worlds
+pub destroyed_sound : (shared : Shared) (worlds : List World) (slot : ℕ) → SlotIsAccepted shared.table calls.Destroy slot
+    → SharedInvariant shared worlds
+    → SharedInvariant (destroyed shared slot) worlds
 unfolding destroyed
-destroyed_sound shared worlds k is_taken shared_invariant =
-    removed_sound shared worlds k is_taken.info shared_invariant is_taken.is (takes_rests calls.Destroy is_taken.info.state is_taken.taken)
+destroyed_sound shared worlds slot accepted shared_invariant =
+    removed_sound shared worlds slot accepted.info shared_invariant accepted.is (takes_rests calls.Destroy accepted.info.state accepted.taken)
 
 -- ---- measure
 
 -- a measure preserves the invariant
-pub measured_sound : (shared : Shared) (worlds : List World) (k address : ℕ) → SharedInvariant shared worlds
-    → SharedInvariant (measured shared k address) worlds
+pub measured_sound : (shared : Shared) (worlds : List World) (slot address : ℕ) → SharedInvariant shared worlds
+    → SharedInvariant (measured shared slot address) worlds
 unfolding measured
-measured_sound shared worlds k address shared_invariant =
-    let bytes = measurement_at shared.table k in
+measured_sound shared worlds slot address shared_invariant =
+    let bytes = measurement_at shared.table slot in
     sound_by_size shared worlds (with_bytes_at shared.memory address bytes) shared_invariant
     (size_with_bytes shared.memory address bytes (write shared.memory address bytes) refl)
 
 -- ---- switches
 
 -- a new state for a slot with an enclave replaces the state in the record of this enclave
-with_state_is : (slots : Slots) (k : ℕ) (info : SlotInfo) (state : EnclaveState) → slot_at slots k ≡ Some info
-    → with_state slots k state ≡ with_slot slots k (Some (record info { state = state }))
-with_state_is slots k info state slot_is = ap (λ o. option_case o slots (λ i. with_slot slots k (Some (record i { state = state })))) slot_is
+with_state_is : (table : Slots) (slot : ℕ) (info : SlotInfo) (state : EnclaveState) → slot_at table slot ≡ Some info
+    → with_state table slot state ≡ with_slot table slot (Some (record info { state = state }))
+with_state_is table slot info state slot_is =
+    ap (λ maybe_info. option_case maybe_info table (λ found. with_slot table slot (Some (record found { state = state })))) slot_is
 
--- `beside` has the worlds of the other harts. The world of the hart that switches changes from the host to enclave k, or back.
-module _ (beside : List World) where
+-- `other_worlds` has the worlds of the other harts. The world of the hart that switches changes from the host to enclave k, or back.
+module _ (other_worlds : List World) where
   -- the switch to enclave k changes for no other enclave whether it is among the worlds
-  other_worlds_unchanged : (j k : ℕ) → j ≢ k → list_any (is_world_of j) (Host ∷ beside) ≡ list_any (is_world_of j) (Enclave k ∷ beside)
-  other_worlds_unchanged j k distinct = let k_is_not_j : (k == j) ≡ false = ne_eqb k j (λ same. distinct (sym same)) in rw k_is_not_j refl
+  other_worlds_unchanged : (other slot : ℕ) → other ≢ slot
+      → list_any (is_world_of other) (Host ∷ other_worlds) ≡ list_any (is_world_of other) (Enclave slot ∷ other_worlds)
+  other_worlds_unchanged other slot is_other =
+      let slot_is_not_other : (slot == other) ≡ false = ne_eqb slot other (λ is_equal. is_other (sym is_equal)) in
+      rw slot_is_not_other refl
 
   -- an enclave that runs on no other hart is not among the worlds of the other harts
-  apart_from_others : (k j : ℕ) → list_any (is_world_of k) beside ≡ false → is_world_of j (Enclave k) ≡ true → list_any (is_world_of j) beside ≡ false
-  apart_from_others k j not_running runs_enclave = let same : k ≡ j = eqb-true k j runs_enclave in rw (← same) not_running
+  apart_from_others : (slot other : ℕ) → list_any (is_world_of slot) other_worlds ≡ false → is_world_of other (Enclave slot) ≡ true
+      → list_any (is_world_of other) other_worlds ≡ false
+  apart_from_others slot other not_running runs_enclave =
+      let is_equal : slot ≡ other = eqb-true slot other runs_enclave in
+      rw (← is_equal) not_running
 
   -- the entry of an enclave that does not run preserves the invariant, with this enclave as the new world of the hart
-  pub entered_sound : (shared : Shared) (k : ℕ) (info : SlotInfo) → SharedInvariant shared (Host ∷ beside) → slot_at shared.table k ≡ Some info
+  pub entered_sound : (shared : Shared) (slot : ℕ) (info : SlotInfo) → SharedInvariant shared (Host ∷ other_worlds)
+      → slot_at shared.table slot ≡ Some info
       → is_running info.state ≡ false
-      → SharedInvariant (record shared { table = with_state shared.table k Running; contexts = with_context shared.contexts k None })
-      (Enclave k ∷ beside)
-  entered_sound shared k info shared_invariant slot_is not_running =
-      let k_is_k : (k == k) ≡ true = eq-eqb k k refl in
-      let is_among : true ≡ list_any (is_world_of k) (Enclave k ∷ beside) = rw k_is_k refl in
-      let runs_on_no_other : list_any (is_world_of k) beside ≡ false = sym (shared_invariant.running k) ∙ ap running_in slot_is ∙ not_running in
-      rw (with_state_is shared.table k info Running slot_is)
-      (shared_invariant-with_slot shared (Host ∷ beside) (Enclave k ∷ beside) k (Some (record info { state = Running })) None
+      → SharedInvariant (record shared { table = with_state shared.table slot Running; contexts = with_context shared.contexts slot None })
+      (Enclave slot ∷ other_worlds)
+  entered_sound shared slot info shared_invariant slot_is not_running =
+      let slot_is_itself : (slot == slot) ≡ true = eq-eqb slot slot refl in
+      let is_among : true ≡ list_any (is_world_of slot) (Enclave slot ∷ other_worlds) = rw slot_is_itself refl in
+      let runs_on_no_other : list_any (is_world_of slot) other_worlds ≡ false =
+      sym (shared_invariant.running slot) ∙ ap running_in slot_is ∙ not_running in
+      rw (with_state_is shared.table slot info Running slot_is)
+      (shared_invariant-with_slot shared (Host ∷ other_worlds) (Enclave slot ∷ other_worlds) slot (Some (record info { state = Running })) None
       shared.memory shared_invariant
-      (live_in_range shared.table k info shared_invariant.valid.count slot_is) refl
-      (own_fits shared.memory shared.table k info Running shared_invariant.valid slot_is) refl tt is_among
-      (λ j other. other_worlds_unchanged j k other)
-      (λ j runs_j. apart_from_others k j runs_on_no_other runs_j, shared_invariant.apart.1))
+      (live_in_range shared.table slot info shared_invariant.valid.count slot_is) refl
+      (own_fits shared.memory shared.table slot info Running shared_invariant.valid slot_is) refl tt is_among
+      (λ other is_other. other_worlds_unchanged other slot is_other)
+      (λ other runs_other. apart_from_others slot other runs_on_no_other runs_other, shared_invariant.apart.1))
 
   -- a slot that is Running has a record
-  running_live : (o : Option SlotInfo) → running_in o ≡ true → (info : SlotInfo) × (o ≡ Some info)
-  running_live None running_in_is = cc
-  running_live (Some info) running_in_is = (info, refl)
+  running_live : (maybe_info : Option SlotInfo) → running_in maybe_info ≡ true → (info : SlotInfo) × (maybe_info ≡ Some info)
+  running_live None runs = cc
+  running_live (Some info) runs = (info, refl)
 
   -- The exit of the running enclave preserves the invariant. If the host runs, the exit changes nothing.
-  pub left_sound : (shared : Shared) (world : World) (state : EnclaveState) (kept : Context) → SharedInvariant shared (world ∷ beside)
-      → is_running state ≡ false → can_go_on kept ≡ true
-      → (let k = running_slot world in
-      SharedInvariant (record shared { table = with_state shared.table k state; contexts = with_context shared.contexts k (Some kept) })
-      (Host ∷ beside))
-  left_sound shared Host state kept shared_invariant not_running can_continue =
+  pub left_sound : (shared : Shared) (world : World) (state : EnclaveState) (saved : Context) → SharedInvariant shared (world ∷ other_worlds)
+      → is_running state ≡ false → can_go_on saved ≡ true
+      → (let slot = running_slot world in
+      SharedInvariant (record shared { table = with_state shared.table slot state; contexts = with_context shared.contexts slot (Some saved) })
+      (Host ∷ other_worlds))
+  left_sound shared Host state saved shared_invariant not_running can_continue =
       rw (
         state_past shared.table state shared_invariant.valid.count,
         context_past shared.contexts
-            (Some kept) shared_invariant.contexts.count,
+            (Some saved) shared_invariant.contexts.count,
       ) shared_invariant
-  left_sound shared (Enclave k) state kept shared_invariant not_running can_continue =
-      let k_is_k : (k == k) ≡ true = eq-eqb k k refl in
-      let live = running_live (slot_at shared.table k) (shared_invariant.running k ∙ rw k_is_k refl) in
+  left_sound shared (Enclave slot) state saved shared_invariant not_running can_continue =
+      let slot_is_itself : (slot == slot) ≡ true = eq-eqb slot slot refl in
+      let live = running_live (slot_at shared.table slot) (shared_invariant.running slot ∙ rw slot_is_itself refl) in
       let info = live.0 in
-      let kept_is : true ≡ is_held (Some (record info { state = state })) = rw not_running refl in
-      let runs_on_no_other : list_any (is_world_of k) beside ≡ false = shared_invariant.apart.0 k k_is_k in
-      rw (with_state_is shared.table k info state live.1)
-      (shared_invariant-with_slot shared (Enclave k ∷ beside) (Host ∷ beside) k (Some (record info { state = state })) (Some kept)
+      let saved_is_held : true ≡ is_held (Some (record info { state = state })) = rw not_running refl in
+      let runs_on_no_other : list_any (is_world_of slot) other_worlds ≡ false = shared_invariant.apart.0 slot slot_is_itself in
+      rw (with_state_is shared.table slot info state live.1)
+      (shared_invariant-with_slot shared (Enclave slot ∷ other_worlds) (Host ∷ other_worlds) slot (Some (record info { state = state })) (Some saved)
       shared.memory shared_invariant
-      (live_in_range shared.table k info shared_invariant.valid.count live.1) refl
-      (own_fits shared.memory shared.table k info state shared_invariant.valid live.1) kept_is can_continue
-      (not_running ∙ sym runs_on_no_other) (λ j other. sym (other_worlds_unchanged j k other))
-      (λ j runs_j. let contradiction : false ≡ true = runs_j in cc, shared_invariant.apart.1))
+      (live_in_range shared.table slot info shared_invariant.valid.count live.1) refl
+      (own_fits shared.memory shared.table slot info state shared_invariant.valid live.1) saved_is_held can_continue
+      (not_running ∙ sym runs_on_no_other) (λ other is_other. sym (other_worlds_unchanged other slot is_other))
+      (λ other runs_other. let contradiction : false ≡ true = runs_other in cc, shared_invariant.apart.1))
 
 -- ---- the calls, not refused
 
@@ -329,6 +357,6 @@ module _ (beside : List World) where
 pub calls_keep : CallsKeepLaw
 calls_keep shared worlds shared_invariant = record {
   creates = λ new not_refused. created_sound shared worlds new (may_create shared new not_refused) shared_invariant;
-  destroys = λ k not_refused. destroyed_sound shared worlds k (may_take shared.table calls.Destroy k not_refused) shared_invariant;
-  measures = λ k address. measured_sound shared worlds k address shared_invariant;
+  destroys = λ slot not_refused. destroyed_sound shared worlds slot (may_take shared.table calls.Destroy slot not_refused) shared_invariant;
+  measures = λ slot address. measured_sound shared worlds slot address shared_invariant;
 }

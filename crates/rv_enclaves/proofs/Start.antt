@@ -40,24 +40,27 @@ pub no_slots_valid : (memory : List ℕ) → is_ram_size (length memory) ≡ tru
 no_slots_valid memory ram_size_valid = record {
   ram = ram_size_valid;
   count = refl;
-  well_formed = λ slot. let P : Option SlotInfo → Type 0 = λ o. IfSome o (IsValidSlot memory) in subst P (sym (no_slot slot)) tt;
-  regions_apart = λ j slot distinct. ap (λ b. meets b (region no_slots slot)) (no_region j);
-  windows_apart = λ j slot. ap (λ b. meets b (window no_slots slot)) (no_region j);
+  well_formed =
+      λ slot. let Valid : Option SlotInfo → Type 0 = λ maybe_info. IfSome maybe_info (IsValidSlot memory) in subst Valid (sym (no_slot slot)) tt;
+  regions_apart = λ other slot is_other. ap (λ block. meets block (region no_slots slot)) (no_region other);
+  windows_apart = λ other slot. ap (λ block. meets block (window no_slots slot)) (no_region other);
   regions_free = λ slot. ap (meets monitor_block) (no_region slot) ∙ meets_nothing monitor_block;
   windows_free = λ slot. ap (meets monitor_block) (no_window slot) ∙ meets_nothing monitor_block;
 }
 
 -- the shared state at reset satisfies the invariant, if every hart runs the host
-pub start_sound : (memory : List ℕ) (ws : List World) → ((slot : ℕ) → list_any (is_world_of slot) ws ≡ false) → AreApart ws
+pub start_sound : (memory : List ℕ) (worlds : List World) → ((slot : ℕ) → list_any (is_world_of slot) worlds ≡ false) → AreApart worlds
     → is_ram_size (length memory) ≡ true
-    → SharedInvariant (shared_at_start memory) ws
-start_sound memory ws none_runs worlds_apart ram_size_valid = record {
+    → SharedInvariant (shared_at_start memory) worlds
+start_sound memory worlds none_runs worlds_apart ram_size_valid = record {
   valid = no_slots_valid memory ram_size_valid;
   contexts = record {
     count = refl;
-    kept = λ slot. ap (λ (o : Option Context). is_some o) (no_context slot) ∙ ap is_held (sym (no_slot slot));
-    held = λ slot. let P : Option Context → Type 0 = λ o. IfSome o (λ c. can_go_on c ≡ true) in subst P (sym (no_context slot)) tt;
+    kept = λ slot. ap (λ (maybe_context : Option Context). is_some maybe_context) (no_context slot) ∙ ap is_held (sym (no_slot slot));
+    held = λ slot. let CanContinue : Option Context → Type 0 = λ maybe_context. IfSome maybe_context (λ context. can_go_on context ≡ true) in
+        subst CanContinue (sym (no_context slot)) tt;
   };
-  running = λ slot. ap (λ o. option_case o false (λ (info : SlotInfo). is_running info.state)) (no_slot slot) ∙ sym (none_runs slot);
+  running =
+      λ slot. ap (λ maybe_info. option_case maybe_info false (λ (info : SlotInfo). is_running info.state)) (no_slot slot) ∙ sym (none_runs slot);
   apart = worlds_apart;
 }

@@ -9,110 +9,127 @@ use Rattle.rv_enclaves.proofs.Slots.{at_written_slot, at_other_slot}
 use Rattle.rv_enclaves.specs.SlotNumbers.{slot_count}
 
 -- a record fits into `slot` if it is valid, and its region and window do not meet the blocks of other slots that they must not meet
-pub record FitsInSlot (memory : List ℕ) (slots : Slots) (slot : ℕ) (o : Option SlotInfo) : Type 0 where
-  pub well_formed : IfSome o (IsValidSlot memory)
-  pub regions : (j : ℕ) → j ≢ slot → meets (region_of o) (region slots j) ≡ false
-  pub windows : (j : ℕ) → j ≢ slot → meets (region_of o) (window slots j) ≡ false
-  pub window : (j : ℕ) → j ≢ slot → meets (window_of o) (region slots j) ≡ false
-  pub own : meets (region_of o) (window_of o) ≡ false
-  pub region_free : meets monitor_block (region_of o) ≡ false
-  pub window_free : meets monitor_block (window_of o) ≡ false
+pub record FitsInSlot (memory : List ℕ) (table : Slots) (slot : ℕ) (maybe_info : Option SlotInfo) : Type 0 where
+  pub well_formed : IfSome maybe_info (IsValidSlot memory)
+  -- its region shares no byte with the region of another slot
+  pub regions : (other : ℕ) → other ≢ slot → meets (region_of maybe_info) (region table other) ≡ false
+  -- its region shares no byte with the window of another slot
+  pub windows : (other : ℕ) → other ≢ slot → meets (region_of maybe_info) (window table other) ≡ false
+  -- its window shares no byte with the region of another slot
+  pub window : (other : ℕ) → other ≢ slot → meets (window_of maybe_info) (region table other) ≡ false
+  -- its region and its window share no byte
+  pub own : meets (region_of maybe_info) (window_of maybe_info) ≡ false
+  pub region_free : meets monitor_block (region_of maybe_info) ≡ false
+  pub window_free : meets monitor_block (window_of maybe_info) ≡ false
 
--- `slot` of a valid table gets the record o, which fits
-module _ (memory : List ℕ) (slots : Slots) (slot : ℕ) (o : Option SlotInfo) (table_valid : IsValid memory slots) (inside : slot < slot_count)
-    (fits : FitsInSlot memory slots slot o) where
+-- `slot` of a valid table gets a new record, or none, which fits
+module _ (memory : List ℕ) (table : Slots) (slot : ℕ) (maybe_info : Option SlotInfo) (table_valid : IsValid memory table) (inside : slot < slot_count)
+    (fits : FitsInSlot memory table slot maybe_info) where
   -- the table after the change: `slot` has the new record
   abbrev after : Slots
-  after = with_slot slots slot o
+  after = with_slot table slot maybe_info
 
   -- `slot` of the new table has the new record
-  slot_k_after : slot_at after slot ≡ o
-  slot_k_after = at_written_slot slots slot o (omega (arith, table_valid.count))
+  new_record_at_slot : slot_at after slot ≡ maybe_info
+  new_record_at_slot = at_written_slot table slot maybe_info (omega (arith, table_valid.count))
 
   -- each other slot of the new table is unchanged
-  other_slot_after : (j : ℕ) → j ≢ slot → slot_at after j ≡ slot_at slots j
-  other_slot_after j distinct = at_other_slot slots slot j o distinct
+  other_slot_unchanged : (other : ℕ) → other ≢ slot → slot_at after other ≡ slot_at table other
+  other_slot_unchanged other is_other = at_other_slot table slot other maybe_info is_other
 
   -- the region of `slot` of the new table is the region of the new record
-  region_here : region after slot ≡ region_of o
-  region_here = ap region_of slot_k_after
+  new_region_at_slot : region after slot ≡ region_of maybe_info
+  new_region_at_slot = ap region_of new_record_at_slot
 
   -- the window of `slot` of the new table is the window of the new record
-  window_here : window after slot ≡ window_of o
-  window_here = ap window_of slot_k_after
+  new_window_at_slot : window after slot ≡ window_of maybe_info
+  new_window_at_slot = ap window_of new_record_at_slot
 
   -- the region of each other slot is unchanged
-  region_there : (j : ℕ) → j ≢ slot → region after j ≡ region slots j
-  region_there j distinct = ap region_of (other_slot_after j distinct)
+  other_region_unchanged : (other : ℕ) → other ≢ slot → region after other ≡ region table other
+  other_region_unchanged other is_other = ap region_of (other_slot_unchanged other is_other)
 
   -- the window of each other slot is unchanged
-  window_there : (j : ℕ) → j ≢ slot → window after j ≡ window slots j
-  window_there j distinct = ap window_of (other_slot_after j distinct)
+  other_window_unchanged : (other : ℕ) → other ≢ slot → window after other ≡ window table other
+  other_window_unchanged other is_other = ap window_of (other_slot_unchanged other is_other)
 
   -- each record of the new table is valid
-  well_formed_after : (j : ℕ) → IfSome (slot_at after j) (IsValidSlot memory)
-  well_formed_after j = elim (cases_eq j slot) [
-    | inl equal ↦ let P : Option SlotInfo → Type 0 = λ x. IfSome x (IsValidSlot memory) in rw equal (subst P (sym slot_k_after) fits.well_formed)
-    | inr distinct ↦
-        let P : Option SlotInfo → Type 0 = λ x. IfSome x (IsValidSlot memory) in
-        subst P (sym (other_slot_after j distinct)) (table_valid.well_formed j)
+  well_formed_after : (each_slot : ℕ) → IfSome (slot_at after each_slot) (IsValidSlot memory)
+  well_formed_after each_slot = elim (cases_eq each_slot slot) [
+    | inl is_slot ↦ let Valid : Option SlotInfo → Type 0 = λ changed. IfSome changed (IsValidSlot memory) in
+        rw is_slot (subst Valid (sym new_record_at_slot) fits.well_formed)
+    | inr is_other ↦
+        let Valid : Option SlotInfo → Type 0 = λ changed. IfSome changed (IsValidSlot memory) in
+        subst Valid (sym (other_slot_unchanged each_slot is_other)) (table_valid.well_formed each_slot)
   ]
 
   -- no two regions of the new table meet
-  regions_after : (i j : ℕ) → i ≢ j → meets (region after i) (region after j) ≡ false
-  regions_after i j distinct = elim (cases_eq i slot) [
-    | inl equal ↦ elim (cases_eq j slot) [
-      | inl j_is_k ↦ absurd (distinct (equal ∙ sym j_is_k))
-      | inr distinct ↦
-          rw equal (ap (λ b. meets b (region after j)) region_here ∙ ap (meets (region_of o)) (region_there j distinct) ∙ fits.regions j distinct)
+  regions_after : (left right : ℕ) → left ≢ right → meets (region after left) (region after right) ≡ false
+  regions_after left right distinct = elim (cases_eq left slot) [
+    | inl left_is_slot ↦ elim (cases_eq right slot) [
+      | inl right_is_slot ↦ absurd (distinct (left_is_slot ∙ sym right_is_slot))
+      | inr right_is_other ↦
+          rw left_is_slot
+          (ap (λ block. meets block (region after right)) new_region_at_slot
+          ∙ ap (meets (region_of maybe_info)) (other_region_unchanged right right_is_other) ∙ fits.regions right right_is_other)
     ]
-    | inr other ↦ elim (cases_eq j slot) [
-      | inl equal ↦
-          rw equal
-          (ap (λ b. meets b (region after slot)) (region_there i other) ∙ ap (meets (region slots i)) region_here
-          ∙ meets_symmetric (region slots i) (region_of o) ∙ fits.regions i other)
-      | inr j_is_not_k ↦ ap (λ b. meets b (region after j)) (region_there i other) ∙ ap (meets (region slots i)) (region_there j j_is_not_k)
-          ∙ table_valid.regions_apart i j distinct
+    | inr left_is_other ↦ elim (cases_eq right slot) [
+      | inl right_is_slot ↦
+          rw right_is_slot
+          (ap (λ block. meets block (region after slot)) (other_region_unchanged left left_is_other)
+          ∙ ap (meets (region table left)) new_region_at_slot
+          ∙ meets_symmetric (region table left) (region_of maybe_info) ∙ fits.regions left left_is_other)
+      | inr right_is_other ↦
+          ap (λ block. meets block (region after right)) (other_region_unchanged left left_is_other)
+          ∙ ap (meets (region table left)) (other_region_unchanged right right_is_other)
+          ∙ table_valid.regions_apart left right distinct
     ]
   ]
 
   -- no region of the new table meets a window
-  windows_after : (i j : ℕ) → meets (region after i) (window after j) ≡ false
-  windows_after i j = elim (cases_eq i slot) [
-    | inl equal ↦ elim (cases_eq j slot) [
-      | inl j_is_k ↦ rw (equal, j_is_k) (ap (λ b. meets b (window after slot)) region_here ∙ ap (meets (region_of o)) window_here ∙ fits.own)
-      | inr distinct ↦
-          rw equal (ap (λ b. meets b (window after j)) region_here ∙ ap (meets (region_of o)) (window_there j distinct) ∙ fits.windows j distinct)
+  windows_after : (left right : ℕ) → meets (region after left) (window after right) ≡ false
+  windows_after left right = elim (cases_eq left slot) [
+    | inl left_is_slot ↦ elim (cases_eq right slot) [
+      | inl right_is_slot ↦
+          rw (left_is_slot, right_is_slot)
+          (ap (λ block. meets block (window after slot)) new_region_at_slot ∙ ap (meets (region_of maybe_info)) new_window_at_slot ∙ fits.own)
+      | inr right_is_other ↦
+          rw left_is_slot
+          (ap (λ block. meets block (window after right)) new_region_at_slot
+          ∙ ap (meets (region_of maybe_info)) (other_window_unchanged right right_is_other) ∙ fits.windows right right_is_other)
     ]
-    | inr other ↦ elim (cases_eq j slot) [
-      | inl equal ↦
-          rw equal
-          (ap (λ b. meets b (window after slot)) (region_there i other) ∙ ap (meets (region slots i)) window_here
-          ∙ meets_symmetric (region slots i) (window_of o) ∙ fits.window i other)
-      | inr distinct ↦ ap (λ b. meets b (window after j)) (region_there i other) ∙ ap (meets (region slots i)) (window_there j distinct)
-          ∙ table_valid.windows_apart i j
+    | inr left_is_other ↦ elim (cases_eq right slot) [
+      | inl right_is_slot ↦
+          rw right_is_slot
+          (ap (λ block. meets block (window after slot)) (other_region_unchanged left left_is_other)
+          ∙ ap (meets (region table left)) new_window_at_slot
+          ∙ meets_symmetric (region table left) (window_of maybe_info) ∙ fits.window left left_is_other)
+      | inr right_is_other ↦
+          ap (λ block. meets block (window after right)) (other_region_unchanged left left_is_other)
+          ∙ ap (meets (region table left)) (other_window_unchanged right right_is_other)
+          ∙ table_valid.windows_apart left right
     ]
   ]
 
   -- no region of the new table meets the monitor's range
-  free_after : (j : ℕ) → meets monitor_block (region after j) ≡ false
-  free_after j = elim (cases_eq j slot) [
-    | inl equal ↦ rw equal (ap (meets monitor_block) region_here ∙ fits.region_free)
-    | inr distinct ↦ ap (meets monitor_block) (region_there j distinct) ∙ table_valid.regions_free j
+  free_after : (other : ℕ) → meets monitor_block (region after other) ≡ false
+  free_after other = elim (cases_eq other slot) [
+    | inl is_slot ↦ rw is_slot (ap (meets monitor_block) new_region_at_slot ∙ fits.region_free)
+    | inr is_other ↦ ap (meets monitor_block) (other_region_unchanged other is_other) ∙ table_valid.regions_free other
   ]
 
   -- no window of the new table meets the monitor's range
-  window_free_after : (j : ℕ) → meets monitor_block (window after j) ≡ false
-  window_free_after j = elim (cases_eq j slot) [
-    | inl equal ↦ rw equal (ap (meets monitor_block) window_here ∙ fits.window_free)
-    | inr distinct ↦ ap (meets monitor_block) (window_there j distinct) ∙ table_valid.windows_free j
+  window_free_after : (other : ℕ) → meets monitor_block (window after other) ≡ false
+  window_free_after other = elim (cases_eq other slot) [
+    | inl is_slot ↦ rw is_slot (ap (meets monitor_block) new_window_at_slot ∙ fits.window_free)
+    | inr is_other ↦ ap (meets monitor_block) (other_window_unchanged other is_other) ∙ table_valid.windows_free other
   ]
 
   -- a valid table stays valid if `slot` gets a record that fits
-  pub valid_with : IsValid memory (with_slot slots slot o)
+  pub valid_with : IsValid memory (with_slot table slot maybe_info)
   valid_with = record {
     ram = table_valid.ram;
-    count = length-set slots slot o ∙ table_valid.count;
+    count = length-set table slot maybe_info ∙ table_valid.count;
     well_formed = well_formed_after;
     regions_apart = regions_after;
     windows_apart = windows_after;
@@ -121,26 +138,26 @@ module _ (memory : List ℕ) (slots : Slots) (slot : ℕ) (o : Option SlotInfo) 
   }
 
 -- the absence of a record fits into each slot
-pub nothing_fits : (memory : List ℕ) (slots : Slots) (slot : ℕ) → FitsInSlot memory slots slot None
-nothing_fits memory slots slot = record {
+pub nothing_fits : (memory : List ℕ) (table : Slots) (slot : ℕ) → FitsInSlot memory table slot None
+nothing_fits memory table slot = record {
   well_formed = tt;
-  regions = λ j distinct. nothing_meets (region slots j);
-  windows = λ j distinct. nothing_meets (window slots j);
-  window = λ j distinct. nothing_meets (region slots j);
+  regions = λ other is_other. nothing_meets (region table other);
+  windows = λ other is_other. nothing_meets (window table other);
+  window = λ other is_other. nothing_meets (region table other);
   own = refl;
   region_free = meets_nothing monitor_block;
   window_free = meets_nothing monitor_block;
 }
 
 -- the record of a live enclave fits into its own slot with any state
-pub own_fits : (memory : List ℕ) (slots : Slots) (slot : ℕ) (info : SlotInfo) (state : EnclaveState) → IsValid memory slots
-    → slot_at slots slot ≡ Some info
-    → FitsInSlot memory slots slot (Some (record info { state = state }))
-own_fits memory slots slot info state table_valid slot_is =
-    let region_is : region slots slot ≡ info.region = ap region_of slot_is in
-    let window_is : window slots slot ≡ info.window = ap window_of slot_is in
-    let P : Option SlotInfo → Type 0 = λ x. IfSome x (IsValidSlot memory) in
-    let slot_valid = subst P slot_is (table_valid.well_formed slot) in
+pub own_fits : (memory : List ℕ) (table : Slots) (slot : ℕ) (info : SlotInfo) (state : EnclaveState) → IsValid memory table
+    → slot_at table slot ≡ Some info
+    → FitsInSlot memory table slot (Some (record info { state = state }))
+own_fits memory table slot info state table_valid slot_is =
+    let region_is : region table slot ≡ info.region = ap region_of slot_is in
+    let window_is : window table slot ≡ info.window = ap window_of slot_is in
+    let Valid : Option SlotInfo → Type 0 = λ record_at_slot. IfSome record_at_slot (IsValidSlot memory) in
+    let slot_valid = subst Valid slot_is (table_valid.well_formed slot) in
     record {
       well_formed = record {
         region = slot_valid.region;
@@ -149,12 +166,15 @@ own_fits memory slots slot info state table_valid slot_is =
         entry = slot_valid.entry;
         measured = slot_valid.measured;
       };
-      regions = λ j distinct. ap (λ b. meets b (region slots j)) (sym region_is) ∙ table_valid.regions_apart slot j (λ same. distinct (sym same));
-      windows = λ j distinct. ap (λ b. meets b (window slots j)) (sym region_is) ∙ table_valid.windows_apart slot j;
+      regions =
+          λ other is_other. ap (λ block. meets block (region table other)) (sym region_is)
+          ∙ table_valid.regions_apart slot other (λ equal. is_other (sym equal));
+      windows = λ other is_other. ap (λ block. meets block (window table other)) (sym region_is) ∙ table_valid.windows_apart slot other;
       window =
-          λ j other. ap (λ b. meets b (region slots j)) (sym window_is) ∙ meets_symmetric (window slots slot) (region slots j)
-          ∙ table_valid.windows_apart j slot;
-      own = ap (λ b. meets b info.window) (sym region_is) ∙ ap (meets (region slots slot)) (sym window_is) ∙ table_valid.windows_apart slot slot;
+          λ other is_other. ap (λ block. meets block (region table other)) (sym window_is) ∙ meets_symmetric (window table slot) (region table other)
+          ∙ table_valid.windows_apart other slot;
+      own = ap (λ block. meets block info.window) (sym region_is) ∙ ap (meets (region table slot)) (sym window_is)
+          ∙ table_valid.windows_apart slot slot;
       region_free = ap (meets monitor_block) (sym region_is) ∙ table_valid.regions_free slot;
       window_free = ap (meets monitor_block) (sym window_is) ∙ table_valid.windows_free slot;
     }
@@ -162,33 +182,39 @@ own_fits memory slots slot info state table_valid slot_is =
 -- ---- memory of the same size
 
 -- whether a block is valid depends on the memory only by the size of the memory
-pub well_formed_by_size : (m n : List ℕ) (b : Block) → length m ≡ length n → is_valid_block m b ≡ is_valid_block n b
+pub well_formed_by_size : (old_memory new_memory : List ℕ) (block : Block) → length old_memory ≡ length new_memory
+    → is_valid_block old_memory block ≡ is_valid_block new_memory block
 unfolding is_valid_block
-well_formed_by_size m n b same_length =
-    ap (λ l. is_block_size b.size && (b.base % b.size == 0 && (nat_le ram_base b.base && nat_le (b.base + b.size) (ram_base + l)))) same_length
+well_formed_by_size old_memory new_memory block same_length =
+    ap (λ memory_length. is_block_size block.size
+    && (block.base % block.size == 0 && (nat_le ram_base block.base && nat_le (block.base + block.size) (ram_base + memory_length)))) same_length
 
 -- whether a window is valid depends on the memory only by the size of the memory
-pub window_by_size : (m n : List ℕ) (b : Block) → length m ≡ length n → is_window m b ≡ is_window n b
+pub window_by_size : (old_memory new_memory : List ℕ) (block : Block) → length old_memory ≡ length new_memory
+    → is_window old_memory block ≡ is_window new_memory block
 unfolding is_window
-window_by_size m n b same_length = ap (λ t. b.base == 0 && b.size == 0 || t) (well_formed_by_size m n b same_length)
+window_by_size old_memory new_memory block same_length =
+    ap (λ is_valid. block.base == 0 && block.size == 0 || is_valid) (well_formed_by_size old_memory new_memory block same_length)
 
 -- a valid record stays valid in a memory of the same size
-slot_by_size : (m n : List ℕ) (o : Option SlotInfo) → length m ≡ length n → IfSome o (IsValidSlot m) → IfSome o (IsValidSlot n)
-slot_by_size m n None same_length slot_valid = tt
-slot_by_size m n (Some info) same_length slot_valid = record {
-  region = sym (well_formed_by_size m n info.region same_length) ∙ slot_valid.region;
-  window = sym (window_by_size m n info.window same_length) ∙ slot_valid.window;
+slot_by_size : (old_memory new_memory : List ℕ) (maybe_info : Option SlotInfo) → length old_memory ≡ length new_memory
+    → IfSome maybe_info (IsValidSlot old_memory) → IfSome maybe_info (IsValidSlot new_memory)
+slot_by_size old_memory new_memory None same_length slot_valid = tt
+slot_by_size old_memory new_memory (Some info) same_length slot_valid = record {
+  region = sym (well_formed_by_size old_memory new_memory info.region same_length) ∙ slot_valid.region;
+  window = sym (window_by_size old_memory new_memory info.window same_length) ∙ slot_valid.window;
   aligned = slot_valid.aligned;
   entry = slot_valid.entry;
   measured = slot_valid.measured;
 }
 
 -- a valid table stays valid with a memory of the same size
-pub valid_by_size : (m n : List ℕ) (slots : Slots) → length m ≡ length n → IsValid m slots → IsValid n slots
-valid_by_size m n slots same_length table_valid = record {
+pub valid_by_size : (old_memory new_memory : List ℕ) (table : Slots) → length old_memory ≡ length new_memory → IsValid old_memory table
+    → IsValid new_memory table
+valid_by_size old_memory new_memory table same_length table_valid = record {
   ram = sym (ap is_ram_size same_length) ∙ table_valid.ram;
   count = table_valid.count;
-  well_formed = λ slot. slot_by_size m n (slot_at slots slot) same_length (table_valid.well_formed slot);
+  well_formed = λ slot. slot_by_size old_memory new_memory (slot_at table slot) same_length (table_valid.well_formed slot);
   regions_apart = table_valid.regions_apart;
   windows_apart = table_valid.windows_apart;
   regions_free = table_valid.regions_free;

@@ -12,12 +12,13 @@ use Rattle.rv_enclaves.proofs.Alike.{itself, equiv_before, created_alike, destro
 use Rattle.rv_enclaves.proofs.Refusals.{MayCreate, SlotIsAccepted, may_create, may_take}
 
 -- the shared state with this table, memory and saved contexts
-abbrev over : Slots → List ℕ → Contexts → Shared
-over table memory contexts = record { memory = memory; table = table; contexts = contexts }
+abbrev shared_of : Slots → List ℕ → Contexts → Shared
+shared_of table memory contexts = record { memory = memory; table = table; contexts = contexts }
 
 -- the shared state after a context switch: `slot` has a new state and a new saved context
 abbrev pub switched : Shared → ℕ → EnclaveState → Option Context → Shared
-switched shared slot state c = record shared { table = with_state shared.table slot state; contexts = with_context shared.contexts slot c }
+switched shared slot state maybe_context =
+    record shared { table = with_state shared.table slot state; contexts = with_context shared.contexts slot maybe_context }
 
 -- two shared states are equivalent except `enclave`, and each effect of the trap handler leaves them equivalent except `enclave`
 pub record WorksAlike (enclave : ℕ) (one other : Shared) : Type 0 where
@@ -26,34 +27,38 @@ pub record WorksAlike (enclave : ℕ) (one other : Shared) : Type 0 where
   pub destroys : (slot : ℕ) → SlotIsAccepted one.table Destroy slot → SharedEquivExcept enclave (destroyed one slot) (destroyed other slot)
   pub measures : (slot address : ℕ) → SharedEquivExcept enclave (measured one slot address) (measured other slot address)
   pub contexts : (slot : ℕ) → slot ≢ enclave → saved_context one.contexts slot ≡ saved_context other.contexts slot
-  pub switches : (slot : ℕ) (state : EnclaveState) (c : Option Context)
-      → SharedEquivExcept enclave (switched one slot state c) (switched other slot state c)
+  pub switches : (slot : ℕ) (state : EnclaveState) (maybe_context : Option Context)
+      → SharedEquivExcept enclave (switched one slot state maybe_context) (switched other slot state maybe_context)
 
 -- two equal shared states stay equivalent except `enclave` after each effect of the trap handler
 equal_work : (enclave : ℕ) (shared : Shared) → WorksAlike enclave shared shared
 equal_work enclave shared = record {
   before = itself enclave shared;
   creates = λ new no_refusal. itself enclave _;
-  destroys = λ slot is_taken. itself enclave _;
+  destroys = λ slot accepted. itself enclave _;
   measures = λ slot address. itself enclave _;
-  contexts = λ slot distinct. refl;
-  switches = λ slot state c. itself enclave _;
+  contexts = λ slot is_other. refl;
+  switches = λ slot state maybe_context. itself enclave _;
 }
 
 -- `enclave` is live in both shared states
-module _ (enclave : ℕ) (table : Slots) (m n : List ℕ) (contexts_m contexts_n : Contexts) (equiv : EqualOutside (is_private table enclave) m n)
-    (saved : SameContexts enclave contexts_m contexts_n)
+module _ (enclave : ℕ) (table : Slots) (one_memory other_memory : List ℕ) (one_contexts other_contexts : Contexts)
+    (equal_outside : EqualOutside (is_private table enclave) one_memory other_memory)
+    (saved : SameContexts enclave one_contexts other_contexts)
     (live : is_live table enclave ≡ true) where
   -- each effect of the trap handler leaves the two shared states equivalent except `enclave`, which is live
-  live_work : (worlds : List World) → SharedInvariant (over table m contexts_m) worlds → SharedInvariant (over table n contexts_n) worlds
-      → WorksAlike enclave (over table m contexts_m) (over table n contexts_n)
-  live_work worlds shared_invariant_m shared_invariant_n = record {
-    before = equiv_before enclave table m n contexts_m contexts_n equiv saved live;
-    creates = created_alike enclave table m n contexts_m contexts_n equiv saved live;
-    destroys = λ slot is_taken. destroyed_alike enclave table m n contexts_m contexts_n equiv saved live slot shared_invariant_m.valid is_taken;
-    measures = measured_alike enclave table m n contexts_m contexts_n equiv saved live;
-    contexts = λ slot distinct. let same = saved.others slot distinct in rw same refl;
-    switches = switched_alike enclave table m n contexts_m contexts_n equiv saved live shared_invariant_m.valid.count;
+  live_work : (worlds : List World) → SharedInvariant (shared_of table one_memory one_contexts) worlds
+      → SharedInvariant (shared_of table other_memory other_contexts) worlds
+      → WorksAlike enclave (shared_of table one_memory one_contexts) (shared_of table other_memory other_contexts)
+  live_work worlds one_invariant other_invariant = record {
+    before = equiv_before enclave table one_memory other_memory one_contexts other_contexts equal_outside saved live;
+    creates = created_alike enclave table one_memory other_memory one_contexts other_contexts equal_outside saved live;
+    destroys =
+        λ slot accepted.
+        destroyed_alike enclave table one_memory other_memory one_contexts other_contexts equal_outside saved live slot one_invariant.valid accepted;
+    measures = measured_alike enclave table one_memory other_memory one_contexts other_contexts equal_outside saved live;
+    contexts = λ slot not_enclave. let same_context = saved.others slot not_enclave in rw same_context refl;
+    switches = switched_alike enclave table one_memory other_memory one_contexts other_contexts equal_outside saved live one_invariant.valid.count;
   }
 
 -- two equivalent shared states with the invariant stay equivalent except `enclave` after each effect of the trap handler
@@ -63,18 +68,18 @@ pub works_alike : (enclave : ℕ) (one other : Shared) (worlds : List World) →
 works_alike enclave one other worlds one_invariant other_invariant shared_equiv = elim (cases_Bool (is_live one.table enclave)) [
   | inr dead ↦ subst (WorksAlike enclave one) (shared_equiv.gone dead) (equal_work enclave one)
   | inl live ↦
-      let tables = shared_equiv.table in
-      let invariant_over_table : SharedInvariant (over one.table other.memory other.contexts) worlds =
-      subst (λ (t : Slots). SharedInvariant (over t other.memory other.contexts) worlds) (sym tables) other_invariant in
-      subst (λ (t : Slots). WorksAlike enclave one (over t other.memory other.contexts)) tables
+      let same_table = shared_equiv.table in
+      let other_invariant_with_table : SharedInvariant (shared_of one.table other.memory other.contexts) worlds =
+      subst (λ (table : Slots). SharedInvariant (shared_of table other.memory other.contexts) worlds) (sym same_table) other_invariant in
+      subst (λ (table : Slots). WorksAlike enclave one (shared_of table other.memory other.contexts)) same_table
       (live_work enclave one.table one.memory other.memory one.contexts other.contexts shared_equiv.memory shared_equiv.contexts live
-      worlds one_invariant invariant_over_table)
+      worlds one_invariant other_invariant_with_table)
 ]
 
 -- proves that each call leaves two equivalent shared states equivalent except `enclave`
 pub calls_alike : CallsAlikeLaw
-calls_alike enclave one other worlds one_invariant other_invariant equiv =
-    let alike = works_alike enclave one other worlds one_invariant other_invariant equiv in
+calls_alike enclave one other worlds one_invariant other_invariant equal_outside =
+    let alike = works_alike enclave one other worlds one_invariant other_invariant equal_outside in
     record {
       creates = λ new accepted. alike.creates new (may_create one new accepted);
       destroys = λ slot accepted. alike.destroys slot (may_take one.table Destroy slot accepted);

@@ -25,7 +25,7 @@ pub record CallsKeep (shared : Shared) (worlds : List World) : Type 0 where
 abbrev pub CallsKeepLaw : Type 0
 CallsKeepLaw = (shared : Shared) (worlds : List World) → SharedInvariant shared worlds → CallsKeep shared worlds
 
--- the effect of a call does not depend on what is private to `enclave`
+-- each call has equivalent effects on two shared states: the states after the call are equivalent except for what is private to `enclave`
 pub record CallsAlike (enclave : ℕ) (one other : Shared) : Type 0 where
   pub creates : (new : CreateArgs) → first_refusal (create_refusals one new) ≡ None → SharedEquivExcept enclave (created one new) (created other new)
   pub destroys : (slot : ℕ) → first_refusal (state_refusals one.table Destroy slot) ≡ None
@@ -39,7 +39,7 @@ CallsAlikeLaw =
     → SharedEquivExcept enclave one other
     → CallsAlike enclave one other
 
--- only an enclave that does not run is scrambled, and only what is private to it changes
+-- the enclave in `slot` does not run, and scrambling preserves the invariant and changes only what is private to `slot`
 pub record IsScrambled (shared : Shared) (worlds : List World) (slot : ℕ) : Type 0 where
   pub not_running : runs shared.table slot ≡ false
   pub sound : SharedInvariant (scrambled_shared shared slot) worlds
@@ -54,6 +54,6 @@ ScrambledLaw =
 -- scrambling twice restores the state, if memory holds bytes and the context's registers hold 32-bit words
 abbrev pub ScrambledTwiceLaw : Type 0
 ScrambledTwiceLaw =
-    (shared : Shared) (slot : ℕ) → ((i : ℕ) → slice_index shared.memory i < 2 ^ 8)
-    → IfSome (context_at shared.contexts slot) (λ context. (n : ℕ) → slice_index context.regs n < 2 ^ 32)
+    (shared : Shared) (slot : ℕ) → ((index : ℕ) → slice_index shared.memory index < 2 ^ 8)
+    → IfSome (context_at shared.contexts slot) (λ context. (number : ℕ) → slice_index context.regs number < 2 ^ 32)
     → scrambled_shared (scrambled_shared shared slot) slot ≡ shared

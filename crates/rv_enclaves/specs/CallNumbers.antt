@@ -33,12 +33,12 @@ use Rattle.rv_enclaves.specs.declared.world.World.TheVariants.{Host, Enclave}
 
 -- ---- the request
 
--- the call that a7 and a6 request of a world, if there is one
+-- the call that a world requests with the values of a7 and a6; none if the values request no call that the monitor offers to this world
 unfoldable pub call_numbered : World → ℕ → ℕ → Option Call
 call_numbered Host a7 a6 =
     if a7 == 0x0A454E43 then (if a6 == 1 then Some Create else (if a6 == 2 then Some Destroy else (if a6 == 3 then Some Run
     else (if a6 == 4 then Some Resume else (if a6 == 5 then Some Measure else None))))) else None
-call_numbered (Enclave k) a7 a6 =
+call_numbered (Enclave slot) a7 a6 =
     if a7 == 0x0A454E43 then (if a6 == 5 then Some Measure else (if a6 == 6 then Some Stop else (if a6 == 7 then Some Exit else None))) else None
 
 -- ---- the arguments
@@ -52,22 +52,22 @@ abbrev pub window_named : List ℕ → Block
 window_named regs =
     if register regs 13 == 0 then record { base = 0; size = 0 } else record { base = register regs 12; size = register regs 13 }
 
--- the record in a slot, if it is live
+-- the record in a slot, if the enclave of the slot is live
 abbrev pub record_at : Slots → ℕ → Option SlotInfo
-record_at slots k = slice_index_or slots k None
+record_at table slot = slice_index_or table slot None
 
--- the slot that a measure is about: a0, or the enclave's own
+-- the slot that a measure is about: the host names the slot in a0, and an enclave measures its own slot
 abbrev pub slot_named : World → List ℕ → ℕ
 slot_named Host regs = register regs 10
-slot_named (Enclave k) regs = k
+slot_named (Enclave slot) regs = slot
 
 -- ---- the conditions
 
--- Whether a block may be a region. Its size is a power of two from 4096 on, and its base is a multiple of the size. The block is inside memory, which
--- begins at 80000000.
+-- Whether a block may be a region. Its size is a power of two from 4096 to 2 ^ 31, and its base is a multiple of the size. The block is inside
+-- memory, which begins at the address 80000000.
 abbrev pub is_block_of : List ℕ → Block → Bool
 is_block_of memory block =
-    list_any (λ k. block.size == 2 ^ k) (range_with_len 12 20) && (block.base % block.size == 0
+    list_any (λ exponent. block.size == 2 ^ exponent) (range_with_len 12 20) && (block.base % block.size == 0
     && (nat_le 0x80000000 block.base && nat_le (block.base + block.size) (0x80000000 + length memory)))
 
 -- the range of addresses that the monitor keeps for itself
@@ -76,12 +76,12 @@ monitor_range = record { base = 0x80000000; size = 0x10000 }
 
 -- whether a region and a window overlap an enclave in bytes that the two may not share
 abbrev pub overlap_enclave : Block → Block → Option SlotInfo → Bool
-overlap_enclave region window slot =
-    option_case slot false (λ info. meets region info.region || (meets region info.window || meets window info.region))
+overlap_enclave region window maybe_info =
+    option_case maybe_info false (λ info. meets region info.region || (meets region info.window || meets window info.region))
 
 -- the lowest slot of the 13 slots without a record, if there is one
 abbrev pub lowest_free : Slots → Option ℕ
-lowest_free slots = find (λ k. is_none (record_at slots k)) (range_with_len 0 13)
+lowest_free table = find (λ slot. is_none (record_at table slot)) (range_with_len 0 13)
 
 -- whether an enclave is in the state in which run accepts it
 abbrev pub is_fresh : EnclaveState → Bool
@@ -128,21 +128,21 @@ create_rows shared regs =
     ∷ (is_none (lowest_free shared.table), 0xFFFFFFFA)
     ∷ []
 
--- the refusals of destroy, run and resume: no enclave in the slot, or not in a state that the call accepts
+-- the refusals of destroy, run and resume: the slot has no enclave, or the enclave is in a state that the call does not accept
 unfoldable pub state_rows : (EnclaveState → Bool) → Slots → ℕ → List (Bool × ℕ)
-state_rows accepts slots k =
-    (not (is_some (record_at slots k)), 0xFFFFFFF9)
-    ∷ (not (option_case (record_at slots k) false (λ info. accepts info.state)), 0xFFFFFFF8)
+state_rows accepts table slot =
+    (not (is_some (record_at table slot)), 0xFFFFFFF9)
+    ∷ (not (option_case (record_at table slot) false (λ info. accepts info.state)), 0xFFFFFFF8)
     ∷ []
 
--- the refusals of measure: no enclave in the slot, or an address at which S may not store 32 bytes
+-- the refusals of measure: the slot has no enclave, or S-mode may not store 32 bytes at the address
 unfoldable pub measure_rows : Shared → Entries → ℕ → ℕ → List (Bool × ℕ)
-measure_rows shared entries k address =
-    (not (is_some (record_at shared.table k)), 0xFFFFFFF9)
+measure_rows shared entries slot address =
+    (not (is_some (record_at shared.table slot)), 0xFFFFFFF9)
     ∷ (not (list_all (is_storable shared.memory entries) (range_with_len address 32)), 0xFFFFFFF7)
     ∷ []
 
--- the refusals of a call in its order; stop and exit have none
+-- the refusals of a call, in the order in which the monitor checks them; stop and exit have no refusals
 abbrev pub call_rows : World → Shared → Entries → List ℕ → Call → List (Bool × ℕ)
 call_rows world shared entries regs Create = create_rows shared regs
 call_rows world shared entries regs Destroy = state_rows does_not_run shared.table (register regs 10)
@@ -173,9 +173,9 @@ shared_with_new shared regs =
     let region = region_named regs in
     let window = window_named regs in
     let entry = register regs 14 in
-    let k = option_case (lowest_free shared.table) 13 (λ k. k) in
+    let slot = option_case (lowest_free shared.table) 13 (λ slot. slot) in
     record shared {
-      table = slice_set shared.table k (Some (record {
+      table = slice_set shared.table slot (Some (record {
         region = region;
         window = window;
         entry = entry;
@@ -184,7 +184,7 @@ shared_with_new shared regs =
             ++ option_case (read shared.memory region.base region.size) [] (λ bytes. bytes));
         state = Fresh;
       }));
-      contexts = slice_set shared.contexts k (Some (record {
+      contexts = slice_set shared.contexts slot (Some (record {
         regs =
             with_register
             (with_register (with_register (with_register (replicate 32 0) 10 region.base) 11 region.size) 12 window.base) 13 window.size;
@@ -196,21 +196,21 @@ shared_with_new shared regs =
 
 -- the shared state after a destroy: the region of the enclave is zeroed, and its record and saved context are gone
 unfoldable pub shared_without : Shared → ℕ → Shared
-shared_without shared k =
-    let region = option_case (record_at shared.table k) (record { base = 0; size = 0 }) (λ info. info.region) in
+shared_without shared slot =
+    let region = option_case (record_at shared.table slot) (record { base = 0; size = 0 }) (λ info. info.region) in
     record {
       memory = option_case (write shared.memory region.base (replicate region.size 0)) shared.memory (λ after. after);
-      table = slice_set shared.table k None;
-      contexts = slice_set shared.contexts k None;
+      table = slice_set shared.table slot None;
+      contexts = slice_set shared.contexts slot None;
     }
 
 -- the shared state after a measure: the 32 bytes of the measurement are stored
 unfoldable pub shared_with_measurement : Shared → ℕ → ℕ → Shared
-shared_with_measurement shared k address =
-    let measurement = option_case (record_at shared.table k) [] (λ info. info.measurement) in
+shared_with_measurement shared slot address =
+    let measurement = option_case (record_at shared.table slot) [] (λ info. info.measurement) in
     record shared { memory = option_case (write shared.memory address measurement) shared.memory (λ after. after) }
 
--- ---- the law: the tables and effects of the calls are these
+-- ---- the law: the definitions of the calls have these tables and effects
 
 -- the table of refusals with the status of each refusal in its place
 abbrev pub in_numbers : List (Bool × Refusal) → List (Bool × ℕ)
@@ -222,16 +222,16 @@ pub record AreCallNumbers (shared : Shared) (entries : Entries) (regs : List ℕ
   pub call : (world : World) → requested_call world regs ≡ call_numbered world (register regs 17) (register regs 16)
   pub status : (refusal : Refusal) → status_of refusal ≢ 0
   pub create : in_numbers (create_refusals shared (create_args_of regs)) ≡ create_rows shared regs
-  pub destroy : (k : ℕ) → in_numbers (state_refusals shared.table Destroy k) ≡ state_rows does_not_run shared.table k
-  pub run : (k : ℕ) → in_numbers (state_refusals shared.table Run k) ≡ state_rows is_fresh shared.table k
-  pub resume : (k : ℕ) → in_numbers (state_refusals shared.table Resume k) ≡ state_rows is_stopped shared.table k
-  pub measure : (k address : ℕ) → in_numbers (measure_refusals shared entries k address) ≡ measure_rows shared entries k address
+  pub destroy : (slot : ℕ) → in_numbers (state_refusals shared.table Destroy slot) ≡ state_rows does_not_run shared.table slot
+  pub run : (slot : ℕ) → in_numbers (state_refusals shared.table Run slot) ≡ state_rows is_fresh shared.table slot
+  pub resume : (slot : ℕ) → in_numbers (state_refusals shared.table Resume slot) ≡ state_rows is_stopped shared.table slot
+  pub measure : (slot address : ℕ) → in_numbers (measure_refusals shared entries slot address) ≡ measure_rows shared entries slot address
   pub slot : (world : World) → measured_slot world (register regs 10) ≡ slot_named world regs
   pub created : created shared (create_args_of regs) ≡ shared_with_new shared regs
-  pub destroyed : (k : ℕ) → destroyed shared k ≡ shared_without shared k
-  pub measured : (k address : ℕ) → measured shared k address ≡ shared_with_measurement shared k address
+  pub destroyed : (slot : ℕ) → destroyed shared slot ≡ shared_without shared slot
+  pub measured : (slot address : ℕ) → measured shared slot address ≡ shared_with_measurement shared slot address
   pub host_mie : mie_of Host ≡ 0
-  pub enclave_mie : (k : ℕ) → mie_of (Enclave k) ≡ 0x80
+  pub enclave_mie : (slot : ℕ) → mie_of (Enclave slot) ≡ 0x80
 
 -- the definitions of the calls agree with the tables in numbers, for every state and all registers
 abbrev pub CallNumbersLaw : Type 0
@@ -244,19 +244,19 @@ pub record Requests (number : ℕ) (regs : List ℕ) : Type 0 where
   pub a7 : register regs 17 ≡ 0x0A454E43
   pub a6 : register regs 16 ≡ number
 
--- the slot has an enclave in this state
-pub record HasState (slots : Slots) (k : ℕ) (state : EnclaveState) : Type 0 where
+-- `slot` has an enclave in the state `state`, and `info` is its record
+pub record HasState (table : Slots) (slot : ℕ) (state : EnclaveState) : Type 0 where
   pub info : SlotInfo
-  pub held : record_at slots k ≡ Some info
+  pub held : record_at table slot ≡ Some info
   pub is : info.state ≡ state
 
--- the slot has an enclave that does not run
-pub record IsAtRest (slots : Slots) (k : ℕ) : Type 0 where
+-- `slot` has an enclave that does not run, and `info` is its record
+pub record IsAtRest (table : Slots) (slot : ℕ) : Type 0 where
   pub info : SlotInfo
-  pub held : record_at slots k ≡ Some info
+  pub held : record_at table slot ≡ Some info
   pub not_running : info.state ≢ Running
 
--- the properties of a block that may be a region
+-- A block that may be a region. Its size is a power of two from 4096 to 2 ^ 31, its base is a multiple of the size, and it is inside memory.
 pub record IsBlockOf (memory : List ℕ) (block : Block) : Type 0 where
   pub exponent : ℕ
   pub at_least : 12 ≤ exponent
@@ -266,24 +266,27 @@ pub record IsBlockOf (memory : List ℕ) (block : Block) : Type 0 where
   pub from : 0x80000000 ≤ block.base
   pub to : block.base + block.size ≤ 0x80000000 + length memory
 
--- the arguments in a0 to a4 meet the conditions of create, and this is the lowest free slot
+-- The arguments in a0 to a4 meet the conditions of create, and `slot` is the lowest free slot. The new region (a0 and a1), the new window (a2 and a3)
+-- and the monitor's range share no byte with each other. a4 is the entry.
 pub record IsCreatable (shared : Shared) (regs : List ℕ) (slot : ℕ) : Type 0 where
   pub region : IsBlockOf shared.memory (region_named regs)
   pub window : (register regs 13 ≡ 0) ⊎ IsBlockOf shared.memory (window_named regs)
   pub monitor : meets monitor_range (region_named regs) ≡ false
   pub monitor_too : meets monitor_range (window_named regs) ≡ false
   pub own : meets (region_named regs) (window_named regs) ≡ false
-  pub others : (k : ℕ) → overlap_enclave (region_named regs) (window_named regs) (record_at shared.table k) ≡ false
+  -- the new region meets no region or window of another enclave, and the new window meets no region of another enclave
+  pub others : (other : ℕ) → overlap_enclave (region_named regs) (window_named regs) (record_at shared.table other) ≡ false
   pub aligned : register regs 14 % 4 ≡ 0
   pub entry_from : register regs 10 ≤ register regs 14
   pub entry_to : register regs 14 < register regs 10 + register regs 11
   pub in_range : slot < 13
   pub free : record_at shared.table slot ≡ None
-  pub lowest : (j : ℕ) → j < slot → is_some (record_at shared.table j) ≡ true
+  -- every lower slot has a live enclave
+  pub lowest : (lower : ℕ) → lower < slot → is_some (record_at shared.table lower) ≡ true
 
--- the enclave of the slot is live, the 32 bytes are in the memory, and S-mode may store each of them
-pub record IsMeasurable (shared : Shared) (entries : Entries) (k address : ℕ) : Type 0 where
-  pub live : is_some (record_at shared.table k) ≡ true
+-- the enclave of `slot` is live, the 32 bytes from `address` on are in memory, and S-mode may store each of them
+pub record IsMeasurable (shared : Shared) (entries : Entries) (slot address : ℕ) : Type 0 where
+  pub live : is_some (record_at shared.table slot) ≡ true
   pub from : 0x80000000 ≤ address
   pub to : address + 32 ≤ 0x80000000 + length shared.memory
   pub storable : (byte : ℕ) → address ≤ byte → byte < address + 32 → permits (verdict entries S Write (bytes_from byte 1)) ≡ true
@@ -302,8 +305,8 @@ pub record AcceptsCalls (shared : Shared) (entries : Entries) (regs : List ℕ) 
   pub resume : Requests 4 regs → HasState shared.table (register regs 10) Stopped → IsAccepted Host shared entries regs Resume
   pub measure : (world : World) → Requests 5 regs → IsMeasurable shared entries (slot_named world regs) (register regs 11)
       → IsAccepted world shared entries regs Measure
-  pub stop : (k : ℕ) → Requests 6 regs → IsAccepted (Enclave k) shared entries regs Stop
-  pub exit : (k : ℕ) → Requests 7 regs → IsAccepted (Enclave k) shared entries regs Exit
+  pub stop : (slot : ℕ) → Requests 6 regs → IsAccepted (Enclave slot) shared entries regs Stop
+  pub exit : (slot : ℕ) → Requests 7 regs → IsAccepted (Enclave slot) shared entries regs Exit
 
 -- each call is accepted under its conditions in numbers, for every state and all registers
 abbrev pub AcceptsCallsLaw : Type 0

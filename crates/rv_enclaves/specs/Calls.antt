@@ -31,7 +31,7 @@ call_number Exit = 7
 abbrev pub calls : List Call
 calls = Create ∷ Destroy ∷ Run ∷ Resume ∷ Measure ∷ Stop ∷ Exit ∷ []
 
--- whether a call is offered to a world
+-- whether the monitor offers a call to a world
 abbrev pub is_offered : World → Call → Bool
 is_offered Host Stop = false
 is_offered Host Exit = false
@@ -41,7 +41,7 @@ is_offered (Enclave slot) Stop = true
 is_offered (Enclave slot) Exit = true
 is_offered (Enclave slot) _ = false
 
--- the call that a world requests with a7 and a6, if there is one
+-- the call that a world requests with the key in a7 and the number of the call in a6; none if the monitor does not offer it to the world
 unfoldable pub call_requested : World → ℕ → ℕ → Option Call
 call_requested world a7 a6 =
     if a7 == call_key then find (λ call. call_number call == a6 && is_offered world call) calls else None
@@ -60,7 +60,7 @@ takes Run Fresh = true
 takes Resume Stopped = true
 takes _ _ = false
 
--- the status of a refusal
+-- the status that a refused call returns in a0
 abbrev pub status_of : Refusal → ℕ
 status_of NotSupported = 0xFFFFFFFF
 status_of BadRegion = 0xFFFFFFFE

@@ -26,11 +26,11 @@ no_supervisor = record {
   mxr = false;
 }
 
--- registers with two words in a0 and a1
+-- the registers with new values of a0 and a1, which hold the return values of a call
 abbrev pub with_return_values : List ℕ → ℕ → ℕ → List ℕ
 with_return_values regs a0 a1 = with_register (with_register regs 10 a0) 11 a1
 
--- the first entry: a0 to a3 have the base and size of the enclave's region and window
+-- the context of the first entry of an enclave: a0 and a1 have the base and size of its region, and a2 and a3 those of its window
 unfoldable pub first_context : SlotInfo → Context
 first_context info = record {
   regs =
@@ -40,26 +40,26 @@ first_context info = record {
   supervisor = no_supervisor;
 }
 
--- after exit: every register and pc are 0, and the mode is U
+-- the saved context after exit: pc and every register are 0, and the mode is U
 abbrev pub exited_context : Context
 exited_context = record { regs = replicate 32 0; pc = 0; mode = U; supervisor = no_supervisor }
 
--- S-mode registers as a hart stores them
-pub record IsLegal (s : SContext) : Type 0 where
-  pub stvec : vector_of s.stvec ≡ s.stvec
-  pub sepc : aligned_to_4 s.sepc ≡ s.sepc
+-- the S-mode registers stvec and sepc have values that a hart stores unchanged
+pub record IsLegal (supervisor : SContext) : Type 0 where
+  pub stvec : vector_of supervisor.stvec ≡ supervisor.stvec
+  pub sepc : aligned_to_4 supervisor.sepc ≡ supervisor.sepc
 
--- a world continues in mode S or U, at a multiple of 4
+-- whether a hart can continue with a context: its mode is S or U, and its pc is a multiple of 4
 abbrev pub can_go_on : Context → Bool
 can_go_on context = not (is_machine context.mode) && context.pc % 4 == 0
 
 -- ---- the contexts of the enclaves, a list separate from the table
 
--- a saved context for each slot, or none
+-- the saved contexts: for each slot a context, or none
 abbrev pub Contexts : Type 0
 Contexts = List (Option Context)
 
--- no slot has a saved context
+-- the contexts at reset: no slot has a saved context
 abbrev pub no_contexts : Contexts
 no_contexts = replicate slot_count None
 
@@ -67,10 +67,10 @@ no_contexts = replicate slot_count None
 abbrev pub context_at : Contexts → ℕ → Option Context
 context_at contexts slot = slice_index_or contexts slot None
 
--- the saved context of a slot, or the empty one if there is none; each enclave that run or resume accepts has one
+-- the saved context of a slot, or the context after exit if the slot has none; each enclave that run or resume accepts has a saved context
 abbrev pub saved_context : Contexts → ℕ → Context
 saved_context contexts slot = option_case (context_at contexts slot) exited_context (λ context. context)
 
--- the saved contexts with a new one for `slot`, or with none
+-- the saved contexts with a new context for `slot`, or with none for `slot`
 abbrev pub with_context : Contexts → ℕ → Option Context → Contexts
 with_context contexts slot context = slice_set contexts slot context

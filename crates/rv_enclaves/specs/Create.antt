@@ -1,4 +1,4 @@
--- The call create: the host passes a region, a window and an entry point. It gets the lowest free slot, or the first refusal that applies.
+-- The call create: the host passes a region, a window and an entry point. The enclave gets the lowest free slot, unless a refusal applies.
 -- (Keystone, EuroSys 2020, in this project's profile; the measurement is SHA-256 of FIPS 180-4.)
 use Rattle.std.specs.Prelude.{ℕ, ◌%◌, ◌==◌, Bool, false, not, ◌&&◌, ◌||◌, List, [], ◌∷◌, ◌++◌, if◌then◌else◌, Option, Some, None}
 use Rattle.std.specs.List.{list_any}
@@ -20,7 +20,7 @@ use Rattle.rv_enclaves.specs.declared.shared.Shared.{Shared}
 use Rattle.rv_enclaves.specs.declared.slot_info.SlotInfo.{SlotInfo}
 use Rattle.rv_enclaves.specs.declared.slot_info.EnclaveState.TheVariants.{Fresh}
 
--- the arguments: a0 and a1 are the region, a2 and a3 the window (a size of 0 means none), and a4 is the entry point
+-- the arguments of create: a0 and a1 name the region, a2 and a3 the window (a size of 0 means no window), and a4 is the entry point
 abbrev pub create_args_of : List ℕ → CreateArgs
 create_args_of regs = record {
   region = record { base = register regs 10; size = register regs 11 };
@@ -28,7 +28,7 @@ create_args_of regs = record {
   entry = register regs 14;
 }
 
--- whether the new enclave would overlap a live one in bytes that the two may not share
+-- whether the new region meets the region or the window of a live enclave, or the new window meets its region; two windows may share bytes
 abbrev pub collides : CreateArgs → Option SlotInfo → Bool
 collides new None = false
 collides new (Some info) =
@@ -36,11 +36,11 @@ collides new (Some info) =
 
 -- whether the new region or window meets the monitor's range, the other of the two, or a live enclave in bytes that may not be shared
 unfoldable pub overlaps : Slots → CreateArgs → Bool
-overlaps slots new =
+overlaps table new =
     meets monitor_block new.region || (meets monitor_block new.window || (meets new.region new.window
-    || list_any (collides new) slots))
+    || list_any (collides new) table))
 
--- whether the entry point is a multiple of 4 in the region
+-- whether the entry point is a multiple of 4 and is in the region
 unfoldable pub is_entry : CreateArgs → Bool
 is_entry new = new.entry % 4 == 0 && has new.region new.entry
 
@@ -61,7 +61,7 @@ measured_bytes memory new = heading new ++ bytes_of_block memory new.region
 unfoldable pub measurement_of : List ℕ → CreateArgs → List ℕ
 measurement_of memory new = sha256 (measured_bytes memory new)
 
--- the record of a new enclave
+-- the record of a new enclave, which is Fresh and measured
 abbrev pub recorded : List ℕ → CreateArgs → SlotInfo
 recorded memory new = record {
   region = new.region;
@@ -71,7 +71,7 @@ recorded memory new = record {
   state = Fresh;
 }
 
--- the shared state with a record and its first context in `slot`
+-- the shared state with the record of a new enclave and its first context in `slot`
 abbrev pub with_enclave : Shared → ℕ → SlotInfo → Shared
 with_enclave shared slot info = record shared {
   table = with_slot shared.table slot (Some info);
@@ -90,7 +90,7 @@ create_refusals shared new =
 
 -- the lowest free slot, or the number of slots if there is none, which the refusal NoSlot excludes
 abbrev pub new_slot : Slots → ℕ
-new_slot slots = option_case (free_slot slots) slot_count (λ slot. slot)
+new_slot table = option_case (free_slot table) slot_count (λ slot. slot)
 
 -- the shared state after a create that is not refused; no byte of memory changes
 unfoldable pub created : Shared → CreateArgs → Shared

@@ -8,11 +8,11 @@ use Rattle.rv_enclaves.specs.Table.{region, with_slot}
 use Rattle.rv_memory.specs.declared.block.Block.{Block}
 use Rattle.rv_enclaves.specs.declared.shared.Shared.{Shared}
 
--- a memory with the bytes of a block set to 0; unchanged if the block is not inside it, which no live region is
+-- the memory with the bytes of a block set to 0, or the same memory if the block is not inside memory; every live region is inside memory
 abbrev pub zeroed : List ℕ → Block → List ℕ
 zeroed memory block = option_case (write memory block.base (replicate block.size 0)) memory (λ after. after)
 
--- the shared state without the enclave of a slot with this region
+-- the shared state without the enclave of `slot`, whose region is this block
 abbrev pub without : Shared → ℕ → Block → Shared
 without shared slot block = record {
   memory = zeroed shared.memory block;

@@ -10,16 +10,16 @@ use Rattle.rv_enclaves.specs.declared.slot_info.SlotInfo.{SlotInfo}
 use Rattle.rv_enclaves.specs.declared.world.World.{World}
 use Rattle.rv_enclaves.specs.declared.world.World.TheVariants.{Host, Enclave}
 
--- a cfg byte and a pmpaddr value
+-- one PMP entry: its cfg byte and its pmpaddr value
 pub record Entry : Type 0 where
   pub cfg : ℕ
   pub addr : ℕ
 
--- an entry that is off
+-- a PMP entry that is off and matches no address
 abbrev pub unused : Entry
 unused = record { cfg = 0x00; addr = 0x00000000 }
 
--- a NAPOT entry for a valid block
+-- the NAPOT entry that covers a valid block, with this cfg byte
 abbrev pub napot : ℕ → Block → Entry
 napot cfg block = record { cfg = cfg; addr = block.base / 4 + (block.size / 8 - 1) }
 
@@ -40,34 +40,35 @@ abbrev pub region_entry : World → ℕ → Option SlotInfo → Entry
 region_entry world slot None = unused
 region_entry world slot (Some info) = napot (if is_world_of slot world then all else no_permission) info.region
 
--- the PMP entry for the window of a record
+-- the PMP entry for the window of a record, which grants loads and stores, and is off if there is no window
 abbrev pub window_entry_of : Option SlotInfo → Entry
 window_entry_of None = unused
 window_entry_of (Some info) = if info.window.size == 0 then unused else napot read_write info.window
 
 -- PMP entry 14, for the window of the enclave that runs. It is off for the host.
 abbrev pub window_entry : Slots → World → Entry
-window_entry slots Host = unused
-window_entry slots (Enclave slot) = window_entry_of (slot_at slots slot)
+window_entry table Host = unused
+window_entry table (Enclave slot) = window_entry_of (slot_at table slot)
 
 -- PMP entry 15, which grants every access while the host runs, and is off while an enclave runs
 abbrev pub host_entry : World → Entry
 host_entry Host = record { cfg = all; addr = 0xFFFFFFFF }
 host_entry (Enclave slot) = unused
 
--- entry 0: the monitor's range; `slot` + 1: the region of `slot`; 14: the window; 15: everything
+-- The PMP entry with a number. Entry 0 covers the monitor's range, entry `slot` + 1 the region of `slot`, entry 14 the window of the enclave that
+-- runs, and entry 15 all addresses.
 unfoldable pub entry_at : Slots → World → ℕ → Entry
-entry_at slots world i =
-    if i == 0 then napot no_permission monitor_block
-    else (if nat_lt i 14 then region_entry world (i - 1) (slot_at slots (i - 1))
-    else (if i == 14 then window_entry slots world
+entry_at table world entry =
+    if entry == 0 then napot no_permission monitor_block
+    else (if nat_lt entry 14 then region_entry world (entry - 1) (slot_at table (entry - 1))
+    else (if entry == 14 then window_entry table world
     else host_entry world))
 
--- the sixteen entries as lists of cfg bytes and of pmpaddr values
+-- the layout: the sixteen PMP entries for a table and a world, as a list of cfg bytes and a list of pmpaddr values
 unfoldable pub layout : Slots → World → Entries
-layout slots world = record {
-  cfgs = map (λ i. (entry_at slots world i).cfg) (range_with_len 0 16);
-  addrs = map (λ i. (entry_at slots world i).addr) (range_with_len 0 16);
+layout table world = record {
+  cfgs = map (λ entry. (entry_at table world entry).cfg) (range_with_len 0 16);
+  addrs = map (λ entry. (entry_at table world entry).addr) (range_with_len 0 16);
 }
 
 -- the value of mie for a world: MTIE is set while an enclave runs

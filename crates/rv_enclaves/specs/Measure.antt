@@ -20,7 +20,7 @@ abbrev pub measured_slot : World → ℕ → ℕ
 measured_slot Host named = named
 measured_slot (Enclave slot) named = slot
 
--- whether S-mode may store one byte
+-- whether S-mode may store one byte at an address: the address is in RAM, and the PMP permits the store
 abbrev pub may_store : List ℕ → Entries → ℕ → Bool
 may_store memory entries address =
     is_inside memory address 1 && permits (verdict entries S Write (bytes_from address 1))
@@ -29,13 +29,13 @@ may_store memory entries address =
 unfoldable pub may_store_all : List ℕ → Entries → ℕ → Bool
 may_store_all memory entries address = list_all (may_store memory entries) (range_with_len address 32)
 
--- the memory with the bytes at an address, or the same memory if they are not inside it
+-- the memory with the bytes stored at an address, or the same memory if some of these bytes are outside memory
 abbrev pub with_bytes_at : List ℕ → ℕ → List ℕ → List ℕ
 with_bytes_at memory address bytes = option_case (write memory address bytes) memory (λ after. after)
 
 -- the recorded measurement of the enclave of a slot, or [] if no enclave is live there, which the refusal NoEnclave excludes
 abbrev pub measurement_at : Slots → ℕ → List ℕ
-measurement_at slots slot = option_case (slot_at slots slot) [] (λ info. info.measurement)
+measurement_at table slot = option_case (slot_at table slot) [] (λ info. info.measurement)
 
 -- the conditions that refuse a measure, in the order in which they are checked
 unfoldable pub measure_refusals : Shared → Entries → ℕ → ℕ → List (Bool × Refusal)

@@ -9,17 +9,18 @@ use Rattle.rv_enclaves.specs.Table.{IsValidSlot}
 use Rattle.rv_enclaves.specs.declared.create_args.CreateArgs.{CreateArgs}
 use Rattle.rv_enclaves.specs.declared.slot_info.SlotInfo.{SlotInfo}
 
--- the arguments of create in a record
+-- the arguments of create that the record of an enclave keeps
 abbrev pub args_of : SlotInfo → CreateArgs
 args_of info = record { region = info.region; window = info.window; entry = info.entry }
 
 -- the create arguments of two records are equal, and so are the bytes of their regions
-pub record SameMeasured (m n : List ℕ) (one other : SlotInfo) : Type 0 where
+pub record SameMeasured (one_memory other_memory : List ℕ) (one other : SlotInfo) : Type 0 where
   pub args : args_of one ≡ args_of other
-  pub bytes : EqualOutside (λ byte. not (has one.region byte)) m n
+  pub bytes : EqualOutside (λ byte. not (has one.region byte)) one_memory other_memory
 
 -- two valid enclaves with equal measured bytes have equal arguments and equal bytes of the region
 abbrev pub MeasurementLaw : Type 0
 MeasurementLaw =
-    (m n : List ℕ) (one other : SlotInfo) → is_ram_size (length m) ≡ true → length m ≡ length n → IsValidSlot m one → IsValidSlot n other
-    → measured_bytes m (args_of one) ≡ measured_bytes n (args_of other) → SameMeasured m n one other
+    (one_memory other_memory : List ℕ) (one other : SlotInfo) → is_ram_size (length one_memory) ≡ true → length one_memory ≡ length other_memory
+    → IsValidSlot one_memory one → IsValidSlot other_memory other
+    → measured_bytes one_memory (args_of one) ≡ measured_bytes other_memory (args_of other) → SameMeasured one_memory other_memory one other

@@ -16,11 +16,11 @@ first_refusal ((false, refusal) ∷ rows) = first_refusal rows
 
 -- whether the enclave of a slot is in a state that a call accepts
 abbrev pub has_state_for : Slots → Call → ℕ → Bool
-has_state_for slots call slot = option_case (slot_at slots slot) false (λ info. takes call info.state)
+has_state_for table call slot = option_case (slot_at table slot) false (λ info. takes call info.state)
 
 -- the refusals of destroy, run and resume for the enclave in `slot`
 unfoldable pub state_refusals : Slots → Call → ℕ → List (Bool × Refusal)
-state_refusals slots call slot =
-    (not (is_live slots slot), NoEnclave)
-    ∷ (not (has_state_for slots call slot), BadState)
+state_refusals table call slot =
+    (not (is_live table slot), NoEnclave)
+    ∷ (not (has_state_for table call slot), BadState)
     ∷ []

@@ -9,16 +9,16 @@ use Rattle.rv_enclaves.specs.declared.shared.Shared.{Shared}
 use Rattle.rv_enclaves.specs.declared.slot_info.SlotInfo.{SlotInfo}
 use Rattle.rv_enclaves.specs.declared.world.World.{World}
 
--- at reset no enclave is live
+-- the shared state at reset: no enclave is live, and no slot has a saved context
 abbrev pub shared_at_start : List ℕ → Shared
 shared_at_start memory = record { memory = memory; table = no_slots; contexts = no_contexts }
 
--- a Fresh, Stopped or Exited enclave has a saved context, and a Running one has none
+-- whether a slot has a saved context: a Fresh, Stopped or Exited enclave has a saved context, and a Running enclave has none
 abbrev pub is_held : Option SlotInfo → Bool
 is_held None = false
 is_held (Some info) = not (is_running info.state)
 
--- a slot has a saved context if and only if its enclave is live and does not run, and a hart can continue with each
+-- a slot has a saved context if and only if its enclave is live and does not run, and a hart can continue with each saved context
 pub record SavedContextsInvariant (shared : Shared) : Type 0 where
   pub count : length shared.contexts ≡ slot_count
   pub kept : (slot : ℕ) → is_some (context_at shared.contexts slot) ≡ is_held (slot_at shared.table slot)
@@ -26,7 +26,7 @@ pub record SavedContextsInvariant (shared : Shared) : Type 0 where
 
 -- a slot runs if and only if it is the world of some hart
 abbrev pub RunningMatchesWorlds : Slots → List World → Type 0
-RunningMatchesWorlds slots worlds = (slot : ℕ) → runs slots slot ≡ list_any (is_world_of slot) worlds
+RunningMatchesWorlds table worlds = (slot : ℕ) → runs table slot ≡ list_any (is_world_of slot) worlds
 
 -- no slot is the world of two harts
 abbrev pub AreApart : List World → Type 0
@@ -34,7 +34,7 @@ AreApart [] = Unit {0}
 AreApart (world ∷ worlds) =
     ((slot : ℕ) → is_world_of slot world ≡ true → list_any (is_world_of slot) worlds ≡ false) × AreApart worlds
 
--- the invariant, given the list of the worlds
+-- the invariant of the shared state, given the world that runs on each hart
 pub record SharedInvariant (shared : Shared) (worlds : List World) : Type 0 where
   pub valid : IsValid shared.memory shared.table
   pub contexts : SavedContextsInvariant shared

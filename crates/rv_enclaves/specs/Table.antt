@@ -24,43 +24,43 @@ Slots = List (Option SlotInfo)
 abbrev pub no_slots : Slots
 no_slots = replicate slot_count None
 
--- the record in a slot, if its enclave is live; there is none past the last slot
+-- the record in a slot, or None if the slot has no live enclave or its number is past the last slot
 abbrev pub slot_at : Slots → ℕ → Option SlotInfo
-slot_at slots slot = slice_index_or slots slot None
+slot_at table slot = slice_index_or table slot None
 
--- the table with a new record in `slot`, or with none
+-- the table with a new record in `slot`, or with none in `slot`
 abbrev pub with_slot : Slots → ℕ → Option SlotInfo → Slots
-with_slot slots slot info = slice_set slots slot info
+with_slot table slot info = slice_set table slot info
 
 -- the lowest slot without an enclave, if there is one
 unfoldable pub free_slot : Slots → Option ℕ
-free_slot slots = find (λ slot. is_none (slot_at slots slot)) (range_with_len 0 slot_count)
+free_slot table = find (λ slot. is_none (slot_at table slot)) (range_with_len 0 slot_count)
 
--- the region and the window of a slot, or the empty block if there is none
+-- the region of a record; a slot without an enclave has the empty block
 abbrev pub region_of : Option SlotInfo → Block
 region_of None = no_block
 region_of (Some info) = info.region
 
--- the window of a record; a slot without an enclave has none
+-- the window of a record; a slot without an enclave has the empty block
 abbrev pub window_of : Option SlotInfo → Block
 window_of None = no_block
 window_of (Some info) = info.window
 
 -- the region of `slot`, empty if no enclave is live there
 abbrev pub region : Slots → ℕ → Block
-region slots slot = region_of (slot_at slots slot)
+region table slot = region_of (slot_at table slot)
 
 -- the window of `slot`, empty if no enclave is live there
 abbrev pub window : Slots → ℕ → Block
-window slots slot = window_of (slot_at slots slot)
+window table slot = window_of (slot_at table slot)
 
--- whether the enclave of a slot is live
+-- whether a slot has a live enclave
 abbrev pub is_live : Slots → ℕ → Bool
-is_live slots slot = is_some (slot_at slots slot)
+is_live table slot = is_some (slot_at table slot)
 
 -- whether an address is in the region of some live enclave
 abbrev pub is_in_region : Slots → ℕ → Bool
-is_in_region slots byte = list_any (λ slot. has (region slots slot) byte) (range_with_len 0 slot_count)
+is_in_region table byte = list_any (λ slot. has (region table slot) byte) (range_with_len 0 slot_count)
 
 -- ---- the state of an enclave
 
@@ -71,12 +71,12 @@ is_running _ = false
 
 -- whether an enclave in `slot` is live and Running
 abbrev pub runs : Slots → ℕ → Bool
-runs slots slot = option_case (slot_at slots slot) false (λ info. is_running info.state)
+runs table slot = option_case (slot_at table slot) false (λ info. is_running info.state)
 
--- the table with another state of `slot`; a slot without an enclave is unchanged
+-- the table with a new state for the enclave in `slot`, or the same table if `slot` has no enclave
 abbrev pub with_state : Slots → ℕ → EnclaveState → Slots
-with_state slots slot state =
-    option_case (slot_at slots slot) slots (λ info. with_slot slots slot (Some (record info { state = state })))
+with_state table slot state =
+    option_case (slot_at table slot) table (λ info. with_slot table slot (Some (record info { state = state })))
 
 -- whether the world is the host
 abbrev pub is_host : World → Bool
@@ -86,7 +86,7 @@ is_host (Enclave slot) = false
 -- whether the world is the enclave in `slot`
 abbrev pub is_world_of : ℕ → World → Bool
 is_world_of slot Host = false
-is_world_of slot (Enclave j) = j == slot
+is_world_of slot (Enclave running) = running == slot
 
 -- the slot of the enclave that runs; for the host, a number that is not the number of a slot
 abbrev pub running_slot : World → ℕ
@@ -95,7 +95,7 @@ running_slot (Enclave slot) = slot
 
 -- ---- the invariant
 
--- a window is a valid block, or there is none
+-- whether a block may be a window: a valid block, or the empty block, which means no window
 unfoldable pub is_window : List ℕ → Block → Bool
 is_window memory block = block.base == 0 && block.size == 0 || is_valid_block memory block
 
@@ -108,11 +108,11 @@ pub record IsValidSlot (memory : List ℕ) (info : SlotInfo) : Type 0 where
   pub measured : length info.measurement ≡ 32
 
 -- regions share no byte with each other, with any window or with the monitor's range, and windows share none with the monitor's range
-pub record IsValid (memory : List ℕ) (slots : Slots) : Type 0 where
+pub record IsValid (memory : List ℕ) (table : Slots) : Type 0 where
   pub ram : is_ram_size (length memory) ≡ true
-  pub count : length slots ≡ slot_count
-  pub well_formed : (slot : ℕ) → IfSome (slot_at slots slot) (IsValidSlot memory)
-  pub regions_apart : (j slot : ℕ) → j ≢ slot → meets (region slots j) (region slots slot) ≡ false
-  pub windows_apart : (j slot : ℕ) → meets (region slots j) (window slots slot) ≡ false
-  pub regions_free : (slot : ℕ) → meets monitor_block (region slots slot) ≡ false
-  pub windows_free : (slot : ℕ) → meets monitor_block (window slots slot) ≡ false
+  pub count : length table ≡ slot_count
+  pub well_formed : (slot : ℕ) → IfSome (slot_at table slot) (IsValidSlot memory)
+  pub regions_apart : (other slot : ℕ) → other ≢ slot → meets (region table other) (region table slot) ≡ false
+  pub windows_apart : (other slot : ℕ) → meets (region table other) (window table slot) ≡ false
+  pub regions_free : (slot : ℕ) → meets monitor_block (region table slot) ≡ false
+  pub windows_free : (slot : ℕ) → meets monitor_block (window table slot) ≡ false

@@ -7,9 +7,9 @@ use Rattle.rv_memory.specs.Memory.{is_inside}
 
 -- the sizes of valid blocks: the powers of two from 4096 up
 abbrev pub is_block_size : ℕ → Bool
-is_block_size size = list_any (λ k. size == 2 ^ k) (range_with_len 12 20)
+is_block_size size = list_any (λ exponent. size == 2 ^ exponent) (range_with_len 12 20)
 
--- a valid block has such a size, a base that is a multiple of it, and is in the memory
+-- whether a block is valid: its size is a power of two from 4096 up, its base is a multiple of its size, and it is inside memory
 unfoldable pub is_valid_block : List ℕ → Block → Bool
 is_valid_block memory block =
     is_block_size block.size && (block.base % block.size == 0 && is_inside memory block.base block.size)

@@ -3,13 +3,13 @@ use Rattle.std.proofs.Common.{◌≡◌, ℕ, ◌<◌, ◌≤◌, length, slice_
 use Rattle.rv_enclaves.proofs.Prelude.{entry_at}
 use Rattle.rv_enclaves.proofs.layout.write_layout.Given as goal
 
--- the entries below the loop variable are those of the layout, and the others are unused
+-- the PMP entries below the loop variable have the cfg bytes and addresses of the layout, and those of the others are 0
 abbrev pub invariant-loop-i : goal.invariant-loop-i
 invariant-loop-i l = record {
-  cfgs_long : length l.cfgs ≡ 16;
-  addrs_long : length l.addrs ≡ 16;
-  cfgs : (j : ℕ) → j < l.i → slice_index l.cfgs j ≡ (entry_at l.table l.world j).cfg;
-  addrs : (j : ℕ) → j < l.i → slice_index l.addrs j ≡ (entry_at l.table l.world j).addr;
-  cfgs_left : (j : ℕ) → l.i ≤ j → slice_index l.cfgs j ≡ 0;
-  addrs_left : (j : ℕ) → l.i ≤ j → slice_index l.addrs j ≡ 0;
+  cfgs_length : length l.cfgs ≡ 16;
+  addrs_length : length l.addrs ≡ 16;
+  cfgs : (entry : ℕ) → entry < l.i → slice_index l.cfgs entry ≡ (entry_at l.table l.world entry).cfg;
+  addrs : (entry : ℕ) → entry < l.i → slice_index l.addrs entry ≡ (entry_at l.table l.world entry).addr;
+  later_cfgs_unused : (entry : ℕ) → l.i ≤ entry → slice_index l.cfgs entry ≡ 0;
+  later_addrs_unused : (entry : ℕ) → l.i ≤ entry → slice_index l.addrs entry ≡ 0;
 }
