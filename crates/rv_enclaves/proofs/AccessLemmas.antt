@@ -115,9 +115,9 @@ window_gives : (maybe_info : Option SlotInfo) (access : Access) (address : ℕ) 
     → has_permission access (window_entry_of maybe_info).cfg ≡ true
 window_gives None access address no_fetch in_window = absurd (both_ways _ (has_nothing address) in_window)
 window_gives (Some info) access address no_fetch in_window =
-    let parts = and_parts _ _ in_window in
-    let from_base = leb-true info.window.base address parts.0 in
-    let before_end = ltb-true address (info.window.base + info.window.size) parts.1 in
+    let (not_below_base, below_end) = and_parts _ _ in_window in
+    let from_base = leb-true info.window.base address not_below_base in
+    let before_end = ltb-true address (info.window.base + info.window.size) below_end in
     let window_nonempty = ne_eqb info.window.size 0 (λ size_is_0. omega arith) in
     rw window_nonempty (read_or_write access no_fetch)
 
@@ -219,25 +219,24 @@ pub accessible_apart : (memory : List ℕ) (table : Slots) (world : World) (acce
 accessible_apart memory table world access start size slot table_valid runs_other accessible address from_start before_end =
     let apart_bytes = apart memory table table_valid in
     elim (reach_cases memory table world access (bytes_from start size) accessible) [
-      | inl host ↦
+      | inl (host_runs, all_of_host) ↦
           let of_host_only =
           and_parts (not (has monitor_block address)) (not (is_in_region table address))
-          (and_parts (is_inside memory address 1) _ (each_from_all (host_has memory table) start size host.1 address from_start before_end)).1 in
+          (and_parts (is_inside memory address 1) _ (each_from_all (host_has memory table) start size all_of_host address from_start before_end)).1 in
           false_from_ne_true _ (λ in_its_region. both_ways _
           (none_from_any (λ other. has (region table other) address) 0 slot_count (not-true _ of_host_only.1) slot (omega arith)
           (slot_in_range memory table world slot address table_valid in_its_region))
           in_its_region)
-      | inr enclave ↦
-          let running = enclave.0 in
-          let other_enclave : running ≢ slot = λ is_equal. both_ways _ runs_other (rw enclave.1 (eq-eqb running slot is_equal)) in
-          elim enclave.2 [
+      | inr (running, world_is, all_in_block) ↦
+          let other_enclave : running ≢ slot = λ is_equal. both_ways _ runs_other (rw world_is (eq-eqb running slot is_equal)) in
+          elim all_in_block [
             | inl all_in_region ↦
                 apart_bytes.regions_apart running slot address other_enclave
                 (each_from_all (has (region table running)) start size all_in_region address from_start before_end)
-            | inr all_in_window ↦
+            | inr (no_fetch, all_in_window) ↦
                 false_from_ne_true _
                 (λ in_its_region. both_ways _ (apart_bytes.windows_apart slot running address in_its_region)
-                (each_from_all (has (window table running)) start size all_in_window.1 address from_start before_end))
+                (each_from_all (has (window table running)) start size all_in_window address from_start before_end))
           ]
     ]
 
@@ -323,13 +322,12 @@ module _ (memory : List ℕ) (table : Slots) (world : World) (mode : Mode) (acce
         let granted_by_entry = rw is_monitor at permission in
         absurd (both_ways _ (no_permission_refuses access) (sym (grants_if_cfg 0 _ cfg_of-monitor) ∙ granted_by_entry))
     | inr not_monitor ↦ elim not_monitor [
-      | inl of_slot ↦
-          let slot = of_slot.0 in
-          let covered_by_entry = rw of_slot.2 at covered in
-          let granted_by_entry = rw of_slot.2 at permission in
+      | inl (slot, slot_in_bounds, is_slot_entry) ↦
+          let covered_by_entry = rw is_slot_entry at covered in
+          let granted_by_entry = rw is_slot_entry at permission in
           region_reaches memory table world access bytes slot
-          (slot_gives world slot (slot_at table slot) access (sym (grants_if_cfg (slot + 1) _ (cfg_of-slot slot of_slot.1)) ∙ granted_by_entry))
-          (sym (all_slot slot of_slot.1) ∙ covered_by_entry)
+          (slot_gives world slot (slot_at table slot) access (sym (grants_if_cfg (slot + 1) _ (cfg_of-slot slot slot_in_bounds)) ∙ granted_by_entry))
+          (sym (all_slot slot slot_in_bounds) ∙ covered_by_entry)
       | inr from_window ↦ elim from_window [
         | inl is_window ↦
             let covered_by_entry = rw is_window at covered in
@@ -348,13 +346,12 @@ module _ (memory : List ℕ) (table : Slots) (world : World) (mode : Mode) (acce
   -- if the layout permits an access, then the accessed bytes are accessible to the world
   accessible_if_permitted : permits (verdict entries mode access bytes) ≡ true → is_accessible memory table world access bytes ≡ true
   accessible_if_permitted permitted = elim (verdict_cases entries mode access bytes) [
-    | inl found ↦
-        let entry = found.0 in
+    | inl (entry, verdict_is, first_match) ↦
         let covers_all = list_all (covers entries entry) bytes in
         let covered_and_granted =
         and_parts covers_all (grants mode access (cfg_of entries entry))
-        (sym (permits-match_verdict entries mode access entry covers_all) ∙ ap permits (sym found.1) ∙ permitted) in
-        accessible_by entry found.2 covered_and_granted.0 covered_and_granted.1
+        (sym (permits-match_verdict entries mode access entry covers_all) ∙ ap permits (sym verdict_is) ∙ permitted) in
+        accessible_by entry first_match covered_and_granted.0 covered_and_granted.1
     | inr none_matches ↦ absurd (both_ways _ (no_match_refuses mode mode_below_m) (ap permits (sym none_matches) ∙ permitted))
   ]
 
@@ -375,10 +372,10 @@ module _ (memory : List ℕ) (table : Slots) (world : World) (mode : Mode) (acce
   permitted_by_host host_runs all_of_host =
       let each_of_host_only : (address : ℕ) → start ≤ address → address < start + size
       → (has monitor_block address ≡ false) × (is_in_region table address ≡ false) = λ address from_start before_end.
-      let parts =
+      let (outside_monitor, outside_regions) =
       and_parts (not (has monitor_block address)) (not (is_in_region table address))
       (and_parts (is_inside memory address 1) _ (each_from_all (host_has memory table) start size all_of_host address from_start before_end)).1 in
-      (not-true _ parts.0, not-true _ parts.1) in
+      (not-true _ outside_monitor, not-true _ outside_regions) in
       -- entry 15 covers every byte and grants the access, and each lower entry covers none of the bytes
       permitted_by 15 (lit< tt)
       (all_each (covers entries 15) start size
@@ -390,10 +387,10 @@ module _ (memory : List ℕ) (table : Slots) (world : World) (mode : Mode) (acce
             (any_monitor
             ∙ any_none (has monitor_block) start size (λ address from_start before_end. (each_of_host_only address from_start before_end).0))
         | inr not_monitor ↦ elim not_monitor [
-          | inl of_slot ↦
-              rw of_slot.2 (any_slot of_slot.0 of_slot.1 ∙ any_none (has (region table of_slot.0)) start size (λ address from_start before_end.
-              none_from_any (λ slot. has (region table slot) address) 0 slot_count (each_of_host_only address from_start before_end).1 of_slot.0
-              (omega arith) (omega (arith, of_slot.1))))
+          | inl (other, other_in_bounds, is_other_entry) ↦
+              rw is_other_entry (any_slot other other_in_bounds ∙ any_none (has (region table other)) start size (λ address from_start before_end.
+              none_from_any (λ slot. has (region table slot) address) 0 slot_count (each_of_host_only address from_start before_end).1 other
+              (omega arith) (omega (arith, other_in_bounds))))
           | inr from_window ↦ elim from_window [
             | inl is_window ↦
                 rw is_window
@@ -424,13 +421,13 @@ module _ (memory : List ℕ) (table : Slots) (world : World) (mode : Mode) (acce
             ∙ any_none (has monitor_block) start size
             (λ address from_start before_end. apart_bytes.regions_free slot address (each_in_region address from_start before_end)))
         | inr not_monitor ↦ elim not_monitor [
-          | inl of_slot ↦
-              let other_slot : slot ≢ of_slot.0 = omega (arith, of_slot.2) in
-              rw of_slot.2
-              (any_slot of_slot.0 of_slot.1
-              ∙ any_none (has (region table of_slot.0)) start size
+          | inl (other, other_in_bounds, is_other_entry) ↦
+              let other_slot : slot ≢ other = omega (arith, is_other_entry) in
+              rw is_other_entry
+              (any_slot other other_in_bounds
+              ∙ any_none (has (region table other)) start size
               (λ address from_start before_end.
-              apart_bytes.regions_apart slot of_slot.0 address other_slot (each_in_region address from_start before_end)))
+              apart_bytes.regions_apart slot other address other_slot (each_in_region address from_start before_end)))
           | inr from_window ↦ absurd (elim from_window [ inl is_window ↦ omega arith | inr is_host_entry ↦ omega arith ])
         ]
       ])
@@ -452,10 +449,10 @@ module _ (memory : List ℕ) (table : Slots) (world : World) (mode : Mode) (acce
             ∙ any_none (has monitor_block) start size
             (λ address from_start before_end. apart_bytes.windows_free slot address (each_in_window address from_start before_end)))
         | inr not_monitor ↦ elim not_monitor [
-          | inl of_slot ↦
-              rw of_slot.2 (any_slot of_slot.0 of_slot.1 ∙ any_none (has (region table of_slot.0)) start size (λ address from_start before_end.
+          | inl (other, other_in_bounds, is_other_entry) ↦
+              rw is_other_entry (any_slot other other_in_bounds ∙ any_none (has (region table other)) start size (λ address from_start before_end.
               false_from_ne_true _
-              (λ region. both_ways _ (apart_bytes.windows_apart of_slot.0 slot address region) (each_in_window address from_start before_end))))
+              (λ region. both_ways _ (apart_bytes.windows_apart other slot address region) (each_in_window address from_start before_end))))
           | inr from_window ↦ absurd (elim from_window [ inl is_window ↦ omega arith | inr is_host_entry ↦ omega arith ])
         ]
       ])
@@ -463,10 +460,10 @@ module _ (memory : List ℕ) (table : Slots) (world : World) (mode : Mode) (acce
   -- if the accessed bytes are accessible to the world, then the layout permits the access
   permitted_if_accessible : is_accessible memory table world access bytes ≡ true → permits (verdict entries mode access bytes) ≡ true
   permitted_if_accessible accessible = elim (reach_cases memory table world access bytes accessible) [
-    | inl all_of_host ↦ permitted_by_host all_of_host.0 all_of_host.1
-    | inr of_enclave ↦ elim of_enclave.2 [
-      | inl all_in_region ↦ permitted_by_region of_enclave.0 of_enclave.1 all_in_region
-      | inr all_in_window ↦ permitted_by_window of_enclave.0 of_enclave.1 all_in_window.0 all_in_window.1
+    | inl (host_runs, all_of_host) ↦ permitted_by_host host_runs all_of_host
+    | inr (slot, world_is, all_in_block) ↦ elim all_in_block [
+      | inl all_in_region ↦ permitted_by_region slot world_is all_in_region
+      | inr (no_fetch, all_in_window) ↦ permitted_by_window slot world_is no_fetch all_in_window
     ]
   ]
 
@@ -492,8 +489,9 @@ some_bytes Word = lit< tt
 -- a RAM of a permitted size has at most 16 MiB
 pub small_ram : (memory : List ℕ) → is_ram_size (length memory) ≡ true → length memory ≤ 0x1000000
 small_ram memory ram_size =
-    let parts = and_parts (length memory % 65536 == 0 && nat_le 65536 (length memory)) (nat_le (length memory) 16777216) ram_size in
-    leb-true (length memory) 16777216 parts.1
+    let (at_least_64_kib, at_most_16_mib) =
+    and_parts (length memory % 65536 == 0 && nat_le 65536 (length memory)) (nat_le (length memory) 16777216) ram_size in
+    leb-true (length memory) 16777216 at_most_16_mib
 
 -- proves that the layout permits exactly the accessible accesses
 pub reach_law : LayoutAccessLaw

@@ -174,10 +174,10 @@ module _ (enclave : ℕ) (table : Slots) (one_memory other_memory : List ℕ) (o
   gone_alike block region_is inside =
       let in_bounds = inside-bounds one_memory block.base block.size inside in
       let in_block : (address : ℕ) → is_private table enclave address ≡ true → (block.base ≤ address) × (address < block.base + block.size) =
-      λ address is_private. let parts =
+      λ address is_private. let (not_below_base, below_end) =
       and_parts (nat_le block.base address) (nat_lt address (block.base + block.size))
       (sym (ap (λ (block : Block). has block address) region_is) ∙ is_private) in
-      (leb-true _ _ parts.0, ltb-true _ _ parts.1) in
+      (leb-true _ _ not_below_base, ltb-true _ _ below_end) in
       let zeroed_alike : EqualOutside (λ address. false) (zeroed one_memory block) (zeroed other_memory block) =
       zeros-alike (is_private table enclave) (λ address. false) one_memory other_memory block.base block.size equal_outside in_bounds in_block in
       let same_memories : zeroed one_memory block ≡ zeroed other_memory block =

@@ -20,8 +20,8 @@ IsSeen hidden address count = (byte : ℕ) → address ≤ byte → byte < addre
 pub inside-bounds : (memory : List ℕ) (address count : ℕ) → is_inside memory address count ≡ true
     → (ram_base ≤ address) × (address + count ≤ ram_base + length memory)
 inside-bounds memory address count inside =
-    let parts = and_parts _ _ inside in
-    (leb-true _ _ parts.0, leb-true _ _ parts.1)
+    let (not_below_ram, not_past_ram) = and_parts _ _ inside in
+    (leb-true _ _ not_below_ram, leb-true _ _ not_past_ram)
 
 -- `count` bytes from an index on are the same in both memories, if none of these bytes is hidden
 same_part : (hidden : ℕ → Bool) (one_memory other_memory : List ℕ) (index count : ℕ) → EqualOutside hidden one_memory other_memory
@@ -42,11 +42,11 @@ pub same_read : (hidden : ℕ → Bool) (one_memory other_memory : List ℕ) (ad
     → IsSeen hidden address count → read one_memory address count ≡ read other_memory address count
 unfolding read
 same_read hidden one_memory other_memory address count equal_outside inside not_hidden =
-    let bounds = inside-bounds one_memory address count inside in
-    let address_at_index : ram_base + (address - ram_base) ≡ address = omega (arith, bounds.0) in
+    let (from_ram_base, to_ram_end) = inside-bounds one_memory address count inside in
+    let address_at_index : ram_base + (address - ram_base) ≡ address = omega (arith, from_ram_base) in
     let same_bytes =
     same_part hidden one_memory other_memory (address - ram_base) count equal_outside (rw address_at_index not_hidden)
-    (omega (arith, bounds.0, bounds.1)) in
+    (omega (arith, from_ram_base, to_ram_end)) in
     let same_length = equal_outside.size in
     rw (← same_length, same_bytes) refl
 

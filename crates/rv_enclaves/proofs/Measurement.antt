@@ -67,16 +67,16 @@ pub record AreWords (args : CreateArgs) : Type 0 where
 -- a valid block ends below 2 ^ 32
 block_words : (memory : List ℕ) (block : Block) → length memory ≤ 0x1000000 → is_valid_block memory block ≡ true → block.base + block.size < 2 ^ 32
 block_words memory block ram_size is_valid =
-    let block_properties = valid_block memory block is_valid in omega (arith, block_properties.high, ram_size)
+    let block_properties = valid_block memory block is_valid in omega (arith, block_properties.to_ram_end, ram_size)
 
 -- a valid window ends below 2 ^ 32
 window_words : (memory : List ℕ) (block : Block) → length memory ≤ 0x1000000 → is_window memory block ≡ true → block.base + block.size < 2 ^ 32
 unfolding is_window
 window_words memory block ram_size is_window_valid = elim (or_cases _ _ is_window_valid) [
   | inl is_empty ↦
-      let parts = and_parts (block.base == 0) (block.size == 0) is_empty in
-      let base_is_0 = eqb-true _ _ parts.0 in
-      let size_is_0 = eqb-true _ _ parts.1 in
+      let (base_test, size_test) = and_parts (block.base == 0) (block.size == 0) is_empty in
+      let base_is_0 = eqb-true _ _ base_test in
+      let size_is_0 = eqb-true _ _ size_test in
       omega (arith, base_is_0, size_is_0)
   | inr block_valid ↦ block_words memory block ram_size block_valid
 ]
@@ -105,10 +105,10 @@ block_byte : (memory : List ℕ) (block : Block) (memory_index : ℕ) → is_ins
     → slice_index (bytes_of_block memory block) (ram_base + memory_index - block.base) ≡ slice_index memory memory_index
 unfolding read
 block_byte memory block memory_index inside from_base before_end =
-    let bounds = inside-bounds memory block.base block.size inside in
+    let (from_ram_base, to_ram_end) = inside-bounds memory block.base block.size inside in
     let block_index = ram_base + memory_index - block.base in
     let in_block_length : block_index < block.size = omega (arith, from_base, before_end) in
-    let memory_index_is : block.base - ram_base + block_index ≡ memory_index = omega (arith, bounds.0, from_base) in
+    let memory_index_is : block.base - ram_base + block_index ≡ memory_index = omega (arith, from_ram_base, from_base) in
     rw inside
     (get_or-take block.size (drop (block.base - ram_base) memory) block_index 0 in_block_length
     ∙ get_or-drop (block.base - ram_base) memory block_index 0
@@ -128,9 +128,9 @@ same_bytes one_memory other_memory block memory_index is_valid other_valid same_
     elim (cases_Bool (has block (ram_base + memory_index))) [
       | inr outside_block ↦ let contradiction : true ≡ false = sym (ap not outside_block) ∙ not_outside in cc
       | inl in_block ↦
-          let parts = and_parts (nat_le block.base (ram_base + memory_index)) _ in_block in
-          let from_base = leb-true _ _ parts.0 in
-          let before_end = ltb-true (ram_base + memory_index) (block.base + block.size) parts.1 in
+          let (not_below_base, below_end) = and_parts (nat_le block.base (ram_base + memory_index)) _ in_block in
+          let from_base = leb-true _ _ not_below_base in
+          let before_end = ltb-true (ram_base + memory_index) (block.base + block.size) below_end in
           sym (block_byte one_memory block memory_index (valid_inside one_memory block is_valid) from_base before_end)
           ∙ ap (λ (bytes : List ℕ). slice_index bytes (ram_base + memory_index - block.base)) same_block_bytes
           ∙ block_byte other_memory block memory_index (valid_inside other_memory block other_valid) from_base before_end

@@ -53,22 +53,22 @@ apart memory table table_valid = record {
 pub record IsBlock (memory : List ℕ) (base size : ℕ) : Type 0 where
   pub power : (exponent : ℕ) × (12 ≤ exponent) × (exponent < 32) × (size ≡ 2 ^ exponent)
   pub aligned : base % size ≡ 0
-  pub low : ram_base ≤ base
-  pub high : base + size ≤ ram_base + length memory
+  pub from_ram_base : ram_base ≤ base
+  pub to_ram_end : base + size ≤ ram_base + length memory
 
 -- a block that passes the test `is_valid_block` has the properties `IsBlock`
 pub valid_block : (memory : List ℕ) (block : Block) → is_valid_block memory block ≡ true → IsBlock memory block.base block.size
 unfolding is_valid_block
 valid_block memory block is_valid =
-    let parts = and_parts (is_block_size block.size) _ is_valid in
-    let aligned_and_inside = and_parts (block.base % block.size == 0) _ parts.1 in
-    let inside = and_parts (nat_le ram_base block.base) _ aligned_and_inside.1 in
-    let power = some_from_any (λ exponent. block.size == 2 ^ exponent) 12 20 parts.0 in
+    let (size_test, aligned_and_inside_test) = and_parts (is_block_size block.size) _ is_valid in
+    let (aligned_test, inside_test) = and_parts (block.base % block.size == 0) _ aligned_and_inside_test in
+    let (base_in_ram, end_in_ram) = and_parts (nat_le ram_base block.base) _ inside_test in
+    let power = some_from_any (λ exponent. block.size == 2 ^ exponent) 12 20 size_test in
     record {
       power = (power.0, power.1, omega (arith, power.2), eqb-true _ _ power.3);
-      aligned = eqb-true _ _ aligned_and_inside.0;
-      low = leb-true _ _ inside.0;
-      high = leb-true _ _ inside.1;
+      aligned = eqb-true _ _ aligned_test;
+      from_ram_base = leb-true _ _ base_in_ram;
+      to_ram_end = leb-true _ _ end_in_ram;
     }
 
 -- the NAPOT entry for a valid block matches exactly the bytes of the block
@@ -81,7 +81,7 @@ block_covers memory block previous address ram_size is_valid =
     let exponent_below_32 : exponent < 32 = block_valid.power.2 in
     let exponent_from_3 : exponent ≡ (exponent - 3) + 3 = omega arith in
     let power : block.size ≡ 2 ^ ((exponent - 3) + 3) = block_valid.power.3 ∙ ap (λ exponent. 2 ^ exponent) exponent_from_3 in
-    napot_matches block.base block.size (exponent - 3) previous address (omega arith) power block_valid.aligned (omega (arith, block_valid.high))
+    napot_matches block.base block.size (exponent - 3) previous address (omega arith) power block_valid.aligned (omega (arith, block_valid.to_ram_end))
 
 -- the PMP entry of a slot matches exactly the bytes of the slot's region
 region_covers : (memory : List ℕ) (world : World) (slot : ℕ) (maybe_info : Option SlotInfo) (previous address : ℕ) → length memory ≤ 0x1000000

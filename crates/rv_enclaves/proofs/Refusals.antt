@@ -40,17 +40,18 @@ is_slot (Some slot) is_present = refl
 pub may_create : (shared : Shared) (new : CreateArgs) → first_refusal (create_refusals shared new) ≡ None → MayCreate shared new
 unfolding create_refusals
 may_create shared new no_refusal =
-    let region_passes = no_condition_holds _ _ _ no_refusal in
-    let window_passes = no_condition_holds _ _ _ region_passes.1 in
-    let no_overlap = no_condition_holds _ _ _ window_passes.1 in
-    let entry_passes = no_condition_holds _ _ _ no_overlap.1 in
-    let slot_found = no_condition_holds _ _ _ entry_passes.1 in
+    -- each step takes the condition of one row, which is false, and the rows after it
+    let (region_passes, window_rows) = no_condition_holds _ _ _ no_refusal in
+    let (window_passes, overlap_rows) = no_condition_holds _ _ _ window_rows in
+    let (no_overlap, entry_rows) = no_condition_holds _ _ _ overlap_rows in
+    let (entry_passes, slot_rows) = no_condition_holds _ _ _ entry_rows in
+    let (slot_found, no_more_rows) = no_condition_holds _ _ _ slot_rows in
     record {
-      well_formed = not-false _ region_passes.0;
-      window = not-false _ window_passes.0;
-      apart = no_overlap.0;
-      entry = not-false _ entry_passes.0;
-      free = is_slot (free_slot shared.table) slot_found.0;
+      well_formed = not-false _ region_passes;
+      window = not-false _ window_passes;
+      apart = no_overlap;
+      entry = not-false _ entry_passes;
+      free = is_slot (free_slot shared.table) slot_found;
     }
 
 -- ---- destroy, run and resume
@@ -71,9 +72,9 @@ taken_at table call slot (Some info) slot_is state_accepted = record { info = in
 pub may_take : (table : Slots) (call : Call) (slot : ℕ) → first_refusal (state_refusals table call slot) ≡ None → SlotIsAccepted table call slot
 unfolding state_refusals
 may_take table call slot no_refusal =
-    let live_row = no_condition_holds (not (is_live table slot)) _ _ no_refusal in
-    let state_row = no_condition_holds (not (has_state_for table call slot)) _ _ live_row.1 in
-    taken_at table call slot (slot_at table slot) refl (not-false (has_state_for table call slot) state_row.0)
+    let (live_test, state_rows) = no_condition_holds (not (is_live table slot)) _ _ no_refusal in
+    let (state_test, no_more_rows) = no_condition_holds (not (has_state_for table call slot)) _ _ state_rows in
+    taken_at table call slot (slot_at table slot) refl (not-false (has_state_for table call slot) state_test)
 
 -- No call accepts an enclave that runs. Each case holds by computation, or has a false premise.
 pub takes_rests : (call : Call) (state : EnclaveState) → takes call state ≡ true → is_running state ≡ false

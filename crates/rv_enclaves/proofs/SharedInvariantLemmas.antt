@@ -122,7 +122,7 @@ pub record IsFreeSlot (table : Slots) (slot : ℕ) : Type 0 where
   pub in_range : slot < slot_count
   pub free : slot_at table slot ≡ None
 
--- an option that passes the test `is_none` is None
+-- an optional value that passes the test `is_none` is None
 none_from : {A : Type 0} (option : Option A) → is_none option ≡ true → option ≡ None
 none_from None no_value = refl
 none_from (Some x) no_value = cc

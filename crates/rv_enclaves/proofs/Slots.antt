@@ -53,35 +53,39 @@ none_at test (content ∷ contents) (suc index) none_fails none_holds =
 
 -- the new region meets neither the region nor the window of an enclave, and the new window does not meet the region of the enclave
 pub record AreApart (new : CreateArgs) (maybe_info : Option SlotInfo) : Type 0 where
+  -- the new region and the region of the enclave share no byte
   pub regions : meets new.region (region_of maybe_info) ≡ false
+  -- the new region and the window of the enclave share no byte
   pub window : meets new.region (window_of maybe_info) ≡ false
+  -- the new window and the region of the enclave share no byte
   pub own : meets new.window (region_of maybe_info) ≡ false
 
 -- a create that does not collide with a slot is apart from the blocks of this slot
 pub apart_from : (new : CreateArgs) (maybe_info : Option SlotInfo) → collides new maybe_info ≡ false → AreApart new maybe_info
 apart_from new None no_collision = record { regions = meets_nothing new.region; window = meets_nothing new.region; own = meets_nothing new.window }
 apart_from new (Some info) no_collision =
-    let region_parts = or_parts (meets new.region info.region) _ no_collision in
-    let window_parts = or_parts (meets new.region info.window) (meets new.window info.region) region_parts.1 in
-    record { regions = region_parts.0; window = window_parts.0; own = window_parts.1 }
+    let (regions_apart, others_apart) = or_parts (meets new.region info.region) _ no_collision in
+    let (window_apart, own_apart) = or_parts (meets new.region info.window) (meets new.window info.region) others_apart in
+    record { regions = regions_apart; window = window_apart; own = own_apart }
 
--- the new region and window meet neither the monitor's range, each other, nor the region or window of a slot, except that windows may share bytes
+-- The blocks of a create are free. The new region and the new window share no byte with the monitor's range or with each other. They share no byte
+-- with the blocks of an enclave, except that windows may share bytes.
 pub record IsFree (table : Slots) (new : CreateArgs) : Type 0 where
   pub region : meets monitor_block new.region ≡ false
   pub window : meets monitor_block new.window ≡ false
   pub own : meets new.region new.window ≡ false
   pub others : (slot : ℕ) → AreApart new (slot_at table slot)
 
--- a create that overlaps no block meets no other block, as `IsFree` says
+-- a create that passes the check `overlaps` has free blocks
 pub free_from : (table : Slots) (new : CreateArgs) → overlaps table new ≡ false → IsFree table new
 unfolding overlaps
 free_from table new no_overlap =
-    let region_row = or_parts (meets monitor_block new.region) _ no_overlap in
-    let window_row = or_parts (meets monitor_block new.window) _ region_row.1 in
-    let own_row = or_parts (meets new.region new.window) (list_any (collides new) table) window_row.1 in
+    let (region_free, rest_free) = or_parts (meets monitor_block new.region) _ no_overlap in
+    let (window_free, rest_apart) = or_parts (meets monitor_block new.window) _ rest_free in
+    let (own_apart, no_collision) = or_parts (meets new.region new.window) (list_any (collides new) table) rest_apart in
     record {
-      region = region_row.0;
-      window = window_row.0;
-      own = own_row.0;
-      others = λ slot. apart_from new (slot_at table slot) (none_at (collides new) table slot refl own_row.1);
+      region = region_free;
+      window = window_free;
+      own = own_apart;
+      others = λ slot. apart_from new (slot_at table slot) (none_at (collides new) table slot refl no_collision);
     }

@@ -1,6 +1,5 @@
--- The facts about two shared states that the noninterference of the trap handler needs. If two shared states are equivalent except `enclave`, then
--- so are the
--- shared states after each call and each context switch.
+-- The facts about two shared states that the noninterference of the trap handler needs. If two shared states are equivalent except `enclave`, then so
+-- are the shared states after each call and each context switch.
 use Rattle.std.proofs.Common.{◌≡◌, ◌≢◌, ℕ, true, List, Option, refl, sym, subst, inl, inr}
 use Rattle.std.proofs.lemmas.Bool.{cases_Bool}
 use Rattle.rv_enclaves.specs.CallLaws.{CallsAlikeLaw}

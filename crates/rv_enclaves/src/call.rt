@@ -60,7 +60,7 @@ ghost use Rattle.std.specs.List.{find};
 ghost use Rattle.std.specs.Prelude.{◌==◌, ◌&&◌};
 ghost use Rattle.rv_enclaves.specs.Calls.{call_number, is_offered, calls};
 
-/// Returns the host's call with the number in a6.
+/// Returns the call that the host requests with this number in a6, or `None` if the monitor offers the host no such call.
 fn host_call(a6: u32) -> Option<Call>
     ensures { result ≡ find (λ call. call_number call == a6 && is_offered World.Host call) calls }
 {
@@ -74,7 +74,7 @@ fn host_call(a6: u32) -> Option<Call>
     }
 }
 
-/// Returns an enclave's call with the number in a6.
+/// Returns the call that an enclave requests with this number in a6, or `None` if the monitor offers an enclave no such call.
 fn enclave_call(a6: u32) -> Option<Call>
     ensures { result ≡ find (λ call. call_number call == a6 && is_offered (World.Enclave 0) call) calls }
 {

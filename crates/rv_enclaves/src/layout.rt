@@ -20,14 +20,14 @@ const READ_WRITE: u8 = 0x1B;
 /// The cfg byte of a NAPOT entry with R, W and X.
 const ALL: u8 = 0x1F;
 
-/// A cfg byte and a pmpaddr value.
+/// One PMP entry: its cfg byte and its pmpaddr value.
 #[derive(Clone, Copy)]
 struct Entry {
     cfg: u8,
     addr: u32,
 }
 
-/// Returns a NAPOT entry for a valid block.
+/// Returns the NAPOT entry that covers a valid block, with this cfg byte.
 fn napot(cfg: u8, block: Block) -> Entry
     ensures cfg { result.cfg ≡ (napot_of cfg block).cfg }
     ensures addr { result.addr ≡ (napot_of cfg block).addr }
