@@ -46,15 +46,18 @@ module _ (enclave : ℕ) where
   unfolding is_blind
   same_blind one other command equiv = ap (λ (met : Bool). not met) (same_region command one.target other.target equiv.target)
 
-  -- if an and of two equal tests fails, the first fails
-  first_test_fails : (x y : Bool) → x ≡ y → (x && y) ≡ false → x ≡ false
-  first_test_fails true y same_tests and_fails = same_tests ∙ and_fails
-  first_test_fails false y same_tests and_fails = refl
+  -- if two tests are equal and their conjunction fails, the first test fails
+  first_test_fails : (test other_test : Bool) → test ≡ other_test → (test && other_test) ≡ false → test ≡ false
+  first_test_fails true other_test same_tests and_fails = same_tests ∙ and_fails
+  first_test_fails false other_test same_tests and_fails = refl
 
-  -- the reason after a command that both benches execute is `Entered` if the slot is entered in either bench (x, y), and else `All`
-  why_is : (one other : BenchState) (command : Command) (x y : Bool) → is_entered enclave (execute one command).entered ≡ x
-      → is_entered enclave (execute other command).entered ≡ y → (both_done one other command).why ≡ (if x || y then Entered else All)
-  why_is one other command x y first_enters second_enters = ap₂ (λ (x y : Bool). if x || y then Entered else All) first_enters second_enters
+  -- the reason after a command that both benches execute is `Entered` if the command enters the slot in either bench, and `All` otherwise
+  why_is : (one other : BenchState) (command : Command) (first_entered second_entered : Bool)
+      → is_entered enclave (execute one command).entered ≡ first_entered
+      → is_entered enclave (execute other command).entered ≡ second_entered
+      → (both_done one other command).why ≡ (if first_entered || second_entered then Entered else All)
+  why_is one other command first_entered second_entered first_enters second_enters =
+      ap₂ (λ (first_entered second_entered : Bool). if first_entered || second_entered then Entered else All) first_enters second_enters
 
   -- two executions that the law relates are alike for the reason that the command gives
   done_alike : (one other : BenchState) (command : Command) → ExecuteAlike enclave (execute one command) (execute other command)
@@ -63,7 +66,7 @@ module _ (enclave : ℕ) where
     | inl first_enters ↦
         let second_enters = sym alike.entered ∙ first_enters in
         subst (λ (why : BothWhy). AlikeBy enclave one other command (both_done one other command) why)
-        (sym (why_is one other command true true first_enters second_enters)) (record { here = first_enters; there = second_enters })
+        (sym (why_is one other command true true first_enters second_enters)) (record { in_first = first_enters; in_second = second_enters })
     | inr not_entered ↦
         let passed = alike.passed not_entered in
         subst (λ (why : BothWhy). AlikeBy enclave one other command (both_done one other command) why)
@@ -78,7 +81,7 @@ module _ (enclave : ℕ) where
     | inl stop ↦
         let not_blind = first_test_fails _ _ (same_blind one other command equiv) stop.0 in
         subst (λ (after : BothExecuted). AlikeBy enclave one other command after after.why) (sym stop.1)
-        (record { here = not_blind; there = sym (same_blind one other command equiv) ∙ not_blind })
+        (record { in_first = not_blind; in_second = sym (same_blind one other command equiv) ∙ not_blind })
     | inr executes ↦ subst (λ (after : BothExecuted). AlikeBy enclave one other command after after.why) (sym executes.1)
         (done_alike one other command (noninterference enclave one other command invariant other_invariant equiv executes.0 avoids_hart))
   ]
@@ -104,16 +107,16 @@ module _ (enclave : ℕ) where
   Folded one other commands end =
       (end.first ≡ after_commands one (take end.ran commands)) × (end.second ≡ after_commands other (take end.ran commands))
 
-  -- if `Folded` holds for the remaining commands, it holds for the first command and the remaining ones
-  folded_more : (one other : BenchState) (command : Command) (commands : List Command) (why : BothWhy) (rest : BothRan)
-      → (why ≡ NotBlind → ⊥) → Folded (execute one command).state (execute other command).state commands rest
-      → Folded one other (command ∷ commands) (go_on why (both_done one other command) rest)
-  folded_more one other command commands All rest is_executed rest_folded = rest_folded
-  folded_more one other command commands Entered rest is_executed rest_folded = (refl, refl)
-  folded_more one other command commands NotBlind rest is_executed rest_folded = absurd (is_executed refl)
+  -- if `Folded` holds for the remaining commands, it also holds for the first command and the remaining commands
+  folded_more : (one other : BenchState) (command : Command) (commands : List Command) (why : BothWhy) (rest_ran : BothRan)
+      → (why ≡ NotBlind → ⊥) → Folded (execute one command).state (execute other command).state commands rest_ran
+      → Folded one other (command ∷ commands) (go_on why (both_done one other command) rest_ran)
+  folded_more one other command commands All rest_ran is_executed rest_folded = rest_folded
+  folded_more one other command commands Entered rest_ran is_executed rest_folded = (refl, refl)
+  folded_more one other command commands NotBlind rest_ran is_executed rest_folded = absurd (is_executed refl)
 
   -- the reason after a command that both benches execute is never `NotBlind`
-  not_stopped : (x : Bool) → (if x then Entered else All) ≡ NotBlind → ⊥
+  not_stopped : (any_entered : Bool) → (if any_entered then Entered else All) ≡ NotBlind → ⊥
   not_stopped true reason_is = cc
   not_stopped false reason_is = cc
 
@@ -158,8 +161,11 @@ module _ (enclave : ℕ) where
       one_more_alike one other command (take ran commands) same_reply rest_alike
   done_more_alike one other command commands ran NotBlind same_reply rest_alike =
       one_more_alike one other command (take ran commands) same_reply rest_alike
-  done_more_alike one other command commands ran Entered same_reply rest_alike =
-      (suc rest_alike.0, ap (λ (n : ℕ). suc n) rest_alike.1, one_more_alike one other command (take rest_alike.0 commands) same_reply rest_alike.2)
+  done_more_alike one other command commands ran Entered same_reply rest_alike = (
+    suc rest_alike.0,
+    ap (λ (count : ℕ). suc count) rest_alike.1,
+    one_more_alike one other command (take rest_alike.0 commands) same_reply rest_alike.2,
+  )
 
   -- a list whose first command enters the slot ends alike in both benches, with this command as its last
   entered_last : (one other : BenchState) (command : Command) (commands : List Command) → TargetInvariant one.target
@@ -188,14 +194,14 @@ module _ (enclave : ℕ) where
         | inl second_enters ↦
             entered_last one other command commands invariant equiv executes.1 (why_is one other command false true first_does_not second_enters)
         | inr second_does_not ↦
-            let rest = both_run enclave (execute one command).state (execute other command).state commands in
+            let rest_ran = both_run enclave (execute one command).state (execute other command).state commands in
             subst (EndAlike one other (command ∷ commands))
             (sym (run_more_by one other command commands (both_done one other command) All executes.1
             (why_is one other command false false first_does_not second_does_not)))
             (λ avoids_hart.
             let alike = noninterference enclave one other command invariant other_invariant equiv executes.0 avoids_hart.0 in
             let passed = alike.passed first_does_not in
-            done_more_alike one other command commands rest.ran rest.why passed.reply
+            done_more_alike one other command commands rest_ran.ran rest_ran.why passed.reply
             (run_alike (execute one command).state (execute other command).state commands (command_keeps_invariant one command invariant)
             (command_keeps_invariant other command other_invariant) passed.state.but (avoids_hart.1 first_does_not)))
       ]
@@ -204,50 +210,55 @@ module _ (enclave : ℕ) where
 
   -- ---- in the loop of `run_commands`
 
-  -- `later` is the result with n more commands counted before it
+  -- `later` is the result with `count` more executed commands
   abbrev pub later : ℕ → BothRan → BothRan
-  later n rest = record { first = rest.first; second = rest.second; ran = n + rest.ran; why = rest.why }
+  later count rest_ran = record { first = rest_ran.first; second = rest_ran.second; ran = count + rest_ran.ran; why = rest_ran.why }
 
-  -- the commands from index n on are the command at n and the commands after it
-  next_command : (commands : List Command) (n : ℕ) (command : Command) → n < length commands
-      → command ≡ get_or commands n command → drop n commands ≡ command ∷ drop (n + 1) commands
-  next_command commands n command in_bounds command_is = drop_more commands n command in_bounds
-      ∙ ap (λ (first : Command). first ∷ drop (n + 1) commands) (sym command_is)
+  -- the commands from an index on are the command at this index and the commands after it
+  next_command : (commands : List Command) (index : ℕ) (command : Command) → index < length commands
+      → command ≡ get_or commands index command → drop index commands ≡ command ∷ drop (index + 1) commands
+  next_command commands index command in_bounds command_is = drop_more commands index command in_bounds
+      ∙ ap (λ (next : Command). next ∷ drop (index + 1) commands) (sym command_is)
 
-  -- the state of the loop at the command of index n: `all_ran` is the result of all commands, and `after` that of this command
-  module _ (one other : BenchState) (commands : List Command) (n : ℕ) (command : Command) (all_ran : BothRan) (after : BothExecuted)
-      (in_bounds : n < length commands) (command_is : command ≡ get_or commands n command)
-      (so_far : later n (both_run enclave one other (drop n commands)) ≡ all_ran) (executed : both_execute enclave one other command ≡ after) where
+  -- the state of the loop at the command with this index: `all_ran` is the result of all commands, and `after` that of this command
+  module _ (one other : BenchState) (commands : List Command) (index : ℕ) (command : Command) (all_ran : BothRan) (after : BothExecuted)
+      (in_bounds : index < length commands) (command_is : command ≡ get_or commands index command)
+      (so_far : later index (both_run enclave one other (drop index commands)) ≡ all_ran)
+      (executed : both_execute enclave one other command ≡ after) where
     -- the result of all commands, by the reason (why) for which the commands go on or end after the command at index n
     result_by : (why : BothWhy) → after.why ≡ why
-        → all_ran ≡ later n (go_on why after (both_run enclave after.first after.second (drop (n + 1) commands)))
+        → all_ran ≡ later index (go_on why after (both_run enclave after.first after.second (drop (index + 1) commands)))
     result_by why reason_is =
-        sym so_far ∙ ap (λ (rest : List Command). later n (both_run enclave one other rest)) (next_command commands n command in_bounds command_is)
-        ∙ ap (later n) (run_more_by one other command (drop (n + 1) commands) after why executed reason_is)
+        sym so_far
+        ∙ ap (λ (remaining : List Command). later index (both_run enclave one other remaining))
+        (next_command commands index command in_bounds command_is)
+        ∙ ap (later index) (run_more_by one other command (drop (index + 1) commands) after why executed reason_is)
 
     -- after a command that enters `enclave`, the list ends, and this command is counted
-    pub at_entered : after.why ≡ Entered → all_ran ≡ record { first = after.first; second = after.second; ran = n + 1; why = Entered }
+    pub at_entered : after.why ≡ Entered → all_ran ≡ record { first = after.first; second = after.second; ran = index + 1; why = Entered }
     at_entered reason_is = result_by Entered reason_is
 
     -- at a command that is not blind, the list ends, and this command is not counted
-    pub at_blind : after.why ≡ NotBlind → all_ran ≡ record { first = after.first; second = after.second; ran = n; why = NotBlind }
+    pub at_blind : after.why ≡ NotBlind → all_ran ≡ record { first = after.first; second = after.second; ran = index; why = NotBlind }
     at_blind reason_is =
-        let count : n + 0 ≡ n = omega arith in
+        let count : index + 0 ≡ index = omega arith in
         result_by NotBlind reason_is ∙ ap (λ (ran : ℕ). record { first = after.first; second = after.second; ran = ran; why = NotBlind }) count
 
     -- after any other command, the result is that of the remaining commands
-    pub at_more : after.why ≡ All → later (n + 1) (both_run enclave after.first after.second (drop (n + 1) commands)) ≡ all_ran
+    pub at_more : after.why ≡ All → later (index + 1) (both_run enclave after.first after.second (drop (index + 1) commands)) ≡ all_ran
     at_more reason_is =
-        let rest = both_run enclave after.first after.second (drop (n + 1) commands) in
-        let count : n + 1 + rest.ran ≡ n + suc rest.ran = omega arith in
-        ap (λ (ran : ℕ). record { first = rest.first; second = rest.second; ran = ran; why = rest.why }) count ∙ sym (result_by All reason_is)
+        let rest_ran = both_run enclave after.first after.second (drop (index + 1) commands) in
+        let count : index + 1 + rest_ran.ran ≡ index + suc rest_ran.ran = omega arith in
+        ap (λ (ran : ℕ). record { first = rest_ran.first; second = rest_ran.second; ran = ran; why = rest_ran.why }) count
+        ∙ sym (result_by All reason_is)
 
   -- after the last command, the result is that all were executed
-  pub at_last : (one other : BenchState) (commands : List Command) (n : ℕ) (all_ran : BothRan)
-      → n ≡ length commands → later n (both_run enclave one other (drop n commands)) ≡ all_ran
+  pub at_last : (one other : BenchState) (commands : List Command) (index : ℕ) (all_ran : BothRan)
+      → index ≡ length commands → later index (both_run enclave one other (drop index commands)) ≡ all_ran
       → all_ran ≡ record { first = one; second = other; ran = length commands; why = All }
-  at_last one other commands n all_ran at_end so_far =
-      let nothing_left : drop n commands ≡ [] = drop_all n commands (omega arith) in
-      let count : n + 0 ≡ length commands = omega (arith, at_end) in
-      sym so_far ∙ ap (λ (rest : List Command). later n (both_run enclave one other rest)) nothing_left ∙ ap (later n) (run_of_none one other)
+  at_last one other commands index all_ran at_end so_far =
+      let nothing_left : drop index commands ≡ [] = drop_all index commands (omega arith) in
+      let count : index + 0 ≡ length commands = omega (arith, at_end) in
+      sym so_far ∙ ap (λ (remaining : List Command). later index (both_run enclave one other remaining)) nothing_left
+      ∙ ap (later index) (run_of_none one other)
       ∙ ap (λ (ran : ℕ). record { first = one; second = other; ran = ran; why = All }) count

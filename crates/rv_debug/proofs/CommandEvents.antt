@@ -40,10 +40,10 @@ effect_acts selected (OneByte address byte) = poke_acts selected (write selected
 -- ---- a list of commands
 
 -- the machine after two lists of actions is the machine after the second, from the machine after the first
-acts_in_turn : (first second : List Action) (machine : MonitoredMachine)
-    → after_actions (first ++ second) machine ≡ after_actions second (after_actions first machine)
-acts_in_turn [] second machine = refl
-acts_in_turn (action ∷ first) second machine = acts_in_turn first second (after_action action machine)
+acts_in_turn : (earlier later : List Action) (machine : MonitoredMachine)
+    → after_actions (earlier ++ later) machine ≡ after_actions later (after_actions earlier machine)
+acts_in_turn [] later machine = refl
+acts_in_turn (action ∷ earlier) later machine = acts_in_turn earlier later (after_action action machine)
 
 -- `bench_over` is the bench over a target, with the given breakpoints and watchpoints
 abbrev bench_over : List ℕ → List ℕ → Target → BenchState
@@ -54,16 +54,16 @@ commands_act : (target : Target) (breaks watches : List ℕ) (commands : List Co
     let bench = bench_over breaks watches target in
     machine_in (after_commands bench commands).target ≡ Some (after_actions (actions_of bench commands) machine))
 unfolding execute
-commands_act (Bare alone) breaks watches commands = tt
+commands_act (Bare bare_machine) breaks watches commands = tt
 commands_act (Monitored selected) breaks watches [] = refl
 commands_act (Monitored selected) breaks watches (command ∷ commands) =
     let bench = bench_over breaks watches (Monitored selected) in
     let next = (execute bench command).state in
     let actions = actions_by bench.target (effect bench command) in
     let some : MonitoredMachine → Option MonitoredMachine = λ machine. Some machine in
-    let rest = commands_act next.target next.breaks next.watches commands in
-    subst (λ (o : Option MonitoredMachine). IfSome o (λ machine. machine_in (after_commands next commands).target
-    ≡ Some (after_actions (actions_of next commands) machine))) (effect_acts selected (effect bench command)) rest
+    let remaining_act = commands_act next.target next.breaks next.watches commands in
+    subst (λ (maybe_machine : Option MonitoredMachine). IfSome maybe_machine (λ machine. machine_in (after_commands next commands).target
+    ≡ Some (after_actions (actions_of next commands) machine))) (effect_acts selected (effect bench command)) remaining_act
     ∙ ap some (sym (acts_in_turn actions (actions_of next commands) selected.state))
 
 -- ---- events
@@ -83,13 +83,14 @@ commands_act_as_events bench commands list =
       some : MonitoredMachine → Option MonitoredMachine
       some machine = Some machine
 
-      -- the commands lead a monitored machine to the state after their events, where `o` is the machine, or `None` for a bare one
-      in_machine : (o : Option MonitoredMachine)
-          → IfSome o (λ machine. machine_in (after_commands bench commands).target ≡ Some (after_actions (actions_of bench commands) machine))
-          → IfSome o (λ machine. actions_of bench commands ≡ map Occurs list
+      -- the commands lead a monitored machine to the state after their events, where `maybe_machine` is `None` for a bare machine
+      in_machine : (maybe_machine : Option MonitoredMachine)
+          → IfSome maybe_machine
+          (λ machine. machine_in (after_commands bench commands).target ≡ Some (after_actions (actions_of bench commands) machine))
+          → IfSome maybe_machine (λ machine. actions_of bench commands ≡ map Occurs list
           → machine_in (after_commands bench commands).target ≡ Some (events list machine).state)
       in_machine None acts = tt
-      in_machine (Some machine) acts = λ actions_are. acts ∙ ap (λ (xs : List Action). some (after_actions xs machine)) actions_are
+      in_machine (Some machine) acts = λ actions_are. acts ∙ ap (λ (actions : List Action). some (after_actions actions machine)) actions_are
           ∙ ap some (events_act list machine)
 
 -- ---- the commands of events
@@ -97,14 +98,14 @@ commands_act_as_events bench commands list =
 -- benches with these breakpoints and watchpoints
 module _ (breaks watches : List ℕ) where
   -- the selection of a hart is no action
-  selection_is_no_action : (selected : Selected) (hart : ℕ) (rest : List Command) → nat_lt hart (count_of selected.state) ≡ true
-      → actions_of (bench_over breaks watches (Monitored selected)) (Hart hart ∷ rest)
-      ≡ actions_of (bench_over breaks watches (selected_at hart selected.state)) rest
+  selection_is_no_action : (selected : Selected) (hart : ℕ) (remaining : List Command) → nat_lt hart (count_of selected.state) ≡ true
+      → actions_of (bench_over breaks watches (Monitored selected)) (Hart hart ∷ remaining)
+      ≡ actions_of (bench_over breaks watches (selected_at hart selected.state)) remaining
   unfolding execute scheduled_steps
-  selection_is_no_action selected hart rest hart_exists =
-      let after : Effect → List Action = λ change.
-      actions_by (Monitored selected) change ++ actions_of (bench_over breaks watches (done (Monitored selected) change)) rest in
-      ap (λ (exists : Bool). after (if exists then Steps [] hart else Nothing)) hart_exists
+  selection_is_no_action selected hart remaining hart_exists =
+      let actions_after : Effect → List Action = λ change.
+      actions_by (Monitored selected) change ++ actions_of (bench_over breaks watches (done (Monitored selected) change)) remaining in
+      ap (λ (exists : Bool). actions_after (if exists then Steps [] hart else Nothing)) hart_exists
 
   -- The commands for a list of events have the events as actions, if the harts of the events exist. The proof is by induction over the list: each
   -- event gives the commands `hart` and then `step 1` or `timer`.
@@ -115,22 +116,24 @@ module _ (breaks watches : List ℕ) where
   commands_for_events (StepOf hart ∷ list) selected harts_exist =
       let exist = and_parts _ _ harts_exist in
       let after = (step_of hart selected.state).state in
-      let rest = ap (λ (count : ℕ). are_of_harts count list) (step_count hart selected.state) ∙ exist.1 in
+      let remaining_exist = ap (λ (count : ℕ). are_of_harts count list) (step_count hart selected.state) ∙ exist.1 in
       selection_is_no_action selected hart (Step 1 ∷ commands_for list) exist.0
-      ∙ ap (λ (xs : List Action). Occurs (StepOf hart) ∷ xs) (commands_for_events list (record { hart = hart; state = after }) rest)
+      ∙ ap (λ (actions : List Action). Occurs (StepOf hart) ∷ actions)
+      (commands_for_events list (record { hart = hart; state = after }) remaining_exist)
   commands_for_events (LineOf hart raised ∷ list) selected harts_exist =
       let exist = and_parts _ _ harts_exist in
       let after = with_timer hart selected.state raised in
       let same_count : count_of after ≡ count_of selected.state =
       length-set selected.state.hart_states hart (timer_line_set raised (hart_state_of hart selected.state)) in
-      let rest = ap (λ (count : ℕ). are_of_harts count list) same_count ∙ exist.1 in
+      let remaining_exist = ap (λ (count : ℕ). are_of_harts count list) same_count ∙ exist.1 in
       selection_is_no_action selected hart (Timer raised ∷ commands_for list) exist.0
-      ∙ ap (λ (xs : List Action). Occurs (LineOf hart raised) ∷ xs) (commands_for_events list (record { hart = hart; state = after }) rest)
+      ∙ ap (λ (actions : List Action). Occurs (LineOf hart raised) ∷ actions)
+      (commands_for_events list (record { hart = hart; state = after }) remaining_exist)
 
 -- the commands for events have the events as actions, for each target
 commands_for_events_of : (target : Target) (breaks watches : List ℕ) (list : List Event) → IfSome (machine_in target) (λ machine.
     are_of_harts (count_of machine) list ≡ true → actions_of (bench_over breaks watches target) (commands_for list) ≡ map Occurs list)
-commands_for_events_of (Bare alone) breaks watches list = tt
+commands_for_events_of (Bare bare_machine) breaks watches list = tt
 commands_for_events_of (Monitored selected) breaks watches list = commands_for_events breaks watches list selected
 
 -- proves that commands act on the machine by their actions only

@@ -32,10 +32,10 @@ use Rattle.rv_debug.proofs.ScheduledSteps.{bare_target, schedule_is_sched}
 
 -- the two commands are the same command, two pokes of secrets, or two writes of secrets to registers of the enclave
 abbrev SecretsOrSame : ℕ → BenchState → BenchState → Command → Command → Type 0
-SecretsOrSame enclave first second command other_command =
-    IsSameCommand enclave first second command other_command
-    ⊎ ((PokesInto enclave first command × PokesInto enclave second other_command)
-    ⊎ (SetsOwnRegister enclave first command × SetsOwnRegister enclave second other_command))
+SecretsOrSame enclave bench other_bench command other_command =
+    IsSameCommand enclave bench other_bench command other_command
+    ⊎ ((PokesInto enclave bench command × PokesInto enclave other_bench other_command)
+    ⊎ (SetsOwnRegister enclave bench command × SetsOwnRegister enclave other_bench other_command))
 
 -- two related machines `one` and `other` with hart `hart` selected, in benches with equal breakpoints and watchpoints
 module _ (enclave hart : ℕ) (one other : MonitoredMachine) (invariant : Invariant one) (other_invariant : Invariant other)
@@ -59,7 +59,7 @@ module _ (enclave hart : ℕ) (one other : MonitoredMachine) (invariant : Invari
       → TargetsAreRelated enclave (done (as_target one) (Steps harts selected)) (done (as_target other) (Steps others selected))
   related_after_steps harts others selected steps =
       let moved = moved_by enclave 0 harts others one other invariant other_invariant related steps in
-      subst (λ (t : Target). TargetsAreRelated enclave t (done (as_target other) (Steps others selected)))
+      subst (λ (target : Target). TargetsAreRelated enclave target (done (as_target other) (Steps others selected)))
       (sym (schedule_is_sched harts (record { hart = hart; state = one }) _ selected))
       (subst (TargetsAreRelated enclave (selected_at selected (sched harts one).state))
       (sym (schedule_is_sched others (record { hart = hart; state = other }) _ selected)) (record { hart = refl; state = moved.state }))
@@ -97,7 +97,7 @@ module _ (enclave hart : ℕ) (one other : MonitoredMachine) (invariant : Invari
     state = changed_related enclave hart (timer_line_set raised) (timer_line_set raised) one other related (record {
       world = refl;
       state = λ hart_related. record { world = hart_related.world; same = λ not_on_hart. ap (timer_line_set raised) (hart_related.same not_on_hart) };
-      host = λ hart_related. record { host = hart_related.host; rest = ap (λ (c : CsrState). record c { timer = raised }) hart_related.rest };
+      host = λ hart_related. record { host = hart_related.host; rest = ap (λ (csrs : CsrState). record csrs { timer = raised }) hart_related.rest };
     });
   }
 
@@ -106,9 +106,9 @@ module _ (enclave hart : ℕ) (one other : MonitoredMachine) (invariant : Invari
   poked_text machine memory = option_case (option_map (over_memory (as_target machine)) memory) outside_text (λ after. ok_text)
 
   -- two pokes leave related targets and have equal replies
-  record PokedAlike (m n : Option (List ℕ)) : Type 0 where
-    state : TargetsAreRelated enclave (poke_of (as_target one) m) (poke_of (as_target other) n)
-    reply : poked_text one m ≡ poked_text other n
+  record PokedAlike (one_memory other_memory : Option (List ℕ)) : Type 0 where
+    state : TargetsAreRelated enclave (poke_of (as_target one) one_memory) (poke_of (as_target other) other_memory)
+    reply : poked_text one one_memory ≡ poked_text other other_memory
 
   -- equal pokes of related targets have equal replies and leave related targets
   pokes_alike : (address byte : ℕ) → PokedAlike (write one.shared.memory address (byte ∷ [])) (write other.shared.memory address (byte ∷ []))
@@ -125,7 +125,7 @@ module _ (enclave hart : ℕ) (one other : MonitoredMachine) (invariant : Invari
             second_write in
             let same_if_ended : (is_live one.shared.table enclave ≡ false)
             → write_bytes one.shared.memory (address - ram_base) bytes ≡ write_bytes other.shared.memory (address - ram_base) bytes =
-            λ has_ended. ap (λ (s : Shared). write_bytes s.memory (address - ram_base) bytes) (related.gone has_ended) in
+            λ has_ended. ap (λ (shared : Shared). write_bytes shared.memory (address - ram_base) bytes) (related.gone has_ended) in
             rw (first_write, second_write) (record {
               state = record { hart = refl; state = memory_related enclave one other _ _ related written_equal same_if_ended };
               reply = refl;
@@ -143,13 +143,14 @@ module _ (enclave hart : ℕ) (one other : MonitoredMachine) (invariant : Invari
   secret_pokes_related address byte other_address other_byte in_region other_in_region =
       let first_write = poke_succeeds one enclave address byte invariant in_region in
       let second_write = poke_succeeds other enclave other_address other_byte other_invariant other_in_region in
-      let hidden : (a : ℕ) → has (region one.shared.table enclave) a ≡ true → may_differ one.shared.table enclave a ≡ true =
-      λ a within_region. rw within_region refl in
-      let in_first : has (region one.shared.table enclave) other_address ≡ true =
-      ap (λ (t : Slots). has (region t enclave) other_address) related.table ∙ other_in_region in
+      let region_may_differ : (hidden_address : ℕ) → has (region one.shared.table enclave) hidden_address ≡ true
+      → may_differ one.shared.table enclave hidden_address ≡ true =
+      λ hidden_address within_region. rw within_region refl in
+      let other_address_in_region : has (region one.shared.table enclave) other_address ≡ true =
+      ap (λ (table : Slots). has (region table enclave) other_address) related.table ∙ other_in_region in
       let memory = hidden_writes (may_differ one.shared.table enclave) one.shared.memory other.shared.memory address other_address byte other_byte _
       _ related.memory
-      first_write second_write (hidden address in_region) (hidden other_address in_first) in
+      first_write second_write (region_may_differ address in_region) (region_may_differ other_address other_address_in_region) in
       rw (first_write, second_write) (record {
         state = record {
           hart = refl;
@@ -197,7 +198,8 @@ module _ (enclave hart : ℕ) (one other : MonitoredMachine) (invariant : Invari
       related_after_hart number (nat_lt number (count_of one)) (nat_lt number (count_of other)) (ap (nat_lt number) related.harts)
   related_after (Sched schedule) steps =
       let harts = harts_in schedule in
-      related_after_sched harts (has_all (count_of one) harts) (has_all (count_of other) harts) (ap (λ (n : ℕ). has_all n harts) related.harts) steps
+      related_after_sched harts (has_all (count_of one) harts) (has_all (count_of other) harts)
+      (ap (λ (hart_count : ℕ). has_all hart_count harts) related.harts) steps
   related_after _ steps = targets_related
 
   -- ---- observations
@@ -226,10 +228,12 @@ module _ (enclave hart : ℕ) (one other : MonitoredMachine) (invariant : Invari
   observed_equal (Run count) steps stop = runs_alike enclave hart one other breaks watches count invariant other_invariant related steps stop
   observed_equal (Sched schedule) steps stop =
       let harts = harts_in schedule in
-      schedule_observed harts (has_all (count_of one) harts) (has_all (count_of other) harts) (ap (λ (n : ℕ). has_all n harts) related.harts) steps
+      schedule_observed harts (has_all (count_of one) harts) (has_all (count_of other) harts)
+      (ap (λ (hart_count : ℕ). has_all hart_count harts) related.harts) steps
   observed_equal (Reg number) steps stop =
-      hart_texts enclave hart one other related (λ (s : HartState). register_text number (register s.hart.regs number))
-  observed_equal Regs steps stop = hart_texts enclave hart one other related (λ (s : HartState). registers_text s.hart.regs s.hart.pc)
+      hart_texts enclave hart one other related (λ (hart_state : HartState). register_text number (register hart_state.hart.regs number))
+  observed_equal Regs steps stop =
+      hart_texts enclave hart one other related (λ (hart_state : HartState). registers_text hart_state.hart.regs hart_state.hart.pc)
   observed_equal (Csr number) steps stop = csrs_alike enclave hart one other number related
   observed_equal (Mem address count) steps stop =
       memory_texts enclave one other related (record { base = address; size = count })
@@ -239,12 +243,12 @@ module _ (enclave hart : ℕ) (one other : MonitoredMachine) (invariant : Invari
       (λ (bytes : Option (List ℕ)). option_case bytes outside_text (λ bytes. dis_text address (number_of_bytes bytes)))
   observed_equal (Poke address byte) steps stop = (pokes_alike address byte).reply
   observed_equal Pmp steps stop = ap pmp_text (entries_alike enclave hart one other invariant other_invariant related)
-  observed_equal Enclaves steps stop = ap (λ (slots : Slots). table_text slots) related.table
+  observed_equal Enclaves steps stop = ap (λ (table : Slots). table_text table) related.table
   observed_equal (Access mode access address width) steps stop =
       same_access_reply one.shared.memory other.shared.memory related.memory.size (hart_state_of hart one).hart.csrs.pmp mode access address width
       ∙ ap (λ (entries : Entries). access_reply other.shared.memory entries mode access address width)
       (entries_alike enclave hart one other invariant other_invariant related)
-  observed_equal (Hart number) steps stop = ap (λ (n : ℕ). if nat_lt number n then ok_text else no_hart_text) related.harts
+  observed_equal (Hart number) steps stop = ap (λ (hart_count : ℕ). if nat_lt number hart_count then ok_text else no_hart_text) related.harts
   observed_equal _ steps stop = refl
 
   -- ---- a command of each bench
@@ -353,54 +357,59 @@ targets_alike enclave (Monitored one) (Monitored other) breaks watches command o
     → SecretsOrSame enclave (bench_of (Monitored one) breaks watches) (bench_of (selected_at hart other.state) breaks watches) command other_command
     → ObservedAlike enclave (bench_of (Monitored one) breaks watches) (bench_of (selected_at hart other.state) breaks watches) command other_command =
     λ hart hart_is.
-    subst (λ (h : ℕ). SecretsOrSame enclave (bench_of (Monitored one) breaks watches)
-    (bench_of (selected_at h other.state) breaks watches) command other_command
-    → ObservedAlike enclave (bench_of (Monitored one) breaks watches) (bench_of (selected_at h other.state) breaks watches) command other_command)
+    subst (λ (selected_hart : ℕ). SecretsOrSame enclave (bench_of (Monitored one) breaks watches)
+    (bench_of (selected_at selected_hart other.state) breaks watches) command other_command
+    → ObservedAlike enclave (bench_of (Monitored one) breaks watches)
+    (bench_of (selected_at selected_hart other.state) breaks watches) command other_command)
     hart_is
     (commands_alike enclave one.hart one.state other.state invariant other_invariant related.state breaks watches command other_command) in
     for_hart other.hart related.hart alike
 targets_alike enclave (Bare one) (Bare other) breaks watches command other_command invariant other_invariant related alike =
-    subst (λ (m : Machine). SecretsOrSame enclave (bench_of (Bare one) breaks watches) (bench_of (Bare m) breaks watches) command other_command
-    → ObservedAlike enclave (bench_of (Bare one) breaks watches) (bench_of (Bare m) breaks watches) command other_command) related
+    subst (λ (other_machine : Machine). SecretsOrSame enclave (bench_of (Bare one) breaks watches)
+    (bench_of (Bare other_machine) breaks watches) command other_command
+    → ObservedAlike enclave (bench_of (Bare one) breaks watches) (bench_of (Bare other_machine) breaks watches) command other_command) related
     (bare_alike enclave one breaks watches command other_command) alike
 targets_alike enclave _ _ breaks watches command other_command invariant other_invariant related alike = absurd related
 
 -- two commands that are equal, or that set secrets of the enclave, are observed alike in related benches and leave them related
-secrets_or_same : (enclave : ℕ) (first second : BenchState) (command other_command : Command) → TargetInvariant first.target
-    → TargetInvariant second.target
-    → BenchesAreRelated enclave first second → SecretsOrSame enclave first second command other_command
-    → ObservedAlike enclave first second command other_command
-secrets_or_same enclave first second command other_command invariant other_invariant related =
-    subst (λ (breaks : List ℕ). SecretsOrSame enclave first (bench_of second.target breaks second.watches) command other_command
-    → ObservedAlike enclave first (bench_of second.target breaks second.watches) command other_command) related.breaks
-    (subst (λ (watches : List ℕ). SecretsOrSame enclave first (bench_of second.target first.breaks watches) command other_command
-    → ObservedAlike enclave first (bench_of second.target first.breaks watches) command other_command) related.watches
-    (targets_alike enclave first.target second.target first.breaks first.watches command other_command invariant other_invariant related.target))
+secrets_or_same : (enclave : ℕ) (bench other_bench : BenchState) (command other_command : Command) → TargetInvariant bench.target
+    → TargetInvariant other_bench.target
+    → BenchesAreRelated enclave bench other_bench → SecretsOrSame enclave bench other_bench command other_command
+    → ObservedAlike enclave bench other_bench command other_command
+secrets_or_same enclave bench other_bench command other_command invariant other_invariant related =
+    subst (λ (breaks : List ℕ). SecretsOrSame enclave bench (bench_of other_bench.target breaks other_bench.watches) command other_command
+    → ObservedAlike enclave bench (bench_of other_bench.target breaks other_bench.watches) command other_command) related.breaks
+    (subst (λ (watches : List ℕ). SecretsOrSame enclave bench (bench_of other_bench.target bench.breaks watches) command other_command
+    → ObservedAlike enclave bench (bench_of other_bench.target bench.breaks watches) command other_command) related.watches
+    (targets_alike enclave bench.target other_bench.target bench.breaks bench.watches command other_command invariant other_invariant related.target))
 
 -- Proves the law of declassification for two commands. A low command satisfies the condition on its steps by the law of low commands, so it is a case
 -- of equal commands.
 pub declassification : CommandDeclassificationLaw
-declassification enclave first second command other_command invariant other_invariant related (inl (inl same_command)) =
-    secrets_or_same enclave first second command other_command invariant other_invariant related (inl same_command)
-declassification enclave first second command other_command invariant other_invariant related (inl (inr same_low)) =
-    let low = low_command enclave first second command invariant other_invariant related same_low.window same_low.none same_low.past in
-    subst (ObservedAlike enclave first second command) same_low.same
-    (secrets_or_same enclave first second command command invariant other_invariant related (inl low.same))
-declassification enclave first second command other_command invariant other_invariant related (inr secrets) =
-    secrets_or_same enclave first second command other_command invariant other_invariant related (inr secrets)
+declassification enclave bench other_bench command other_command invariant other_invariant related (inl (inl same_command)) =
+    secrets_or_same enclave bench other_bench command other_command invariant other_invariant related (inl same_command)
+declassification enclave bench other_bench command other_command invariant other_invariant related (inl (inr same_low)) =
+    let low = low_command enclave bench other_bench command invariant other_invariant related same_low.window same_low.none same_low.past in
+    subst (ObservedAlike enclave bench other_bench command) same_low.same
+    (secrets_or_same enclave bench other_bench command command invariant other_invariant related (inl low.same))
+declassification enclave bench other_bench command other_command invariant other_invariant related (inr secrets) =
+    secrets_or_same enclave bench other_bench command other_command invariant other_invariant related (inr secrets)
 
 -- ---- lists of commands
 
 -- proves the law of declassification for lists of commands, by induction
 pub list_declassification : ListDeclassificationLaw
-list_declassification enclave first second [] [] invariant other_invariant related alike = record { observed = refl; state = related }
-list_declassification enclave first second [] (other_command ∷ others) invariant other_invariant related alike = absurd alike
-list_declassification enclave first second (command ∷ commands) [] invariant other_invariant related alike = absurd alike
-list_declassification enclave first second (command ∷ commands) (other_command ∷ others) invariant other_invariant related alike =
-    let alike_after = declassification enclave first second command other_command invariant other_invariant related alike.0 in
-    let rest = list_declassification enclave (execute first command).state (execute second other_command).state commands others
-    (command_keeps_invariant first command invariant) (command_keeps_invariant second other_command other_invariant) alike_after.state alike.1 in
-    record { observed = ap₂ (λ (text : List ℕ) (texts : List (List ℕ)). text ∷ texts) alike_after.observed rest.observed; state = rest.state }
+list_declassification enclave bench other_bench [] [] invariant other_invariant related alike = record { observed = refl; state = related }
+list_declassification enclave bench other_bench [] (other_command ∷ other_commands) invariant other_invariant related alike = absurd alike
+list_declassification enclave bench other_bench (command ∷ commands) [] invariant other_invariant related alike = absurd alike
+list_declassification enclave bench other_bench (command ∷ commands) (other_command ∷ other_commands) invariant other_invariant related alike =
+    let alike_after = declassification enclave bench other_bench command other_command invariant other_invariant related alike.0 in
+    let rest_alike = list_declassification enclave (execute bench command).state (execute other_bench other_command).state commands other_commands
+    (command_keeps_invariant bench command invariant) (command_keeps_invariant other_bench other_command other_invariant) alike_after.state alike.1 in
+    record {
+      observed = ap₂ (λ (text : List ℕ) (texts : List (List ℕ)). text ∷ texts) alike_after.observed rest_alike.observed;
+      state = rest_alike.state;
+    }
 
 -- ---- where the relation begins
 
@@ -422,6 +431,10 @@ targets_begin enclave _ _ equiv on_no_hart = absurd equiv
 pub relation_law : BenchRelationLaw
 relation_law = record {
   itself = λ enclave bench. record { target = targets_itself enclave bench.target; breaks = refl; watches = refl };
-  begins = λ enclave first second equiv on_no_hart.
-      record { target = targets_begin enclave first.target second.target equiv.target on_no_hart; breaks = equiv.breaks; watches = equiv.watches };
+  begins = λ enclave bench other_bench equiv on_no_hart.
+      record {
+        target = targets_begin enclave bench.target other_bench.target equiv.target on_no_hart;
+        breaks = equiv.breaks;
+        watches = equiv.watches;
+      };
 }

@@ -37,7 +37,7 @@ poke_keeps_invariant machine address byte (Some memory) written invariant =
 
 -- every effect preserves the invariant of a target
 pub effect_keeps_invariant : (target : Target) (change : Effect) → TargetInvariant target → TargetInvariant (done target change)
-effect_keeps_invariant (Bare machine) change invariant = bare_target TargetInvariant (λ alone. tt) _ (effect_stays_bare machine change)
+effect_keeps_invariant (Bare machine) change invariant = bare_target TargetInvariant (λ bare_machine. tt) _ (effect_stays_bare machine change)
 effect_keeps_invariant (Monitored machine) Nothing invariant = invariant
 effect_keeps_invariant (Monitored machine) (Steps harts selected) invariant =
     subst TargetInvariant (sym (schedule_is_sched harts machine _ selected)) (sched_invariant harts machine.state invariant)
@@ -49,7 +49,7 @@ effect_keeps_invariant (Monitored machine) (TimerLine raised) invariant =
 effect_keeps_invariant (Monitored machine) (OneByte address byte) invariant =
     poke_keeps_invariant machine address byte (write machine.state.shared.memory address (byte ∷ [])) refl invariant
 
--- each command preserves the invariant
+-- each command preserves the invariant of the target
 pub command_keeps_invariant : (bench : BenchState) (command : Command) → TargetInvariant bench.target
     → TargetInvariant (execute bench command).state.target
 unfolding execute

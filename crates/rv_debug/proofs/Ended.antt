@@ -1,5 +1,5 @@
--- After an enclave has ended, two related benches are equal in the guest view, and so related for every slot. No enclave is ever live in
--- `slot_count`, the number of no slot, so that every command is low for it.
+-- After an enclave has ended, two related benches are equal in the guest view, and so they are related for every slot. The number `slot_count` is the
+-- number of no slot, so no enclave is ever live there, and every command is low for this number.
 use Rattle.std.proofs.Common.{◌≡◌, ◌≢◌, ◌==◌, ℕ, true, false, List, [], ◌∷◌, Option, Some, None, refl, sym, ◌∙◌, ap, inl, inr, arith, subst}
 use Rattle.std.proofs.lemmas.Nat.Bits.{bit_at_or, bit_at-pow_other}
 use Rattle.std.specs.Int.{bit_at}
@@ -56,7 +56,8 @@ runs_on_no_hart : (machine : MonitoredMachine) → Invariant machine → (hart :
 runs_on_no_hart machine invariant hart = elim (cases_Bool (runs_on slot_count hart machine)) [
   | inr not_on_hart ↦ not_on_hart
   | inl on_hart ↦
-      let not_live : is_live machine.shared.table slot_count ≡ false = ap (λ (o : Option SlotInfo). is_some o) (no_slot_at_count machine invariant) in
+      let not_live : is_live machine.shared.table slot_count ≡ false =
+      ap (λ (maybe_info : Option SlotInfo). is_some maybe_info) (no_slot_at_count machine invariant) in
       absurd (both_ways _ not_live (running_is_live slot_count hart machine invariant on_hart))
 ]
 
@@ -79,15 +80,15 @@ step_never_enters hart machine invariant =
 
 -- ---- no command enters slot `slot_count`, which is past the last slot
 
--- if `slot_count` is not among the entered slots, it is not among them after a step that does not enter it
-stays_unentered : (slots : ℕ) (o : Option ℕ) → enters slot_count o ≡ false
-    → is_entered slot_count slots ≡ false → is_entered slot_count (slots_with slots o) ≡ false
+-- if `slot_count` is not among the entered slots before a step that does not enter it, then it is not among them after the step
+stays_unentered : (slots : ℕ) (maybe_entered : Option ℕ) → enters slot_count maybe_entered ≡ false
+    → is_entered slot_count slots ≡ false → is_entered slot_count (slots_with slots maybe_entered) ≡ false
 stays_unentered slots None does_not_enter not_entered = not_entered
-stays_unentered slots (Some k) does_not_enter not_entered =
-    let other_slot : slot_count ≢ k = λ same_slot. both_ways _ does_not_enter (eq-eqb k slot_count (sym same_slot)) in
-    let bit_is_clear = bit_at-pow_other k slot_count other_slot in
-    let same_bit : bit_at (slots_with slots (Some k)) slot_count ≡ bit_at slots slot_count =
-    bit_at_or slots (2 ^ k) slot_count ∙ omega (arith, bit_is_clear) in
+stays_unentered slots (Some entered) does_not_enter not_entered =
+    let other_slot : slot_count ≢ entered = λ same_slot. both_ways _ does_not_enter (eq-eqb entered slot_count (sym same_slot)) in
+    let bit_is_clear = bit_at-pow_other entered slot_count other_slot in
+    let same_bit : bit_at (slots_with slots (Some entered)) slot_count ≡ bit_at slots slot_count =
+    bit_at_or slots (2 ^ entered) slot_count ∙ omega (arith, bit_is_clear) in
     ap (λ (bit : ℕ). bit == 1) same_bit ∙ not_entered
 
 -- no step of a schedule enters slot `slot_count`, which is past the last slot
@@ -117,7 +118,7 @@ effect_never_enters target (Register number value) invariant = refl
 effect_never_enters target (TimerLine raised) invariant = refl
 effect_never_enters target (OneByte address byte) invariant = refl
 
--- the enclave of slot `slot_count` runs on no hart of a target, since the number is past the last slot
+-- no hart of a target runs an enclave of slot `slot_count`, which is past the last slot
 on_no_hart_of_target : (target : Target) → TargetInvariant target → RunsOnNoHart slot_count target
 on_no_hart_of_target (Bare machine) invariant = tt
 on_no_hart_of_target (Monitored machine) invariant = runs_on_no_hart machine.state invariant
@@ -128,20 +129,21 @@ command_never_enters : (bench : BenchState) (command : Command) → TargetInvari
 unfolding execute
 command_never_enters bench command invariant = effect_never_enters bench.target (effect bench command) invariant
 
--- the windows of slot `slot_count` are equal in two targets while its enclave runs, since it never runs
-windows_equal : (first second : Target) → TargetInvariant first → IfSome (machine_in first)
-    (λ one. IfSome (machine_in second) (λ other. runs one.shared.table slot_count ≡ true → SameWindow slot_count one other))
-windows_equal (Bare machine) second invariant = tt
+-- the windows of slot `slot_count` are equal in two targets while its enclave runs: it never runs, since the number is past the last slot
+windows_equal : (target other_target : Target) → TargetInvariant target → IfSome (machine_in target)
+    (λ one. IfSome (machine_in other_target) (λ other. runs one.shared.table slot_count ≡ true → SameWindow slot_count one other))
+windows_equal (Bare machine) other_target invariant = tt
 windows_equal (Monitored machine) (Bare other) invariant = tt
 windows_equal (Monitored machine) (Monitored other) invariant =
     λ running. let not_running : runs machine.state.shared.table slot_count ≡ false =
-    ap (λ (o : Option SlotInfo). option_case o false (λ info. is_running info.state)) (no_slot_at_count machine.state invariant) in absurd
+    ap (λ (maybe_info : Option SlotInfo). option_case maybe_info false (λ info. is_running info.state))
+    (no_slot_at_count machine.state invariant) in absurd
     (both_ways _ not_running running)
 
 -- ---- two machines that are equal in the guest view are related for every slot
 
 -- two related machines in which `enclave` has ended
-module _ (enclave k : ℕ) (one other : MonitoredMachine) (invariant : Invariant one) (related : AreRelated enclave one other)
+module _ (enclave slot : ℕ) (one other : MonitoredMachine) (invariant : Invariant one) (related : AreRelated enclave one other)
     (has_ended : is_live one.shared.table enclave ≡ false) where
   -- after the enclave has ended, the shared states are equal
   same_shared : one.shared ≡ other.shared
@@ -154,41 +156,49 @@ module _ (enclave k : ℕ) (one other : MonitoredMachine) (invariant : Invariant
     | inl on_hart ↦ absurd (both_ways _ has_ended (running_is_live enclave hart one invariant on_hart))
   ]
 
-  -- after the enclave has ended, the machines are related for every slot k
-  machines_related : AreRelated k one other
+  -- after the enclave has ended, the machines are related for every slot
+  machines_related : AreRelated slot one other
   machines_related = record {
     harts = related.harts;
-    hart_states = λ hart. record { world = ap (λ (s : HartState). s.world) (same_guest_state hart); same = λ not_on_hart. same_guest_state hart };
+    hart_states =
+        λ hart. record {
+          world = ap (λ (hart_state : HartState). hart_state.world) (same_guest_state hart);
+          same = λ not_on_hart. same_guest_state hart;
+        };
     hosts = λ hart on_hart. record {
-      host = ap (λ (s : HartState). s.host_context) (same_guest_state hart);
-      rest = ap (λ (s : HartState). unswitched s.hart.csrs) (same_guest_state hart);
+      host = ap (λ (hart_state : HartState). hart_state.host_context) (same_guest_state hart);
+      rest = ap (λ (hart_state : HartState). unswitched hart_state.hart.csrs) (same_guest_state hart);
     };
     table = related.table;
-    memory = record { size = related.memory.size; bytes = λ i shown. ap (λ (s : Shared). slice_index s.memory i) same_shared };
-    contexts = record { size = related.contexts.size; others = λ i other_slot. ap (λ (s : Shared). context_at s.contexts i) same_shared };
+    memory = record { size = related.memory.size; bytes = λ index not_hidden. ap (λ (shared : Shared). slice_index shared.memory index) same_shared };
+    contexts =
+        record {
+          size = related.contexts.size;
+          others = λ saved_slot is_other. ap (λ (shared : Shared). context_at shared.contexts saved_slot) same_shared;
+        };
     gone = λ not_live. same_shared;
   }
 
 -- after the enclave has ended, the targets are related for every slot
-targets_related : (enclave k : ℕ) (one other : Target) → TargetInvariant one → TargetsAreRelated enclave one other
-    → EnclaveHasEnded enclave one → TargetsAreRelated k one other
-targets_related enclave k (Bare one) (Bare other) invariant related has_ended = related
-targets_related enclave k (Monitored one) (Monitored other) invariant related has_ended =
-    record { hart = related.hart; state = machines_related enclave k one.state other.state invariant related.state has_ended }
-targets_related enclave k _ _ invariant related has_ended = absurd related
+targets_related : (enclave slot : ℕ) (one other : Target) → TargetInvariant one → TargetsAreRelated enclave one other
+    → EnclaveHasEnded enclave one → TargetsAreRelated slot one other
+targets_related enclave slot (Bare one) (Bare other) invariant related has_ended = related
+targets_related enclave slot (Monitored one) (Monitored other) invariant related has_ended =
+    record { hart = related.hart; state = machines_related enclave slot one.state other.state invariant related.state has_ended }
+targets_related enclave slot _ _ invariant related has_ended = absurd related
 
 -- the enclave of slot `slot_count` has ended in each target, since it is never live
 ended_in_target : (target : Target) → TargetInvariant target → EnclaveHasEnded slot_count target
 ended_in_target (Bare machine) invariant = tt
-ended_in_target (Monitored machine) invariant = ap (λ (o : Option SlotInfo). is_some o) (no_slot_at_count machine.state invariant)
+ended_in_target (Monitored machine) invariant = ap (λ (maybe_info : Option SlotInfo). is_some maybe_info) (no_slot_at_count machine.state invariant)
 
 -- after the enclave has ended, the benches are related for every slot
-ended_for_all : (enclave : ℕ) (first second : BenchState) → TargetInvariant first.target → BenchesAreRelated enclave first second
-    → EnclaveHasEnded enclave first.target
-    → AreRelatedForAll first second
-ended_for_all enclave first second invariant related ended k =
+ended_for_all : (enclave : ℕ) (bench other_bench : BenchState) → TargetInvariant bench.target → BenchesAreRelated enclave bench other_bench
+    → EnclaveHasEnded enclave bench.target
+    → AreRelatedForAll bench other_bench
+ended_for_all enclave bench other_bench invariant related ended slot =
     record {
-      target = targets_related enclave k first.target second.target invariant related.target ended;
+      target = targets_related enclave slot bench.target other_bench.target invariant related.target ended;
       breaks = related.breaks;
       watches = related.watches;
     }
@@ -209,11 +219,11 @@ module _ (enclave hart : ℕ) (machine : MonitoredMachine) (invariant : Invarian
   exits_to_host =
       let place : Place = record { slot = enclave; hart = hart } in
       let same_enclave : SameEnclave place place machine machine =
-      record { first = on_hart; second = on_hart; hart = refl; slot = refl; memory = record { size = refl; bytes = λ i shown. refl } } in
+      record { first = on_hart; second = on_hart; hart = refl; slot = refl; memory = record { size = refl; bytes = λ index not_hidden. refl } } in
       ((enclave_step place place machine machine invariant invariant same_enclave).state.exits has_left).first.world
 
   -- a step of the enclave after which the host runs is an exit by a trap, where `o` is the trap of the step
-  exits_by_trap : (o : Option Trap) → (step_of hart machine).outcome.step.trap ≡ o → ExitsNow hart machine
+  exits_by_trap : (maybe_trap : Option Trap) → (step_of hart machine).outcome.step.trap ≡ maybe_trap → ExitsNow hart machine
   exits_by_trap (Some trap) trapped = record { trap = trap; traps = trapped; world = exits_to_host }
   exits_by_trap None no_trap =
       let runs_enclave = world_is_enclave enclave (hart_state_of hart machine).world on_hart in
@@ -223,9 +233,8 @@ module _ (enclave hart : ℕ) (machine : MonitoredMachine) (invariant : Invarian
   exits_now : ExitsNow hart machine
   exits_now = exits_by_trap (step_of hart machine).outcome.step.trap refl
 
--- Equal steps of two machines that are related for slot `slot_count` are moves, for each `enclave`. A step on a hart that does not run the enclave
--- of `enclave`
--- is a low step of both machines. A step after which the enclave runs on is a move of each machine, and any other step is an exit from both.
+-- Equal steps of two machines that are related for slot `slot_count` are moves, for each `enclave`. A step on a hart that does not run the enclave is
+-- a low step of both machines. A step after which the enclave runs on is a move of each machine, and any other step is an exit from both.
 guest_moves : (enclave : ℕ) (harts : List ℕ) (one other : MonitoredMachine) → Invariant one → Invariant other → AreRelated slot_count one other
     → StepsAreMoves enclave one other harts harts
 guest_moves enclave [] one other invariant other_invariant related = record { moves = []; steps = refl; first = refl; second = refl; are = tt }
@@ -233,62 +242,62 @@ guest_moves enclave (hart ∷ harts) one other invariant other_invariant related
     -- the shared states are equal, and so are the guest views of the hart
     let on_no_hart = runs_on_no_hart one invariant hart in
     let same_guest = (related.hart_states hart).same on_no_hart in
-    let same_shared = related.gone (ap (λ (o : Option SlotInfo). is_some o) (no_slot_at_count one invariant)) in
-    let window : (k : ℕ) → SameWindow k one other = λ k.
-    record { size = related.memory.size; bytes = λ i shown. ap (λ (s : Shared). slice_index s.memory i) same_shared } in
+    let same_shared = related.gone (ap (λ (maybe_info : Option SlotInfo). is_some maybe_info) (no_slot_at_count one invariant)) in
+    let window : (slot : ℕ) → SameWindow slot one other = λ slot.
+    record { size = related.memory.size; bytes = λ index not_hidden. ap (λ (shared : Shared). slice_index shared.memory index) same_shared } in
     -- the step is low for slot `slot_count` in both machines, so they are related again after it
     let alike_after = declassification_law slot_count (Both (StepOf hart) ∷ []) one other invariant other_invariant related
     (inl (record { low = on_no_hart; window = λ running. window_read slot_count hart one other (window slot_count) }), tt) in
-    let rest = guest_moves enclave harts (step_of hart one).state (step_of hart other).state (invariant_law hart one invariant)
+    let rest_moves = guest_moves enclave harts (step_of hart one).state (step_of hart other).state (invariant_law hart one invariant)
     (invariant_law hart other other_invariant) alike_after.state in
-    let first = ap (λ (hs : List ℕ). hart ∷ hs) rest.first in
-    let second = ap (λ (hs : List ℕ). hart ∷ hs) rest.second in
+    let first_harts = ap (λ (later_harts : List ℕ). hart ∷ later_harts) rest_moves.first in
+    let second_harts = ap (λ (later_harts : List ℕ). hart ∷ later_harts) rest_moves.second in
     let same_before = ap (is_world_of enclave) (sym (related.hart_states hart).world) in
     let same_after = ap (is_world_of enclave) (sym (alike_after.state.hart_states hart).world) in
     elim (cases_Bool (runs_on enclave hart one)) [
       -- `enclave` does not run on the hart: the step is a low step of both machines
       | inr not_on_hart ↦ record {
-        moves = Both (StepOf hart) ∷ rest.moves;
-        steps = rest.steps;
-        first = first;
-        second = second;
-        are = (inl (record { low = not_on_hart; window = λ running. window_read enclave hart one other (window enclave) }), rest.are);
+        moves = Both (StepOf hart) ∷ rest_moves.moves;
+        steps = rest_moves.steps;
+        first = first_harts;
+        second = second_harts;
+        are = (inl (record { low = not_on_hart; window = λ running. window_read enclave hart one other (window enclave) }), rest_moves.are);
       }
       | inl on_hart ↦ elim (cases_Bool (runs_on enclave hart (step_of hart one).state)) [
         -- `enclave` runs on: the step is a move of each machine
         | inl still_on_hart ↦ record {
-          moves = First hart ∷ Second hart ∷ rest.moves;
-          steps = rest.steps;
-          first = first;
-          second = second;
+          moves = First hart ∷ Second hart ∷ rest_moves.moves;
+          steps = rest_moves.steps;
+          first = first_harts;
+          second = second_harts;
           are = (
             record { before = on_hart; after = still_on_hart },
-            (record { before = same_before ∙ on_hart; after = same_after ∙ still_on_hart }, rest.are),
+            (record { before = same_before ∙ on_hart; after = same_after ∙ still_on_hart }, rest_moves.are),
           );
         }
         -- `enclave` has left the hart: the step is an exit from both machines, with equal a0 and a6
         | inr has_left ↦
             let exit = exits_now enclave hart one invariant on_hart has_left in
             record {
-              moves = Both (StepOf hart) ∷ rest.moves;
-              steps = rest.steps;
-              first = first;
-              second = second;
+              moves = Both (StepOf hart) ∷ rest_moves.moves;
+              steps = rest_moves.steps;
+              first = first_harts;
+              second = second_harts;
               are = (
                 inr (record {
                   runs = on_hart;
                   window = window enclave;
                   handover = hands_over exit.trap.cause _ _ (record {
-                    a0 = ap (λ (s : HartState). register s.hart.regs 10) same_guest;
-                    a6 = ap (λ (s : HartState). register s.hart.regs 16) same_guest;
+                    a0 = ap (λ (hart_state : HartState). register hart_state.hart.regs 10) same_guest;
+                    a6 = ap (λ (hart_state : HartState). register hart_state.hart.regs 16) same_guest;
                   });
                   trap = exit.trap;
                   first = exit.traps;
-                  second = sym (ap (λ (o : Outcome). o.step.trap) (alike_after.outcomes.0 on_no_hart)) ∙ exit.traps;
+                  second = sym (ap (λ (outcome : Outcome). outcome.step.trap) (alike_after.outcomes.0 on_no_hart)) ∙ exit.traps;
                   first_exits = exit.world;
                   second_exits = sym (alike_after.state.hart_states hart).world ∙ exit.world;
                 }),
-                rest.are,
+                rest_moves.are,
               );
             }
       ]
@@ -322,19 +331,19 @@ moves_for_each_slot enclave (Monitored one) (Monitored other) harts others invar
     subst (StepsAreMoves enclave one.state other.state harts) same_harts
     (guest_moves enclave harts one.state other.state invariant other_invariant related.state)
 
--- A command that two benches execute satisfies the condition on its steps for every slot k, if they are related for every slot. The command is low
+-- A command that two benches execute satisfies the condition on its steps for every slot, if they are related for every slot. The command is low
 -- for slot `slot_count`.
-same_command : (k : ℕ) (first second : BenchState) (command : Command) → TargetInvariant first.target → TargetInvariant second.target
-    → AreRelatedForAll first second → IsSameCommand k first second command command
-same_command k first second command invariant other_invariant related =
-    let low = low_command slot_count first second command invariant other_invariant (related slot_count)
-    (windows_equal first.target second.target invariant)
-    (on_none_in slot_count (harts_named first.target command) first.target (on_no_hart_of_target first.target invariant))
-    (command_never_enters first command invariant) in
+same_command : (slot : ℕ) (bench other_bench : BenchState) (command : Command) → TargetInvariant bench.target → TargetInvariant other_bench.target
+    → AreRelatedForAll bench other_bench → IsSameCommand slot bench other_bench command command
+same_command slot bench other_bench command invariant other_invariant related =
+    let low = low_command slot_count bench other_bench command invariant other_invariant (related slot_count)
+    (windows_equal bench.target other_bench.target invariant)
+    (on_none_in slot_count (harts_named bench.target command) bench.target (on_no_hart_of_target bench.target invariant))
+    (command_never_enters bench command invariant) in
     record {
       same = refl;
-      steps = moves_for_each_slot k first.target second.target (harts_stepped (effect first command))
-          (harts_stepped (effect second command)) invariant other_invariant (related slot_count).target low.same.steps;
+      steps = moves_for_each_slot slot bench.target other_bench.target (harts_stepped (effect bench command))
+          (harts_stepped (effect other_bench command)) invariant other_invariant (related slot_count).target low.same.steps;
       stop = low.same.stop;
     }
 
@@ -343,10 +352,10 @@ pub ended_law : EndedLaw
 ended_law = record {
   ended = ended_for_all;
   same = same_command;
-  again = λ first second command invariant other_invariant related.
-      let none_related = declassification slot_count first second command command invariant other_invariant (related slot_count)
-      (inl (inl (same_command slot_count first second command invariant other_invariant related))) in
-      ended_for_all slot_count (execute first command).state (execute second command).state
-      (command_keeps_invariant first command invariant) none_related.state
-      (ended_in_target (execute first command).state.target (command_keeps_invariant first command invariant));
+  again = λ bench other_bench command invariant other_invariant related.
+      let none_related = declassification slot_count bench other_bench command command invariant other_invariant (related slot_count)
+      (inl (inl (same_command slot_count bench other_bench command invariant other_invariant related))) in
+      ended_for_all slot_count (execute bench command).state (execute other_bench command).state
+      (command_keeps_invariant bench command invariant) none_related.state
+      (ended_in_target (execute bench command).state.target (command_keeps_invariant bench command invariant));
 }

@@ -33,15 +33,15 @@ use Rattle.rv_debug.proofs.ScheduledSteps.{after_schedule, bare_target}
 -- ---- equal replies and equivalent states; the end of the file proves that the benches are equal once the enclave has ended
 
 -- two executions have equal replies and entered slots, and leave benches that are equivalent except for `enclave`
-record ExecutedAlike (enclave : ℕ) (first second : Executed) : Type 0 where
-  pub reply : first.reply ≡ second.reply
-  pub entered : first.entered ≡ second.entered
-  pub state : BenchesEquivExcept enclave first.state second.state
+record ExecutedAlike (enclave : ℕ) (one other : Executed) : Type 0 where
+  pub reply : one.reply ≡ other.reply
+  pub entered : one.entered ≡ other.entered
+  pub state : BenchesEquivExcept enclave one.state other.state
 
 -- two executions enter `enclave` both or neither; if neither, they have equal replies and leave equivalent benches
-record Alike (enclave : ℕ) (first second : Executed) : Type 0 where
-  pub entered : is_entered enclave first.entered ≡ is_entered enclave second.entered
-  pub passed : is_entered enclave first.entered ≡ false → ExecutedAlike enclave first second
+record Alike (enclave : ℕ) (one other : Executed) : Type 0 where
+  pub entered : is_entered enclave one.entered ≡ is_entered enclave other.entered
+  pub passed : is_entered enclave one.entered ≡ false → ExecutedAlike enclave one other
 
 -- `bench_of` is the bench over a target, with the given breakpoints and watchpoints
 abbrev pub bench_of : Target → List ℕ → List ℕ → BenchState
@@ -82,7 +82,7 @@ same_summaries : (enclave : ℕ) (summary : Scheduled) (one other : Selected) �
 same_summaries enclave summary one other equiv on_no_hart =
     let state = equiv.state in
     ap₂ (λ (line lines : List ℕ). line ++ lines) (same_hart_summary enclave 0 summary.first one other equiv on_no_hart)
-    (ap₂ (λ (n : ℕ) (line : List ℕ). if nat_lt 1 n then line else []) state.harts
+    (ap₂ (λ (hart_count : ℕ) (line : List ℕ). if nat_lt 1 hart_count then line else []) state.harts
     (same_hart_summary enclave 1 summary.second one other equiv on_no_hart))
 
 -- `schedule_executed` is the result of the command `sched`: the bench after the schedule, the summary and the entered slots
@@ -159,32 +159,35 @@ equal_entries hart one other invariant other_invariant same_harts same_table sam
           let other_out_of_range : count_of other ≤ hart = omega (arith, same_harts, out_of_range) in
           ap entries (past_hart_state one.hart_states hart out_of_range ∙ sym (past_hart_state other.hart_states hart other_out_of_range))
       | inl in_range ↦
-          let entries_of : Slots → World → Entries = λ slots world. layout slots world in
+          let entries_of : Slots → World → Entries = λ table world. layout table world in
           let first_layout = (hart_view_invariant hart one invariant in_range).hart.layout.entries in
           let second_layout = (hart_view_invariant hart other other_invariant (omega (arith, same_harts, in_range))).hart.layout.entries in
           first_layout ∙ ap₂ entries_of same_table same_world ∙ sym second_layout
     ]
 
 -- the reply to `access` is equal for two memories of the same size: it depends on the PMP entries and the address, not on the bytes
-pub same_access_reply : (m n : List ℕ) → length m ≡ length n → (entries : Entries) (mode : Mode) (access : AccessKind) (address : ℕ) (width : Width)
-    → access_reply m entries mode access address width ≡ access_reply n entries mode access address width
+pub same_access_reply : (one_memory other_memory : List ℕ) → length one_memory ≡ length other_memory
+    → (entries : Entries) (mode : Mode) (access : AccessKind) (address : ℕ) (width : Width)
+    → access_reply one_memory entries mode access address width ≡ access_reply other_memory entries mode access address width
 unfolding read
-same_access_reply m n same_size entries mode access address width = elim (cases_Bool (is_inside m address (bytes_in width))) [
-  | inl in_ram ↦ rw (← same_size, in_ram) refl
-  | inr outside_ram ↦ rw (← same_size, outside_ram) refl
-]
+same_access_reply one_memory other_memory same_size entries mode access address width =
+    elim (cases_Bool (is_inside one_memory address (bytes_in width))) [
+      | inl in_ram ↦ rw (← same_size, in_ram) refl
+      | inr outside_ram ↦ rw (← same_size, outside_ram) refl
+    ]
 
 -- ---- monitored machines
 
--- an enclave that runs on none of the n harts from `first` on does not run on hart j, if j is one of them
-not_on_hart_of_range : (enclave n first j : ℕ) (machine : MonitoredMachine) → RunsOnNone enclave (range_with_len first n) machine → first ≤ j
-    → j < first + n
-    → runs_on enclave j machine ≡ false
-not_on_hart_of_range enclave zero first j machine runs_on_none at_or_above_first below_end = absurd (omega (arith, at_or_above_first, below_end))
-not_on_hart_of_range enclave (suc n) first j machine runs_on_none at_or_above_first below_end = elim (cases_eq j first) [
-  | inl is_first ↦ ap (λ (hart : ℕ). runs_on enclave hart machine) is_first ∙ runs_on_none.0
-  | inr is_not_first ↦
-      not_on_hart_of_range enclave n (first + 1) j machine runs_on_none.1 (omega (arith, at_or_above_first, is_not_first)) (omega (arith, below_end))
+-- an enclave that runs on none of `count` harts from `start` on does not run on a hart that is one of them
+not_on_hart_of_range : (enclave count start hart : ℕ) (machine : MonitoredMachine) → RunsOnNone enclave (range_with_len start count) machine
+    → start ≤ hart
+    → hart < start + count
+    → runs_on enclave hart machine ≡ false
+not_on_hart_of_range enclave zero start hart machine runs_on_none from_start below_end = absurd (omega (arith, from_start, below_end))
+not_on_hart_of_range enclave (suc count) start hart machine runs_on_none from_start below_end = elim (cases_eq hart start) [
+  | inl is_start ↦ ap (λ (other_hart : ℕ). runs_on enclave other_hart machine) is_start ∙ runs_on_none.0
+  | inr is_not_start ↦
+      not_on_hart_of_range enclave count (start + 1) hart machine runs_on_none.1 (omega (arith, from_start, is_not_start)) (omega (arith, below_end))
 ]
 
 -- an enclave that runs on none of the harts of the machine runs on no hart
@@ -286,7 +289,7 @@ module _ (enclave hart : ℕ) (one other : MonitoredMachine) (equiv : EquivExcep
                 table = shared.table;
                 memory = written_equal;
                 contexts = shared.contexts;
-                gone = λ has_ended. ap (λ (s : Shared). record s { memory = write_bytes s.memory (address - ram_base) bytes })
+                gone = λ has_ended. ap (λ (shared : Shared). record shared { memory = write_bytes shared.memory (address - ram_base) bytes })
                     (shared.gone has_ended);
               });
             }) refl)
@@ -299,14 +302,14 @@ module _ (enclave hart : ℕ) (one other : MonitoredMachine) (equiv : EquivExcep
   -- ---- steps
 
   -- the command `step` or `run` is alike in both benches, if its two runs are alike
-  runs_executed_alike : (first second : AfterRun MonitoredMachine) → RunAlike enclave hart first second
-      → Alike enclave (steps_execute breaks watches (target_of (selected_at hart) first))
-      (steps_execute breaks watches (target_of (selected_at hart) second))
-  runs_executed_alike first second (inl both_enter) = record {
-    entered = both_enter.first ∙ sym both_enter.second;
-    passed = λ not_entered. let never : true ≡ false = sym both_enter.first ∙ not_entered in cc;
+  runs_executed_alike : (one_ran other_ran : AfterRun MonitoredMachine) → RunAlike enclave hart one_ran other_ran
+      → Alike enclave (steps_execute breaks watches (target_of (selected_at hart) one_ran))
+      (steps_execute breaks watches (target_of (selected_at hart) other_ran))
+  runs_executed_alike one_ran other_ran (inl both_enter) = record {
+    entered = both_enter.one_enters ∙ sym both_enter.other_enters;
+    passed = λ not_entered. let never : true ≡ false = sym both_enter.one_enters ∙ not_entered in cc;
   }
-  runs_executed_alike first second (inr neither_enters) = record {
+  runs_executed_alike one_ran other_ran (inr neither_enters) = record {
     entered = ap (λ (ran : Ran). is_entered enclave ran.entered) neither_enters.ran;
     passed = λ not_entered. record {
       reply =
@@ -331,7 +334,7 @@ module _ (enclave hart : ℕ) (one other : MonitoredMachine) (equiv : EquivExcep
       → Alike enclave (run_execute (as_target one) breaks watches at_breaks at_watches count)
       (run_execute (as_target other) breaks watches at_breaks at_watches count)
   run_alike_executed at_breaks at_watches count invariant other_invariant avoids_hart =
-      subst (λ (first : Executed). Alike enclave first (run_execute (as_target other) breaks watches at_breaks at_watches count))
+      subst (λ (one_executed : Executed). Alike enclave one_executed (run_execute (as_target other) breaks watches at_breaks at_watches count))
       (sym (run_is_of_machine one at_breaks at_watches count))
       (subst (Alike enclave (steps_execute breaks watches _)) (sym (run_is_of_machine other at_breaks at_watches count))
       (runs_executed_alike _ _ (run-alike enclave hart at_breaks at_watches count (no_steps one) other invariant other_invariant equiv
@@ -375,8 +378,8 @@ module _ (enclave hart : ℕ) (one other : MonitoredMachine) (equiv : EquivExcep
       elim (scheduled_steps_alike enclave harts (as_selected one) (as_selected other) _ invariant other_invariant targets_equiv
       (on_none_of enclave harts one on_no_hart)) [
         | inl both_enter ↦ record {
-          entered = both_enter.first ∙ sym both_enter.second;
-          passed = λ not_entered. let never : true ≡ false = sym both_enter.first ∙ not_entered in cc;
+          entered = both_enter.one_enters ∙ sym both_enter.other_enters;
+          passed = λ not_entered. let never : true ≡ false = sym both_enter.one_enters ∙ not_entered in cc;
         }
         | inr neither_enters ↦ unentered_schedules_alike enclave hart breaks watches (as_selected one) _ _ on_no_hart neither_enters
       ]
@@ -422,7 +425,7 @@ module _ (enclave hart : ℕ) (one other : MonitoredMachine) (equiv : EquivExcep
     command_alike (Sched schedule) blind avoids_hart =
         let harts = harts_in schedule in
         sched_executed_alike harts (has_all (count_of one) harts) (has_all (count_of other) harts)
-        (ap (λ (n : ℕ). has_all n harts) equiv.harts) invariant other_invariant (on_no_hart_of_machine enclave one avoids_hart)
+        (ap (λ (hart_count : ℕ). has_all hart_count harts) equiv.harts) invariant other_invariant (on_no_hart_of_machine enclave one avoids_hart)
     command_alike (Access mode access address width) blind avoids_hart =
         let memory = memory_equiv in
         let same_size = memory.size in
@@ -431,7 +434,7 @@ module _ (enclave hart : ℕ) (one other : MonitoredMachine) (equiv : EquivExcep
         ∙ ap (λ (entries : Entries). access_reply other.shared.memory entries mode access address width) (same_entries invariant other_invariant))
     command_alike Pmp blind avoids_hart = unchanged_alike _ _ (ap pmp_text (same_entries invariant other_invariant))
     command_alike Enclaves blind avoids_hart =
-        unchanged_alike _ _ (ap (λ (slots : Slots). table_text slots) (let shared = equiv.shared in shared.table))
+        unchanged_alike _ _ (ap (λ (table : Slots). table_text table) (let shared = equiv.shared in shared.table))
     command_alike _ blind avoids_hart = equal_replies_alike enclave _ _ _ _ _ _ targets_equiv refl
 
 -- ---- any two benches
@@ -500,11 +503,14 @@ equiv_again enclave one other invariant equiv =
 
 -- Proves the noninterference law for a command of each kind. The second bench is rewritten to the breakpoints and watchpoints of the first.
 pub noninterference : NoninterferenceLaw
-noninterference enclave first second command invariant other_invariant equiv blind avoids_hart =
+noninterference enclave bench other_bench command invariant other_invariant equiv blind avoids_hart =
     let alike_unless_entered =
-    subst (λ (breaks : List ℕ). Alike enclave (execute first command) (execute (bench_of second.target breaks second.watches) command)) equiv.breaks
-    (subst (λ (watches : List ℕ). Alike enclave (execute first command) (execute (bench_of second.target first.breaks watches) command)) equiv.watches
-    (targets-alike enclave first.target second.target first.breaks first.watches command invariant other_invariant equiv.target blind avoids_hart)) in
+    subst (λ (breaks : List ℕ). Alike enclave (execute bench command)
+    (execute (bench_of other_bench.target breaks other_bench.watches) command)) equiv.breaks
+    (subst (λ (watches : List ℕ). Alike enclave (execute bench command)
+    (execute (bench_of other_bench.target bench.breaks watches) command)) equiv.watches
+    (targets-alike enclave bench.target other_bench.target bench.breaks bench.watches command
+    invariant other_invariant equiv.target blind avoids_hart)) in
     record {
       entered = alike_unless_entered.entered;
       passed = λ not_entered.
@@ -513,6 +519,6 @@ noninterference enclave first second command invariant other_invariant equiv bli
             reply = passed.reply;
             entered = passed.entered;
             state = equiv_again enclave _ _
-                (command_keeps_invariant first command invariant) passed.state;
+                (command_keeps_invariant bench command invariant) passed.state;
           };
     }

@@ -11,13 +11,14 @@ unfolding execute_line
 execute_line-cut bench line = ap (execute_or_fault bench) (parse_of-cut line)
 
 -- lines that begin with the same significant bytes have the same effect and reply
-pub execute_line_prefix : (bench : BenchState) (other line : List ℕ) → take significant_bytes other ≡ take significant_bytes line
-    → execute_line bench other ≡ execute_line bench line
-execute_line_prefix bench other line same_prefix =
-    sym (execute_line-cut bench other) ∙ (ap (execute_line bench) same_prefix ∙ execute_line-cut bench line)
+pub execute_line_prefix : (bench : BenchState) (other_line line : List ℕ) → take significant_bytes other_line ≡ take significant_bytes line
+    → execute_line bench other_line ≡ execute_line bench line
+execute_line_prefix bench other_line line same_prefix =
+    sym (execute_line-cut bench other_line) ∙ (ap (execute_line bench) same_prefix ∙ execute_line-cut bench line)
 
 -- lines that begin with the same significant bytes have the same effect and replies on two benches
-pub both_line-prefix : (enclave : ℕ) (one two : BenchState) (other line : List ℕ) → take significant_bytes other ≡ take significant_bytes line
-    → both_execute_line enclave one two other ≡ both_execute_line enclave one two line
-both_line-prefix enclave one two other line same_prefix =
-    ap (both_line_executed enclave one two) (sym (parse_of-cut other) ∙ (ap parse_of same_prefix ∙ parse_of-cut line))
+pub both_line-prefix : (enclave : ℕ) (one other : BenchState) (other_line line : List ℕ)
+    → take significant_bytes other_line ≡ take significant_bytes line
+    → both_execute_line enclave one other other_line ≡ both_execute_line enclave one other line
+both_line-prefix enclave one other other_line line same_prefix =
+    ap (both_line_executed enclave one other) (sym (parse_of-cut other_line) ∙ (ap parse_of same_prefix ∙ parse_of-cut line))

@@ -39,14 +39,15 @@ record IsSound (machine : MonitoredMachine) : Type 0 where
   legal : IsLegalMachine machine
 
 -- Case analysis of a write of a byte: a property holds after the action, if it holds of the unchanged machine and after each write that succeeds.
-by_write : (P : MonitoredMachine → Type 0) (machine : MonitoredMachine) (address byte : ℕ) → P machine
+write_cases : (P : MonitoredMachine → Type 0) (machine : MonitoredMachine) (address byte : ℕ) → P machine
     → ((memory : List ℕ) → write machine.shared.memory address (byte ∷ []) ≡ Some memory → P (with_memory machine memory))
     → P (after_action (SetsByte address byte) machine)
-by_write P machine address byte unchanged written = by_result (write machine.shared.memory address (byte ∷ [])) refl where
+write_cases P machine address byte unchanged written = result_cases (write machine.shared.memory address (byte ∷ [])) refl where
   -- the property holds whether the write succeeds with a new memory, or fails
-  by_result : (o : Option (List ℕ)) → write machine.shared.memory address (byte ∷ []) ≡ o → P (option_case o machine (with_memory machine))
-  by_result None write_is = unchanged
-  by_result (Some memory) write_is = written memory write_is
+  result_cases : (result : Option (List ℕ)) → write machine.shared.memory address (byte ∷ []) ≡ result
+      → P (option_case result machine (with_memory machine))
+  result_cases None write_is = unchanged
+  result_cases (Some memory) write_is = written memory write_is
 
 -- an action preserves the invariant and the legality of a machine
 action_sound : (action : Action) (machine : MonitoredMachine) → IsSound machine → IsSound (after_action action machine)
@@ -57,18 +58,21 @@ action_sound (SetsRegister hart number value) machine sound =
     record {
       invariant = written_invariant hart (with_register own_hart.regs number value) own_hart.csrs.timer machine sound.invariant;
       legal = record {
-        harts = λ j.
-            let pc = change_preserves (λ (s : HartState). s.hart.pc) (reg_set number value) (λ s. refl) hart j machine in
-            let supervisor = change_preserves (λ (s : HartState). s_context s.hart.csrs) (reg_set number value) (λ s. refl) hart j machine in
+        harts = λ any_hart.
+            let pc =
+            change_preserves (λ (hart_state : HartState). hart_state.hart.pc) (reg_set number value) (λ hart_state. refl) hart any_hart machine in
+            let supervisor =
+            change_preserves (λ (hart_state : HartState). s_context hart_state.hart.csrs) (reg_set number value)
+            (λ hart_state. refl) hart any_hart machine in
             record {
-              pc = ap aligned_to_4 pc ∙ (sound.legal.harts j).pc ∙ sym pc;
-              supervisor = subst IsLegal (sym supervisor) (sound.legal.harts j).supervisor;
+              pc = ap aligned_to_4 pc ∙ (sound.legal.harts any_hart).pc ∙ sym pc;
+              supervisor = subst IsLegal (sym supervisor) (sound.legal.harts any_hart).supervisor;
             };
         contexts = sound.legal.contexts;
       };
     }
 action_sound (SetsByte address byte) machine sound =
-    by_write IsSound machine address byte sound (λ memory written. record {
+    write_cases IsSound machine address byte sound (λ memory written. record {
       invariant = invariant_by_size machine memory sound.invariant (sym (length-write machine.shared.memory address (byte ∷ []) memory written));
       legal = record { harts = sound.legal.harts; contexts = sound.legal.contexts };
     })
@@ -85,37 +89,40 @@ record Stays (slot : ℕ) (context : Context) (before after : MonitoredMachine) 
   continues : ContinuesWith slot context after
   table : after.shared.table ≡ before.shared.table
   size : length after.shared.memory ≡ length before.shared.memory
-  bytes : (i : ℕ) → not (has (region before.shared.table slot) (ram_base + i)) ≡ false
-      → slice_index after.shared.memory i ≡ slice_index before.shared.memory i
+  bytes : (index : ℕ) → not (has (region before.shared.table slot) (ram_base + index)) ≡ false
+      → slice_index after.shared.memory index ≡ slice_index before.shared.memory index
 
 -- a write of a register of a hart that does not run the enclave leaves the enclave as it is
 register_stays : (slot hart number value : ℕ) (context : Context) (machine : MonitoredMachine) → ContinuesWith slot context machine
     → runs_on slot hart machine ≡ false → Stays slot context machine (with_reg hart machine number value)
 register_stays slot hart number value context machine continues not_on_hart =
-    let same_world : (j : ℕ) → runs_on slot j (with_reg hart machine number value) ≡ runs_on slot j machine = λ j.
-    change_preserves (λ (s : HartState). is_world_of slot s.world) (reg_set number value) (λ s. refl) hart j machine in
+    let same_world : (any_hart : ℕ) → runs_on slot any_hart (with_reg hart machine number value) ≡ runs_on slot any_hart machine = λ any_hart.
+    change_preserves (λ (hart_state : HartState). is_world_of slot hart_state.world) (reg_set number value)
+    (λ hart_state. refl) hart any_hart machine in
     record {
       continues = record {
-        running = λ j runs_on_it. elim (cases_eq j hart) [
+        running = λ any_hart runs. elim (cases_eq any_hart hart) [
           | inl is_written_hart ↦
-              absurd (both_ways _ not_on_hart (ap (λ (h : ℕ). runs_on slot h machine) (sym is_written_hart) ∙ sym (same_world j) ∙ runs_on_it))
-          | inr is_other_hart ↦ ap (λ (s : HartState). continuation s.hart)
-              (get_or-set_other machine.hart_states hart j (reg_set number value (hart_state_of hart machine)) (hart_state_at_start 0) is_other_hart)
-              ∙ continues.running j (sym (same_world j) ∙ runs_on_it)
+              absurd (both_ways _ not_on_hart
+              (ap (λ (hart_number : ℕ). runs_on slot hart_number machine) (sym is_written_hart) ∙ sym (same_world any_hart) ∙ runs))
+          | inr is_other_hart ↦ ap (λ (hart_state : HartState). continuation hart_state.hart)
+              (get_or-set_other machine.hart_states hart any_hart (reg_set number value (hart_state_of hart machine))
+              (hart_state_at_start 0) is_other_hart)
+              ∙ continues.running any_hart (sym (same_world any_hart) ∙ runs)
         ];
         resting = continues.resting;
       };
       table = refl;
       size = refl;
-      bytes = λ i runs_on_it. refl;
+      bytes = λ index in_region. refl;
     }
 
 -- a write of a byte outside the region leaves the enclave as it is
 byte_stays : (slot address byte : ℕ) (context : Context) (machine : MonitoredMachine) → ContinuesWith slot context machine
     → has (region machine.shared.table slot) address ≡ false → Stays slot context machine (after_action (SetsByte address byte) machine)
 byte_stays slot address byte context machine continues outside_region =
-    by_write (Stays slot context machine) machine address byte
-    (record { continues = continues; table = refl; size = refl; bytes = λ i in_region. refl }) (λ memory written.
+    write_cases (Stays slot context machine) machine address byte
+    (record { continues = continues; table = refl; size = refl; bytes = λ byte_index in_region. refl }) (λ memory written.
     let old = machine.shared.memory in
     let written_is = write-is old address (byte ∷ []) memory written in
     let index = address - ram_base in
@@ -124,153 +131,168 @@ byte_stays slot address byte context machine continues outside_region =
       continues = record { running = continues.running; resting = continues.resting };
       table = refl;
       size = length-write old address (byte ∷ []) memory written;
-      bytes = λ i in_region. rw written_is.2 (elim (cases_lt i index) [
-        | inl below_byte ↦ index-below old index (byte ∷ []) i within_memory below_byte
-        | inr not_below_byte ↦ elim (cases_lt i (index + 1)) [
+      bytes = λ byte_index in_region. rw written_is.2 (elim (cases_lt byte_index index) [
+        | inl below_byte ↦ index-below old index (byte ∷ []) byte_index within_memory below_byte
+        | inr not_below_byte ↦ elim (cases_lt byte_index (index + 1)) [
           | inl is_byte ↦
-              let byte_address : ram_base + i ≡ address = omega (arith, written_is.0) in
+              let byte_address : ram_base + byte_index ≡ address = omega (arith, written_is.0) in
               let never : true ≡ false = sym (ap not (ap (has (region machine.shared.table slot)) byte_address ∙ outside_region)) ∙ in_region in
               cc
-          | inr above_byte ↦ index-above old index (byte ∷ []) i within_memory above_byte
+          | inr above_byte ↦ index-above old index (byte ∷ []) byte_index within_memory above_byte
         ]
       ]);
     })
 
 -- ---- two enclaves stay at one point
 
--- the region is part of the identity
-region_by : (o : Option SlotInfo) → region_of (option_map identity_of o) ≡ region_of o
-region_by None = refl
-region_by (Some info) = refl
+-- the region of an enclave is part of its identity
+identity_has_region : (maybe_info : Option SlotInfo) → region_of (option_map identity_of maybe_info) ≡ region_of maybe_info
+identity_has_region None = refl
+identity_has_region (Some info) = refl
 
--- the enclaves of slot i of `one` and slot j of `other` are at one point of their lives
-module _ (i j : ℕ) (one other : MonitoredMachine) (point : AreAtOnePoint i j one other) where
+-- the slot `enclave` of the machine `one` and the slot `other_enclave` of `other` have enclaves that are at one point of their lives
+module _ (enclave other_enclave : ℕ) (one other : MonitoredMachine) (point : AreAtOnePoint enclave other_enclave one other) where
   -- if the enclave stays as it is in the first machine, both enclaves are at one point again
-  first_unchanged : (after : MonitoredMachine) → Stays i point.context one after → AreAtOnePoint i j after other
+  first_unchanged : (after : MonitoredMachine) → Stays enclave point.context one after → AreAtOnePoint enclave other_enclave after other
   first_unchanged after stays = record {
     context = point.context;
     first = stays.continues;
     second = point.second;
-    live = ap (λ (t : Slots). is_live t i) stays.table ∙ point.live;
-    identity = ap (λ (t : Slots). identity_at t i) stays.table ∙ point.identity;
+    live = ap (λ (table : Slots). is_live table enclave) stays.table ∙ point.live;
+    identity = ap (λ (table : Slots). identity_at table enclave) stays.table ∙ point.identity;
     memory = record {
       size = stays.size ∙ point.memory.size;
-      bytes = λ n shown.
-          let in_region = ap (λ (t : Slots). not (has (region t i) (ram_base + n))) (sym stays.table) ∙ shown in
-          stays.bytes n in_region ∙ point.memory.bytes n in_region;
+      bytes = λ index not_hidden.
+          let in_region = ap (λ (table : Slots). not (has (region table enclave) (ram_base + index))) (sym stays.table) ∙ not_hidden in
+          stays.bytes index in_region ∙ point.memory.bytes index in_region;
     };
   }
 
-  -- the two enclaves, of slots i and j, have equal regions
-  same_region : region one.shared.table i ≡ region other.shared.table j
-  same_region = sym (region_by (slot_at one.shared.table i)) ∙ ap region_of point.identity ∙ region_by (slot_at other.shared.table j)
+  -- the two enclaves have equal regions
+  same_region : region one.shared.table enclave ≡ region other.shared.table other_enclave
+  same_region =
+      sym (identity_has_region (slot_at one.shared.table enclave)) ∙ ap region_of point.identity
+      ∙ identity_has_region (slot_at other.shared.table other_enclave)
 
   -- if the enclave stays as it is in the second machine, both enclaves are at one point again
-  second_unchanged : (after : MonitoredMachine) → Stays j point.context other after → AreAtOnePoint i j one after
+  second_unchanged : (after : MonitoredMachine) → Stays other_enclave point.context other after → AreAtOnePoint enclave other_enclave one after
   second_unchanged after stays = record {
     context = point.context;
     first = point.first;
     second = stays.continues;
     live = point.live;
-    identity = point.identity ∙ ap (λ (t : Slots). identity_at t j) (sym stays.table);
+    identity = point.identity ∙ ap (λ (table : Slots). identity_at table other_enclave) (sym stays.table);
     memory = record {
       size = point.memory.size ∙ sym stays.size;
-      bytes = λ n shown.
-          point.memory.bytes n shown ∙ sym (stays.bytes n (ap (λ (b : Block). not (has b (ram_base + n))) (sym same_region) ∙ shown));
+      bytes = λ index not_hidden.
+          point.memory.bytes index not_hidden
+          ∙ sym (stays.bytes index (ap (λ (block : Block). not (has block (ram_base + index))) (sym same_region) ∙ not_hidden));
     };
   }
 
-  module _ (first_sound : IsSound one) (second_sound : IsSound other) where
+  module _ (one_sound : IsSound one) (other_sound : IsSound other) where
     -- after one move of two lives, the enclaves make equal steps and are at one point again
-    one_move : (move : LifeMove) → IsLifeMove i j move one other → LiveAlike i j (move ∷ []) one other
+    one_move : (move : LifeMove) → IsLifeMove enclave other_enclave move one other → LiveAlike enclave other_enclave (move ∷ []) one other
     one_move move permitted =
-        life_law i j (move ∷ []) one other first_sound.invariant second_sound.invariant first_sound.legal second_sound.legal point (permitted, tt)
+        life_law enclave other_enclave (move ∷ []) one other one_sound.invariant other_sound.invariant one_sound.legal other_sound.legal point
+        (permitted, tt)
 
     -- a foreign action of the first machine leaves both enclaves at one point
-    foreign_in_first : (action : Action) → IsForeignAction i action one → AreAtOnePoint i j (after_action action one) other
+    foreign_in_first : (action : Action) → IsForeignAction enclave action one → AreAtOnePoint enclave other_enclave (after_action action one) other
     foreign_in_first (Occurs event) foreign = (one_move (LifeInFirst event) foreign).point
     foreign_in_first (SetsRegister hart number value) not_on_hart =
-        first_unchanged _ (register_stays i hart number value point.context one point.first not_on_hart)
+        first_unchanged _ (register_stays enclave hart number value point.context one point.first not_on_hart)
     foreign_in_first (SetsByte address byte) outside_region =
-        first_unchanged _ (byte_stays i address byte point.context one point.first outside_region)
+        first_unchanged _ (byte_stays enclave address byte point.context one point.first outside_region)
 
     -- a foreign action of the second machine leaves both enclaves at one point
-    foreign_in_second : (action : Action) → IsForeignAction j action other → AreAtOnePoint i j one (after_action action other)
+    foreign_in_second : (action : Action) → IsForeignAction other_enclave action other
+        → AreAtOnePoint enclave other_enclave one (after_action action other)
     foreign_in_second (Occurs event) foreign = (one_move (LifeInSecond event) foreign).point
     foreign_in_second (SetsRegister hart number value) not_on_hart =
-        second_unchanged _ (register_stays j hart number value point.context other point.second not_on_hart)
+        second_unchanged _ (register_stays other_enclave hart number value point.context other point.second not_on_hart)
     foreign_in_second (SetsByte address byte) outside_region =
-        second_unchanged _ (byte_stays j address byte point.context other point.second outside_region)
+        second_unchanged _ (byte_stays other_enclave address byte point.context other point.second outside_region)
 
 -- ---- moves
 
 -- the steps of the two enclaves are equal, and the enclaves are at one point of their lives after the moves
-record MovedAlike (i j : ℕ) (moves : List BenchMove) (one other : MonitoredMachine) : Type 0 where
-  steps : EnclaveStepsAreSame i j moves one other
-  point : AreAtOnePoint i j (after_actions (first_actions moves) one) (after_actions (second_actions moves) other)
+record MovedAlike (enclave other_enclave : ℕ) (moves : List BenchMove) (one other : MonitoredMachine) : Type 0 where
+  steps : EnclaveStepsAreSame enclave other_enclave moves one other
+  point : AreAtOnePoint enclave other_enclave (after_actions (first_actions moves) one) (after_actions (second_actions moves) other)
 
 -- Moves leave both enclaves at one point, with the same steps. The proof is by induction over the list of moves.
-moved : (i j : ℕ) (moves : List BenchMove) (one other : MonitoredMachine) → IsSound one → IsSound other → AreAtOnePoint i j one other
-    → AreBenchMoves i j moves one other → MovedAlike i j moves one other
-moved i j [] one other first_sound second_sound point are = record { steps = tt; point = point }
-moved i j (InFirst action ∷ moves) one other first_sound second_sound point are =
-    let rest = moved i j moves (after_action action one) other (action_sound action one first_sound) second_sound
-    (foreign_in_first i j one other point first_sound second_sound action are.0) are.1 in
-    record { steps = rest.steps; point = rest.point }
-moved i j (InSecond action ∷ moves) one other first_sound second_sound point are =
-    let rest = moved i j moves one (after_action action other) first_sound (action_sound action other second_sound)
-    (foreign_in_second i j one other point first_sound second_sound action are.0) are.1 in
-    record { steps = rest.steps; point = rest.point }
-moved i j (InBoth hart other_hart ∷ moves) one other first_sound second_sound point are =
-    let own_step = one_move i j one other point first_sound second_sound (Own hart other_hart) are.0 in
-    let rest = moved i j moves (step_of hart one).state (step_of other_hart other).state (action_sound (Occurs (StepOf hart)) one first_sound)
-    (action_sound (Occurs (StepOf other_hart)) other second_sound) own_step.point are.1 in
-    record { steps = (own_step.steps.0, rest.steps); point = rest.point }
+moved : (enclave other_enclave : ℕ) (moves : List BenchMove) (one other : MonitoredMachine) → IsSound one → IsSound other
+    → AreAtOnePoint enclave other_enclave one other
+    → AreBenchMoves enclave other_enclave moves one other → MovedAlike enclave other_enclave moves one other
+moved enclave other_enclave [] one other one_sound other_sound point permitted = record { steps = tt; point = point }
+moved enclave other_enclave (InFirst action ∷ moves) one other one_sound other_sound point permitted =
+    let moved_rest = moved enclave other_enclave moves (after_action action one) other (action_sound action one one_sound) other_sound
+    (foreign_in_first enclave other_enclave one other point one_sound other_sound action permitted.0) permitted.1 in
+    record { steps = moved_rest.steps; point = moved_rest.point }
+moved enclave other_enclave (InSecond action ∷ moves) one other one_sound other_sound point permitted =
+    let moved_rest = moved enclave other_enclave moves one (after_action action other) one_sound (action_sound action other other_sound)
+    (foreign_in_second enclave other_enclave one other point one_sound other_sound action permitted.0) permitted.1 in
+    record { steps = moved_rest.steps; point = moved_rest.point }
+moved enclave other_enclave (InBoth hart other_hart ∷ moves) one other one_sound other_sound point permitted =
+    let own_step = one_move enclave other_enclave one other point one_sound other_sound (Own hart other_hart) permitted.0 in
+    let moved_rest =
+    moved enclave other_enclave moves (step_of hart one).state (step_of other_hart other).state (action_sound (Occurs (StepOf hart)) one one_sound)
+    (action_sound (Occurs (StepOf other_hart)) other other_sound) own_step.point permitted.1 in
+    record { steps = (own_step.steps.0, moved_rest.steps); point = moved_rest.point }
 
 -- ---- commands
 
 -- two benches, each with its own list of commands
-module _ (i j : ℕ) (first second : BenchState) (commands others : List Command) where
+module _ (enclave other_enclave : ℕ) (bench other_bench : BenchState) (commands other_commands : List Command) where
   -- the machine after the commands of the list is the machine after their actions
   abbrev LeadsTo : BenchState → List Command → MonitoredMachine → Type 0
-  LeadsTo bench list machine = machine_in (after_commands bench list).target ≡ Some (after_actions (actions_of bench list) machine)
+  LeadsTo any_bench list machine = machine_in (after_commands any_bench list).target ≡ Some (after_actions (actions_of any_bench list) machine)
 
   -- the law of influence holds for two monitored machines, if each list of commands leads to the machine after its actions
-  by_machines : (one other : MonitoredMachine) → IsSound one → IsSound other → LeadsTo first commands one → LeadsTo second others other
-      → (life : IsSameLife i j first second commands others one other)
-      → HasSameLife i j life.moves one other (after_commands first commands).target (after_commands second others).target
-  by_machines one other first_sound second_sound first_leads second_leads life =
-      let moved_alike = moved i j life.moves one other first_sound second_sound life.point life.are in
+  influence_on_machines : (one other : MonitoredMachine) → IsSound one → IsSound other → LeadsTo bench commands one
+      → LeadsTo other_bench other_commands other
+      → (life : IsSameLife enclave other_enclave bench other_bench commands other_commands one other)
+      → HasSameLife enclave other_enclave life.moves one other (after_commands bench commands).target
+      (after_commands other_bench other_commands).target
+  influence_on_machines one other one_sound other_sound first_leads second_leads life =
+      let moved_alike = moved enclave other_enclave life.moves one other one_sound other_sound life.point life.moves_permitted in
       let some : MonitoredMachine → Option MonitoredMachine = λ machine. Some machine in
       record {
         steps = moved_alike.steps;
         point =
-            let first_end = first_leads ∙ ap (λ (actions : List Action). some (after_actions actions one)) (sym life.here) in
-            let second_end = second_leads ∙ ap (λ (actions : List Action). some (after_actions actions other)) (sym life.there) in
-            subst (λ (o : Option MonitoredMachine).
-            IsSomeAnd o (λ a. IsSomeAnd (machine_in (after_commands second others).target) (AreAtOnePoint i j a))) (sym first_end)
-            (subst (λ (o : Option MonitoredMachine). IsSomeAnd o (AreAtOnePoint i j (after_actions (first_actions life.moves) one)))
+            let first_end = first_leads ∙ ap (λ (actions : List Action). some (after_actions actions one)) (sym life.first_commands) in
+            let second_end = second_leads ∙ ap (λ (actions : List Action). some (after_actions actions other)) (sym life.second_commands) in
+            subst (λ (machine_or_none : Option MonitoredMachine).
+            IsSomeAnd machine_or_none
+            (λ machine.
+            IsSomeAnd (machine_in (after_commands other_bench other_commands).target) (AreAtOnePoint enclave other_enclave machine))) (sym first_end)
+            (subst (λ (machine_or_none : Option MonitoredMachine). IsSomeAnd machine_or_none
+            (AreAtOnePoint enclave other_enclave (after_actions (first_actions life.moves) one)))
             (sym second_end) moved_alike.point);
       }
 
   -- the law of influence holds for two targets, where each option is the machine of a target, or `None` if the target is bare
-  by_options : (a b : Option MonitoredMachine) → IfSome a Invariant → IfSome b Invariant → IfSome a IsLegalMachine → IfSome b IsLegalMachine
-      → IfSome a (LeadsTo first commands) → IfSome b (LeadsTo second others) → IfSome a (λ one. IfSome b (λ other.
-      (life : IsSameLife i j first second commands others one other)
-      → HasSameLife i j life.moves one other (after_commands first commands).target (after_commands second others).target))
-  by_options None b invariant other_invariant first_legal second_legal first_leads second_leads = tt
-  by_options (Some one) None invariant other_invariant first_legal second_legal first_leads second_leads = tt
-  by_options (Some one) (Some other) invariant other_invariant first_legal second_legal first_leads second_leads =
-      by_machines one other (record { invariant = invariant; legal = first_legal })
+  influence_on_targets : (machine_or_none other_or_none : Option MonitoredMachine) → IfSome machine_or_none Invariant
+      → IfSome other_or_none Invariant → IfSome machine_or_none IsLegalMachine → IfSome other_or_none IsLegalMachine
+      → IfSome machine_or_none (LeadsTo bench commands) → IfSome other_or_none (LeadsTo other_bench other_commands)
+      → IfSome machine_or_none (λ one. IfSome other_or_none (λ other.
+      (life : IsSameLife enclave other_enclave bench other_bench commands other_commands one other)
+      → HasSameLife enclave other_enclave life.moves one other (after_commands bench commands).target
+      (after_commands other_bench other_commands).target))
+  influence_on_targets None other_or_none invariant other_invariant first_legal second_legal first_leads second_leads = tt
+  influence_on_targets (Some one) None invariant other_invariant first_legal second_legal first_leads second_leads = tt
+  influence_on_targets (Some one) (Some other) invariant other_invariant first_legal second_legal first_leads second_leads =
+      influence_on_machines one other (record { invariant = invariant; legal = first_legal })
       (record { invariant = other_invariant; legal = second_legal }) first_leads second_leads
 
 -- ---- commands keep the registers legal
 
 -- each effect leaves a target legal
 legal_effect : (target : Target) (change : Effect) → TargetInvariant target → IsLegalTarget target → IsLegalTarget (done target change)
-legal_effect (Bare machine) change invariant legal = bare_target IsLegalTarget (λ alone. tt) _ (effect_stays_bare machine change)
+legal_effect (Bare machine) change invariant legal = bare_target IsLegalTarget (λ bare_machine. tt) _ (effect_stays_bare machine change)
 legal_effect (Monitored selected) change invariant legal =
-    subst (λ (o : Option MonitoredMachine). IfSome o IsLegalMachine) (sym (effect_acts selected change))
+    subst (λ (machine_or_none : Option MonitoredMachine). IfSome machine_or_none IsLegalMachine) (sym (effect_acts selected change))
     (actions_sound (actions_by (Monitored selected) change) selected.state (record { invariant = invariant; legal = legal })).legal
 
 -- a command leaves the pc and S-mode registers of a monitored machine legal
@@ -282,8 +304,8 @@ keeps_legal bench command = legal_effect bench.target (effect bench command)
 -- proves the law of what a host influences, by induction on the moves
 pub host_influence : HostInfluenceLaw
 host_influence = record {
-  same = λ i j first second commands others invariant other_invariant first_legal second_legal.
-      by_options i j first second commands others (machine_in first.target)
-      (machine_in second.target) invariant other_invariant first_legal second_legal (acts first commands) (acts second others);
+  same = λ enclave other_enclave bench other_bench commands other_commands invariant other_invariant first_legal second_legal.
+      influence_on_targets enclave other_enclave bench other_bench commands other_commands (machine_in bench.target)
+      (machine_in other_bench.target) invariant other_invariant first_legal second_legal (acts bench commands) (acts other_bench other_commands);
   legal = keeps_legal;
 }

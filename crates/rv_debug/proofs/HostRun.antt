@@ -39,30 +39,30 @@ use Rattle.rv_monitor.proofs.Life.{life_law, saved_continues}
 use Rattle.rv_monitor.proofs.Start.{start_invariant}
 use Rattle.rv_debug.proofs.SecretRun.{and_then, host_code, other_byte}
 use Rattle.rv_debug.proofs.Prelude.{both_ways, cases_eq}
-use Rattle.rv_debug.specs.HostRun.{HostRunLaw, after_byte, hosted_asking, before_byte, first, hosted_moves, hosted_new, hosted_next, hosted_ram}
-use Rattle.rv_debug.specs.HostRun.{hosted_reset, second, hosted_start}
+use Rattle.rv_debug.specs.HostRun.{HostRunLaw, after_byte, hosted_asking, before_byte, first_machine, hosted_moves, hosted_new, hosted_next, hosted_ram}
+use Rattle.rv_debug.specs.HostRun.{hosted_reset, second_machine, hosted_start}
 
 -- ---- the points in the runs
 
 -- `entered` is the first machine after the two steps of the host to the call run
 abbrev entered : ℕ → MonitoredMachine
-entered a = hosted_next 0 (hosted_next 0 (first a))
+entered choice = hosted_next 0 (hosted_next 0 (first_machine choice))
 
 -- `loaded` is the first machine after the enclave's load, with the timer line set
 abbrev loaded : ℕ → MonitoredMachine
-loaded a = with_timer 0 (hosted_next 0 (entered a)) true
+loaded choice = with_timer 0 (hosted_next 0 (entered choice)) true
 
 -- `interrupted` is the first machine after the timer interrupt
 abbrev interrupted : ℕ → MonitoredMachine
-interrupted a = hosted_next 0 (loaded a)
+interrupted choice = hosted_next 0 (loaded choice)
 
 -- `resumed` is the first machine after the call resume
 abbrev resumed : ℕ → MonitoredMachine
-resumed a = hosted_next 0 (hosted_next 0 (hosted_next 0 (interrupted a)))
+resumed choice = hosted_next 0 (hosted_next 0 (hosted_next 0 (interrupted choice)))
 
 -- `second_entered` is the second machine after the call run
 abbrev second_entered : ℕ → MonitoredMachine
-second_entered b = hosted_next 1 (hosted_next 1 (second b))
+second_entered choice = hosted_next 1 (hosted_next 1 (second_machine choice))
 
 -- `after_refusal` is the second machine after the refused call of hart 0
 abbrev after_refusal : ℕ → MonitoredMachine
@@ -111,43 +111,43 @@ context = first_context (record {
 -- The facts of the first machine that are computed. `size`, `live`, `saved` and `hidden` hold after create; `saved` is the context of a new enclave,
 -- and `hidden` says that the byte of the host's choice is outside the region. The other fields follow the moves: the steps of the host before the
 -- call run, the load, the interrupt, the three steps of the host to resume, and the store.
-record FirstIs (a : ℕ) : Type 0 where
-  size : length (hosted_next 0 (hosted_start 1 0)).shared.memory ≡ length (hosted_ram a)
-  live : is_live (first a).shared.table 0 ≡ true
-  saved : context_at (first a).shared.contexts 0 ≡ Some context
-  hidden : not (has (region (first a).shared.table 0) choice_address) ≡ true
-  before_run : IsOtherStep 0 (first a)
-  run : IsOtherStep 0 (hosted_next 0 (first a))
-  loads : IsBeforeOwnStep 0 a (entered a)
-  load_ignores_choice : ignores_choice 0 (entered a) ≡ true
-  line_is_set : (hart_state_of 0 (loaded a)).hart.csrs.timer ≡ true
-  interrupted_live : is_live (interrupted a).shared.table 0 ≡ true
-  resume_1 : IsOtherStep 0 (interrupted a)
-  resume_2 : IsOtherStep 0 (hosted_next 0 (interrupted a))
-  resume_3 : IsOtherStep 0 (hosted_next 0 (hosted_next 0 (interrupted a)))
-  stores : IsBeforeOwnStep 0 a (resumed a)
-  store_ignores_choice : ignores_choice 0 (resumed a) ≡ true
-  stored : slice_index (hosted_next 0 (resumed a)).shared.memory stored_offset ≡ 7
+record FirstMachineFacts (choice : ℕ) : Type 0 where
+  size : length (hosted_next 0 (hosted_start 1 0)).shared.memory ≡ length (hosted_ram choice)
+  live : is_live (first_machine choice).shared.table 0 ≡ true
+  saved : context_at (first_machine choice).shared.contexts 0 ≡ Some context
+  hidden : not (has (region (first_machine choice).shared.table 0) choice_address) ≡ true
+  before_run : IsOtherStep 0 (first_machine choice)
+  run : IsOtherStep 0 (hosted_next 0 (first_machine choice))
+  loads : IsBeforeOwnStep 0 choice (entered choice)
+  load_ignores_choice : ignores_choice 0 (entered choice) ≡ true
+  line_is_set : (hart_state_of 0 (loaded choice)).hart.csrs.timer ≡ true
+  interrupted_live : is_live (interrupted choice).shared.table 0 ≡ true
+  resume_1 : IsOtherStep 0 (interrupted choice)
+  resume_2 : IsOtherStep 0 (hosted_next 0 (interrupted choice))
+  resume_3 : IsOtherStep 0 (hosted_next 0 (hosted_next 0 (interrupted choice)))
+  stores : IsBeforeOwnStep 0 choice (resumed choice)
+  store_ignores_choice : ignores_choice 0 (resumed choice) ≡ true
+  stored : slice_index (hosted_next 0 (resumed choice)).shared.memory stored_offset ≡ 7
 
 -- The facts of the second machine that are computed, in the order of the moves. These are create, the call run on hart 1, the load, the refused call
 -- of hart 0, and the store.
-record SecondIs (b : ℕ) : Type 0 where
-  size : length (hosted_next 1 (hosted_start 2 1)).shared.memory ≡ length (hosted_ram b)
-  saved : context_at (second b).shared.contexts 0 ≡ Some context
-  before_run : IsOtherStep 1 (second b)
-  run : IsOtherStep 1 (hosted_next 1 (second b))
-  loads : IsBeforeOwnStep 1 b (second_entered b)
-  refused_call : IsOtherStep 0 (hosted_next 1 (second_entered b))
-  stores : IsBeforeOwnStep 1 b (after_refusal b)
-  stored : slice_index (hosted_next 1 (after_refusal b)).shared.memory stored_offset ≡ 7
+record SecondMachineFacts (choice : ℕ) : Type 0 where
+  size : length (hosted_next 1 (hosted_start 2 1)).shared.memory ≡ length (hosted_ram choice)
+  saved : context_at (second_machine choice).shared.contexts 0 ≡ Some context
+  before_run : IsOtherStep 1 (second_machine choice)
+  run : IsOtherStep 1 (hosted_next 1 (second_machine choice))
+  loads : IsBeforeOwnStep 1 choice (second_entered choice)
+  refused_call : IsOtherStep 0 (hosted_next 1 (second_entered choice))
+  stores : IsBeforeOwnStep 1 choice (after_refusal choice)
+  stored : slice_index (hosted_next 1 (after_refusal choice)).shared.memory stored_offset ≡ 7
 
 -- Proves the facts of the first machine by computation of the steps, whatever byte the host chooses.
-first_is : (a : ℕ) → FirstIs a
+first_machine_facts : (choice : ℕ) → FirstMachineFacts choice
 unfolding at_start step_of monitored_step handled call_handled called performed created create_refusals is_valid_block is_window overlaps is_entry
     free_slot call_requested first_context layout entry_at step request executed retired_or_trapped from_access from_decode from_fetch
     written_csr csr_changed
     decoded by_bits read write verdict matching_entry covers ones_at_end kept_bits state_refusals entered_slot left timer_stopped
-first_is a = record {
+first_machine_facts choice = record {
   size = refl;
   live = refl;
   saved = refl;
@@ -167,12 +167,12 @@ first_is a = record {
 }
 
 -- Proves the facts of the second machine by computation of the steps, whatever byte the host chooses.
-second_is : (b : ℕ) → SecondIs b
+second_machine_facts : (choice : ℕ) → SecondMachineFacts choice
 unfolding at_start step_of monitored_step handled call_handled called performed created create_refusals is_valid_block is_window overlaps is_entry
     free_slot call_requested first_context layout entry_at step request executed retired_or_trapped from_access from_decode from_fetch
     written_csr csr_changed
     decoded by_bits read write verdict matching_entry covers ones_at_end kept_bits state_refusals entered_slot left timer_stopped
-second_is b = record {
+second_machine_facts choice = record {
   size = refl;
   saved = refl;
   before_run = record { not_on_hart = refl; live = refl };
@@ -184,11 +184,12 @@ second_is b = record {
 }
 
 -- the two calls of create made the same record
-same_identity : (a b : ℕ) → identity_at (first a).shared.table 0 ≡ identity_at (second b).shared.table 0
+same_identity : (choice other_choice : ℕ)
+    → identity_at (first_machine choice).shared.table 0 ≡ identity_at (second_machine other_choice).shared.table 0
 unfolding at_start step_of monitored_step handled call_handled called performed created create_refusals is_valid_block is_window overlaps is_entry
     free_slot call_requested layout entry_at step request executed retired_or_trapped from_access from_decode from_fetch written_csr csr_changed
     decoded by_bits read verdict matching_entry covers ones_at_end kept_bits
-same_identity a b = refl
+same_identity choice other_choice = refl
 
 -- ---- the two machines
 
@@ -205,13 +206,16 @@ legal_before_create : (harts hart : ℕ) → IsLegalMachine (hosted_start harts 
 legal_before_create harts hart =
     let legal = legal_law.start (hosted_ram 0) host_code harts refl in
     record {
-      harts = λ j.
-          let pc = change_preserves (λ (s : HartState). s.hart.pc) (written hosted_asking false) (λ s. refl) hart j (hosted_reset harts) in
+      harts = λ any_hart.
+          let pc =
+          change_preserves (λ (hart_state : HartState). hart_state.hart.pc) (written hosted_asking false) (λ hart_state. refl) hart any_hart
+          (hosted_reset harts) in
           let supervisor =
-          change_preserves (λ (s : HartState). s_context s.hart.csrs) (written hosted_asking false) (λ s. refl) hart j (hosted_reset harts) in
+          change_preserves (λ (hart_state : HartState). s_context hart_state.hart.csrs) (written hosted_asking false)
+          (λ hart_state. refl) hart any_hart (hosted_reset harts) in
           record {
-            pc = ap aligned_to_4 pc ∙ (legal.harts j).pc ∙ sym pc;
-            supervisor = subst IsLegal (sym supervisor) (legal.harts j).supervisor;
+            pc = ap aligned_to_4 pc ∙ (legal.harts any_hart).pc ∙ sym pc;
+            supervisor = subst IsLegal (sym supervisor) (legal.harts any_hart).supervisor;
           };
       contexts = legal.contexts;
     }
@@ -231,60 +235,63 @@ choice_is_at_offset : length before_byte ≡ choice_offset
 choice_is_at_offset = refl
 
 -- the images of RAM for two bytes of the host are equal outside a set of hidden addresses that has the address of the byte
-equal_images : (hidden : ℕ → Bool) (a b : ℕ) → hidden choice_address ≡ true → EqualOutside hidden (hosted_ram a) (hosted_ram b)
-equal_images hidden a b hides_choice = record {
+equal_images : (hidden : ℕ → Bool) (choice other_choice : ℕ) → hidden choice_address ≡ true
+    → EqualOutside hidden (hosted_ram choice) (hosted_ram other_choice)
+equal_images hidden choice other_choice hides_choice = record {
   size = refl;
-  bytes = λ i shown. elim (cases_eq i choice_offset) [
-    | inl is_choice ↦ absurd (both_ways _ (ap (λ (j : ℕ). hidden (ram_base + j)) (sym is_choice) ∙ shown) hides_choice)
-    | inr is_other ↦ other_byte before_byte after_byte a b i (λ same. is_other (same ∙ choice_is_at_offset))
+  bytes = λ index not_hidden. elim (cases_eq index choice_offset) [
+    | inl is_choice ↦ absurd (both_ways _ (ap (λ (any_index : ℕ). hidden (ram_base + any_index)) (sym is_choice) ∙ not_hidden) hides_choice)
+    | inr is_other ↦ other_byte before_byte after_byte choice other_choice index (λ equal. is_other (equal ∙ choice_is_at_offset))
   ];
 }
 
 -- two memories that are the images of RAM for two bytes of the host are equal outside a set of hidden addresses that has the address of the byte
-equal_memories : (hidden : ℕ → Bool) (a b : ℕ) (m n : List ℕ) → m ≡ hosted_ram a
-    → n ≡ hosted_ram b → hidden choice_address ≡ true → EqualOutside hidden m n
-equal_memories hidden a b m n one_is other_is hides_choice = rw (one_is, other_is) (equal_images hidden a b hides_choice)
+equal_memories : (hidden : ℕ → Bool) (choice other_choice : ℕ) (memory other_memory : List ℕ) → memory ≡ hosted_ram choice
+    → other_memory ≡ hosted_ram other_choice → hidden choice_address ≡ true → EqualOutside hidden memory other_memory
+equal_memories hidden choice other_choice memory other_memory memory_is other_memory_is hides_choice =
+    rw (memory_is, other_memory_is) (equal_images hidden choice other_choice hides_choice)
 
 -- ---- the law
 
 -- the two enclaves are at the same point of their lives after the call `create`
-at_one_point : (a b : ℕ) → AreAtOnePoint 0 0 (first a) (second b)
-at_one_point a b =
-    let first_facts = first_is a in
-    let second_facts = second_is b in
+at_one_point : (choice other_choice : ℕ) → AreAtOnePoint 0 0 (first_machine choice) (second_machine other_choice)
+at_one_point choice other_choice =
+    let first_facts = first_machine_facts choice in
+    let second_facts = second_machine_facts other_choice in
     record {
       context = context;
-      first = saved_continues 0 (first a) context (invariant_after_create 1 0 a first_facts.size) first_facts.saved;
-      second = saved_continues 0 (second b) context (invariant_after_create 2 1 b second_facts.size) second_facts.saved;
+      first = saved_continues 0 (first_machine choice) context (invariant_after_create 1 0 choice first_facts.size) first_facts.saved;
+      second = saved_continues 0 (second_machine other_choice) context (invariant_after_create 2 1 other_choice second_facts.size) second_facts.saved;
       live = first_facts.live;
-      identity = same_identity a b;
-      memory = equal_images (λ byte. not (has (region (first a).shared.table 0) byte)) a b first_facts.hidden;
+      identity = same_identity choice other_choice;
+      memory = equal_images (λ byte. not (has (region (first_machine choice).shared.table 0) byte)) choice other_choice first_facts.hidden;
     }
 
 -- A step of the enclave that does not read the byte of the host's choice is an own step of both machines. The bytes of the window that it reads are
 -- equal in both.
-own_step : (a b : ℕ) (one other : MonitoredMachine) → IsBeforeOwnStep 0 a one
-    → IsBeforeOwnStep 1 b other → ignores_choice 0 one ≡ true → IsOwnStep (at 0 0) (at 0 1) one other
-own_step a b one other first_facts second_facts ignores_choice_byte = record {
+own_step : (choice other_choice : ℕ) (one other : MonitoredMachine) → IsBeforeOwnStep 0 choice one
+    → IsBeforeOwnStep 1 other_choice other → ignores_choice 0 one ≡ true → IsOwnStep (at 0 0) (at 0 1) one other
+own_step choice other_choice one other first_facts second_facts ignores_choice_byte = record {
   first = first_facts.on_hart;
   second = second_facts.on_hart;
   line = first_facts.clear;
   line_too = second_facts.clear;
-  window = equal_memories _ a b one.shared.memory other.shared.memory first_facts.memory second_facts.memory ignores_choice_byte;
+  window = equal_memories _ choice other_choice one.shared.memory other.shared.memory first_facts.memory second_facts.memory ignores_choice_byte;
 }
 
 -- the moves of the example are permitted, for any two bytes
-are_moves : (a b : ℕ) → AreLifeMoves 0 0 hosted_moves (first a) (second b)
-are_moves a b =
-    let first_facts = first_is a in
-    let second_facts = second_is b in
+moves_permitted : (choice other_choice : ℕ) → AreLifeMoves 0 0 hosted_moves (first_machine choice) (second_machine other_choice)
+moves_permitted choice other_choice =
+    let first_facts = first_machine_facts choice in
+    let second_facts = second_machine_facts other_choice in
     -- the host of each machine calls run
     and_then (inl first_facts.before_run.not_on_hart, first_facts.before_run.live)
     (and_then (inl first_facts.run.not_on_hart, first_facts.run.live)
     (and_then (inl second_facts.before_run.not_on_hart, second_facts.before_run.live)
     (and_then (inl second_facts.run.not_on_hart, second_facts.run.live)
     -- the load in both machines; then the timer line is set in the first
-    (and_then (own_step a b (entered a) (second_entered b) first_facts.loads second_facts.loads first_facts.load_ignores_choice)
+    (and_then
+    (own_step choice other_choice (entered choice) (second_entered other_choice) first_facts.loads second_facts.loads first_facts.load_ignores_choice)
     (and_then tt
     -- the first machine: the interrupt, and the call resume
     (and_then (inr first_facts.line_is_set, first_facts.interrupted_live)
@@ -293,18 +300,21 @@ are_moves a b =
     (and_then (inl first_facts.resume_3.not_on_hart, first_facts.resume_3.live)
     -- the second machine: the refused call of hart 0; then the store in both machines
     (and_then (inl second_facts.refused_call.not_on_hart, second_facts.refused_call.live)
-    (and_then (own_step a b (resumed a) (after_refusal b) first_facts.stores second_facts.stores first_facts.store_ignores_choice) tt)))))))))))
+    (and_then
+    (own_step choice other_choice (resumed choice)
+    (after_refusal other_choice) first_facts.stores second_facts.stores first_facts.store_ignores_choice) tt)))))))))))
 
 -- proves the example of a host's influence, by computation of its steps
 pub host_run : HostRunLaw
-host_run a b =
-    let first_facts = first_is a in
-    let second_facts = second_is b in
+host_run choice other_choice =
+    let first_facts = first_machine_facts choice in
+    let second_facts = second_machine_facts other_choice in
     record {
-      are = are_moves a b;
-      alike = life_law 0 0 hosted_moves (first a) (second b) (invariant_after_create 1 0 a first_facts.size)
-          (invariant_after_create 2 1 b second_facts.size) (legal_after_create 1 0 a) (legal_after_create 2 1 b)
-          (at_one_point a b) (are_moves a b);
+      moves_permitted = moves_permitted choice other_choice;
+      steps_equal =
+          life_law 0 0 hosted_moves (first_machine choice) (second_machine other_choice) (invariant_after_create 1 0 choice first_facts.size)
+          (invariant_after_create 2 1 other_choice second_facts.size) (legal_after_create 1 0 choice) (legal_after_create 2 1 other_choice)
+          (at_one_point choice other_choice) (moves_permitted choice other_choice);
       stored = first_facts.stored;
       stored_too = second_facts.stored;
     }

@@ -22,7 +22,7 @@ pub access_reports_accessible : (target : Target) (command : Command) → Target
     → selected_of target < harts_of target → ReportsAccess target command
 unfolding read
 access_reports_accessible (Monitored selected) (Access mode access address width) invariant in_range = λ not_in_m in_ram. record {
-  told = rw in_ram refl;
+  reply_is_verdict = rw in_ram refl;
   exact = access_control_law (hart_view selected.hart selected.state) mode access address width
       (hart_view_invariant selected.hart selected.state invariant in_range) not_in_m in_ram;
 }
@@ -31,38 +31,39 @@ access_reports_accessible _ _ invariant in_range = tt
 -- ---- preservation
 
 -- each enclave is preserved without a change
-preserved_unchanged : (k : ℕ) (selected : Selected) → IsPreservedIn k (Monitored selected) (Monitored selected)
-preserved_unchanged k selected = record { slot = refl; bytes = λ byte in_region. refl; context = refl }
+preserved_unchanged : (slot : ℕ) (selected : Selected) → IsPreservedIn slot (Monitored selected) (Monitored selected)
+preserved_unchanged slot selected = record { slot = refl; bytes = λ byte in_region. refl; context = refl }
 
 -- another address is before the byte or after it
 before_or_after : (byte address : ℕ) → byte ≢ address → byte < address ⊎ address + 1 ≤ byte
-before_or_after byte address differs = elim (cases_lt byte address) [ inl below ↦ inl below | inr not_below ↦ inr (omega (arith, differs)) ]
+before_or_after byte address differs = elim (cases_lt byte address) [ inl is_before ↦ inl is_before | inr not_below ↦ inr (omega (arith, differs)) ]
 
 -- a poke outside the region preserves the enclave
-poke_preserves : (k address byte : ℕ) (machine : Selected) (memory : Option (List ℕ)) → write machine.state.shared.memory address (byte ∷ []) ≡ memory
-    → has (region machine.state.shared.table k) address ≡ false → IsPreservedIn k (Monitored machine) (poke_of (Monitored machine) memory)
-poke_preserves k address byte machine None written outside_region = preserved_unchanged k machine
-poke_preserves k address byte machine (Some memory) written outside_region =
-    let own_region = region machine.state.shared.table k in
+poke_preserves : (slot address byte : ℕ) (machine : Selected) (memory : Option (List ℕ))
+    → write machine.state.shared.memory address (byte ∷ []) ≡ memory
+    → has (region machine.state.shared.table slot) address ≡ false → IsPreservedIn slot (Monitored machine) (poke_of (Monitored machine) memory)
+poke_preserves slot address byte machine None written outside_region = preserved_unchanged slot machine
+poke_preserves slot address byte machine (Some memory) written outside_region =
+    let own_region = region machine.state.shared.table slot in
     record {
       slot = refl;
       bytes = λ other in_region.
-          let differs : other ≢ address = λ same. let never : true ≡ false =
-          sym (subst (λ (a : ℕ). has own_region a ≡ true) same in_region) ∙ outside_region in cc in
+          let differs : other ≢ address = λ is_address. let never : true ≡ false =
+          sym (subst (λ (other_address : ℕ). has own_region other_address ≡ true) is_address in_region) ∙ outside_region in cc in
           byte_at-write machine.state.shared.memory address (byte ∷ []) memory other written (before_or_after other address differs);
       context = refl;
     }
 
 -- an effect preserves each enclave that it leaves undisturbed
-effect_preserves : (target : Target) (change : Effect) → TargetInvariant target → (k : ℕ)
-    → IsSomeAnd (machine_in target) (λ machine. UndisturbedByEffect k machine change) → IsPreservedIn k target (done target change)
-effect_preserves (Bare machine) change invariant k is_undisturbed = absurd is_undisturbed
-effect_preserves (Monitored machine) (Steps harts selected) invariant k is_undisturbed =
-    subst (IsPreservedIn k (Monitored machine)) (sym (schedule_is_sched harts machine _ selected))
-    (sched_integrity k harts machine.state invariant is_undisturbed).preserved
-effect_preserves (Monitored machine) (OneByte address byte) invariant k is_undisturbed =
-    poke_preserves k address byte machine (write machine.state.shared.memory address (byte ∷ [])) refl is_undisturbed.1
-effect_preserves (Monitored machine) _ invariant k is_undisturbed = preserved_unchanged k machine
+effect_preserves : (target : Target) (change : Effect) → TargetInvariant target → (slot : ℕ)
+    → IsSomeAnd (machine_in target) (λ machine. UndisturbedByEffect slot machine change) → IsPreservedIn slot target (done target change)
+effect_preserves (Bare machine) change invariant slot is_undisturbed = absurd is_undisturbed
+effect_preserves (Monitored machine) (Steps harts selected) invariant slot is_undisturbed =
+    subst (IsPreservedIn slot (Monitored machine)) (sym (schedule_is_sched harts machine _ selected))
+    (sched_integrity slot harts machine.state invariant is_undisturbed).preserved
+effect_preserves (Monitored machine) (OneByte address byte) invariant slot is_undisturbed =
+    poke_preserves slot address byte machine (write machine.state.shared.memory address (byte ∷ [])) refl is_undisturbed.1
+effect_preserves (Monitored machine) _ invariant slot is_undisturbed = preserved_unchanged slot machine
 
 -- proves that a command preserves each enclave that it leaves undisturbed
 pub command_preserves : (bench : BenchState) (command : Command) → TargetInvariant bench.target
@@ -73,23 +74,24 @@ command_preserves bench command invariant = effect_preserves bench.target (effec
 -- ---- an enclave that runs on a hart that does not step
 
 -- an effect of other harts leaves a running enclave undisturbed
-undisturbed_by_others : (k own_hart : ℕ) (machine : MonitoredMachine) (change : Effect) → Invariant machine → runs_on k own_hart machine ≡ true
-    → RunsOnNone k (harts_stepped change) machine → PokesNone k machine change → UndisturbedByEffect k machine change
-undisturbed_by_others k own_hart machine (Steps harts last) invariant on_hart runs_on_none pokes_none =
-    running_law k own_hart harts machine invariant on_hart runs_on_none
-undisturbed_by_others k own_hart machine (OneByte address byte) invariant on_hart runs_on_none pokes_none =
-    (running_law k own_hart [] machine invariant on_hart tt, pokes_none)
-undisturbed_by_others k own_hart machine _ invariant on_hart runs_on_none pokes_none = running_law k own_hart [] machine invariant on_hart tt
+undisturbed_by_others : (slot own_hart : ℕ) (machine : MonitoredMachine) (change : Effect) → Invariant machine → runs_on slot own_hart machine ≡ true
+    → RunsOnNone slot (harts_stepped change) machine → PokesNone slot machine change → UndisturbedByEffect slot machine change
+undisturbed_by_others slot own_hart machine (Steps harts last) invariant on_hart runs_on_none pokes_none =
+    running_law slot own_hart harts machine invariant on_hart runs_on_none
+undisturbed_by_others slot own_hart machine (OneByte address byte) invariant on_hart runs_on_none pokes_none =
+    (running_law slot own_hart [] machine invariant on_hart tt, pokes_none)
+undisturbed_by_others slot own_hart machine _ invariant on_hart runs_on_none pokes_none = running_law slot own_hart [] machine invariant on_hart tt
 
 -- proves that commands that step other harts and poke no byte of the region leave a running enclave undisturbed
 pub running_undisturbed : RunningLaw
-running_undisturbed k own_hart bench command = in_machine (machine_in bench.target) where
-  -- the command leaves the enclave undisturbed in the machine of the target, if there is one (found)
-  in_machine : (found : Option MonitoredMachine) → IfSome found Invariant → IfSome found (λ machine.
+running_undisturbed slot own_hart bench command = undisturbed_in (machine_in bench.target) where
+  -- the command leaves the enclave undisturbed in the machine of the target, if the target has a machine
+  undisturbed_in : (maybe_machine : Option MonitoredMachine) → IfSome maybe_machine Invariant → IfSome maybe_machine (λ machine.
       let does = effect bench command in
-      runs_on k own_hart machine ≡ true → RunsOnNone k (harts_stepped does) machine → PokesNone k machine does → UndisturbedByEffect k machine does)
-  in_machine None invariant = tt
-  in_machine (Some machine) invariant = undisturbed_by_others k own_hart machine (effect bench command) invariant
+      runs_on slot own_hart machine ≡ true → RunsOnNone slot (harts_stepped does) machine → PokesNone slot machine does
+      → UndisturbedByEffect slot machine does)
+  undisturbed_in None invariant = tt
+  undisturbed_in (Some machine) invariant = undisturbed_by_others slot own_hart machine (effect bench command) invariant
 
 -- ---- the changed bytes
 
@@ -133,25 +135,25 @@ changes_memory bench command invariant byte = in_target bench.target (effect ben
 -- ---- a list of commands
 
 -- an enclave that is preserved from `before` to `between`, and from there to `after`, is preserved from `before` to `after`
-preserved_after : (k : ℕ) (before between after : Target) → IsPreservedIn k before between
-    → IsPreservedIn k between after → IsPreservedIn k before after
-preserved_after k (Monitored before) (Monitored between) (Monitored after) first_preserved second_preserved =
-    preserved_twice k before.state.shared between.state.shared after.state.shared first_preserved second_preserved
-preserved_after k (Bare before) between after first_preserved second_preserved = absurd first_preserved
-preserved_after k (Monitored before) (Bare between) after first_preserved second_preserved = absurd first_preserved
-preserved_after k (Monitored before) (Monitored between) (Bare after) first_preserved second_preserved = absurd second_preserved
+preserved_after : (slot : ℕ) (before between after : Target) → IsPreservedIn slot before between
+    → IsPreservedIn slot between after → IsPreservedIn slot before after
+preserved_after slot (Monitored before) (Monitored between) (Monitored after) first_preserved second_preserved =
+    preserved_twice slot before.state.shared between.state.shared after.state.shared first_preserved second_preserved
+preserved_after slot (Bare before) between after first_preserved second_preserved = absurd first_preserved
+preserved_after slot (Monitored before) (Bare between) after first_preserved second_preserved = absurd first_preserved
+preserved_after slot (Monitored before) (Monitored between) (Bare after) first_preserved second_preserved = absurd second_preserved
 
 -- a live enclave is preserved by an empty list of commands
-preserved_itself : (k : ℕ) (target : Target) → IsSomeAnd (machine_in target) (λ machine. is_live machine.shared.table k ≡ true)
-    → IsPreservedIn k target target
-preserved_itself k (Monitored machine) is_live = preserved_unchanged k machine
-preserved_itself k (Bare machine) is_live = is_live
+preserved_itself : (slot : ℕ) (target : Target) → IsSomeAnd (machine_in target) (λ machine. is_live machine.shared.table slot ≡ true)
+    → IsPreservedIn slot target target
+preserved_itself slot (Monitored machine) is_live = preserved_unchanged slot machine
+preserved_itself slot (Bare machine) is_live = is_live
 
 -- proves the integrity law for lists of commands, by induction
 pub integrity : IntegrityLaw
-integrity k bench [] invariant is_undisturbed = preserved_itself k bench.target is_undisturbed
-integrity k bench (command ∷ commands) invariant is_undisturbed =
+integrity slot bench [] invariant is_undisturbed = preserved_itself slot bench.target is_undisturbed
+integrity slot bench (command ∷ commands) invariant is_undisturbed =
     let after = (execute bench command).state in
-    preserved_after k bench.target after.target (after_commands after commands).target
-    (command_preserves bench command invariant k is_undisturbed.0)
-    (integrity k after commands (command_keeps_invariant bench command invariant) is_undisturbed.1)
+    preserved_after slot bench.target after.target (after_commands after commands).target
+    (command_preserves bench command invariant slot is_undisturbed.0)
+    (integrity slot after commands (command_keeps_invariant bench command invariant) is_undisturbed.1)

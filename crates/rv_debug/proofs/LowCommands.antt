@@ -34,7 +34,7 @@ use Rattle.rv_debug.proofs.TargetRuns.{hart_pc, hart_stepped, run_monitored}
 
 -- ---- a low step of both machines
 
--- the window shares no byte with the region, so it is equal in equivalent machines
+-- the window of the enclave is equal in equivalent machines, because it shares no byte with the region
 same_window : (enclave : ℕ) (one other : MonitoredMachine) → Invariant one → EquivToGuests enclave one other → SameWindow enclave one other
 same_window enclave one other invariant equiv =
     let region_block = region one.shared.table enclave in
@@ -42,15 +42,16 @@ same_window enclave one other invariant equiv =
     let memory = equiv.shared.memory in
     record {
       size = memory.size;
-      bytes = λ i shown. elim (cases_Bool (has region_block (ram_base + i))) [
-        | inr outside_region ↦ memory.bytes i outside_region
+      bytes = λ index in_window. elim (cases_Bool (has region_block (ram_base + index))) [
+        | inr outside_region ↦ memory.bytes index outside_region
         | inl in_region ↦
             let region_bounds =
-            and_parts (nat_le region_block.base (ram_base + i)) (nat_lt (ram_base + i) (region_block.base + region_block.size)) in_region in
+            and_parts (nat_le region_block.base (ram_base + index)) (nat_lt (ram_base + index) (region_block.base + region_block.size)) in_region in
             let outside_window =
-            seen_block region_block window_block (invariant.shared.valid.windows_apart enclave enclave) (ram_base + i) (leb-true _ _ region_bounds.0)
+            seen_block region_block window_block (invariant.shared.valid.windows_apart enclave enclave) (ram_base + index)
+            (leb-true _ _ region_bounds.0)
             (ltb-true _ _ region_bounds.1) in
-            let never : not false ≡ false = sym (ap not outside_window) ∙ shown in cc
+            let never : not false ≡ false = sym (ap not outside_window) ∙ in_window in cc
       ];
     }
 
@@ -73,12 +74,12 @@ both_steps (hart ∷ harts) = both_steps harts
 -- the steps of the first machine in the moves of `both` are those of the list
 both_first : (harts : List ℕ) → first_steps (both harts) ≡ harts
 both_first [] = refl
-both_first (hart ∷ harts) = ap (λ (hs : List ℕ). hart ∷ hs) (both_first harts)
+both_first (hart ∷ harts) = ap (λ (later_harts : List ℕ). hart ∷ later_harts) (both_first harts)
 
 -- the steps of the second machine in the moves of `both` are those of the list
 both_second : (harts : List ℕ) → second_steps (both harts) ≡ harts
 both_second [] = refl
-both_second (hart ∷ harts) = ap (λ (hs : List ℕ). hart ∷ hs) (both_second harts)
+both_second (hart ∷ harts) = ap (λ (later_harts : List ℕ). hart ∷ later_harts) (both_second harts)
 
 -- One step of each of these harts, in order. The steps are low in the first machine (`low`) and are moves of both machines (`moves`). They leave the
 -- machines equivalent in the guest view (`state`).
@@ -87,23 +88,22 @@ pub record AreLowMoves (enclave : ℕ) (harts : List ℕ) (one other : Monitored
   moves : AreMoves enclave (both harts) one other
   state : EquivToGuests enclave (sched harts one).state (sched harts other).state
 
--- an empty list of steps is low moves
+-- an empty list of steps consists of low moves, if the machines are equivalent in the guest view
 no_moves : (enclave : ℕ) (one other : MonitoredMachine) → EquivToGuests enclave one other → AreLowMoves enclave [] one other
 no_moves enclave one other equiv = record { low = tt; moves = tt; state = equiv }
 
--- a low step followed by low moves is a list of low moves
+-- a step of a hart on which the enclave does not run, followed by low moves, is a list of low moves
 one_more_move : (enclave hart : ℕ) (harts : List ℕ) (one other : MonitoredMachine) → Invariant one → EquivToGuests enclave one other
     → runs_on enclave hart one ≡ false
     → AreLowMoves enclave harts (step_of hart one).state (step_of hart other).state → AreLowMoves enclave (hart ∷ harts) one other
-one_more_move enclave hart harts one other invariant equiv not_on_hart rest =
+one_more_move enclave hart harts one other invariant equiv not_on_hart rest_moves =
     record {
-      low = (not_on_hart, rest.low);
-      moves = (inl (low_step enclave hart one other invariant equiv not_on_hart), rest.moves);
-      state =
-          rest.state;
+      low = (not_on_hart, rest_moves.low);
+      moves = (inl (low_step enclave hart one other invariant equiv not_on_hart), rest_moves.moves);
+      state = rest_moves.state;
     }
 
--- low moves are moves
+-- steps that are low moves in two machines are moves of both machines
 low_moves_are_moves : (enclave : ℕ) (harts : List ℕ) (one other : MonitoredMachine) → AreLowMoves enclave harts one other
     → StepsAreMoves enclave one other harts harts
 low_moves_are_moves enclave harts one other low_moves =
@@ -135,11 +135,11 @@ low_schedule enclave (hart ∷ harts) one other summary invariant other_invarian
 
 -- ---- runs
 
--- Two runs a and b, which have executed `before` steps, execute `count` more. They end with equal summaries, and the steps are low moves.
-record IsLowRun (enclave hart before : ℕ) (one other : MonitoredMachine) (a b : AfterRun MonitoredMachine) : Type 0 where
+-- Two runs, which have executed `before` steps, execute `count` more steps. They end with equal summaries, and the steps are low moves.
+record IsLowRun (enclave hart before : ℕ) (one other : MonitoredMachine) (one_run other_run : AfterRun MonitoredMachine) : Type 0 where
   count : ℕ
-  steps : a.ran.steps ≡ before + count
-  ran : a.ran ≡ b.ran
+  steps : one_run.ran.steps ≡ before + count
+  ran : one_run.ran ≡ other_run.ran
   low : AreLowMoves enclave (replicate count hart) one other
 
 -- runs of hart `hart` in two machines that are equivalent in the guest view
@@ -164,16 +164,17 @@ module _ (enclave hart : ℕ) (breaks watches : List ℕ) where
 
   -- if the first run does not enter the enclave, then the two runs have equal summaries and their steps are low moves
   abbrev LowUnlessEntered : AfterSteps MonitoredMachine → MonitoredMachine → AfterRun MonitoredMachine → AfterRun MonitoredMachine → Type 0
-  LowUnlessEntered before other a b = is_entered enclave a.ran.entered ≡ false → IsLowRun enclave hart before.steps before.state other a b
+  LowUnlessEntered before other one_run other_run =
+      is_entered enclave one_run.ran.entered ≡ false → IsLowRun enclave hart before.steps before.state other one_run other_run
 
   -- the pcs of the hart are equal in both machines, if the enclave does not run on the hart
   pc_alike : (one other : MonitoredMachine) → EquivToGuests enclave one other → runs_on enclave hart one ≡ false
       → hart_pc hart one ≡ hart_pc hart other
   pc_alike one other equiv not_on_hart =
-      let pc : HartState → ℕ = λ s. s.hart.pc in
+      let pc : HartState → ℕ = λ hart_state. hart_state.hart.pc in
       let hart_equiv = equiv.hart_states hart in
       sym (ap pc (guest_hart_state hart one))
-      ∙ ap pc (hart_equiv.same (ap (λ (s : HartState). is_world_of enclave s.world) (guest_hart_state hart one) ∙ not_on_hart))
+      ∙ ap pc (hart_equiv.same (ap (λ (hart_state : HartState). is_world_of enclave hart_state.world) (guest_hart_state hart one) ∙ not_on_hart))
       ∙ ap pc (guest_hart_state hart other)
 
   -- A run of a hart on which the enclave does not run has the same summary in both machines, and its steps are low moves. The proof is by induction
@@ -207,11 +208,11 @@ module _ (enclave hart : ℕ) (breaks watches : List ℕ) where
             (run_from left (with_state after second_step.state))
             (lowest_accessed watches first_step.outcome.step.touched) (left == 0) (is_among (hart_pc hart first_step.state) breaks)
             (λ stop not_entered. record { count = 1; steps = omega arith; ran = refl; low = first_move })
-            (λ not_entered. let rest = rest_low not_entered in record {
-              count = suc rest.count;
-              steps = rest.steps ∙ omega arith;
-              ran = rest.ran;
-              low = one_more_move enclave hart (replicate rest.count hart) before.state other invariant equiv not_on_hart rest.low;
+            (λ not_entered. let rest_run = rest_low not_entered in record {
+              count = suc rest_run.count;
+              steps = rest_run.steps ∙ omega arith;
+              ran = rest_run.ran;
+              low = one_more_move enclave hart (replicate rest_run.count hart) before.state other invariant equiv not_on_hart rest_run.low;
             }) in
             -- the outcomes of the step are equal, and the next instruction is at a breakpoint in both machines or in neither
             let same_break = ap (λ (pc : ℕ). is_among pc breaks) (pc_alike first_step.state second_step.state alike_after.state still_off) in
@@ -243,13 +244,13 @@ module _ (enclave hart : ℕ) (one other : MonitoredMachine) (invariant : Invari
 
   -- the windows of the enclave are equal in the benches over two targets
   abbrev SameWindowAfter : Target → Target → Type 0
-  SameWindowAfter first second = WindowsAreEqual enclave (bench_of first breaks watches) (bench_of second breaks watches)
+  SameWindowAfter target other_target = WindowsAreEqual enclave (bench_of target breaks watches) (bench_of other_target breaks watches)
 
   -- the windows are equal after low steps
   same_window_after : (harts : List ℕ) (selected : ℕ) → AreLowMoves enclave harts one other
       → SameWindowAfter (done (as_target one) (Steps harts selected)) (done (as_target other) (Steps harts selected))
   same_window_after harts selected low_moves =
-      subst (λ (t : Target). SameWindowAfter t (done (as_target other) (Steps harts selected)))
+      subst (λ (target : Target). SameWindowAfter target (done (as_target other) (Steps harts selected)))
       (sym (schedule_is_sched harts (record { hart = hart; state = one }) _ selected))
       (subst (SameWindowAfter (selected_at selected (sched harts one).state))
       (sym (schedule_is_sched harts (record { hart = hart; state = other }) _ selected))
@@ -259,39 +260,39 @@ module _ (enclave hart : ℕ) (one other : MonitoredMachine) (invariant : Invari
   abbrev pub ran_of : MonitoredMachine → List ℕ → List ℕ → ℕ → Ran
   ran_of machine at_breaks at_watches count = (steps_of (as_target machine) at_breaks at_watches count).ran
 
-  -- the two runs of a command have equal summaries, and their steps are low
+  -- the runs of a command in the two machines have equal summaries, and their steps are low moves
   pub record LowRuns (at_breaks at_watches : List ℕ) (count : ℕ) : Type 0 where
     ran : ran_of one at_breaks at_watches count ≡ ran_of other at_breaks at_watches count
     pub low : AreLowMoves enclave (replicate (ran_of one at_breaks at_watches count).steps hart) one other
 
-  -- a run that is low in the first machine and does not enter the enclave is the same in both, and its steps are low
+  -- a run of a hart without the enclave, which does not enter the enclave, has equal summaries in both machines, and its steps are low moves
   pub low_runs : (at_breaks at_watches : List ℕ) (count : ℕ) → runs_on enclave hart one ≡ false
       → is_entered enclave (entered_by (as_target one) (run_effect (as_target one) at_breaks at_watches count)) ≡ false
       → LowRuns at_breaks at_watches count
   low_runs at_breaks at_watches count not_on_hart not_entered =
-      let ran : AfterRun Target → Ran = λ after. after.ran in
-      let one_is = ap ran (run_monitored hart at_breaks at_watches count (no_steps one)) in
-      let other_is = ap ran (run_monitored hart at_breaks at_watches count (no_steps other)) in
-      let run_not_entered = sym (ap (λ (r : Ran). is_entered enclave r.entered) one_is)
+      let ran_after : AfterRun Target → Ran = λ after. after.ran in
+      let one_ran_is = ap ran_after (run_monitored hart at_breaks at_watches count (no_steps one)) in
+      let other_ran_is = ap ran_after (run_monitored hart at_breaks at_watches count (no_steps other)) in
+      let run_not_entered = sym (ap (λ (ran : Ran). is_entered enclave ran.entered) one_ran_is)
       ∙ sym (ap (is_entered enclave) (run_entered (as_target one) at_breaks at_watches count)) ∙ not_entered in
       let alike_after = low-run enclave hart at_breaks at_watches count (no_steps one) other invariant other_invariant equiv not_on_hart
       run_not_entered in
       let same_count : (ran_of one at_breaks at_watches count).steps ≡ alike_after.count =
-      ap (λ (r : Ran). r.steps) one_is ∙ alike_after.steps ∙ omega arith in
+      ap (λ (ran : Ran). ran.steps) one_ran_is ∙ alike_after.steps ∙ omega arith in
       record {
-        ran = one_is ∙ alike_after.ran ∙ sym other_is;
-        low = subst (λ (n : ℕ). AreLowMoves enclave (replicate n hart) one other) (sym same_count) alike_after.low;
+        ran = one_ran_is ∙ alike_after.ran ∙ sym other_ran_is;
+        low = subst (λ (count : ℕ). AreLowMoves enclave (replicate count hart) one other) (sym same_count) alike_after.low;
       }
 
-  -- the run command is low: its steps are moves, and the windows are equal after it
+  -- the command `step` or `run` is low: its steps are moves, both runs stop for the same reason, and the windows are equal after the runs
   abbrev LowRunCommand : List ℕ → List ℕ → ℕ → Type 0
   LowRunCommand at_breaks at_watches count =
-      let numbers : MonitoredMachine → List ℕ = λ machine. replicate (ran_of machine at_breaks at_watches count).steps hart in
-      StepsAreMoves enclave one other (numbers one) (numbers other)
+      let harts_stepped_by : MonitoredMachine → List ℕ = λ machine. replicate (ran_of machine at_breaks at_watches count).steps hart in
+      StepsAreMoves enclave one other (harts_stepped_by one) (harts_stepped_by other)
       × ((ran_of one at_breaks at_watches count).stop ≡ (ran_of other at_breaks at_watches count).stop)
-      × SameWindowAfter (done (as_target one) (Steps (numbers one) hart)) (done (as_target other) (Steps (numbers other) hart))
+      × SameWindowAfter (done (as_target one) (Steps (harts_stepped_by one) hart)) (done (as_target other) (Steps (harts_stepped_by other) hart))
 
-  -- a low run is a low command
+  -- the command `step` or `run` is low, if its runs have equal summaries and low moves
   low_runs_are_low : (at_breaks at_watches : List ℕ) (count : ℕ) → LowRuns at_breaks at_watches count → LowRunCommand at_breaks at_watches count
   low_runs_are_low at_breaks at_watches count runs =
       let harts = replicate (ran_of one at_breaks at_watches count).steps hart in (
@@ -307,17 +308,17 @@ module _ (enclave hart : ℕ) (one other : MonitoredMachine) (invariant : Invari
   abbrev sched_of : List ℕ → Bool → Effect
   sched_of harts exist = if exist then Steps harts hart else Nothing
 
-  -- the schedule is low: its steps are moves, and the windows are equal after it
+  -- the schedules of the two machines are low: their steps are moves, and the windows are equal after the schedules
   abbrev LowSched : Effect → Effect → Type 0
-  LowSched first second =
-      StepsAreMoves enclave one other (harts_stepped first) (harts_stepped second)
-      × SameWindowAfter (done (as_target one) first) (done (as_target other) second)
+  LowSched effect other_effect =
+      StepsAreMoves enclave one other (harts_stepped effect) (harts_stepped other_effect)
+      × SameWindowAfter (done (as_target one) effect) (done (as_target other) other_effect)
 
   -- two empty lists of steps are an empty list of moves
   no_steps_are_moves : StepsAreMoves enclave one other [] []
   no_steps_are_moves = record { moves = []; steps = refl; first = refl; second = refl; are = tt }
 
-  -- a schedule of harts without the enclave that does not enter it is low
+  -- a schedule is low, if the enclave runs on none of its harts and the schedule does not enter the enclave
   low_sched : (harts : List ℕ) (exist other_exist : Bool) → exist ≡ other_exist → RunsOnNone enclave harts one
       → is_entered enclave (entered_by (as_target one) (sched_of harts exist)) ≡ false → LowSched (sched_of harts exist) (sched_of harts other_exist)
   low_sched harts true true same_exist runs_on_none not_entered =
@@ -327,7 +328,7 @@ module _ (enclave hart : ℕ) (one other : MonitoredMachine) (invariant : Invari
   low_sched harts false false same_exist runs_on_none not_entered = (no_steps_are_moves, window_equal)
   low_sched harts _ _ same_exist runs_on_none not_entered = cc
 
-  -- the command `hart` is low, where the Booleans state whether the hart exists in each machine
+  -- the command `hart` is low, where `exist` and `other_exist` state whether each machine has the hart
   low_hart : (number : ℕ) (exist other_exist : Bool)
       → LowSched (if exist then Steps [] number else Nothing) (if other_exist then Steps [] number else Nothing)
   unfolding scheduled_steps
@@ -347,7 +348,8 @@ module _ (enclave hart : ℕ) (one other : MonitoredMachine) (invariant : Invari
             let first_write = write-some one.shared.memory address bytes in_ram in
             let second_write = write-some other.shared.memory address bytes (rw (← same_size) in_ram) in
             rw (first_write, second_write) (λ running.
-            same_write (λ (b : ℕ). not (has (window one.shared.table enclave) b)) one.shared.memory other.shared.memory address bytes _ _
+            same_write
+            (λ (byte_address : ℕ). not (has (window one.shared.table enclave) byte_address)) one.shared.memory other.shared.memory address bytes _ _
             (window_equal running) first_write second_write)
         | inr outside_ram ↦
             let first_write = write-none one.shared.memory address bytes outside_ram in
@@ -371,7 +373,7 @@ module _ (enclave hart : ℕ) (one other : MonitoredMachine) (invariant : Invari
       record { same = record { same = refl; steps = steps; stop = stop }; window = after }
   low_kind (Sched schedule) runs_on_none not_entered =
       let harts = harts_in schedule in
-      let same_exist = ap (λ (n : ℕ). has_all n harts) related.harts in
+      let same_exist = ap (λ (hart_count : ℕ). has_all hart_count harts) related.harts in
       let (steps, after) = low_sched harts (has_all (count_of one) harts) (has_all (count_of other) harts) same_exist runs_on_none not_entered in
       record { same = record { same = refl; steps = steps; stop = refl }; window = after }
   low_kind (Hart number) runs_on_none not_entered =
@@ -388,10 +390,13 @@ bare_low : (enclave : ℕ) (machine other : Machine) (breaks watches : List ℕ)
     → IsLowCommand enclave (bench_of (Bare machine) breaks watches) (bench_of (Bare other) breaks watches) command
 unfolding execute
 bare_low enclave machine other breaks watches command same_machine =
-    subst (λ (m : Machine). IsLowCommand enclave (bench_of (Bare machine) breaks watches) (bench_of (Bare m) breaks watches) command) same_machine
+    subst (λ (other_machine : Machine). IsLowCommand enclave (bench_of (Bare machine) breaks watches)
+    (bench_of (Bare other_machine) breaks watches) command) same_machine
     (record {
       same = record { same = refl; steps = tt; stop = refl };
-      window = bare_target (λ (t : Target). WindowsAreEqual enclave (bench_of t breaks watches) (bench_of t breaks watches)) (λ machine. tt) _
+      window =
+          bare_target (λ (target : Target). WindowsAreEqual enclave (bench_of target breaks watches) (bench_of target breaks watches))
+          (λ machine. tt) _
           (effect_stays_bare machine (effect (bench_of (Bare machine) breaks watches) command));
     })
 
@@ -402,8 +407,8 @@ targets_low : (enclave : ℕ) (one other : Target) (breaks watches : List ℕ) (
     → IsLowCommand enclave (bench_of one breaks watches) (bench_of other breaks watches) command
 targets_low enclave (Monitored one) (Monitored other) breaks watches command invariant other_invariant related windows_equal runs_on_none
     not_entered =
-    subst (λ (h : ℕ). IsLowCommand enclave (bench_of (Monitored one) breaks watches)
-    (bench_of (selected_at h other.state) breaks watches) command) related.hart
+    subst (λ (selected_hart : ℕ). IsLowCommand enclave (bench_of (Monitored one) breaks watches)
+    (bench_of (selected_at selected_hart other.state) breaks watches) command) related.hart
     (low_kind enclave one.hart one.state other.state invariant other_invariant related.state windows_equal breaks watches command runs_on_none
     not_entered)
 targets_low enclave (Bare one) (Bare other) breaks watches command invariant other_invariant related windows_equal runs_on_none not_entered =
@@ -415,8 +420,8 @@ targets_low enclave (Monitored one) (Bare other) breaks watches command invarian
 
 -- Proves the law of low commands. The second bench is rewritten to the breakpoints and watchpoints of the first.
 pub low_command : LowCommandLaw
-low_command enclave first second command invariant other_invariant related windows_equal runs_on_none not_entered =
-    subst (λ (breaks : List ℕ). IsLowCommand enclave first (bench_of second.target breaks second.watches) command) related.breaks
-    (subst (λ (watches : List ℕ). IsLowCommand enclave first (bench_of second.target first.breaks watches) command) related.watches
-    (targets_low enclave first.target second.target first.breaks first.watches command invariant other_invariant related.target windows_equal
+low_command enclave bench other_bench command invariant other_invariant related windows_equal runs_on_none not_entered =
+    subst (λ (breaks : List ℕ). IsLowCommand enclave bench (bench_of other_bench.target breaks other_bench.watches) command) related.breaks
+    (subst (λ (watches : List ℕ). IsLowCommand enclave bench (bench_of other_bench.target bench.breaks watches) command) related.watches
+    (targets_low enclave bench.target other_bench.target bench.breaks bench.watches command invariant other_invariant related.target windows_equal
     runs_on_none not_entered))

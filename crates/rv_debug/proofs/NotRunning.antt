@@ -1,4 +1,4 @@
--- An enclave that runs on no hart: every command avoids it, and after a command that does not enter it, it still runs on no hart.
+-- An enclave that runs on no hart: every command avoids its hart. After a command that does not enter the enclave, the enclave still runs on no hart.
 use Rattle.std.proofs.Common.{◌≡◌, ℕ, true, false, List, [], ◌∷◌, Option, Some, None, refl, sym, ◌∙◌, ap, subst, inl, inr}
 use Rattle.rv_enclaves.proofs.Scrambled.{slot_rests}
 use Rattle.rv_monitor.proofs.Beside.{runs_among}
@@ -12,16 +12,16 @@ use Rattle.rv_debug.proofs.EffectsInvariant.{effect_stays_bare, command_keeps_in
 use Rattle.rv_debug.proofs.SchedAlike.{on_none_of, scheduled_steps_alike}
 use Rattle.rv_debug.proofs.ScheduledSteps.{bare_target}
 
--- ---- every command avoids its hart
+-- ---- every command avoids the hart of an enclave that runs on no hart
 
 -- an enclave that runs on no hart of a target runs on none of the given harts
 pub on_none_in : (enclave : ℕ) (harts : List ℕ) (target : Target) → RunsOnNoHart enclave target → RunsOnNoneIn enclave harts target
 on_none_in enclave harts (Bare machine) on_no_hart = tt
 on_none_in enclave harts (Monitored selected) on_no_hart = on_none_of enclave harts selected.state on_no_hart
 
--- ---- the effect enters it, or it still runs on no hart
+-- ---- an effect enters the enclave, or leaves it on no hart
 
--- steps that do not enter the enclave leave it on no hart
+-- steps that do not enter an enclave that runs on no hart leave the enclave on no hart
 steps_on_no_hart : (enclave selected : ℕ) (harts : List ℕ) (machine : Selected) → TargetInvariant (Monitored machine)
     → RunsOnNoHart enclave (Monitored machine)
     → is_entered enclave (scheduled_steps harts (schedule_start (Monitored machine))).did.entered ≡ false
@@ -31,7 +31,7 @@ steps_on_no_hart enclave selected harts machine invariant on_no_hart not_entered
     record { hart = refl; state = equiv_itself enclave machine.state (itself enclave machine.state.shared) } in
     elim (scheduled_steps_alike enclave harts machine machine _ invariant invariant equiv_with_itself
     (on_none_of enclave harts machine.state on_no_hart)) [
-      | inl both_enter ↦ absurd (let never : true ≡ false = sym both_enter.first ∙ not_entered in cc)
+      | inl both_enter ↦ absurd (let never : true ≡ false = sym both_enter.one_enters ∙ not_entered in cc)
       | inr neither_enters ↦ selection_on_no_hart _
           (subst (RunsOnNoHart enclave) (sym neither_enters.first_is) (neither_enters.on_no_hart on_no_hart))
     ] where
@@ -40,7 +40,7 @@ steps_on_no_hart enclave selected harts machine invariant on_no_hart not_entered
       selection_on_no_hart (Bare machine) on_no_hart = tt
       selection_on_no_hart (Monitored machine) on_no_hart = on_no_hart
 
--- a debugger's write keeps the world of each hart
+-- a change of a hart's state that keeps its world leaves the enclave on no hart
 write_on_no_hart : (enclave : ℕ) (machine : Selected) (change : HartState → HartState)
     → ((hart_state : HartState) → (change hart_state).world ≡ hart_state.world) → RunsOnNoHart enclave (Monitored machine)
     → RunsOnNoHart enclave (selected_at machine.hart (changed machine.hart change machine.state))
@@ -58,7 +58,7 @@ poke_on_no_hart enclave machine (Some memory) on_no_hart = on_no_hart
 effect_on_no_hart : (enclave : ℕ) (target : Target) (change : Effect) → TargetInvariant target
     → RunsOnNoHart enclave target → is_entered enclave (entered_by target change) ≡ false → RunsOnNoHart enclave (done target change)
 effect_on_no_hart enclave (Bare machine) change invariant on_no_hart not_entered =
-    bare_target (RunsOnNoHart enclave) (λ alone. tt) _ (effect_stays_bare machine change)
+    bare_target (RunsOnNoHart enclave) (λ bare_machine. tt) _ (effect_stays_bare machine change)
 effect_on_no_hart enclave (Monitored machine) Nothing invariant on_no_hart not_entered = on_no_hart
 effect_on_no_hart enclave (Monitored machine) (Steps harts selected) invariant on_no_hart not_entered =
     steps_on_no_hart enclave selected harts machine invariant on_no_hart not_entered
@@ -69,7 +69,7 @@ effect_on_no_hart enclave (Monitored machine) (TimerLine raised) invariant on_no
 effect_on_no_hart enclave (Monitored machine) (OneByte address byte) invariant on_no_hart not_entered =
     poke_on_no_hart enclave machine (write machine.state.shared.memory address (byte ∷ [])) on_no_hart
 
--- proves that an enclave that runs on no hart stays so after each command that does not enter it
+-- proves that an enclave that runs on no hart still runs on no hart after each command that does not enter it
 pub on_no_hart_law : RunsOnNoHartLaw
 unfolding execute
 on_no_hart_law enclave bench command invariant on_no_hart = record {
@@ -88,14 +88,14 @@ all_avoid_hart enclave bench (command ∷ commands) invariant on_no_hart =
           (stays.not_running not_entered),
     )
 
--- a byte is poked into its region
+-- a poke of a byte into the region of an enclave leaves the enclave on no hart
 pub poked_on_no_hart : (enclave : ℕ) (bench : BenchState) (command : Command) → TargetInvariant bench.target
     → RunsOnNoHart enclave bench.target → PokesInto enclave bench command → RunsOnNoHart enclave (execute bench command).state.target
 unfolding execute
 poked_on_no_hart enclave bench (Poke address byte) invariant on_no_hart pokes_region = written bench.target invariant on_no_hart where
   -- a write of a byte leaves the enclave on no hart
   written : (target : Target) → TargetInvariant target → RunsOnNoHart enclave target → RunsOnNoHart enclave (done target (OneByte address byte))
-  written (Bare machine) invariant on_no_hart = bare_target (RunsOnNoHart enclave) (λ alone. tt) _ (effect_stays_bare machine (OneByte address byte))
+  written (Bare machine) invariant on_no_hart = bare_target (RunsOnNoHart enclave) (λ bare_machine. tt) _ (effect_stays_bare machine (OneByte address byte))
   written (Monitored machine) invariant on_no_hart =
       poke_on_no_hart enclave machine (write machine.state.shared.memory address (byte ∷ [])) on_no_hart
 poked_on_no_hart enclave bench _ invariant on_no_hart pokes_region = absurd pokes_region

@@ -1,4 +1,5 @@
--- The whole reply to a command that does not enter an enclave, and accesses no byte of its region, is observed while the enclave does not run.
+-- While an enclave does not run, the observation of a command is its whole reply, if the command does not enter the enclave and accesses no byte of
+-- its region.
 use Rattle.std.proofs.Common.{◌≡◌, ℕ, zero, suc, ◌+◌, Bool, true, false, List, [], replicate, refl, ◌∙◌, ap₂, subst, inl, inr, arith}
 use Rattle.std.specs.Prelude.{◌&&◌, ◌||◌, ◌++◌, nat_lt, if◌then◌else◌}
 use Rattle.std.proofs.lemmas.Bool.{not-true}
@@ -43,13 +44,13 @@ on_no_hart_any_selected : (enclave hart other : ℕ) (target : Target) → RunsO
 on_no_hart_any_selected enclave hart other (Bare machine) on_no_hart = tt
 on_no_hart_any_selected enclave hart other (Monitored selected) on_no_hart = on_no_hart
 
--- a text that is not hidden is shown
+-- a text that is not hidden is observed as a whole
 shown_whole : (hidden : Bool) (text : List ℕ) → hidden ≡ false → unless hidden text ≡ text
 shown_whole hidden text not_hidden = rw not_hidden refl
 
 -- ---- runs
 
--- the observed number of steps of a hart counts all of them, if they are low: the enclave runs on the hart before none of them
+-- the observed number of steps of a hart counts all of its steps, if they are low: the enclave does not run on the hart before any of them
 all_steps_count : (enclave hart count : ℕ) (machine : MonitoredMachine) (ran : HartRan) → AreLowSteps enclave (replicate count hart) machine
     → (observed_steps enclave hart (replicate count hart) machine ran).steps ≡ ran.steps + count
 all_steps_count enclave hart zero machine ran low_steps = omega arith
@@ -59,7 +60,7 @@ all_steps_count enclave hart (suc count) machine ran low_steps =
     all_steps_count enclave hart count (step_of hart machine).state (with_observed_step enclave hart hart machine ran) low_steps.1
     ∙ omega (arith, one_more)
 
--- a run whose steps all count is observed as its reply
+-- the observation of a run is its reply, if all of its steps count and the enclave does not run on the selected hart
 run_observed_whole : (enclave : ℕ) (target : Target) (after : AfterRun Target)
     → is_selected enclave after.state ≡ false → observed_count enclave target after.ran.steps ≡ after.ran.steps
     → observed_run enclave target after ≡ ran_reply after
@@ -70,21 +71,21 @@ run_observed_whole enclave target after not_on_selected all_counted = rw (not_on
 
 -- the schedule begins with hart `hart` of the target selected
 module _ (enclave hart : ℕ) (target : Target) where
-  -- the summary of a hart without the enclave is observed
-  summary_observed : (after : AfterSchedule) (own : ℕ) (ran : HartRan) → RunsOnNoHart enclave (with_selected hart after.state)
-      → observed_hart enclave after.state own ran ≡ hart_summary_text after.state own ran
-  summary_observed after own ran on_no_hart =
-      shown_whole (is_selected enclave (with_selected own after.state)) (hart_summary_text after.state own ran)
-      (not_selected enclave (with_selected own after.state) (on_no_hart_any_selected enclave hart own after.state on_no_hart))
+  -- the observation of a hart is its whole summary, if the enclave runs on no hart
+  summary_observed : (after : AfterSchedule) (shown_hart : ℕ) (ran : HartRan) → RunsOnNoHart enclave (with_selected hart after.state)
+      → observed_hart enclave after.state shown_hart ran ≡ hart_summary_text after.state shown_hart ran
+  summary_observed after shown_hart ran on_no_hart =
+      shown_whole (is_selected enclave (with_selected shown_hart after.state)) (hart_summary_text after.state shown_hart ran)
+      (not_selected enclave (with_selected shown_hart after.state) (on_no_hart_any_selected enclave hart shown_hart after.state on_no_hart))
 
-  -- all summaries are observed, if the enclave runs on no hart
+  -- the observation of a schedule is the summaries of all harts, if the enclave runs on no hart
   summaries_observed : (after : AfterSchedule) → RunsOnNoHart enclave (with_selected hart after.state)
       → observed_harts enclave after ≡ harts_summary_text after
   summaries_observed after on_no_hart =
-      ap₂ (λ (first second : List ℕ). first ++ (if nat_lt 1 (harts_of after.state) then second else []))
+      ap₂ (λ (text_0 text_1 : List ℕ). text_0 ++ (if nat_lt 1 (harts_of after.state) then text_1 else []))
       (summary_observed after 0 after.did.first on_no_hart) (summary_observed after 1 after.did.second on_no_hart)
 
-  -- a schedule is observed as its reply, if the enclave runs on no hart after it
+  -- the observation of a schedule is its reply, if the enclave runs on no hart after the schedule
   sched_observed : (harts : List ℕ) (exist : Bool) (refused : List ℕ)
       → RunsOnNoHart enclave (done target (if exist then Steps harts hart else Nothing))
       → (let after = scheduled_steps harts (schedule_start target) in
@@ -106,10 +107,10 @@ module _ (enclave hart : ℕ) (machine : MonitoredMachine) (invariant : Invarian
   bench = bench_of as_target breaks watches
 
   -- the enclave runs on no hart
-  on_no_hart_of_machine : (own : ℕ) → runs_on enclave own machine ≡ false
+  on_no_hart_of_machine : (shown_hart : ℕ) → runs_on enclave shown_hart machine ≡ false
   on_no_hart_of_machine = off_every_hart enclave machine invariant not_running
 
-  -- a run that does not enter the enclave is observed as its reply
+  -- the observation of a run that does not enter the enclave is its reply
   run_observed : (at_breaks at_watches : List ℕ) (count : ℕ)
       → is_entered enclave (entered_by as_target (run_effect as_target at_breaks at_watches count)) ≡ false
       → RunsOnNoHart enclave (done as_target (run_effect as_target at_breaks at_watches count))
@@ -130,7 +131,7 @@ module _ (enclave hart : ℕ) (machine : MonitoredMachine) (invariant : Invarian
       → (meets_region || (runs machine.shared.table enclave && meets_window)) ≡ false
   not_private meets_region meets_window outside_region = rw (outside_region, not_running) refl
 
-  -- each command that avoids the enclave is observed as its reply
+  -- the observation of each command that avoids the enclave is its reply
   command_observed : (command : Command) → AvoidsEnclave enclave bench command → IsObserved enclave bench command
   unfolding execute is_blind
   command_observed (Step count) avoids =
@@ -156,7 +157,7 @@ module _ (enclave : ℕ) (machine : Machine) (breaks watches : List ℕ) where
   abbrev bare : BenchState
   bare = bench_of (Bare machine) breaks watches
 
-  -- a run of a bare machine is observed as its reply
+  -- the observation of a run of a bare machine is its reply
   bare_run : (at_breaks at_watches : List ℕ) (count : ℕ)
       → RunsOnNoHart enclave (done (Bare machine) (run_effect (Bare machine) at_breaks at_watches count))
       → observed_run enclave (Bare machine) (steps_of (Bare machine) at_breaks at_watches count)

@@ -67,30 +67,34 @@ ran_with hart stop ran hart_state =
 
 -- Two runs whose steps are moves, and that stop alike, have the same observed text. If the enclave runs on the hart after them, both texts are empty.
 -- Otherwise the hart, the observed steps and the last trap are equal in both.
-run_texts : (enclave hart : ℕ) (one other : MonitoredMachine) (a b : AfterRun MonitoredMachine) → RunObserved enclave hart one a
-    → RunObserved enclave hart other b
-    → Moved enclave hart (replicate a.ran.steps hart) (replicate b.ran.steps hart) one other nothing_ran nothing_ran → a.ran.stop ≡ b.ran.stop
-    → run_text enclave hart one a ≡ run_text enclave hart other b
-run_texts enclave hart one other a b first_observed second_observed both_moved stop =
-    let ran_a = observed_steps enclave hart (replicate a.ran.steps hart) one nothing_ran in
-    let ran_b = observed_steps enclave hart (replicate b.ran.steps hart) other nothing_ran in
-    let related : AreRelated enclave a.state b.state =
-    subst (λ (m : MonitoredMachine). AreRelated enclave m b.state) first_observed.state
+run_texts : (enclave hart : ℕ) (one other : MonitoredMachine) (one_run other_run : AfterRun MonitoredMachine) → RunObserved enclave hart one one_run
+    → RunObserved enclave hart other other_run
+    → Moved enclave hart (replicate one_run.ran.steps hart) (replicate other_run.ran.steps hart) one other nothing_ran nothing_ran
+    → one_run.ran.stop ≡ other_run.ran.stop
+    → run_text enclave hart one one_run ≡ run_text enclave hart other other_run
+run_texts enclave hart one other one_run other_run first_observed second_observed both_moved stop =
+    let one_observed = observed_steps enclave hart (replicate one_run.ran.steps hart) one nothing_ran in
+    let other_observed = observed_steps enclave hart (replicate other_run.ran.steps hart) other nothing_ran in
+    let related : AreRelated enclave one_run.state other_run.state =
+    subst (λ (one_state : MonitoredMachine). AreRelated enclave one_state other_run.state) first_observed.state
     (subst (AreRelated enclave _) second_observed.state both_moved.state) in
-    let same_ran : runs_on enclave hart a.state ≡ false → ran_a ≡ ran_b =
+    let same_ran : runs_on enclave hart one_run.state ≡ false → one_observed ≡ other_observed =
     λ not_on_hart. both_moved.ran (ap (runs_on enclave hart) first_observed.state ∙ not_on_hart) in
     let hart_related = related.hart_states hart in
-    elim (cases_Bool (runs_on enclave hart a.state)) [
-      | inl on_hart ↦ let same_on_other : runs_on enclave hart b.state ≡ true = sym (ap (is_world_of enclave) hart_related.world) ∙ on_hart in
+    elim (cases_Bool (runs_on enclave hart one_run.state)) [
+      | inl on_hart ↦ let same_on_other : runs_on enclave hart other_run.state ≡ true = sym (ap (is_world_of enclave) hart_related.world) ∙ on_hart in
           rw (on_hart, same_on_other) refl
       | inr not_on_hart ↦
-          let same_on_other : runs_on enclave hart b.state ≡ false = sym (ap (is_world_of enclave) hart_related.world) ∙ not_on_hart in
-          let trap : a.ran.trap ≡ b.ran.trap = sym first_observed.trap ∙ ap (λ (r : HartRan). r.trap) (same_ran not_on_hart) ∙ second_observed.trap in
-          let steps : ran_a.steps ≡ ran_b.steps = ap (λ (r : HartRan). r.steps) (same_ran not_on_hart) in
-          let text : HartState → ℕ → Option Trap → Stop → List ℕ = λ s n t w.
-          ran_text s.hart.pc s.hart.mode (world_name s.world) (record { steps = n; trap = t; stop = w; entered = 0 }) in
-          rw (not_on_hart, same_on_other) (ap₂ (λ (s : HartState) (n : ℕ). text s n a.ran.trap a.ran.stop) (hart_related.same not_on_hart) steps
-          ∙ ap₂ (text (guest_state (hart_state_of hart b.state)) ran_b.steps) trap stop)
+          let same_on_other : runs_on enclave hart other_run.state ≡ false = sym (ap (is_world_of enclave) hart_related.world) ∙ not_on_hart in
+          let trap : one_run.ran.trap ≡ other_run.ran.trap =
+          sym first_observed.trap ∙ ap (λ (ran : HartRan). ran.trap) (same_ran not_on_hart) ∙ second_observed.trap in
+          let steps : one_observed.steps ≡ other_observed.steps = ap (λ (ran : HartRan). ran.steps) (same_ran not_on_hart) in
+          let text : HartState → ℕ → Option Trap → Stop → List ℕ = λ hart_state steps trap stop.
+          ran_text hart_state.hart.pc hart_state.hart.mode (world_name hart_state.world)
+          (record { steps = steps; trap = trap; stop = stop; entered = 0 }) in
+          rw (not_on_hart, same_on_other)
+          (ap₂ (λ (hart_state : HartState) (steps : ℕ). text hart_state steps one_run.ran.trap one_run.ran.stop) (hart_related.same not_on_hart) steps
+          ∙ ap₂ (text (guest_state (hart_state_of hart other_run.state)) other_observed.steps) trap stop)
     ]
 
 -- two runs of related machines whose steps are moves, and that stop alike, have equal observations
@@ -130,14 +134,15 @@ unfolding scheduled_steps
 schedule_state [] machine summary = record { hart = machine.hart; state_is = refl }
 schedule_state (hart ∷ harts) machine summary =
     let before = after_schedule (Monitored machine) summary in
-    let rest = schedule_state harts (record { hart = hart; state = (step_of hart machine.state).state })
+    let state_after = schedule_state harts (record { hart = hart; state = (step_of hart machine.state).state })
     (with_scheduled_step hart before (target_stepped (with_selected hart before.state))).did in
-    record { hart = rest.hart; state_is = rest.state_is }
+    record { hart = state_after.hart; state_is = state_after.state_is }
 
 -- `hart_line` is the observation of the summary of one hart
 abbrev hart_line : ℕ → MonitoredMachine → ℕ → HartRan → List ℕ
 hart_line enclave machine hart ran =
-    let s = hart_state_of hart machine in unless (runs_on enclave hart machine) (hart_text hart s.hart.pc s.hart.mode (world_name s.world) ran)
+    let hart_state = hart_state_of hart machine in
+    unless (runs_on enclave hart machine) (hart_text hart hart_state.hart.pc hart_state.hart.mode (world_name hart_state.world) ran)
 
 -- `hart_lines` is the observation of the summaries of all harts
 abbrev hart_lines : ℕ → MonitoredMachine → HartRan → HartRan → List ℕ
@@ -153,37 +158,39 @@ observed_harts_are enclave harts machine summary =
     let after = scheduled_steps harts (after_schedule (Monitored machine) summary) in
     let state_after = schedule_state harts machine summary in
     let own_summaries = schedule_did harts machine summary in
-    let lines : Target → HartRan → HartRan → List ℕ = λ target first second.
-    observed_hart enclave target 0 first ++ (if nat_lt 1 (harts_of target) then observed_hart enclave target 1 second else []) in
+    let lines : Target → HartRan → HartRan → List ℕ = λ target ran_0 ran_1.
+    observed_hart enclave target 0 ran_0 ++ (if nat_lt 1 (harts_of target) then observed_hart enclave target 1 ran_1 else []) in
     ap (λ (target : Target). lines target after.did.first after.did.second) state_after.state_is
     ∙ ap₂ (lines (selected_at state_after.hart (sched harts machine.state).state)) own_summaries.0 own_summaries.1
 
 -- the steps of the harts are moves of both machines, for the observations of each hart
 module _ (enclave : ℕ) (harts : List ℕ) (one other : MonitoredMachine)
-    (moves : (own : ℕ) → Moved enclave own harts harts one other nothing_ran nothing_ran) where
+    (moves : (shown_hart : ℕ) → Moved enclave shown_hart harts harts one other nothing_ran nothing_ran) where
   -- the observed summaries of a hart are equal
-  same_hart_line : (own : ℕ) → hart_line enclave (sched harts one).state own (own_steps own harts one nothing_ran)
-      ≡ hart_line enclave (sched harts other).state own (own_steps own harts other nothing_ran)
-  same_hart_line own =
-      let moved_alike = moves own in
-      let a = own_steps own harts one nothing_ran in
-      let b = own_steps own harts other nothing_ran in
-      let hart_related = moved_alike.state.hart_states own in
-      elim (cases_Bool (runs_on enclave own (sched harts one).state)) [
+  same_hart_line : (shown_hart : ℕ) → hart_line enclave (sched harts one).state shown_hart (own_steps shown_hart harts one nothing_ran)
+      ≡ hart_line enclave (sched harts other).state shown_hart (own_steps shown_hart harts other nothing_ran)
+  same_hart_line shown_hart =
+      let moved_alike = moves shown_hart in
+      let one_ran = own_steps shown_hart harts one nothing_ran in
+      let other_ran = own_steps shown_hart harts other nothing_ran in
+      let hart_related = moved_alike.state.hart_states shown_hart in
+      elim (cases_Bool (runs_on enclave shown_hart (sched harts one).state)) [
         | inl on_hart ↦
-            let same_on_other : runs_on enclave own (sched harts other).state ≡ true = sym (ap (is_world_of enclave) hart_related.world) ∙ on_hart in
+            let same_on_other : runs_on enclave shown_hart (sched harts other).state ≡ true =
+            sym (ap (is_world_of enclave) hart_related.world) ∙ on_hart in
             rw (on_hart, same_on_other) refl
         | inr not_on_hart ↦
-            let same_on_other : runs_on enclave own (sched harts other).state ≡ false = sym (ap (is_world_of enclave) hart_related.world)
+            let same_on_other : runs_on enclave shown_hart (sched harts other).state ≡ false = sym (ap (is_world_of enclave) hart_related.world)
             ∙ not_on_hart in
-            let steps : a.steps ≡ b.steps = same_numbers own harts one other nothing_ran nothing_ran refl in
-            let trap : a.trap ≡ b.trap = same_traps enclave own harts one nothing_ran nothing_ran refl
-            ∙ ap (λ (r : HartRan). r.trap) (moved_alike.ran not_on_hart)
-            ∙ sym (same_traps enclave own harts other nothing_ran nothing_ran refl) in
-            let text : HartState → ℕ → Option Trap → List ℕ = λ s n t.
-            hart_text own s.hart.pc s.hart.mode (world_name s.world) (record { steps = n; trap = t }) in
-            rw (not_on_hart, same_on_other) (ap (λ (s : HartState). text s a.steps a.trap) (hart_related.same not_on_hart)
-            ∙ ap₂ (text (guest_state (hart_state_of own (sched harts other).state))) steps trap)
+            let steps : one_ran.steps ≡ other_ran.steps = same_numbers shown_hart harts one other nothing_ran nothing_ran refl in
+            let trap : one_ran.trap ≡ other_ran.trap = same_traps enclave shown_hart harts one nothing_ran nothing_ran refl
+            ∙ ap (λ (ran : HartRan). ran.trap) (moved_alike.ran not_on_hart)
+            ∙ sym (same_traps enclave shown_hart harts other nothing_ran nothing_ran refl) in
+            let text : HartState → ℕ → Option Trap → List ℕ = λ hart_state steps trap.
+            hart_text shown_hart hart_state.hart.pc hart_state.hart.mode (world_name hart_state.world) (record { steps = steps; trap = trap }) in
+            rw (not_on_hart, same_on_other)
+            (ap (λ (hart_state : HartState). text hart_state one_ran.steps one_ran.trap) (hart_related.same not_on_hart)
+            ∙ ap₂ (text (guest_state (hart_state_of shown_hart (sched harts other).state))) steps trap)
       ]
 
   -- the observed summaries of all harts are equal
@@ -192,7 +199,7 @@ module _ (enclave : ℕ) (harts : List ℕ) (one other : MonitoredMachine)
   same_hart_lines =
       let moved_alike = moves 0 in
       ap₂ (λ (line lines : List ℕ). line ++ lines) (same_hart_line 0)
-      (ap₂ (λ (n : ℕ) (line : List ℕ). if nat_lt 1 n then line else []) moved_alike.state.harts (same_hart_line 1))
+      (ap₂ (λ (hart_count : ℕ) (line : List ℕ). if nat_lt 1 hart_count then line else []) moved_alike.state.harts (same_hart_line 1))
 
 -- two schedules of related machines whose steps are moves have equal observations
 pub schedules_alike : (enclave hart : ℕ) (harts : List ℕ) (one other : MonitoredMachine) → Invariant one → Invariant other
@@ -201,7 +208,7 @@ pub schedules_alike : (enclave hart : ℕ) (harts : List ℕ) (one other : Monit
     ≡ observed_harts enclave (scheduled_steps harts (schedule_start (selected_at hart other)))
 schedules_alike enclave hart harts one other invariant other_invariant related steps =
     observed_harts_are enclave harts (record { hart = hart; state = one }) _
-    ∙ same_hart_lines enclave harts one other (λ own. moved_by enclave own harts harts one other invariant other_invariant related steps)
+    ∙ same_hart_lines enclave harts one other (λ observed. moved_by enclave observed harts harts one other invariant other_invariant related steps)
     ∙ sym (observed_harts_are enclave harts (record { hart = hart; state = other }) _)
 
 -- ---- registers
@@ -211,11 +218,12 @@ pub csrs_alike : (enclave hart : ℕ) (one other : MonitoredMachine) (number : �
     → unless (runs_on enclave hart one) (csr_reply (guest_target (selected_at hart one)) number)
     ≡ unless (runs_on enclave hart other) (csr_reply (guest_target (selected_at hart other)) number)
 csrs_alike enclave hart one other number related =
-    let text : HartState → List ℕ = λ s.
-    if number == mhartid then csr_text number hart else result_case (read_result s.hart.csrs number M) (csr_text number) (λ _. no_csr_text) in
-    ap (λ (s : HartState). unless (runs_on enclave hart one) (text s)) (guest_hart_state hart one)
+    let text : HartState → List ℕ = λ hart_state.
+    if number == mhartid then csr_text number hart else result_case (read_result hart_state.hart.csrs number M) (csr_text number)
+    (λ _. no_csr_text) in
+    ap (λ (hart_state : HartState). unless (runs_on enclave hart one) (text hart_state)) (guest_hart_state hart one)
     ∙ hart_texts enclave hart one other related text
-    ∙ sym (ap (λ (s : HartState). unless (runs_on enclave hart other) (text s)) (guest_hart_state hart other))
+    ∙ sym (ap (λ (hart_state : HartState). unless (runs_on enclave hart other) (text hart_state)) (guest_hart_state hart other))
 
 -- two related machines have equal PMP entries in each hart
 pub entries_alike : (enclave hart : ℕ) (one other : MonitoredMachine) → Invariant one → Invariant other → AreRelated enclave one other
@@ -226,9 +234,9 @@ entries_alike enclave hart one other invariant other_invariant related =
 -- ---- memory
 
 -- if a disjunction fails, then both its parts fail
-both_parts_fail : (a b : Bool) → (a || b) ≡ false → (a ≡ false) × (b ≡ false)
-both_parts_fail false b or_fails = (refl, or_fails)
-both_parts_fail true b or_fails = cc
+both_parts_fail : (left right : Bool) → (left || right) ≡ false → (left ≡ false) × (right ≡ false)
+both_parts_fail false right or_fails = (refl, or_fails)
+both_parts_fail true right or_fails = cc
 
 -- two related machines
 module _ (enclave : ℕ) (one other : MonitoredMachine) (related : AreRelated enclave one other) where
@@ -239,14 +247,15 @@ module _ (enclave : ℕ) (one other : MonitoredMachine) (related : AreRelated en
 
   -- every byte of a block that names no private bytes must be equal in related memories
   no_private_byte : (block : Block) → names_private_bytes one block ≡ false → IsSeen (may_differ one.shared.table enclave) block.base block.size
-  no_private_byte block not_private b at_or_above_base below_end =
+  no_private_byte block not_private byte at_or_above_base below_end =
       let outside_blocks = both_parts_fail (meets block (region one.shared.table enclave)) _ not_private in
-      let outside_region = seen_block block (region one.shared.table enclave) outside_blocks.0 b at_or_above_base below_end in
+      let outside_region = seen_block block (region one.shared.table enclave) outside_blocks.0 byte at_or_above_base below_end in
       elim (cases_Bool (runs one.shared.table enclave)) [
         | inr not_running ↦ rw (outside_region, not_running) refl
         | inl running ↦
-            let outside_window_block = ap (λ (r : Bool). r && meets block (window one.shared.table enclave)) (sym running) ∙ outside_blocks.1 in
-            let outside_window = seen_block block (window one.shared.table enclave) outside_window_block b at_or_above_base below_end in
+            let outside_window_block =
+            ap (λ (runs_now : Bool). runs_now && meets block (window one.shared.table enclave)) (sym running) ∙ outside_blocks.1 in
+            let outside_window = seen_block block (window one.shared.table enclave) outside_window_block byte at_or_above_base below_end in
             rw (outside_region, running, outside_window) refl
       ]
 
@@ -270,7 +279,7 @@ module _ (enclave : ℕ) (one other : MonitoredMachine) (related : AreRelated en
       ≡ unless (names_private_bytes other block) (text (read other.shared.memory block.base block.size))
   memory_texts block text =
       let same_names : names_private_bytes one block ≡ names_private_bytes other block =
-      ap (λ (t : Slots). meets block (region t enclave) || (runs t enclave && meets block (window t enclave))) related.table in
+      ap (λ (table : Slots). meets block (region table enclave) || (runs table enclave && meets block (window table enclave))) related.table in
       elim (cases_Bool (names_private_bytes one block)) [
         | inl is_private ↦ let same_in_other : names_private_bytes other block ≡ true = sym same_names ∙ is_private in
             rw (is_private, same_in_other) refl

@@ -55,8 +55,8 @@ run_observed enclave hart breaks watches count machine =
     let same_count : counted.count ≡ (run (hart_stepped hart) (hart_pc hart) breaks watches count (no_steps machine)).ran.steps =
     omega (arith, count_is) in
     record {
-      state = ap (λ (n : ℕ). (sched (replicate n hart) machine).state) (sym same_count) ∙ counted.state;
-      trap = ap (λ (n : ℕ). (observed_steps enclave hart (replicate n hart) machine nothing_ran).trap) (sym same_count)
+      state = ap (λ (steps : ℕ). (sched (replicate steps hart) machine).state) (sym same_count) ∙ counted.state;
+      trap = ap (λ (steps : ℕ). (observed_steps enclave hart (replicate steps hart) machine nothing_ran).trap) (sym same_count)
           ∙ counted.trap nothing_ran refl;
     }
 
@@ -64,9 +64,9 @@ run_observed enclave hart breaks watches count machine =
 
 -- `own_steps` is the summary of one hart after a list of steps
 abbrev pub own_steps : ℕ → List ℕ → MonitoredMachine → HartRan → HartRan
-own_steps own [] machine ran = ran
-own_steps own (hart ∷ harts) machine ran =
-    own_steps own harts (step_of hart machine).state (with_own own hart (step_of hart machine).outcome.step.trap ran)
+own_steps shown_hart [] machine ran = ran
+own_steps shown_hart (hart ∷ harts) machine ran =
+    own_steps shown_hart harts (step_of hart machine).state (with_own shown_hart hart (step_of hart machine).outcome.step.trap ran)
 
 -- the summary of each hart in a schedule is that of its own steps in the list
 pub schedule_did : (harts : List ℕ) (machine : Selected) (summary : Scheduled)
@@ -80,32 +80,33 @@ schedule_did (hart ∷ harts) machine summary =
     (with_scheduled_step hart before (target_stepped (with_selected hart before.state))).did
 
 -- the number of own steps stays equal after one more step of a hart, whatever trap the step has in each machine
-same_number : (own hart : ℕ) (trap other_trap : Option Trap) (a b : HartRan) → a.steps ≡ b.steps
-    → (with_own own hart trap a).steps ≡ (with_own own hart other_trap b).steps
-same_number own hart trap other_trap a b same_steps = elim (cases_Bool (own == hart)) [
-  | inl is_own ↦ rw is_own (ap (λ (n : ℕ). n + 1) same_steps)
+same_number : (shown_hart hart : ℕ) (trap other_trap : Option Trap) (ran other_ran : HartRan) → ran.steps ≡ other_ran.steps
+    → (with_own shown_hart hart trap ran).steps ≡ (with_own shown_hart hart other_trap other_ran).steps
+same_number shown_hart hart trap other_trap ran other_ran same_steps = elim (cases_Bool (shown_hart == hart)) [
+  | inl is_own ↦ rw is_own (ap (λ (steps : ℕ). steps + 1) same_steps)
   | inr is_other ↦ rw is_other same_steps
 ]
 
 -- the number of a hart's own steps depends only on the list, not on the machine
-pub same_numbers : (own : ℕ) (harts : List ℕ) (one other : MonitoredMachine) (a b : HartRan) → a.steps ≡ b.steps
-    → (own_steps own harts one a).steps ≡ (own_steps own harts other b).steps
-same_numbers own [] one other a b same_steps = same_steps
-same_numbers own (hart ∷ harts) one other a b same_steps =
-    same_numbers own harts (step_of hart one).state (step_of hart other).state _ _
-    (same_number own hart (step_of hart one).outcome.step.trap (step_of hart other).outcome.step.trap a b same_steps)
+pub same_numbers : (shown_hart : ℕ) (harts : List ℕ) (one other : MonitoredMachine) (ran other_ran : HartRan) → ran.steps ≡ other_ran.steps
+    → (own_steps shown_hart harts one ran).steps ≡ (own_steps shown_hart harts other other_ran).steps
+same_numbers shown_hart [] one other ran other_ran same_steps = same_steps
+same_numbers shown_hart (hart ∷ harts) one other ran other_ran same_steps =
+    same_numbers shown_hart harts (step_of hart one).state (step_of hart other).state _ _
+    (same_number shown_hart hart (step_of hart one).outcome.step.trap (step_of hart other).outcome.step.trap ran other_ran same_steps)
 
 -- the last trap of a hart stays equal to its observed trap after one more step
-same_trap : (enclave own hart : ℕ) (machine : MonitoredMachine) (a b : HartRan) → a.trap ≡ b.trap
-    → (with_own own hart (step_of hart machine).outcome.step.trap a).trap ≡ (with_observed_step enclave own hart machine b).trap
-same_trap enclave own hart machine a b same_last_trap = elim (cases_Bool (own == hart)) [
+same_trap : (enclave shown_hart hart : ℕ) (machine : MonitoredMachine) (ran other_ran : HartRan) → ran.trap ≡ other_ran.trap
+    → (with_own shown_hart hart (step_of hart machine).outcome.step.trap ran).trap
+    ≡ (with_observed_step enclave shown_hart hart machine other_ran).trap
+same_trap enclave shown_hart hart machine ran other_ran same_last_trap = elim (cases_Bool (shown_hart == hart)) [
   | inl is_own ↦ rw is_own (ap (option_or (step_of hart machine).outcome.step.trap) same_last_trap)
   | inr is_other ↦ rw is_other same_last_trap
 ]
 
 -- the observed trap of a hart's steps is the last trap of these steps
-pub same_traps : (enclave own : ℕ) (harts : List ℕ) (machine : MonitoredMachine) (a b : HartRan) → a.trap ≡ b.trap
-    → (own_steps own harts machine a).trap ≡ (observed_steps enclave own harts machine b).trap
-same_traps enclave own [] machine a b same_last_trap = same_last_trap
-same_traps enclave own (hart ∷ harts) machine a b same_last_trap =
-    same_traps enclave own harts (step_of hart machine).state _ _ (same_trap enclave own hart machine a b same_last_trap)
+pub same_traps : (enclave shown_hart : ℕ) (harts : List ℕ) (machine : MonitoredMachine) (ran other_ran : HartRan) → ran.trap ≡ other_ran.trap
+    → (own_steps shown_hart harts machine ran).trap ≡ (observed_steps enclave shown_hart harts machine other_ran).trap
+same_traps enclave shown_hart [] machine ran other_ran same_last_trap = same_last_trap
+same_traps enclave shown_hart (hart ∷ harts) machine ran other_ran same_last_trap =
+    same_traps enclave shown_hart harts (step_of hart machine).state _ _ (same_trap enclave shown_hart hart machine ran other_ran same_last_trap)

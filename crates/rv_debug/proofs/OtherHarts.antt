@@ -18,22 +18,22 @@ reprogrammed_as_is hart machine invariant in_range =
     sym (reprogramming_changes_nothing machine.shared.table (hart_state_of hart machine) (invariant.hart_states hart in_range))
 
 -- two hart numbers differ if the test of equality fails
-differs_if_test_fails : (named hart : ℕ) → not (named == hart) ≡ true → hart ≢ named
-differs_if_test_fails named hart not_equal same = let named_is = eq-eqb named hart (sym same) in
-    let never : false ≡ true = rw named_is at not_equal in cc
+differs_if_test_fails : (stepped hart : ℕ) → not (stepped == hart) ≡ true → hart ≢ stepped
+differs_if_test_fails stepped hart not_equal equal = let is_same = eq-eqb stepped hart (sym equal) in
+    let never : false ≡ true = rw is_same at not_equal in cc
 
 -- Steps of other harts leave a hart as it is, except for its PMP entries and mie. The proof is by induction over the harts that step.
 sched_leaves : (hart : ℕ) (harts : List ℕ) (machine : MonitoredMachine) → Invariant machine → hart < count_of machine
-    → list_all (λ named. not (named == hart)) harts ≡ true
+    → list_all (λ stepped. not (stepped == hart)) harts ≡ true
     → hart_state_of hart (sched harts machine).state ≡ reprogrammed (sched harts machine).state.shared.table (hart_state_of hart machine)
 sched_leaves hart [] machine invariant in_range others_step = reprogrammed_as_is hart machine invariant in_range
-sched_leaves hart (named ∷ harts) machine invariant in_range others_step =
-    let first_and_rest = and_parts (not (named == hart)) (list_all (λ n. not (n == hart)) harts) others_step in
-    let next = (step_of named machine).state in
+sched_leaves hart (stepped ∷ harts) machine invariant in_range others_step =
+    let first_and_rest = and_parts (not (stepped == hart)) (list_all (λ stepped. not (stepped == hart)) harts) others_step in
+    let next = (step_of stepped machine).state in
     let last = (sched harts next).state.shared.table in
-    sched_leaves hart harts next (invariant_law named machine invariant)
-    (subst (λ (n : ℕ). hart < n) (sym (step_count named machine)) in_range) first_and_rest.1
-    ∙ ap (reprogrammed last) (step_programmed named hart machine invariant (differs_if_test_fails named hart first_and_rest.0) in_range)
+    sched_leaves hart harts next (invariant_law stepped machine invariant)
+    (subst (λ (hart_count : ℕ). hart < hart_count) (sym (step_count stepped machine)) in_range) first_and_rest.1
+    ∙ ap (reprogrammed last) (step_programmed stepped hart machine invariant (differs_if_test_fails stepped hart first_and_rest.0) in_range)
 
 -- ---- a command
 
@@ -54,22 +54,22 @@ write_leaves hart machine change invariant in_range is_other =
 -- an effect leaves each hart as it is that it neither steps nor writes
 effect_leaves : (hart : ℕ) (target : Target) (change : Effect) → TargetInvariant target → hart < harts_of target → LeavesHart hart target change
     → KeepsHart hart target (done target change)
-effect_leaves hart (Bare machine) change invariant in_range avoids_it =
-    bare_target (KeepsHart hart (Bare machine)) (λ alone. refl) _ (effect_stays_bare machine change)
-effect_leaves hart (Monitored machine) Nothing invariant in_range avoids_it = reprogrammed_as_is hart machine.state invariant in_range
-effect_leaves hart (Monitored machine) (Steps harts selected) invariant in_range avoids_it =
+effect_leaves hart (Bare machine) change invariant in_range avoids_hart =
+    bare_target (KeepsHart hart (Bare machine)) (λ bare_machine. refl) _ (effect_stays_bare machine change)
+effect_leaves hart (Monitored machine) Nothing invariant in_range avoids_hart = reprogrammed_as_is hart machine.state invariant in_range
+effect_leaves hart (Monitored machine) (Steps harts selected) invariant in_range avoids_hart =
     subst (KeepsHart hart (Monitored machine)) (sym (schedule_is_sched harts machine _ selected))
-    (sched_leaves hart harts machine.state invariant in_range avoids_it)
-effect_leaves hart (Monitored machine) (Register number value) invariant in_range avoids_it =
-    write_leaves hart machine (reg_set number value) invariant in_range avoids_it
-effect_leaves hart (Monitored machine) (TimerLine raised) invariant in_range avoids_it =
-    write_leaves hart machine (timer_line_set raised) invariant in_range avoids_it
-effect_leaves hart (Monitored machine) (OneByte address byte) invariant in_range avoids_it =
+    (sched_leaves hart harts machine.state invariant in_range avoids_hart)
+effect_leaves hart (Monitored machine) (Register number value) invariant in_range avoids_hart =
+    write_leaves hart machine (reg_set number value) invariant in_range avoids_hart
+effect_leaves hart (Monitored machine) (TimerLine raised) invariant in_range avoids_hart =
+    write_leaves hart machine (timer_line_set raised) invariant in_range avoids_hart
+effect_leaves hart (Monitored machine) (OneByte address byte) invariant in_range avoids_hart =
     poke_leaves hart machine (write machine.state.shared.memory address (byte ∷ [])) invariant in_range
 
 -- Proves that a command leaves each hart as it was that its effect neither steps nor writes.
 pub command_leaves_harts : (bench : BenchState) (command : Command) → TargetInvariant bench.target
     → PreservesHarts bench command (execute bench command).state
 unfolding execute
-command_leaves_harts bench command invariant hart in_range avoids_it =
-    effect_leaves hart bench.target (effect bench command) invariant in_range avoids_it
+command_leaves_harts bench command invariant hart in_range avoids_hart =
+    effect_leaves hart bench.target (effect bench command) invariant in_range avoids_hart

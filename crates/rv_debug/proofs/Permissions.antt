@@ -32,19 +32,22 @@ module _ (hart byte : ℕ) (machine : MonitoredMachine) (invariant : Invariant m
   permitted_if_accessible =
       access_control_law (hart_view hart machine) S Write byte Byte (hart_view_invariant hart machine invariant in_range) (λ is_m. cc) in_ram
 
-  -- `slots` is the enclave table
-  abbrev slots : Slots
-  slots = machine.shared.table
+  -- `table` is the enclave table
+  abbrev table : Slots
+  table = machine.shared.table
 
   -- ---- the host
 
-  -- two tests that are equal for each number hold of the same lists
-  same_any : (p q : ℕ → Bool) → ((slot : ℕ) → p slot ≡ q slot) → (ks : List ℕ) → list_any p ks ≡ list_any q ks
-  same_any p q same_tests [] = refl
-  same_any p q same_tests (slot ∷ ks) = ap₂ (λ (a b : Bool). a || b) (same_tests slot) (same_any p q same_tests ks)
+  -- two tests that are equal for each slot agree on whether some slot of a list passes
+  same_any : (test other_test : ℕ → Bool) → ((slot : ℕ) → test slot ≡ other_test slot) → (slots : List ℕ)
+      → list_any test slots ≡ list_any other_test slots
+  same_any test other_test same_tests [] = refl
+  same_any test other_test same_tests (slot ∷ slots) =
+      ap₂ (λ (first rest : Bool). first || rest) (same_tests slot) (same_any test other_test same_tests slots)
 
   -- a byte is in the region of a slot by the definition `has` if and only if it is by the definition `is_within`
-  same_in_region : (o : Option SlotInfo) → has (region_of o) byte ≡ option_case o false (λ info. is_within info.region byte)
+  same_in_region : (maybe_info : Option SlotInfo)
+      → has (region_of maybe_info) byte ≡ option_case maybe_info false (λ info. is_within info.region byte)
   same_in_region None = grind (arith, nat_tests)
   same_in_region (Some info) = refl
 
@@ -53,45 +56,46 @@ module _ (hart byte : ℕ) (machine : MonitoredMachine) (invariant : Invariant m
   past_monitor = grind (arith, nat_tests, in_ram_from)
 
   -- what the host may store is the same in both definitions
-  host_accessible : is_accessible machine.shared.memory slots Host Write (byte ∷ []) ≡ host_stores slots byte
+  host_accessible : is_accessible machine.shared.memory table Host Write (byte ∷ []) ≡ host_stores table byte
   unfolding is_accessible
   host_accessible =
-      let regions = same_any (λ slot. has (region slots slot) byte)
-      (λ slot. option_case (record_at slots slot) false (λ info. is_within info.region byte))
-      (λ slot. same_in_region (record_at slots slot)) (range_with_len 0 slot_count) in
+      let regions = same_any (λ slot. has (region table slot) byte)
+      (λ slot. option_case (record_at table slot) false (λ info. is_within info.region byte))
+      (λ slot. same_in_region (record_at table slot)) (range_with_len 0 slot_count) in
       rw (in_ram, past_monitor, regions) (drop_constants _) where
         -- a test with true and false added is the test
-        drop_constants : (b : Bool) → ((b && true) || false) ≡ b
+        drop_constants : (test : Bool) → ((test && true) || false) ≡ test
         drop_constants true = refl
         drop_constants false = refl
 
   -- ---- an enclave
 
-  -- both definitions let an enclave with this record (o) store the same bytes
-  record_accessible : (o : Option SlotInfo) → ((has (region_of o) byte && true) || ((has (window_of o) byte && true) || false))
-      ≡ option_case o false (λ info. is_within info.region byte || is_within info.window byte)
+  -- both definitions let an enclave with this record store the same bytes; a slot without a record lets no byte be stored
+  record_accessible : (maybe_info : Option SlotInfo)
+      → ((has (region_of maybe_info) byte && true) || ((has (window_of maybe_info) byte && true) || false))
+      ≡ option_case maybe_info false (λ info. is_within info.region byte || is_within info.window byte)
   record_accessible None = grind (arith, nat_tests)
   record_accessible (Some info) = drop_constants (is_within info.region byte) (is_within info.window byte) where
     -- two tests with true and false added are the tests
-    drop_constants : (a b : Bool) → ((a && true) || ((b && true) || false)) ≡ (a || b)
-    drop_constants true b = refl
+    drop_constants : (test other_test : Bool) → ((test && true) || ((other_test && true) || false)) ≡ (test || other_test)
+    drop_constants true other_test = refl
     drop_constants false true = refl
     drop_constants false false = refl
 
   -- what an enclave may store is the same in both definitions
-  enclave_accessible : (slot : ℕ) → is_accessible machine.shared.memory slots (Enclave slot) Write (byte ∷ []) ≡ enclave_stores slots slot byte
+  enclave_accessible : (slot : ℕ) → is_accessible machine.shared.memory table (Enclave slot) Write (byte ∷ []) ≡ enclave_stores table slot byte
   unfolding is_accessible
-  enclave_accessible slot = record_accessible (record_at slots slot)
+  enclave_accessible slot = record_accessible (record_at table slot)
 
 -- proves that the PMP permits exactly the stores that the world of the hart may make
 pub store_permission : StorePermissionLaw
 store_permission = record {
   host = λ hart byte machine invariant in_range in_ram_from in_ram_to world.
       permitted_if_accessible hart byte machine invariant in_range in_ram_from in_ram_to
-      ∙ ap (λ (w : World). is_accessible machine.shared.memory machine.shared.table w Write (byte ∷ [])) world
+      ∙ ap (λ (running_world : World). is_accessible machine.shared.memory machine.shared.table running_world Write (byte ∷ [])) world
       ∙ host_accessible hart byte machine invariant in_range in_ram_from in_ram_to;
   enclave = λ hart byte slot machine invariant in_range in_ram_from in_ram_to world.
       permitted_if_accessible hart byte machine invariant in_range in_ram_from in_ram_to
-      ∙ ap (λ (w : World). is_accessible machine.shared.memory machine.shared.table w Write (byte ∷ [])) world
+      ∙ ap (λ (running_world : World). is_accessible machine.shared.memory machine.shared.table running_world Write (byte ∷ [])) world
       ∙ enclave_accessible hart byte machine invariant in_range in_ram_from in_ram_to slot;
 }

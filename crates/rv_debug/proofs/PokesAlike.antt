@@ -15,47 +15,50 @@ use Rattle.rv_debug.proofs.Prelude.{le-leb, leb-true, length-write, ltb-true, re
 -- ---- memory
 
 -- if two memories are equal outside hidden bytes, they still are after a write of a hidden byte to the first
-hidden_write : (hidden : ℕ → Bool) (m n : List ℕ) (address byte : ℕ) (m_after : List ℕ) → EqualOutside hidden m n
-    → write m address (byte ∷ []) ≡ Some m_after → hidden address ≡ true → EqualOutside hidden m_after n
-hidden_write hidden m n address byte m_after equiv poke_succeeds is_hidden =
-    let write_result = write-is m address (byte ∷ []) m_after poke_succeeds in
+hidden_write : (hidden : ℕ → Bool) (memory other_memory : List ℕ) (address byte : ℕ) (memory_after : List ℕ) → EqualOutside hidden memory other_memory
+    → write memory address (byte ∷ []) ≡ Some memory_after → hidden address ≡ true → EqualOutside hidden memory_after other_memory
+hidden_write hidden memory other_memory address byte memory_after equiv poke_succeeds is_hidden =
+    let write_result = write-is memory address (byte ∷ []) memory_after poke_succeeds in
     let index = address - ram_base in
-    let within : index + 1 ≤ length m = omega (arith, write_result.0, write_result.1) in
+    let within : index + 1 ≤ length memory = omega (arith, write_result.0, write_result.1) in
     record {
-      size = length-write m address (byte ∷ []) m_after poke_succeeds ∙ equiv.size;
-      bytes = λ i seen. rw write_result.2 (elim (cases_lt i index) [
-        | inl below_byte ↦ index-below m index (byte ∷ []) i within below_byte ∙ equiv.bytes i seen
-        | inr not_below_byte ↦ elim (cases_lt i (index + 1)) [
+      size = length-write memory address (byte ∷ []) memory_after poke_succeeds ∙ equiv.size;
+      bytes = λ byte_index not_hidden. rw write_result.2 (elim (cases_lt byte_index index) [
+        | inl below_byte ↦ index-below memory index (byte ∷ []) byte_index within below_byte ∙ equiv.bytes byte_index not_hidden
+        | inr not_below_byte ↦ elim (cases_lt byte_index (index + 1)) [
           | inl is_byte ↦
-              let byte_address : ram_base + i ≡ address = omega (arith, write_result.0) in
-              let never : true ≡ false = sym is_hidden ∙ ap hidden (sym byte_address) ∙ seen in cc
-          | inr above_byte ↦ index-above m index (byte ∷ []) i within above_byte ∙ equiv.bytes i seen
+              let byte_address : ram_base + byte_index ≡ address = omega (arith, write_result.0) in
+              let never : true ≡ false = sym is_hidden ∙ ap hidden (sym byte_address) ∙ not_hidden in cc
+          | inr above_byte ↦ index-above memory index (byte ∷ []) byte_index within above_byte ∙ equiv.bytes byte_index not_hidden
         ]
       ]);
     }
 
 -- if two memories are equal outside hidden bytes, they still are after a write of a hidden byte to each
-pub hidden_writes : (hidden : ℕ → Bool) (m n : List ℕ) (address other_address byte other_byte : ℕ) (m_after n_after : List ℕ)
-    → EqualOutside hidden m n → write m address (byte ∷ []) ≡ Some m_after → write n other_address (other_byte ∷ []) ≡ Some n_after
-    → hidden address ≡ true → hidden other_address ≡ true → EqualOutside hidden m_after n_after
-hidden_writes hidden m n address other_address byte other_byte m_after n_after equiv first_write second_write is_hidden other_is_hidden =
-    swapped (hidden_write hidden n m_after other_address other_byte n_after
-    (swapped (hidden_write hidden m n address byte m_after equiv first_write is_hidden)) second_write other_is_hidden) where
+pub hidden_writes : (hidden : ℕ → Bool) (memory other_memory : List ℕ) (address other_address byte other_byte : ℕ) (memory_after other_after : List ℕ)
+    → EqualOutside hidden memory other_memory → write memory address (byte ∷ []) ≡ Some memory_after
+    → write other_memory other_address (other_byte ∷ []) ≡ Some other_after
+    → hidden address ≡ true → hidden other_address ≡ true → EqualOutside hidden memory_after other_after
+hidden_writes hidden memory other_memory address other_address byte other_byte memory_after other_after equiv first_write second_write
+    is_hidden other_is_hidden =
+    swapped (hidden_write hidden other_memory memory_after other_address other_byte other_after
+    (swapped (hidden_write hidden memory other_memory address byte memory_after equiv first_write is_hidden)) second_write other_is_hidden) where
       -- equality outside hidden bytes is symmetric
-      swapped : {a b : List ℕ} → EqualOutside hidden a b → EqualOutside hidden b a
-      swapped equiv = record { size = sym equiv.size; bytes = λ i seen. sym (equiv.bytes i seen) }
+      swapped : {left right : List ℕ} → EqualOutside hidden left right → EqualOutside hidden right left
+      swapped equiv = record { size = sym equiv.size; bytes = λ byte_index not_hidden. sym (equiv.bytes byte_index not_hidden) }
 
 -- ---- the region
 
 -- a slot whose region has a byte is live
-pub live_if_in_region : (o : Option SlotInfo) (address : ℕ) → has (region_of o) address ≡ true → is_some o ≡ true
-live_if_in_region None address in_region = let parts = and_parts (nat_le 0 address) (nat_lt address 0) in_region in
-    let never = ltb-true address 0 parts.1 in
+pub live_if_in_region : (maybe_info : Option SlotInfo) (address : ℕ) → has (region_of maybe_info) address ≡ true → is_some maybe_info ≡ true
+live_if_in_region None address in_region = let bounds = and_parts (nat_le 0 address) (nat_lt address 0) in_region in
+    let never = ltb-true address 0 bounds.1 in
     absurd (omega (arith, never))
 live_if_in_region (Some info) address in_region = refl
 
 -- a byte of the region of a slot is in RAM, if the record of the slot is valid
-region_in_ram : (memory : List ℕ) (o : Option SlotInfo) (address : ℕ) → IfSome o (IsValidSlot memory) → has (region_of o) address ≡ true
+region_in_ram : (memory : List ℕ) (maybe_info : Option SlotInfo) (address : ℕ) → IfSome maybe_info (IsValidSlot memory)
+    → has (region_of maybe_info) address ≡ true
     → is_inside memory address 1 ≡ true
 unfolding is_valid_block
 region_in_ram memory None address valid in_region = let never = live_if_in_region None address in_region in cc
@@ -80,13 +83,14 @@ poke_succeeds state enclave address byte invariant in_region =
 
 -- a byte is written into the region of `enclave` in each of two equivalent machines
 module _ (enclave : ℕ) (one other : Selected) (address other_address byte other_byte : ℕ) (equiv : SelectedEquivExcept enclave one other)
-    (m n : List ℕ)
-    (first_write : write one.state.shared.memory address (byte ∷ []) ≡ Some m)
-    (second_write : write other.state.shared.memory other_address (other_byte ∷ []) ≡ Some n)
+    (memory_after other_after : List ℕ)
+    (first_write : write one.state.shared.memory address (byte ∷ []) ≡ Some memory_after)
+    (second_write : write other.state.shared.memory other_address (other_byte ∷ []) ≡ Some other_after)
     (in_region : has (region one.state.shared.table enclave) address ≡ true)
     (other_in_region : has (region one.state.shared.table enclave) other_address ≡ true) where
   -- two pokes into the region leave equivalent machines
-  machines_equiv : SelectedEquivExcept enclave (record one { state = with_memory one.state m }) (record other { state = with_memory other.state n })
+  machines_equiv : SelectedEquivExcept enclave (record one { state = with_memory one.state memory_after })
+      (record other { state = with_memory other.state other_after })
   machines_equiv =
       let state = equiv.state in
       let shared = state.shared in
@@ -95,7 +99,7 @@ module _ (enclave : ℕ) (one other : Selected) (address other_address byte othe
         state = shared_equiv enclave one.state other.state _ _ state (record {
           table = shared.table;
           memory = hidden_writes (is_private one.state.shared.table enclave) one.state.shared.memory other.state.shared.memory address other_address
-              byte other_byte m n
+              byte other_byte memory_after other_after
               shared.memory first_write second_write in_region other_in_region;
           contexts = shared.contexts;
           gone = λ not_live. let never : true ≡ false = sym (live_if_in_region (slot_at one.state.shared.table enclave) address in_region)
@@ -137,15 +141,15 @@ targets_alike enclave (Monitored one) (Bare other) breaks watches address other_
 
 -- Proves the law of pokes into the region. The second bench is rewritten to the breakpoints and watchpoints of the first.
 pub poke_law : PokeLaw
-poke_law enclave first second (Poke address byte) (Poke other_address other_byte) invariant other_invariant equiv in_region other_in_region =
-    subst (λ (breaks : List ℕ). CommandAlike enclave (execute first (Poke address byte))
-    (execute (record second { breaks = breaks }) (Poke other_address other_byte))) equiv.breaks
-    (subst (λ (watches : List ℕ). CommandAlike enclave (execute first (Poke address byte))
-    (execute (record second { breaks = first.breaks; watches = watches }) (Poke other_address other_byte))) equiv.watches
-    (targets_alike enclave first.target second.target first.breaks first.watches address other_address byte other_byte invariant other_invariant
+poke_law enclave bench other_bench (Poke address byte) (Poke other_address other_byte) invariant other_invariant equiv in_region other_in_region =
+    subst (λ (breaks : List ℕ). CommandAlike enclave (execute bench (Poke address byte))
+    (execute (record other_bench { breaks = breaks }) (Poke other_address other_byte))) equiv.breaks
+    (subst (λ (watches : List ℕ). CommandAlike enclave (execute bench (Poke address byte))
+    (execute (record other_bench { breaks = bench.breaks; watches = watches }) (Poke other_address other_byte))) equiv.watches
+    (targets_alike enclave bench.target other_bench.target bench.breaks bench.watches address other_address byte other_byte invariant other_invariant
     equiv.target in_region other_in_region))
-poke_law enclave first second (Poke address byte) _ invariant other_invariant equiv in_region other_in_region = absurd other_in_region
-poke_law enclave first second _ other_command invariant other_invariant equiv in_region other_in_region = absurd in_region
+poke_law enclave bench other_bench (Poke address byte) _ invariant other_invariant equiv in_region other_in_region = absurd other_in_region
+poke_law enclave bench other_bench _ other_command invariant other_invariant equiv in_region other_in_region = absurd in_region
 
 -- ---- a bench is equivalent to itself
 

@@ -5,17 +5,18 @@ use Rattle.std.proofs.lemmas.Fmt.{length-decimal-le}
 use Rattle.rv_text.proofs.HexDigits.{length-hex_digits}
 use Rattle.rv_debug.proofs.Prelude.{flat_map, flat_map_more, range_with_len, register_text}
 
--- the range of n + 1 numbers from a on is the range of n numbers followed by a + n, which is `last`
-range_with_len-suc : (a n last : ℕ) → a + n ≡ last → range_with_len a (suc n) ≡ range_with_len a n ++ last ∷ []
-range_with_len-suc a zero last last_is = ap (λ k. k ∷ []) (omega arith)
-range_with_len-suc a (suc n) last last_is = ap (λ t. a ∷ t) (range_with_len-suc (a + 1) n last (omega arith))
+-- a range with one more number is the range followed by `last`, the number after the range
+range_with_len-suc : (start count last : ℕ) → start + count ≡ last → range_with_len start (suc count) ≡ range_with_len start count ++ last ∷ []
+range_with_len-suc start zero last last_is = ap (λ number. number ∷ []) (omega arith)
+range_with_len-suc start (suc count) last last_is = ap (λ tail. start ∷ tail) (range_with_len-suc (start + 1) count last (omega arith))
 
--- the texts of the numbers from 0 to n are those of the numbers below n, followed by the text of n
-pub flat_map-range_more : (f : ℕ → List ℕ) (old : List ℕ) (n : ℕ)
-    → (old ++ flat_map f (range_with_len 0 n)) ++ f n ≡ old ++ flat_map f (range_with_len 0 (n + 1))
-flat_map-range_more f old n =
-    let one_more : range_with_len 0 (n + 1) ≡ range_with_len 0 n ++ n ∷ [] = rw add-one (range_with_len-suc 0 n n (omega arith)) in
-    flat_map_more f old (range_with_len 0 n) n ∙ ap (λ ns. old ++ flat_map f ns) (sym one_more)
+-- the texts of the numbers from 0 to a number are the texts of the lower numbers, followed by the text of the number
+pub flat_map-range_more : (text_of : ℕ → List ℕ) (old : List ℕ) (number : ℕ)
+    → (old ++ flat_map text_of (range_with_len 0 number)) ++ text_of number ≡ old ++ flat_map text_of (range_with_len 0 (number + 1))
+flat_map-range_more text_of old number =
+    let one_more : range_with_len 0 (number + 1) ≡ range_with_len 0 number ++ number ∷ [] =
+    rw add-one (range_with_len-suc 0 number number (omega arith)) in
+    flat_map_more text_of old (range_with_len 0 number) number ∙ ap (λ numbers. old ++ flat_map text_of numbers) (sym one_more)
 
 -- The line of a register is at most 12 bytes long if its number has one digit, and 13 if it has two. The sum counts 12 bytes for each line, and one
 -- more for each line from x10 on.

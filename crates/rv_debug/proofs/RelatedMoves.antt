@@ -15,40 +15,43 @@ use Rattle.rv_debug.proofs.Prelude.{both_ways, cases_Bool, eq-eqb, invariant_law
 -- ---- one step of a hart
 
 -- a step of another hart does not change whether the enclave runs on this one
-other_step_keeps_world : (enclave own hart : ℕ) (machine : MonitoredMachine) → (own == hart) ≡ false
-    → runs_on enclave own (step_of hart machine).state ≡ runs_on enclave own machine
-other_step_keeps_world enclave own hart machine is_other =
-    other_harts_keep (λ (s : HartState). is_world_of enclave s.world) (λ slots hart_state. refl) hart own machine
-    (λ is_own. both_ways _ is_other (eq-eqb own hart is_own))
+other_step_keeps_world : (enclave shown_hart hart : ℕ) (machine : MonitoredMachine) → (shown_hart == hart) ≡ false
+    → runs_on enclave shown_hart (step_of hart machine).state ≡ runs_on enclave shown_hart machine
+other_step_keeps_world enclave shown_hart hart machine is_other =
+    other_harts_keep (λ (hart_state : HartState). is_world_of enclave hart_state.world) (λ entered hart_state. refl) hart shown_hart machine
+    (λ is_own. both_ways _ is_other (eq-eqb shown_hart hart is_own))
 
--- the observed summaries a and b of hart `own` are equal, unless the enclave runs on this hart
+-- the observed summaries of hart `shown_hart` are equal, unless the enclave runs on this hart
 abbrev pub SameUnlessOnHart : ℕ → ℕ → MonitoredMachine → HartRan → HartRan → Type 0
-SameUnlessOnHart enclave own machine a b = runs_on enclave own machine ≡ false → a ≡ b
+SameUnlessOnHart enclave shown_hart machine one_ran other_ran = runs_on enclave shown_hart machine ≡ false → one_ran ≡ other_ran
 
--- before a step of hart `hart`, the machines are related, and the observed summaries a and b of hart `own` are equal
-module _ (enclave own hart : ℕ) (one other : MonitoredMachine) (a b : HartRan) (related : AreRelated enclave one other)
-    (same_ran : SameUnlessOnHart enclave own one a b) where
+-- before a step of hart `hart`, the machines are related, and the observed summaries of the hart `shown_hart` are equal unless it runs the enclave
+module _ (enclave shown_hart hart : ℕ) (one other : MonitoredMachine) (one_ran other_ran : HartRan) (related : AreRelated enclave one other)
+    (same_ran : SameUnlessOnHart enclave shown_hart one one_ran other_ran) where
   -- the observed summaries are equal after a step of the enclave in the first machine alone
-  same_after_first : IsInside enclave hart one → SameUnlessOnHart enclave own (step_of hart one).state (with_observed_step enclave own hart one a) b
-  same_after_first stays_inside not_on_hart = elim (cases_Bool (own == hart)) [
+  same_after_first : IsInside enclave hart one
+      → SameUnlessOnHart enclave shown_hart (step_of hart one).state (with_observed_step enclave shown_hart hart one one_ran) other_ran
+  same_after_first stays_inside not_on_hart = elim (cases_Bool (shown_hart == hart)) [
     | inl is_own ↦ absurd
-        (both_ways _ not_on_hart (ap (λ (h : ℕ). runs_on enclave h (step_of hart one).state) (eqb-true own hart is_own) ∙ stays_inside.after))
-    | inr is_other ↦ rw is_other (same_ran (sym (other_step_keeps_world enclave own hart one is_other) ∙ not_on_hart))
+        (both_ways _ not_on_hart
+        (ap (λ (any_hart : ℕ). runs_on enclave any_hart (step_of hart one).state) (eqb-true shown_hart hart is_own) ∙ stays_inside.after))
+    | inr is_other ↦ rw is_other (same_ran (sym (other_step_keeps_world enclave shown_hart hart one is_other) ∙ not_on_hart))
   ]
 
   -- the observed summaries are equal after a step of the enclave in the second machine alone
-  same_after_second : IsInside enclave hart other → SameUnlessOnHart enclave own one a (with_observed_step enclave own hart other b)
-  same_after_second stays_inside not_on_hart = elim (cases_Bool (own == hart)) [
+  same_after_second : IsInside enclave hart other
+      → SameUnlessOnHart enclave shown_hart one one_ran (with_observed_step enclave shown_hart hart other other_ran)
+  same_after_second stays_inside not_on_hart = elim (cases_Bool (shown_hart == hart)) [
     | inl is_own ↦
         let on_hart : runs_on enclave hart one ≡ true = ap (is_world_of enclave) (related.hart_states hart).world ∙ stays_inside.before in
-        absurd (both_ways _ not_on_hart (ap (λ (h : ℕ). runs_on enclave h one) (eqb-true own hart is_own) ∙ on_hart))
+        absurd (both_ways _ not_on_hart (ap (λ (any_hart : ℕ). runs_on enclave any_hart one) (eqb-true shown_hart hart is_own) ∙ on_hart))
     | inr is_other ↦ rw is_other (same_ran not_on_hart)
   ]
 
   -- the claim that the observed summaries are equal again after a step of hart `hart` in both machines
   abbrev SameAfterBoth : Type 0
-  SameAfterBoth = SameUnlessOnHart enclave own (step_of hart one).state (with_observed_step enclave own hart one a)
-      (with_observed_step enclave own hart other b)
+  SameAfterBoth = SameUnlessOnHart enclave shown_hart (step_of hart one).state (with_observed_step enclave shown_hart hart one one_ran)
+      (with_observed_step enclave shown_hart hart other other_ran)
 
   -- the enclave runs on the hart in both machines or in neither
   same_world : runs_on enclave hart one ≡ runs_on enclave hart other
@@ -58,19 +61,20 @@ module _ (enclave own hart : ℕ) (one other : MonitoredMachine) (a b : HartRan)
   abbrev own_ran : MonitoredMachine → HartRan → HartRan
   own_ran machine ran = one_more_observed (runs_on enclave hart machine) (step_of hart machine).outcome.step.trap ran
 
-  -- the observed summaries are equal after a step of both machines, if they are in the case that the step is of hart `own`
-  same_after_both : (own ≡ hart → own_ran one a ≡ own_ran other b) → SameAfterBoth
-  same_after_both at_own not_on_hart = elim (cases_Bool (own == hart)) [
-    | inl is_own ↦ rw is_own (at_own (eqb-true own hart is_own))
-    | inr is_other ↦ rw is_other (same_ran (sym (other_step_keeps_world enclave own hart one is_other) ∙ not_on_hart))
+  -- the observed summaries are equal after a step of both machines, if they are equal in the case that the step is a step of hart `shown_hart`
+  same_after_both : (shown_hart ≡ hart → own_ran one one_ran ≡ own_ran other other_ran) → SameAfterBoth
+  same_after_both at_own not_on_hart = elim (cases_Bool (shown_hart == hart)) [
+    | inl is_own ↦ rw is_own (at_own (eqb-true shown_hart hart is_own))
+    | inr is_other ↦ rw is_other (same_ran (sym (other_step_keeps_world enclave shown_hart hart one is_other) ∙ not_on_hart))
   ]
 
   -- the observed summaries are equal after a low step of both machines
   same_after_low : runs_on enclave hart one ≡ false → (step_of hart one).outcome ≡ (step_of hart other).outcome → SameAfterBoth
   same_after_low not_on_hart outcomes = same_after_both (λ is_own.
-      ap₂ (λ (is_own : Bool) (trap : Option Trap). one_more_observed is_own trap a) same_world (ap (λ (o : Outcome). o.step.trap) outcomes)
+      ap₂ (λ (is_own : Bool) (trap : Option Trap). one_more_observed is_own trap one_ran) same_world
+      (ap (λ (outcome : Outcome). outcome.step.trap) outcomes)
       ∙ ap (one_more_observed (runs_on enclave hart other) (step_of hart other).outcome.step.trap)
-      (same_ran (ap (λ (h : ℕ). runs_on enclave h one) is_own ∙ not_on_hart)))
+      (same_ran (ap (λ (any_hart : ℕ). runs_on enclave any_hart one) is_own ∙ not_on_hart)))
 
   -- the observed summaries are equal after a step that exits from both machines
   same_after_exit : ExitsAlike enclave hart one other → SameAfterBoth
@@ -80,49 +84,57 @@ module _ (enclave own hart : ℕ) (one other : MonitoredMachine) (a b : HartRan)
 
 -- ---- all moves
 
--- after moves that are steps, the machines are related, and hart `own` has equal observations in both
-pub record Moved (enclave own : ℕ) (harts others : List ℕ) (one other : MonitoredMachine) (a b : HartRan) : Type 0 where
+-- after moves that are steps, the machines are related, and the hart `shown_hart` has equal observations in both
+pub record Moved (enclave shown_hart : ℕ) (harts others : List ℕ) (one other : MonitoredMachine) (one_ran other_ran : HartRan) : Type 0 where
   pub state : AreRelated enclave (sched harts one).state (sched others other).state
-  pub ran : SameUnlessOnHart enclave own (sched harts one).state (observed_steps enclave own harts one a) (observed_steps enclave own others other b)
+  pub ran : SameUnlessOnHart enclave shown_hart (sched harts one).state (observed_steps enclave shown_hart harts one one_ran)
+      (observed_steps enclave shown_hart others other other_ran)
 
--- Moves that are steps leave related machines and equal observations of hart `own`. The proof is by induction over the list of moves.
-moved : (enclave own : ℕ) (moves : List Move) (one other : MonitoredMachine) (a b : HartRan) → Invariant one → Invariant other
+-- Moves that are steps leave related machines and equal observations of the hart `shown_hart`. The proof is by induction over the list of moves.
+moved : (enclave shown_hart : ℕ) (moves : List Move) (one other : MonitoredMachine) (one_ran other_ran : HartRan) → Invariant one → Invariant other
     → AreRelated enclave one other
-    → are_steps moves ≡ true → AreMoves enclave moves one other → SameUnlessOnHart enclave own one a b
-    → Moved enclave own (first_steps moves) (second_steps moves) one other a b
-moved enclave own [] one other a b invariant other_invariant related all_steps moves same_ran = record { state = related; ran = same_ran }
-moved enclave own (First hart ∷ rest_moves) one other a b invariant other_invariant related all_steps moves same_ran =
+    → are_steps moves ≡ true → AreMoves enclave moves one other → SameUnlessOnHart enclave shown_hart one one_ran other_ran
+    → Moved enclave shown_hart (first_steps moves) (second_steps moves) one other one_ran other_ran
+moved enclave shown_hart [] one other one_ran other_ran invariant other_invariant related all_steps moves same_ran =
+    record { state = related; ran = same_ran }
+moved enclave shown_hart (First hart ∷ rest_moves) one other one_ran other_ran invariant other_invariant related all_steps moves same_ran =
     let next = (declassification_law enclave (First hart ∷ []) one other invariant other_invariant related (moves.0, tt)).state in
-    let rest = moved enclave own rest_moves (step_of hart one).state other (with_observed_step enclave own hart one a) b
+    let moved_rest =
+    moved enclave shown_hart rest_moves (step_of hart one).state other (with_observed_step enclave shown_hart hart one one_ran) other_ran
     (invariant_law hart one invariant) other_invariant next all_steps moves.1
-    (same_after_first enclave own hart one other a b related same_ran moves.0) in
-    record { state = rest.state; ran = rest.ran }
-moved enclave own (Second hart ∷ rest_moves) one other a b invariant other_invariant related all_steps moves same_ran =
+    (same_after_first enclave shown_hart hart one other one_ran other_ran related same_ran moves.0) in
+    record { state = moved_rest.state; ran = moved_rest.ran }
+moved enclave shown_hart (Second hart ∷ rest_moves) one other one_ran other_ran invariant other_invariant related all_steps moves same_ran =
     let next = (declassification_law enclave (Second hart ∷ []) one other invariant other_invariant related (moves.0, tt)).state in
-    let rest = moved enclave own rest_moves one (step_of hart other).state a (with_observed_step enclave own hart other b) invariant
+    let moved_rest =
+    moved enclave shown_hart rest_moves one (step_of hart other).state one_ran (with_observed_step enclave shown_hart hart other other_ran) invariant
     (invariant_law hart other other_invariant) next all_steps moves.1
-    (same_after_second enclave own hart one other a b related same_ran moves.0) in
-    record { state = rest.state; ran = rest.ran }
-moved enclave own (Both (LineOf hart raised) ∷ rest_moves) one other a b invariant other_invariant related all_steps moves same_ran = cc
-moved enclave own (Both (StepOf hart) ∷ rest_moves) one other a b invariant other_invariant related all_steps moves same_ran =
+    (same_after_second enclave shown_hart hart one other one_ran other_ran related same_ran moves.0) in
+    record { state = moved_rest.state; ran = moved_rest.ran }
+moved enclave shown_hart
+    (Both (LineOf hart raised) ∷ rest_moves) one other one_ran other_ran invariant other_invariant related all_steps moves same_ran = cc
+moved enclave shown_hart (Both (StepOf hart) ∷ rest_moves) one other one_ran other_ran invariant other_invariant related all_steps moves same_ran =
     let alike = declassification_law enclave (Both (StepOf hart) ∷ []) one other invariant other_invariant related (moves.0, tt) in
     let same_after : IsLowStep enclave hart one other ⊎ ExitsAlike enclave hart one other
-    → SameUnlessOnHart enclave own (step_of hart one).state (with_observed_step enclave own hart one a)
-    (with_observed_step enclave own hart other b) =
+    → SameUnlessOnHart enclave shown_hart (step_of hart one).state (with_observed_step enclave shown_hart hart one one_ran)
+    (with_observed_step enclave shown_hart hart other other_ran) =
     λ step_is. elim step_is [
-      | inl low_step ↦ same_after_low enclave own hart one other a b related same_ran low_step.low (alike.outcomes.0 low_step.low)
-      | inr exits_alike ↦ same_after_exit enclave own hart one other a b related same_ran exits_alike
+      | inl low_step ↦
+          same_after_low enclave shown_hart hart one other one_ran other_ran related same_ran low_step.low (alike.outcomes.0 low_step.low)
+      | inr exits_alike ↦ same_after_exit enclave shown_hart hart one other one_ran other_ran related same_ran exits_alike
     ] in
-    let rest = moved enclave own rest_moves (step_of hart one).state (step_of hart other).state (with_observed_step enclave own hart one a)
-    (with_observed_step enclave own hart other b)
+    let moved_rest =
+    moved enclave shown_hart rest_moves (step_of hart one).state (step_of hart other).state (with_observed_step enclave shown_hart hart one one_ran)
+    (with_observed_step enclave shown_hart hart other other_ran)
     (invariant_law hart one invariant) (invariant_law hart other other_invariant) alike.state all_steps moves.1 (same_after moves.0) in
-    record { state = rest.state; ran = rest.ran }
+    record { state = moved_rest.state; ran = moved_rest.ran }
 
 -- steps of two commands that are moves leave related machines and equal observations
-pub moved_by : (enclave own : ℕ) (harts others : List ℕ) (one other : MonitoredMachine) → Invariant one → Invariant other
+pub moved_by : (enclave shown_hart : ℕ) (harts others : List ℕ) (one other : MonitoredMachine) → Invariant one → Invariant other
     → AreRelated enclave one other
-    → StepsAreMoves enclave one other harts others → Moved enclave own harts others one other nothing_ran nothing_ran
-moved_by enclave own harts others one other invariant other_invariant related steps =
-    subst (λ (xs : List ℕ). Moved enclave own xs others one other nothing_ran nothing_ran) steps.first
-    (subst (λ (ys : List ℕ). Moved enclave own (first_steps steps.moves) ys one other nothing_ran nothing_ran) steps.second
-    (moved enclave own steps.moves one other nothing_ran nothing_ran invariant other_invariant related steps.steps steps.are (λ not_on_hart. refl)))
+    → StepsAreMoves enclave one other harts others → Moved enclave shown_hart harts others one other nothing_ran nothing_ran
+moved_by enclave shown_hart harts others one other invariant other_invariant related steps =
+    subst (λ (one_harts : List ℕ). Moved enclave shown_hart one_harts others one other nothing_ran nothing_ran) steps.first
+    (subst (λ (other_harts : List ℕ). Moved enclave shown_hart (first_steps steps.moves) other_harts one other nothing_ran nothing_ran) steps.second
+    (moved enclave shown_hart steps.moves one other nothing_ran nothing_ran invariant other_invariant related steps.steps steps.are
+    (λ not_on_hart. refl)))

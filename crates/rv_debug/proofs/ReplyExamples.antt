@@ -26,11 +26,11 @@ abbrev shown : ℕ → List ℕ
 shown n = if nat_lt n 10 then (48 + n) ∷ [] else (if nat_lt n 100 then (48 + n / 10) ∷ (48 + n % 10) ∷ [] else decimal n)
 
 -- the decimal text of a number is its form that computes
-decimal-shown : (n : ℕ) → decimal n ≡ shown n
-decimal-shown n =
-    let one_digit : n < 10 → decimal n ≡ (48 + n) ∷ [] = decimal_digit n in
-    let two_digits : 10 ≤ n → n < 100 → decimal n ≡ (48 + n / 10) ∷ (48 + n % 10) ∷ [] =
-    λ at_least_10 below_100. rw (decimal_step n at_least_10 (omega arith), decimal_digit (n / 10) (omega arith)) in
+decimal-shown : (number : ℕ) → decimal number ≡ shown number
+decimal-shown number =
+    let one_digit : number < 10 → decimal number ≡ (48 + number) ∷ [] = decimal_digit number in
+    let two_digits : 10 ≤ number → number < 100 → decimal number ≡ (48 + number / 10) ∷ (48 + number % 10) ∷ [] =
+    λ at_least_10 below_100. rw (decimal_step number at_least_10 (omega arith), decimal_digit (number / 10) (omega arith)) in
     grind (arith, nat_tests, one_digit, two_digits)
 
 -- the replies of `step` and `run` show the number of steps, the pc, the mode, the reason for the end, and the last trap

@@ -18,11 +18,11 @@ use Rattle.rv_debug.proofs.ScheduledSteps.{schedule_is_sched}
 
 -- ---- steps of the harts in order
 
--- the machine after two lists of steps is the machine after the second, from the machine after the first
-sched_in_turn : (before rest : List ℕ) (machine : MonitoredMachine)
-    → (sched (before ++ rest) machine).state ≡ (sched rest (sched before machine).state).state
-sched_in_turn [] rest machine = refl
-sched_in_turn (named ∷ before) rest machine = sched_in_turn before rest (step_of named machine).state
+-- steps of the harts of two lists in turn lead to the machine after the second list, from the machine after the first list
+sched_in_turn : (before after : List ℕ) (machine : MonitoredMachine)
+    → (sched (before ++ after) machine).state ≡ (sched after (sched before machine).state).state
+sched_in_turn [] after machine = refl
+sched_in_turn (stepped ∷ before) after machine = sched_in_turn before after (step_of stepped machine).state
 
 -- ---- effects
 
@@ -64,8 +64,8 @@ exit_in_command : (hart : ℕ) (harts : List ℕ) (machine : MonitoredMachine) (
 exit_in_command hart harts machine entry exit invariant saved_is leaves =
     let at_exit = (sched leaves.before machine).state in
     let same_context = steps_keep hart leaves.before machine leaves.runs in
-    let returns_to_host = ap (λ (m : HartView). is_host (monitored_step m).state.hart_state.world) (sym leaves.at) ∙ leaves.host in
-    subst (λ (m : HartView). HostIsRestored entry m (monitored_step m)) (sym leaves.at)
+    let returns_to_host = ap (λ (view : HartView). is_host (monitored_step view).state.hart_state.world) (sym leaves.exit_is) ∙ leaves.host in
+    subst (λ (view : HartView). HostIsRestored entry view (monitored_step view)) (sym leaves.exit_is)
     (comes_back hart entry at_exit (sched_invariant leaves.before machine invariant) (subst KeptStored (sym same_context) leaves.stored)
     (same_context ∙ saved_is) (last_runs hart leaves.before machine leaves.runs) returns_to_host)
 
@@ -77,7 +77,7 @@ exit_in_later_command : (hart : ℕ) (harts : List ℕ) (machine : MonitoredMach
 unfolding execute
 exit_in_later_command hart harts machine target breaks watches [] entry exit invariant target_invariant same_context saved_is leaves =
     exit_in_command hart harts machine entry exit invariant saved_is leaves
-exit_in_later_command hart harts machine (Bare alone) breaks watches (command ∷ commands)
+exit_in_later_command hart harts machine (Bare bare_machine) breaks watches (command ∷ commands)
     entry exit invariant target_invariant same_context saved_is later = absurd later.1
 exit_in_later_command hart harts machine (Monitored selected) breaks watches
     (command ∷ commands) entry exit invariant target_invariant same_context saved_is later =
@@ -98,28 +98,28 @@ runs_at_first hart harts machine after (command ∷ commands) exit later = first
 
 -- The exit restores the host, if the first command enters the enclave and it exits in this command or a later one. The proof takes the state before
 -- the step that enters the enclave, and follows the saved context from there.
-exit_after_entry : (hart : ℕ) (target : Target) (breaks watches : List ℕ) (first : Command) (commands : List Command)
+exit_after_entry : (hart : ℕ) (target : Target) (breaks watches : List ℕ) (first_command : Command) (commands : List Command)
     (entry exit : HartView) → TargetInvariant target
-    → IsSomeAnd (machine_in target) (λ machine. EntersAndLeaves hart (bench_of target breaks watches) first commands machine entry exit)
+    → IsSomeAnd (machine_in target) (λ machine. EntersAndLeaves hart (bench_of target breaks watches) first_command commands machine entry exit)
     → HostIsRestored entry exit (monitored_step exit)
 unfolding execute
-exit_after_entry hart (Bare alone) breaks watches first commands entry exit invariant enter_and_leave = absurd enter_and_leave
-exit_after_entry hart (Monitored selected) breaks watches first commands entry exit invariant enter_and_leave =
+exit_after_entry hart (Bare bare_machine) breaks watches first_command commands entry exit invariant enter_and_leave = absurd enter_and_leave
+exit_after_entry hart (Monitored selected) breaks watches first_command commands entry exit invariant enter_and_leave =
     let bench = bench_of (Monitored selected) breaks watches in
-    let next = (execute bench first).state in
+    let next = (execute bench first_command).state in
     let machine = selected.state in
     let at_entry = (sched enter_and_leave.before machine).state in
     let after = (step_of hart at_entry).state in
     let invariant_at_entry = sched_invariant enter_and_leave.before machine invariant in
-    let runs_host = ap (λ (m : HartView). is_host m.hart_state.world) (sym enter_and_leave.at) ∙ enter_and_leave.host in
-    let enclave_runs = runs_at_first hart enter_and_leave.rest after next commands exit enter_and_leave.leaves in
-    let same_context = context_after_effect hart selected (effect bench first)
-    ∙ ap (λ (hs : List ℕ). host_on hart (sched hs machine).state) enter_and_leave.is
-    ∙ ap (host_on hart) (sched_in_turn enter_and_leave.before (hart ∷ enter_and_leave.rest) machine) in
-    exit_in_later_command hart enter_and_leave.rest after next.target next.breaks next.watches commands entry exit
+    let runs_host = ap (λ (view : HartView). is_host view.hart_state.world) (sym enter_and_leave.entry_is) ∙ enter_and_leave.host in
+    let enclave_runs = runs_at_first hart enter_and_leave.after after next commands exit enter_and_leave.leaves in
+    let same_context = context_after_effect hart selected (effect bench first_command)
+    ∙ ap (λ (harts : List ℕ). host_on hart (sched harts machine).state) enter_and_leave.steps_are
+    ∙ ap (host_on hart) (sched_in_turn enter_and_leave.before (hart ∷ enter_and_leave.after) machine) in
+    exit_in_later_command hart enter_and_leave.after after next.target next.breaks next.watches commands entry exit
     (invariant_law hart at_entry invariant_at_entry)
-    (command_keeps_invariant bench first invariant) same_context (entered_is hart at_entry invariant_at_entry runs_host enclave_runs
-    ∙ ap saved_at_entry (sym enter_and_leave.at)) enter_and_leave.leaves
+    (command_keeps_invariant bench first_command invariant) same_context (entered_is hart at_entry invariant_at_entry runs_host enclave_runs
+    ∙ ap saved_at_entry (sym enter_and_leave.entry_is)) enter_and_leave.leaves
 
 -- proves that commands return the host's own context after its call to an enclave
 pub return_law : ReturnLaw

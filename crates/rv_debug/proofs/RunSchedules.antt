@@ -20,9 +20,10 @@ step_keeps_selected (Monitored machine) = refl
 
 -- the selection of the hart that is selected has no effect
 select_same_hart : (hart : ℕ) (target : Target) → selected_of target ≡ hart → with_selected hart target ≡ target
-select_same_hart hart target selected_of_is = ap (λ (h : ℕ). with_selected h target) (sym selected_of_is) ∙ select_selected_hart target
+select_same_hart hart target selected_of_is =
+    ap (λ (selected_hart : ℕ). with_selected selected_hart target) (sym selected_of_is) ∙ select_selected_hart target
 
--- ---- its steps
+-- ---- the steps of the selected hart
 
 -- A run that continues from a target, with these entered slots and `earlier` steps so far, is a schedule of `count` more steps of the hart. The
 -- schedule ends in the state of the run and enters the same slots, whatever summary it begins with.
@@ -34,31 +35,31 @@ record IsScheduled (hart : ℕ) (target : Target) (slots earlier : ℕ) (after :
   entered : (summary : Scheduled)
       → summary.entered ≡ slots → (scheduled_steps (replicate count hart) (after_schedule target summary)).did.entered ≡ after.ran.entered
 
--- a run that ends is the schedule of its steps so far
+-- a run that ends here is a schedule of 0 more steps
 ended_is_scheduled : (hart : ℕ) (so_far : AfterSteps Target) (stop : Stop) → selected_of so_far.state ≡ hart
     → IsScheduled hart so_far.state so_far.entered so_far.steps (ended so_far stop)
 unfolding scheduled_steps
 ended_is_scheduled hart so_far stop is_selected =
     record { count = 0; steps = omega arith; selected = is_selected; state = λ summary. refl; entered = λ summary entered_is. entered_is }
 
--- a run that goes on is the schedule of one step and the remaining run
+-- a run that continues is a schedule of one step and of the steps of the remaining run
 step_is_scheduled : (hart : ℕ) (before : AfterSteps Target) (after : AfterRun Target) → selected_of before.state ≡ hart
     → (let so_far = with_step before (target_stepped before.state) in IsScheduled hart so_far.state so_far.entered so_far.steps after)
     → IsScheduled hart before.state before.entered before.steps after
 unfolding scheduled_steps
-step_is_scheduled hart before after is_selected rest =
+step_is_scheduled hart before after is_selected rest_scheduled =
     let last = target_stepped before.state in
-    let next : Target → Scheduled → AfterSchedule = λ target summary. scheduled_steps (replicate rest.count hart)
+    let next_step_of : Target → Scheduled → AfterSchedule = λ target summary. scheduled_steps (replicate rest_scheduled.count hart)
     (with_scheduled_step hart (after_schedule before.state summary) (target_stepped target)) in
     let same_target = select_same_hart hart before.state is_selected in
     let did_of : Scheduled → Scheduled = λ summary. (with_scheduled_step hart (after_schedule before.state summary) last).did in
     record {
-      count = suc rest.count;
-      steps = rest.steps ∙ omega arith;
-      selected = rest.selected;
-      state = λ summary. ap (λ (target : Target). (next target summary).state) same_target ∙ rest.state (did_of summary);
-      entered = λ summary entered_is. ap (λ (target : Target). (next target summary).did.entered) same_target
-          ∙ rest.entered (did_of summary) (ap (λ (slots : ℕ). slots_with slots last.entered) entered_is);
+      count = suc rest_scheduled.count;
+      steps = rest_scheduled.steps ∙ omega arith;
+      selected = rest_scheduled.selected;
+      state = λ summary. ap (λ (target : Target). (next_step_of target summary).state) same_target ∙ rest_scheduled.state (did_of summary);
+      entered = λ summary entered_is. ap (λ (target : Target). (next_step_of target summary).did.entered) same_target
+          ∙ rest_scheduled.entered (did_of summary) (ap (λ (slots : ℕ). slots_with slots last.entered) entered_is);
     }
 
 -- Every run is the schedule of as many steps of its hart, by induction over the steps of the run.
@@ -68,7 +69,8 @@ run_is_scheduled breaks watches hart =
     run_induction target_stepped pc_of breaks watches
     (λ before end. selected_of before.state ≡ hart → IsScheduled hart before.state before.entered before.steps end)
     (ended_is_scheduled hart)
-    (λ before end rest is_selected. step_is_scheduled hart before end is_selected (rest (step_keeps_selected before.state ∙ is_selected)))
+    (λ before end rest_scheduled is_selected.
+    step_is_scheduled hart before end is_selected (rest_scheduled (step_keeps_selected before.state ∙ is_selected)))
 
 -- the effect of a run leaves the target of the run
 pub run_done : (target : Target) (breaks watches : List ℕ) (count : ℕ)
@@ -77,7 +79,7 @@ run_done target breaks watches count =
     let scheduled = run_is_scheduled breaks watches (selected_of target) count (no_steps target) refl in
     let end = steps_of target breaks watches count in
     let same_count : scheduled.count ≡ end.ran.steps = omega (arith, scheduled.steps) in
-    ap (λ (n : ℕ). with_selected (selected_of target) (scheduled_steps (replicate n (selected_of target)) (schedule_start target)).state)
+    ap (λ (steps : ℕ). with_selected (selected_of target) (scheduled_steps (replicate steps (selected_of target)) (schedule_start target)).state)
     (sym same_count)
     ∙ ap (with_selected (selected_of target)) (scheduled.state _) ∙ select_same_hart (selected_of target) end.state scheduled.selected
 
@@ -88,5 +90,5 @@ run_entered target breaks watches count =
     let scheduled = run_is_scheduled breaks watches (selected_of target) count (no_steps target) refl in
     let end = steps_of target breaks watches count in
     let same_count : scheduled.count ≡ end.ran.steps = omega (arith, scheduled.steps) in
-    ap (λ (n : ℕ). (scheduled_steps (replicate n (selected_of target)) (schedule_start target)).did.entered) (sym same_count)
+    ap (λ (steps : ℕ). (scheduled_steps (replicate steps (selected_of target)) (schedule_start target)).did.entered) (sym same_count)
     ∙ scheduled.entered _ refl

@@ -1,5 +1,5 @@
--- Steps of named harts in two machines that are equivalent except for an enclave that runs on none of them. They have the same outcomes and
--- leave equivalent machines, up to a step that enters it.
+-- Steps of named harts in two machines that are equivalent except for an enclave that runs on none of these harts. The steps have the same outcomes
+-- and leave equivalent machines, up to a step that enters the enclave.
 use Rattle.std.proofs.Common.{◌≡◌, ℕ, true, false, List, [], ◌∷◌, ◌⊎◌, Some, refl, sym, ◌∙◌, ap, subst, inl, inr}
 use Rattle.rv_monitor.proofs.SchedNoninterference.{entered_some, entry_law}
 use Rattle.rv_monitor.specs.declared.outcome.Outcome.{Outcome}
@@ -25,12 +25,11 @@ stays_entered_in_schedule enclave (hart ∷ harts) before has_entered =
 
 -- both schedules entered `enclave`
 pub record BothEnter (enclave : ℕ) (one other : AfterSchedule) : Type 0 where
-  pub first : is_entered enclave one.did.entered ≡ true
-  pub second : is_entered enclave other.did.entered ≡ true
+  pub one_enters : is_entered enclave one.did.entered ≡ true
+  pub other_enters : is_entered enclave other.did.entered ≡ true
 
--- Neither schedule entered `enclave`. Both have equal summaries (`did`), and end in monitored machines (`first_end`, `second_end`)
--- that
--- are equivalent except for `enclave`. If the enclave ran on no hart of `start`, it runs on none at the end.
+-- Neither schedule entered `enclave`. Both have equal summaries (`did`), and end in monitored machines (`first_end`, `second_end`) that are
+-- equivalent except for `enclave`. If the enclave ran on no hart of `start`, it runs on none at the end.
 pub record NeitherEnters (enclave : ℕ) (start : Selected) (one other : AfterSchedule) : Type 0 where
   pub first_end : Selected
   pub second_end : Selected
@@ -73,8 +72,7 @@ pub runs_on_none_after : (enclave hart : ℕ) (harts : List ℕ) (machine : Moni
 runs_on_none_after enclave hart [] machine does_not_enter runs_on_none = tt
 runs_on_none_after enclave hart (other_hart ∷ harts) machine does_not_enter runs_on_none = (
   entry_law enclave hart other_hart machine runs_on_none.0 does_not_enter,
-  runs_on_none_after enclave hart harts machine does_not_enter
-      runs_on_none.1,
+  runs_on_none_after enclave hart harts machine does_not_enter runs_on_none.1,
 )
 
 -- the machines and the summary after one step of a hart, from its state and outcome
@@ -99,30 +97,39 @@ pub scheduled_steps_alike : (enclave : ℕ) (harts : List ℕ) (one other : Sele
     (scheduled_steps harts (after_schedule (Monitored other) summary))
 unfolding scheduled_steps
 scheduled_steps_alike enclave [] one other summary invariant other_invariant equiv runs_on_none =
-    inr (record { first_end = one; second_end = other; first_is = refl; second_is = refl; did = refl; state = equiv; on_no_hart = λ stays. stays })
+    inr (record {
+      first_end = one;
+      second_end = other;
+      first_is = refl;
+      second_is = refl;
+      did = refl;
+      state = equiv;
+      on_no_hart = λ on_no_hart. on_no_hart;
+    })
 scheduled_steps_alike enclave (hart ∷ harts) one other summary invariant other_invariant equiv runs_on_none =
-    let first = step_of hart one.state in
-    let second = step_of hart other.state in
+    let first_step = step_of hart one.state in
+    let second_step = step_of hart other.state in
     let alike_after = noninterference hart one.state invariant enclave other.state other_invariant equiv.state runs_on_none.0 in
-    elim (cases_Bool (enters enclave first.outcome.entered)) [
+    elim (cases_Bool (enters enclave first_step.outcome.entered)) [
       | inl enters_slot ↦
-          let entered_is = entered_some enclave first.outcome.entered enters_slot in
+          let entered_is = entered_some enclave first_step.outcome.entered enters_slot in
           inl (record {
-            first = schedule_enters enclave hart harts summary first.state first.outcome entered_is;
-            second = schedule_enters enclave hart harts summary second.state second.outcome
+            one_enters = schedule_enters enclave hart harts summary first_step.state first_step.outcome entered_is;
+            other_enters = schedule_enters enclave hart harts summary second_step.state second_step.outcome
                 (ap (λ (outcome : Outcome). outcome.entered) (sym alike_after.outcome) ∙ entered_is);
           })
       | inr does_not_enter ↦
-          let first_next : Selected = record { hart = hart; state = first.state } in
-          let second_next : Selected = record { hart = hart; state = second.state } in
-          let after = (next hart summary first.state first.outcome).did in
+          let first_next : Selected = record { hart = hart; state = first_step.state } in
+          let second_next : Selected = record { hart = hart; state = second_step.state } in
+          let after = (next hart summary first_step.state first_step.outcome).did in
           let stays_off : RunsOnNoHart enclave (Monitored one) → RunsOnNoHart enclave (Monitored first_next) =
           λ off_before other_hart. entry_law enclave hart other_hart one.state (off_before other_hart) does_not_enter in
           let alike = scheduled_steps_alike enclave harts first_next second_next after (invariant_law hart one.state invariant)
           (invariant_law hart other.state other_invariant)
           (record { hart = refl; state = alike_after.state }) (runs_on_none_after enclave hart harts one.state does_not_enter runs_on_none.1) in
           alike_from_earlier enclave one first_next _ _ stays_off
-          (subst (λ (outcome : Outcome). ScheduledStepsAlike enclave first_next (scheduled_steps harts (next hart summary first.state first.outcome))
-          (scheduled_steps harts (next hart summary second.state outcome)))
+          (subst (λ (outcome : Outcome). ScheduledStepsAlike enclave first_next
+          (scheduled_steps harts (next hart summary first_step.state first_step.outcome))
+          (scheduled_steps harts (next hart summary second_step.state outcome)))
           alike_after.outcome alike)
     ]

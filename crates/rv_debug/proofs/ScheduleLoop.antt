@@ -54,11 +54,12 @@ schedule_enters_none (hart ∷ harts) before is_bare =
 abbrev pub harts_from : ℕ → List ℕ → List ℕ
 harts_from n digits = map hart_of_digit (drop n digits)
 
--- the harts from index n on are the hart of the digit at n, and the harts of the digits after it
-next_digit : (digits : List ℕ) (n digit : ℕ) → n < length digits → digit ≡ get_or digits n 0
-    → harts_from n digits ≡ hart_of_digit digit ∷ harts_from (n + 1) digits
-next_digit digits n digit in_bounds digit_is =
-    ap (map hart_of_digit) (drop_more digits n 0 in_bounds ∙ ap (λ (first : ℕ). first ∷ drop (n + 1) digits) (sym digit_is))
+-- the harts from an index on are the hart of the digit at this index, and the harts of the digits after it
+next_digit : (digits : List ℕ) (index digit : ℕ) → index < length digits → digit ≡ get_or digits index 0
+    → harts_from index digits ≡ hart_of_digit digit ∷ harts_from (index + 1) digits
+next_digit digits index digit in_bounds digit_is =
+    ap (map hart_of_digit)
+    (drop_more digits index 0 in_bounds ∙ ap (λ (first_hart_digit : ℕ). first_hart_digit ∷ drop (index + 1) digits) (sym digit_is))
 
 -- the steps of a schedule are the step of its first hart, and then the steps of the other harts
 schedule_is_first_and_rest : (hart : ℕ) (harts : List ℕ) (before : AfterSchedule)
@@ -66,30 +67,33 @@ schedule_is_first_and_rest : (hart : ℕ) (harts : List ℕ) (before : AfterSche
 unfolding scheduled_steps
 schedule_is_first_and_rest hart harts before = refl
 
--- the steps from digit n on are the step of its hart, and then the steps from digit n + 1 on
-pub scheduled_step_more : (digits : List ℕ) (n digit hart : ℕ) (before after : AfterSchedule) → n < length digits → digit ≡ get_or digits n 0
+-- the steps from the digit at an index on are the step of its hart, and then the steps from the next digit on
+pub scheduled_step_more : (digits : List ℕ) (index digit hart : ℕ) (before after : AfterSchedule) → index < length digits
+    → digit ≡ get_or digits index 0
     → hart ≡ hart_of_digit digit → with_scheduled_step hart before (target_stepped (with_selected hart before.state)) ≡ after
-    → scheduled_steps (harts_from n digits) before ≡ scheduled_steps (harts_from (n + 1) digits) after
-scheduled_step_more digits n digit hart before after in_bounds digit_is hart_is next_is =
-    ap (λ (harts : List ℕ). scheduled_steps harts before) (next_digit digits n digit in_bounds digit_is
-    ∙ ap (λ (h : ℕ). h ∷ harts_from (n + 1) digits) (sym hart_is))
-    ∙ schedule_is_first_and_rest hart (harts_from (n + 1) digits) before ∙ ap (scheduled_steps (harts_from (n + 1) digits)) next_is
+    → scheduled_steps (harts_from index digits) before ≡ scheduled_steps (harts_from (index + 1) digits) after
+scheduled_step_more digits index digit hart before after in_bounds digit_is hart_is next_is =
+    ap (λ (harts : List ℕ). scheduled_steps harts before) (next_digit digits index digit in_bounds digit_is
+    ∙ ap (λ (first_hart : ℕ). first_hart ∷ harts_from (index + 1) digits) (sym hart_is))
+    ∙ schedule_is_first_and_rest hart (harts_from (index + 1) digits) before ∙ ap (scheduled_steps (harts_from (index + 1) digits)) next_is
 
 -- all harts of a schedule exist if its first hart exists and the others do
 has_all_is_first_and_rest : (count hart : ℕ) (harts : List ℕ) → has_all count (hart ∷ harts) ≡ (nat_lt hart count && has_all count harts)
 unfolding has_all
 has_all_is_first_and_rest count hart harts = refl
 
--- if all harts from index n on exist, the hart at n exists, and all harts from n + 1 on
-pub has_next : (count : ℕ) (digits : List ℕ) (n digit : ℕ) → n < length digits → digit ≡ get_or digits n 0
-    → has_all count (harts_from n digits) ≡ true → (hart_of_digit digit < count) × (has_all count (harts_from (n + 1) digits) ≡ true)
-has_next count digits n digit in_bounds digit_is all_exist =
-    let parts = and_parts (nat_lt (hart_of_digit digit) count) (has_all count (harts_from (n + 1) digits))
-    (sym (has_all_is_first_and_rest count (hart_of_digit digit) (harts_from (n + 1) digits))
-    ∙ ap (has_all count) (sym (next_digit digits n digit in_bounds digit_is)) ∙ all_exist) in
-    let is_below_count = parts.0 in (grind (arith, nat_tests, is_below_count), parts.1)
+-- if all harts from an index on exist, then the hart at the index exists, and so do all harts after it
+pub has_next : (count : ℕ) (digits : List ℕ) (index digit : ℕ) → index < length digits → digit ≡ get_or digits index 0
+    → has_all count (harts_from index digits) ≡ true → (hart_of_digit digit < count) × (has_all count (harts_from (index + 1) digits) ≡ true)
+has_next count digits index digit in_bounds digit_is all_exist =
+    let next_and_later = and_parts (nat_lt (hart_of_digit digit) count) (has_all count (harts_from (index + 1) digits))
+    (sym (has_all_is_first_and_rest count (hart_of_digit digit) (harts_from (index + 1) digits))
+    ∙ ap (has_all count) (sym (next_digit digits index digit in_bounds digit_is)) ∙ all_exist) in
+    let is_below_count = next_and_later.0 in (grind (arith, nat_tests, is_below_count), next_and_later.1)
 
 -- after the last digit, the steps of the schedule are done
-pub no_digits_left : (digits : List ℕ) (n : ℕ) (before : AfterSchedule) → length digits ≤ n → scheduled_steps (harts_from n digits) before ≡ before
+pub no_digits_left : (digits : List ℕ) (index : ℕ) (before : AfterSchedule) → length digits ≤ index
+    → scheduled_steps (harts_from index digits) before ≡ before
 unfolding scheduled_steps
-no_digits_left digits n before all_passed = ap (λ (left : List ℕ). scheduled_steps (map hart_of_digit left) before) (drop_all n digits all_passed)
+no_digits_left digits index before all_passed =
+    ap (λ (digits_left : List ℕ). scheduled_steps (map hart_of_digit digits_left) before) (drop_all index digits all_passed)

@@ -1,4 +1,4 @@
--- Scheduled steps are those of the target's machine, in the order of the harts.
+-- The steps of a schedule are the steps of the target's machine, in the order of the harts.
 use Rattle.std.proofs.Common.{◌≡◌, ℕ, List, [], ◌∷◌, refl}
 use Rattle.rv_debug.specs.Prelude.{Bare, Monitored, Scheduled, Machine, Target, sched, step_of}
 use Rattle.rv_debug.proofs.Prelude.{AfterSchedule, Selected, IsBare, selected_at, target_stepped, scheduled_steps, with_selected, with_scheduled_step}
@@ -7,7 +7,7 @@ use Rattle.rv_debug.proofs.Prelude.{AfterSchedule, Selected, IsBare, selected_at
 abbrev pub after_schedule : Target → Scheduled → AfterSchedule
 after_schedule state summary = record { state = state; did = summary }
 
--- the machine after a schedule is that after the steps of its harts, whichever hart is selected afterwards
+-- the machine after a schedule is the machine after the steps of its harts, whichever hart is selected afterwards
 pub schedule_is_sched : (harts : List ℕ) (machine : Selected) (summary : Scheduled) (selected : ℕ)
     → with_selected selected (scheduled_steps harts (after_schedule (Monitored machine) summary)).state
     ≡ selected_at selected (sched harts machine.state).state

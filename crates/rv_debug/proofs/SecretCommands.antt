@@ -15,7 +15,7 @@ use Rattle.rv_debug.proofs.Prelude.{BenchState, Effect, Selected, Steps, both_wa
 use Rattle.rv_debug.proofs.Prelude.{over_memory, run, selected_at}
 use Rattle.rv_debug.proofs.Declassification.{list_declassification, relation_law}
 use Rattle.rv_debug.proofs.ScheduledSteps.{schedule_is_sched}
-use Rattle.rv_debug.proofs.SecretRun.{bytes_after_secret, secret_address, are_moves, computed, is_in_a0, secret_is_at_offset, start_idle}
+use Rattle.rv_debug.proofs.SecretRun.{bytes_after_secret, secret_address, moves_permitted, computed, is_in_a0, secret_is_at_offset, start_idle}
 use Rattle.rv_debug.proofs.SecretRun.{invariant_before_create, steps_concealed}
 
 -- ---- commands on a machine whose hart 0 is selected
@@ -41,74 +41,77 @@ unfolding run lowest_accessed
 three_steps = record { steps = λ machine. refl; stops = λ machine. refl }
 
 -- two machines, and the commands that follow in each
-module _ (one other : MonitoredMachine) (commands others : List Command) where
-  -- the remaining commands of the two lists are alike, from the machines a and b on
+module _ (one other : MonitoredMachine) (commands other_commands : List Command) where
+  -- the remaining commands of the two lists are alike, from the two machines on
   abbrev RestAlike : MonitoredMachine → MonitoredMachine → Type 0
-  RestAlike a b = AllCommandsAlike 0 (monitored a) (monitored b) commands others
+  RestAlike one_machine other_machine = AllCommandsAlike 0 (monitored one_machine) (monitored other_machine) commands other_commands
 
   -- commands that begin with `step`, whose steps are these moves, are alike, if the rest of the commands is alike after the moves
   alike_by_step : (count : ℕ) (harts : List ℕ) (moves : List Move) → IsStepOf count harts → are_steps moves ≡ true → first_steps moves ≡ harts
       → second_steps moves ≡ harts → AreMoves 0 moves one other → RestAlike (sched harts one).state (sched harts other).state
-      → AllCommandsAlike 0 (monitored one) (monitored other) (Step count ∷ commands) (Step count ∷ others)
+      → AllCommandsAlike 0 (monitored one) (monitored other) (Step count ∷ commands) (Step count ∷ other_commands)
   unfolding execute
-  alike_by_step count harts moves is_step all_steps first second moved rest =
+  alike_by_step count harts moves is_step all_steps first_harts_are second_harts_are moved rest_alike =
       let after : (machine : MonitoredMachine) → monitored (sched harts machine).state ≡ (execute (monitored machine) (Step count)).state = λ machine.
       let start : Selected = record { hart = 0; state = machine } in
       let bench_over : Target → BenchState = λ target. record { target = target; breaks = []; watches = [] } in
       ap bench_over (sym (schedule_is_sched harts start _ 0))
-      ∙ ap (λ (d : Effect). bench_over (done (Monitored start) d)) (sym (is_step.steps machine)) in (
+      ∙ ap (λ (change : Effect). bench_over (done (Monitored start) change)) (sym (is_step.steps machine)) in (
         inl (inl (record {
           same = refl;
           steps = record {
             moves = moves;
             steps = all_steps;
-            first = first ∙ ap harts_stepped (sym (is_step.steps one));
-            second = second ∙ ap harts_stepped (sym (is_step.steps other));
+            first = first_harts_are ∙ ap harts_stepped (sym (is_step.steps one));
+            second = second_harts_are ∙ ap harts_stepped (sym (is_step.steps other));
             are = moved;
           };
           stop = is_step.stops one ∙ sym (is_step.stops other);
         })),
-        subst (λ (s : BenchState). AllCommandsAlike 0 s (execute (monitored other) (Step count)).state commands others) (after one)
-            (subst (λ (s : BenchState). AllCommandsAlike 0 (monitored (sched harts one).state) s commands others) (after other) rest),
+        subst (λ (bench : BenchState). AllCommandsAlike 0 bench (execute (monitored other) (Step count)).state commands other_commands) (after one)
+            (subst (λ (bench : BenchState). AllCommandsAlike 0 (monitored (sched harts one).state) bench commands other_commands)
+            (after other) rest_alike),
       )
 
   -- commands that begin with a change of the timer line are alike, if the rest of the commands is alike after the change
   alike_by_timer : RestAlike (with_timer 0 one true) (with_timer 0 other true)
-      → AllCommandsAlike 0 (monitored one) (monitored other) (Timer true ∷ commands) (Timer true ∷ others)
+      → AllCommandsAlike 0 (monitored one) (monitored other) (Timer true ∷ commands) (Timer true ∷ other_commands)
   unfolding execute
   alike_by_timer rest =
       (inl (inl (record { same = refl; steps = record { moves = []; steps = refl; first = refl; second = refl; are = tt }; stop = refl })), rest)
 
   -- commands that begin with `regs` are alike, if the rest of the commands is alike
-  alike_by_regs : RestAlike one other → AllCommandsAlike 0 (monitored one) (monitored other) (Regs ∷ commands) (Regs ∷ others)
+  alike_by_regs : RestAlike one other → AllCommandsAlike 0 (monitored one) (monitored other) (Regs ∷ commands) (Regs ∷ other_commands)
   unfolding execute
   alike_by_regs rest =
       (inl (inl (record { same = refl; steps = record { moves = []; steps = refl; first = refl; second = refl; are = tt }; stop = refl })), rest)
 
   -- commands that begin with a poke of each secret are alike, if the rest of the commands is alike after the pokes
-  alike_by_poke : (address a b : ℕ) (m n : List ℕ) → write one.shared.memory address (a ∷ []) ≡ Some m
-      → write other.shared.memory address (b ∷ []) ≡ Some n
+  alike_by_poke : (address secret other_secret : ℕ) (one_after other_after : List ℕ) → write one.shared.memory address (secret ∷ []) ≡ Some one_after
+      → write other.shared.memory address (other_secret ∷ []) ≡ Some other_after
       → has (region one.shared.table 0) address ≡ true → has (region other.shared.table 0) address ≡ true
-      → RestAlike (with_memory one m) (with_memory other n)
-      → AllCommandsAlike 0 (monitored one) (monitored other) (Poke address a ∷ commands) (Poke address b ∷ others)
+      → RestAlike (with_memory one one_after) (with_memory other other_after)
+      → AllCommandsAlike 0 (monitored one) (monitored other) (Poke address secret ∷ commands) (Poke address other_secret ∷ other_commands)
   unfolding execute
-  alike_by_poke address a b m n first_write second_write in_region other_in_region rest =
-      let after : MonitoredMachine → Option (List ℕ) → BenchState = λ machine o.
+  alike_by_poke address secret other_secret one_after other_after first_write second_write in_region other_in_region rest_alike =
+      let after : MonitoredMachine → Option (List ℕ) → BenchState = λ machine written.
       let target = selected_at 0 machine in
-      record { target = option_case (option_map (over_memory target) o) target (λ t. t); breaks = []; watches = [] } in (
+      record { target = option_case (option_map (over_memory target) written) target (λ unchanged. unchanged); breaks = []; watches = [] } in (
         inr (inl (in_region, other_in_region)),
-        subst (λ (o : Option (List ℕ)). AllCommandsAlike 0 (after one o)
-            (after other (write other.shared.memory address (b ∷ []))) commands others) (sym first_write)
-            (subst (λ (o : Option (List ℕ)). AllCommandsAlike 0 (after one (Some m)) (after other o) commands others) (sym second_write) rest),
+        subst (λ (written : Option (List ℕ)). AllCommandsAlike 0 (after one written)
+            (after other (write other.shared.memory address (other_secret ∷ []))) commands other_commands) (sym first_write)
+            (subst (λ (written : Option (List ℕ)). AllCommandsAlike 0 (after one (Some one_after))
+            (after other written) commands other_commands) (sym second_write) rest_alike),
       )
 
 -- ---- the poke of the secret
 
 -- a write at the index of the secret replaces the secret
-write_replaces : (xs ys : List ℕ) (a b : ℕ) → write_bytes (xs ++ (a ∷ ys)) (length xs) (b ∷ []) ≡ xs ++ (b ∷ ys)
-write_replaces [] ys a b = refl
-write_replaces (x ∷ xs) ys a b = let next_index : suc (length xs) + 1 ≡ suc (length xs + 1) = omega arith in
-    rw next_index (ap (λ (zs : List ℕ). x ∷ zs) (write_replaces xs ys a b))
+write_replaces : (before after : List ℕ) (byte new_byte : ℕ)
+    → write_bytes (before ++ (byte ∷ after)) (length before) (new_byte ∷ []) ≡ before ++ (new_byte ∷ after)
+write_replaces [] after byte new_byte = refl
+write_replaces (first ∷ before) after byte new_byte = let next_index : suc (length before) + 1 ≡ suc (length before + 1) = omega arith in
+    rw next_index (ap (λ (tail : List ℕ). first ∷ tail) (write_replaces before after byte new_byte))
 
 -- the address of the secret is in RAM
 secret_in_ram : is_inside (secret_ram 0) secret_address 1 ≡ true
@@ -117,10 +120,10 @@ secret_in_ram = refl
 -- the poke of the secret after create succeeds and gives the RAM with the secret
 poke_gives_secret_ram : (secret : ℕ) → write (secret_next secret_start).shared.memory secret_address (secret ∷ []) ≡ Some (secret_ram secret)
 poke_gives_secret_ram secret =
-    let some : List ℕ → Option (List ℕ) = λ m. Some m in
-    ap (λ (m : List ℕ). write m secret_address (secret ∷ [])) (computed 0).memory
+    let some : List ℕ → Option (List ℕ) = λ memory. Some memory in
+    ap (λ (memory : List ℕ). write memory secret_address (secret ∷ [])) (computed 0).memory
     ∙ write-some (secret_ram 0) secret_address (secret ∷ []) secret_in_ram
-    ∙ ap some (ap (λ (i : ℕ). write_bytes (secret_ram 0) i (secret ∷ [])) (sym secret_is_at_offset)
+    ∙ ap some (ap (λ (index : ℕ). write_bytes (secret_ram 0) index (secret ∷ [])) (sym secret_is_at_offset)
     ∙ write_replaces before_secret (replicate bytes_after_secret 0) 0 secret)
 
 -- ---- the commands
@@ -134,36 +137,43 @@ abbrev interrupt : List Command
 interrupt = Timer true ∷ Step 1 ∷ Regs ∷ resume
 
 -- The commands of the example satisfy the premise of the law, for any two secrets. The proof builds the premise from the last command to the first.
-pub commands_alike : (a b : ℕ) → AllCommandsAlike 0 secret_bench secret_bench (secret_commands a) (secret_commands b)
-commands_alike a b =
+pub commands_alike : (secret other_secret : ℕ) → AllCommandsAlike 0 secret_bench secret_bench (secret_commands secret) (secret_commands other_secret)
+commands_alike secret other_secret =
     -- the moves of the example: the call run, the load, the timer line, the interrupt, the call resume, the last step
-    let (run_1, (run_2, (load_1, (load_2, (_, (exits, (resume_1, (resume_2, (resume_3, (last_1, (last_2, _))))))))))) = are_moves a b in
-    let ends = alike_by_step (secret_resumed a) (secret_resumed b) [] [] 1 (0 ∷ []) (First 0 ∷ Second 0 ∷ []) one_step refl refl refl
+    let (run_1, (run_2, (load_1, (load_2, (_, (exits, (resume_1, (resume_2, (resume_3, (last_1, (last_2, _))))))))))) =
+    moves_permitted secret other_secret in
+    let ends = alike_by_step (secret_resumed secret) (secret_resumed other_secret) [] [] 1 (0 ∷ []) (First 0 ∷ Second 0 ∷ []) one_step refl refl refl
     (last_1, (last_2, tt)) tt in
-    let resumes = alike_by_step (secret_interrupted a) (secret_interrupted b) (Step 1 ∷ []) (Step 1 ∷ []) 3 (0 ∷ 0 ∷ 0 ∷ [])
+    let resumes = alike_by_step (secret_interrupted secret) (secret_interrupted other_secret) (Step 1 ∷ []) (Step 1 ∷ []) 3 (0 ∷ 0 ∷ 0 ∷ [])
     (Both (StepOf 0) ∷ Both (StepOf 0) ∷ Both (StepOf 0) ∷ []) three_steps refl refl refl
     (resume_1, (resume_2, (resume_3, tt))) ends in
-    let interrupts = alike_by_step (secret_raised a) (secret_raised b) (Regs ∷ resume) (Regs ∷ resume) 1 (0 ∷ []) (Both (StepOf 0) ∷ []) one_step refl
-    refl refl (exits, tt) (alike_by_regs (secret_interrupted a) (secret_interrupted b) resume resume resumes) in
-    let loads = alike_by_step (secret_entered a) (secret_entered b) interrupt interrupt 1 (0 ∷ []) (First 0 ∷ Second 0 ∷ []) one_step refl refl refl
+    let interrupts =
+    alike_by_step (secret_raised secret) (secret_raised other_secret) (Regs ∷ resume) (Regs ∷ resume) 1 (0 ∷ []) (Both (StepOf 0) ∷ []) one_step refl
+    refl refl (exits, tt) (alike_by_regs (secret_interrupted secret) (secret_interrupted other_secret) resume resume resumes) in
+    let loads =
+    alike_by_step (secret_entered secret) (secret_entered other_secret) interrupt interrupt 1 (0 ∷ [])
+    (First 0 ∷ Second 0 ∷ []) one_step refl refl refl
     (load_1, (load_2, tt))
-    (alike_by_timer (secret_next (secret_entered a)) (secret_next (secret_entered b)) (Step 1 ∷ Regs ∷ resume) (Step 1 ∷ Regs ∷ resume) interrupts) in
-    let runs_it = alike_by_step (secret_new a) (secret_new b) (Step 1 ∷ interrupt) (Step 1 ∷ interrupt) 2 (0 ∷ 0 ∷ [])
+    (alike_by_timer (secret_next (secret_entered secret)) (secret_next (secret_entered other_secret)) (Step 1 ∷ Regs ∷ resume)
+    (Step 1 ∷ Regs ∷ resume) interrupts) in
+    let runs_enclave = alike_by_step (secret_new secret) (secret_new other_secret) (Step 1 ∷ interrupt) (Step 1 ∷ interrupt) 2 (0 ∷ 0 ∷ [])
     (Both (StepOf 0) ∷ Both (StepOf 0) ∷ []) two_steps refl refl refl (run_1, (run_2, tt)) loads in
-    let rest : List Command = Step 2 ∷ Step 1 ∷ interrupt in
-    alike_by_step secret_start secret_start (Poke secret_address a ∷ rest) (Poke secret_address b ∷ rest) 1 (0 ∷ []) (Both (StepOf 0) ∷ [])
+    let rest_commands : List Command = Step 2 ∷ Step 1 ∷ interrupt in
+    alike_by_step secret_start secret_start (Poke secret_address secret ∷ rest_commands) (Poke secret_address other_secret ∷ rest_commands) 1
+    (0 ∷ []) (Both (StepOf 0) ∷ [])
     one_step refl refl refl
     (inl (record { low = start_idle.not_on_hart; window = λ running. absurd (both_ways _ start_idle.not_running running) }), tt)
-    (alike_by_poke (secret_next secret_start) (secret_next secret_start) rest rest secret_address a b (secret_ram a) (secret_ram b)
-    (poke_gives_secret_ram a) (poke_gives_secret_ram b) (computed 0).region_has (computed 0).region_has runs_it)
+    (alike_by_poke (secret_next secret_start) (secret_next secret_start) rest_commands rest_commands secret_address secret other_secret
+    (secret_ram secret) (secret_ram other_secret)
+    (poke_gives_secret_ram secret) (poke_gives_secret_ram other_secret) (computed 0).region_has (computed 0).region_has runs_enclave)
 
 -- the commands are alike, and their observations are equal
-commands_concealed : (a b : ℕ) → AreConcealed a b
-commands_concealed a b =
-    let alike = commands_alike a b in record {
-      are = alike;
-      alike = list_declassification 0 secret_bench secret_bench (secret_commands a)
-          (secret_commands b) invariant_before_create invariant_before_create (relation_law.itself 0 secret_bench) alike;
+commands_concealed : (secret other_secret : ℕ) → AreConcealed secret other_secret
+commands_concealed secret other_secret =
+    let alike = commands_alike secret other_secret in record {
+      commands_alike = alike;
+      observations_equal = list_declassification 0 secret_bench secret_bench (secret_commands secret)
+          (secret_commands other_secret) invariant_before_create invariant_before_create (relation_law.itself 0 secret_bench) alike;
     }
 
 -- proves the example of a secret in a register at the timer interrupt

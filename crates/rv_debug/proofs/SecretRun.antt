@@ -59,16 +59,16 @@ pub record IsIdle (machine : MonitoredMachine) : Type 0 where
   pub not_running : runs machine.shared.table 0 ≡ false
 
 -- The facts of the example that are computed, for each secret. RAM has 131072 bytes. The first five hold after create. The other fields follow the
--- moves. These are the call run (`first`, `second`), the load of the secret (`before_load`, `after_load`), and the exit by the timer interrupt
--- (`running` to `exits`). Then come the call resume (`third` to `fifth`) and one more step of the enclave (`before_last`, `after_last`).
+-- moves. These are the call run (`run_1`, `run_2`), the load of the secret (`before_load`, `after_load`), and the exit by the timer interrupt
+-- (`running` to `exits`). Then come the call resume (`resume_1` to `resume_3`) and one more step of the enclave (`before_last`, `after_last`).
 pub record Computed (secret : ℕ) : Type 0 where
   size : length (secret_next secret_start).shared.memory ≡ length (secret_ram secret)
   pub memory : (secret_next secret_start).shared.memory ≡ secret_ram 0
   live : is_live (secret_next secret_start).shared.table 0 ≡ true
   pub region_has : has (region (secret_next secret_start).shared.table 0) secret_address ≡ true
   secret_in_region : may_differ (secret_next secret_start).shared.table 0 secret_address ≡ true
-  first : IsIdle (secret_new secret)
-  second : IsIdle (secret_next (secret_new secret))
+  run_1 : IsIdle (secret_new secret)
+  run_2 : IsIdle (secret_next (secret_new secret))
   before_load : runs_on 0 0 (secret_entered secret) ≡ true
   after_load : runs_on 0 0 (secret_next (secret_entered secret)) ≡ true
   running : runs_on 0 0 (secret_raised secret) ≡ true
@@ -76,9 +76,9 @@ pub record Computed (secret : ℕ) : Type 0 where
   memory_size : length (secret_raised secret).shared.memory ≡ 131072
   trap : (step_of 0 (secret_raised secret)).outcome.step.trap ≡ Some timer_trap
   exits : (hart_state_of 0 (secret_interrupted secret)).world ≡ Host
-  third : IsIdle (secret_interrupted secret)
-  fourth : IsIdle (secret_next (secret_interrupted secret))
-  fifth : IsIdle (secret_next (secret_next (secret_interrupted secret)))
+  resume_1 : IsIdle (secret_interrupted secret)
+  resume_2 : IsIdle (secret_next (secret_interrupted secret))
+  resume_3 : IsIdle (secret_next (secret_next (secret_interrupted secret)))
   before_last : runs_on 0 0 (secret_resumed secret) ≡ true
   after_last : runs_on 0 0 (secret_next (secret_resumed secret)) ≡ true
 
@@ -94,8 +94,8 @@ computed secret = record {
   live = refl;
   region_has = refl;
   secret_in_region = refl;
-  first = record { not_on_hart = refl; not_running = refl };
-  second = record { not_on_hart = refl; not_running = refl };
+  run_1 = record { not_on_hart = refl; not_running = refl };
+  run_2 = record { not_on_hart = refl; not_running = refl };
   before_load = refl;
   after_load = refl;
   running = refl;
@@ -103,9 +103,9 @@ computed secret = record {
   memory_size = refl;
   trap = refl;
   exits = refl;
-  third = record { not_on_hart = refl; not_running = refl };
-  fourth = record { not_on_hart = refl; not_running = refl };
-  fifth = record { not_on_hart = refl; not_running = refl };
+  resume_1 = record { not_on_hart = refl; not_running = refl };
+  resume_2 = record { not_on_hart = refl; not_running = refl };
+  resume_3 = record { not_on_hart = refl; not_running = refl };
   before_last = refl;
   after_last = refl;
 }
@@ -134,30 +134,34 @@ invariant_after_create : (secret : ℕ) → Invariant (secret_new secret)
 invariant_after_create secret =
     invariant_by_size (secret_next secret_start) (secret_ram secret) (invariant_law 0 secret_start invariant_before_create) (computed secret).size
 
--- two lists that differ only in the byte after xs are equal at every other index
-pub other_byte : (xs ys : List ℕ) (a b i : ℕ) → i ≢ length xs → slice_index (xs ++ (a ∷ ys)) i ≡ slice_index (xs ++ (b ∷ ys)) i
-other_byte [] ys a b zero not_at_byte = absurd (not_at_byte refl)
-other_byte [] ys a b (suc i) not_at_byte = refl
-other_byte (x ∷ xs) ys a b zero not_at_byte = refl
-other_byte (x ∷ xs) ys a b (suc i) not_at_byte = other_byte xs ys a b i (λ same. not_at_byte (ap suc same))
+-- two lists that differ only in the byte after the list `before` are equal at every other index
+pub other_byte : (before after : List ℕ) (byte changed index : ℕ) → index ≢ length before
+    → slice_index (before ++ (byte ∷ after)) index ≡ slice_index (before ++ (changed ∷ after)) index
+other_byte [] after byte changed zero not_at_byte = absurd (not_at_byte refl)
+other_byte [] after byte changed (suc index) not_at_byte = refl
+other_byte (first ∷ before) after byte changed zero not_at_byte = refl
+other_byte (first ∷ before) after byte changed (suc index) not_at_byte =
+    other_byte before after byte changed index (λ equal. not_at_byte (ap suc equal))
 
 -- the secret is at `secret_offset` in RAM
 pub secret_is_at_offset : length before_secret ≡ secret_offset
 secret_is_at_offset = refl
 
 -- the machines with two secrets are related
-machines_related : (a b : ℕ) → AreRelated 0 (secret_new a) (secret_new b)
-machines_related a b =
-    memory_related 0 (secret_next secret_start) (secret_next secret_start) (secret_ram a) (secret_ram b)
+machines_related : (secret other_secret : ℕ) → AreRelated 0 (secret_new secret) (secret_new other_secret)
+machines_related secret other_secret =
+    memory_related 0 (secret_next secret_start) (secret_next secret_start) (secret_ram secret) (secret_ram other_secret)
     (related_itself 0 (secret_next secret_start)) (record {
-      size = sym (computed a).size ∙ (computed b).size;
-      bytes = λ i shown. elim (cases_eq i secret_offset) [
+      size = sym (computed secret).size ∙ (computed other_secret).size;
+      bytes = λ index not_hidden. elim (cases_eq index secret_offset) [
         | inl is_secret ↦
-            let secret_shown = ap (λ (j : ℕ). may_differ (secret_next secret_start).shared.table 0 (ram_base + j)) (sym is_secret) ∙ shown in
-            absurd (both_ways _ secret_shown (computed a).secret_in_region)
-        | inr is_other ↦ other_byte before_secret (replicate bytes_after_secret 0) a b i (λ same. is_other (same ∙ secret_is_at_offset))
+            let secret_shown =
+            ap (λ (any_index : ℕ). may_differ (secret_next secret_start).shared.table 0 (ram_base + any_index)) (sym is_secret) ∙ not_hidden in
+            absurd (both_ways _ secret_shown (computed secret).secret_in_region)
+        | inr is_other ↦
+            other_byte before_secret (replicate bytes_after_secret 0) secret other_secret index (λ equal. is_other (equal ∙ secret_is_at_offset))
       ];
-    }) (λ not_live. absurd (both_ways _ not_live (computed a).live))
+    }) (λ not_live. absurd (both_ways _ not_live (computed secret).live))
 
 -- the empty block has no byte
 no_byte : (byte : ℕ) → has no_block byte ≡ false
@@ -166,21 +170,21 @@ no_byte byte = grind (arith, nat_tests)
 -- ---- the moves
 
 -- the interrupt exits from both machines and hands over the same
-timer_exits_alike : (a b : ℕ) → ExitsAlike 0 0 (secret_raised a) (secret_raised b)
-timer_exits_alike a b = record {
-  runs = (computed a).running;
+timer_exits_alike : (secret other_secret : ℕ) → ExitsAlike 0 0 (secret_raised secret) (secret_raised other_secret)
+timer_exits_alike secret other_secret = record {
+  runs = (computed secret).running;
   window = record {
-    size = (computed a).memory_size ∙ sym (computed b).memory_size;
-    bytes = λ i shown.
-        let not_in_window = ap not (ap (λ (w : Block). has w (ram_base + i)) (computed a).window ∙ no_byte (ram_base + i)) in
-        absurd (both_ways _ shown not_in_window);
+    size = (computed secret).memory_size ∙ sym (computed other_secret).memory_size;
+    bytes = λ index in_window.
+        let not_in_window = ap not (ap (λ (block : Block). has block (ram_base + index)) (computed secret).window ∙ no_byte (ram_base + index)) in
+        absurd (both_ways _ in_window not_in_window);
   };
   trap = timer_trap;
   handover = tt;
-  first = (computed a).trap;
-  second = (computed b).trap;
-  first_exits = (computed a).exits;
-  second_exits = (computed b).exits;
+  first = (computed secret).trap;
+  second = (computed other_secret).trap;
+  first_exits = (computed secret).exits;
+  second_exits = (computed other_secret).exits;
 }
 
 -- the proof that the first move is permitted, followed by the proof for the other moves
@@ -188,32 +192,35 @@ abbrev pub and_then : {A B : Type 0} → A → B → A × B
 and_then first_move others = (first_move, others)
 
 -- the moves of the example are permitted, for any two secrets
-pub are_moves : (a b : ℕ) → AreMoves 0 secret_moves (secret_new a) (secret_new b)
-are_moves a b =
-    let first_facts = computed a in
-    let second_facts = computed b in
+pub moves_permitted : (secret other_secret : ℕ) → AreMoves 0 secret_moves (secret_new secret) (secret_new other_secret)
+moves_permitted secret other_secret =
+    let first_facts = computed secret in
+    let second_facts = computed other_secret in
     -- the host calls run
-    and_then (inl (record { low = first_facts.first.not_on_hart; window = λ running. absurd (both_ways _ first_facts.first.not_running running) }))
-    (and_then (inl (record { low = first_facts.second.not_on_hart; window = λ running. absurd (both_ways _ first_facts.second.not_running running) }))
+    and_then (inl (record { low = first_facts.run_1.not_on_hart; window = λ running. absurd (both_ways _ first_facts.run_1.not_running running) }))
+    (and_then (inl (record { low = first_facts.run_2.not_on_hart; window = λ running. absurd (both_ways _ first_facts.run_2.not_running running) }))
     -- the load of the secret in each machine
     (and_then (record { before = first_facts.before_load; after = first_facts.after_load })
     (and_then (record { before = second_facts.before_load; after = second_facts.after_load })
     -- the timer line is set, and the timer interrupt exits from both machines
     (and_then tt
-    (and_then (inr (timer_exits_alike a b))
+    (and_then (inr (timer_exits_alike secret other_secret))
     -- the host calls resume
-    (and_then (inl (record { low = first_facts.third.not_on_hart; window = λ running. absurd (both_ways _ first_facts.third.not_running running) }))
-    (and_then (inl (record { low = first_facts.fourth.not_on_hart; window = λ running. absurd (both_ways _ first_facts.fourth.not_running running) }))
-    (and_then (inl (record { low = first_facts.fifth.not_on_hart; window = λ running. absurd (both_ways _ first_facts.fifth.not_running running) }))
+    (and_then
+    (inl (record { low = first_facts.resume_1.not_on_hart; window = λ running. absurd (both_ways _ first_facts.resume_1.not_running running) }))
+    (and_then
+    (inl (record { low = first_facts.resume_2.not_on_hart; window = λ running. absurd (both_ways _ first_facts.resume_2.not_running running) }))
+    (and_then
+    (inl (record { low = first_facts.resume_3.not_on_hart; window = λ running. absurd (both_ways _ first_facts.resume_3.not_running running) }))
     -- the last step of the enclave in each machine
     (and_then (record { before = first_facts.before_last; after = first_facts.after_last })
     (and_then (record { before = second_facts.before_last; after = second_facts.after_last }) tt))))))))))
 
 -- proves that the steps of the example have equal outcomes for any two secrets
-pub steps_concealed : (a b : ℕ) → IsConcealed a b
-steps_concealed a b =
+pub steps_concealed : (secret other_secret : ℕ) → IsConcealed secret other_secret
+steps_concealed secret other_secret =
     record {
-      are = are_moves a b;
-      alike = declassification_law 0 secret_moves (secret_new a) (secret_new b) (invariant_after_create a)
-          (invariant_after_create b) (machines_related a b) (are_moves a b);
+      moves_permitted = moves_permitted secret other_secret;
+      outcomes_equal = declassification_law 0 secret_moves (secret_new secret) (secret_new other_secret) (invariant_after_create secret)
+          (invariant_after_create other_secret) (machines_related secret other_secret) (moves_permitted secret other_secret);
     }

@@ -1,4 +1,4 @@
--- Two benches stay equivalent except for an enclave after a command that steps no hart on which it runs.
+-- Two benches stay equivalent except for an enclave after a command that steps no hart on which the enclave runs.
 use Rattle.std.proofs.Common.{◌≡◌, ℕ, Bool, true, false, List, if◌then◌else◌, refl, sym, ◌∙◌, ap, subst, inl, inr}
 use Rattle.rv_debug.specs.Noninterference.{EquivalenceLaw, StateAlike}
 use Rattle.rv_debug.specs.Execute.{harts_summary_text, execute}
@@ -16,9 +16,9 @@ use Rattle.rv_debug.proofs.SchedAlike.{NeitherEnters, scheduled_steps_alike}
 use Rattle.rv_debug.proofs.ScheduledSteps.{after_schedule}
 
 -- both executions enter `enclave` or neither does; if neither does, the benches after them are equivalent except for `enclave`
-record EquivUnlessEntered (enclave : ℕ) (first second : Executed) : Type 0 where
-  entered : is_entered enclave first.entered ≡ is_entered enclave second.entered
-  state : is_entered enclave first.entered ≡ false → BenchesEquivExcept enclave first.state second.state
+record EquivUnlessEntered (enclave : ℕ) (one other : Executed) : Type 0 where
+  entered : is_entered enclave one.entered ≡ is_entered enclave other.entered
+  state : is_entered enclave one.entered ≡ false → BenchesEquivExcept enclave one.state other.state
 
 -- two schedules that do not enter the enclave leave equivalent benches
 past_equiv : (enclave hart : ℕ) (breaks watches : List ℕ) (start : Selected) (one other : AfterSchedule) → NeitherEnters enclave start one other
@@ -64,8 +64,8 @@ module _ (enclave hart : ℕ) (one other : MonitoredMachine)
   sched_equiv harts true true same_exist invariant other_invariant runs_on_none =
       elim (scheduled_steps_alike enclave harts (as_selected one) (as_selected other) _ invariant other_invariant equiv runs_on_none) [
         | inl both_enter ↦ record {
-          entered = both_enter.first ∙ sym both_enter.second;
-          state = λ not_entered. let never : true ≡ false = sym both_enter.first ∙ not_entered in cc;
+          entered = both_enter.one_enters ∙ sym both_enter.other_enters;
+          state = λ not_entered. let never : true ≡ false = sym both_enter.one_enters ∙ not_entered in cc;
         }
         | inr neither_enters ↦ past_equiv enclave hart breaks watches (as_selected one) _ _ neither_enters
       ]
@@ -86,7 +86,7 @@ sched_targets enclave (Monitored one) (Monitored other) breaks watches schedule 
     (execute (bench_of (selected_at hart other.state) breaks watches) (Sched schedule))) equiv.hart
     (sched_equiv enclave one.hart one.state other.state (record { hart = refl; state = state }) breaks watches harts
     (has_all (count_of one.state) harts)
-    (has_all (count_of other.state) harts) (ap (λ (n : ℕ). has_all n harts) state.harts) invariant other_invariant runs_on_none)
+    (has_all (count_of other.state) harts) (ap (λ (hart_count : ℕ). has_all hart_count harts) state.harts) invariant other_invariant runs_on_none)
 sched_targets enclave (Bare one) (Bare other) breaks watches schedule invariant other_invariant equiv blind runs_on_none =
     let alike_after =
     noninterference enclave (bench_of (Bare one) breaks watches) (bench_of (Bare other) breaks watches) (Sched schedule) invariant other_invariant
@@ -101,35 +101,36 @@ sched_targets enclave _ _ breaks watches schedule invariant other_invariant equi
 -- ---- every command
 
 -- a command that is blind and avoids the hart of the enclave leaves equivalent benches, unless it enters the enclave
-by_noninterference : (enclave : ℕ) (first second : BenchState) (command : Command) → TargetInvariant first.target → TargetInvariant second.target
-    → BenchesEquivExcept enclave first second → is_blind enclave first command ≡ true → AvoidsHart enclave first command
-    → StateAlike enclave (execute first command) (execute second command)
-by_noninterference enclave first second command invariant other_invariant equiv blind avoids_hart =
-    let alike_after = noninterference enclave first second command invariant other_invariant equiv blind avoids_hart in
+state_alike_if_hart_avoided : (enclave : ℕ) (bench other_bench : BenchState) (command : Command) → TargetInvariant bench.target
+    → TargetInvariant other_bench.target
+    → BenchesEquivExcept enclave bench other_bench → is_blind enclave bench command ≡ true → AvoidsHart enclave bench command
+    → StateAlike enclave (execute bench command) (execute other_bench command)
+state_alike_if_hart_avoided enclave bench other_bench command invariant other_invariant equiv blind avoids_hart =
+    let alike_after = noninterference enclave bench other_bench command invariant other_invariant equiv blind avoids_hart in
     record { entered = alike_after.entered; state = λ not_entered. let after = alike_after.passed not_entered in after.state }
 
 -- Proves that benches stay equivalent after commands that step no hart of the enclave. The commands that show the hart of the enclave have no effect,
 -- and a schedule is treated above; noninterference covers all others.
 pub equivalence : EquivalenceLaw
 unfolding execute
-equivalence enclave first second (Reg number) invariant other_invariant equiv blind runs_on_none =
-    record { entered = refl; state = λ not_entered. equiv_again enclave first second invariant equiv }
-equivalence enclave first second Regs invariant other_invariant equiv blind runs_on_none =
-    record { entered = refl; state = λ not_entered. equiv_again enclave first second invariant equiv }
-equivalence enclave first second (Csr number) invariant other_invariant equiv blind runs_on_none =
-    record { entered = refl; state = λ not_entered. equiv_again enclave first second invariant equiv }
-equivalence enclave first second (Sched schedule) invariant other_invariant equiv blind runs_on_none =
-    let states_equiv = subst (λ (breaks : List ℕ). EquivUnlessEntered enclave (execute first (Sched schedule))
-    (execute (bench_of second.target breaks second.watches) (Sched schedule)))
+equivalence enclave bench other_bench (Reg number) invariant other_invariant equiv blind runs_on_none =
+    record { entered = refl; state = λ not_entered. equiv_again enclave bench other_bench invariant equiv }
+equivalence enclave bench other_bench Regs invariant other_invariant equiv blind runs_on_none =
+    record { entered = refl; state = λ not_entered. equiv_again enclave bench other_bench invariant equiv }
+equivalence enclave bench other_bench (Csr number) invariant other_invariant equiv blind runs_on_none =
+    record { entered = refl; state = λ not_entered. equiv_again enclave bench other_bench invariant equiv }
+equivalence enclave bench other_bench (Sched schedule) invariant other_invariant equiv blind runs_on_none =
+    let states_equiv = subst (λ (breaks : List ℕ). EquivUnlessEntered enclave (execute bench (Sched schedule))
+    (execute (bench_of other_bench.target breaks other_bench.watches) (Sched schedule)))
     equiv.breaks
-    (subst (λ (watches : List ℕ). EquivUnlessEntered enclave (execute first (Sched schedule))
-    (execute (bench_of second.target first.breaks watches) (Sched schedule))) equiv.watches
-    (sched_targets enclave first.target second.target first.breaks first.watches schedule invariant other_invariant equiv.target blind
+    (subst (λ (watches : List ℕ). EquivUnlessEntered enclave (execute bench (Sched schedule))
+    (execute (bench_of other_bench.target bench.breaks watches) (Sched schedule))) equiv.watches
+    (sched_targets enclave bench.target other_bench.target bench.breaks bench.watches schedule invariant other_invariant equiv.target blind
     runs_on_none)) in
     record {
       entered = states_equiv.entered;
       state = λ not_entered. equiv_again enclave _ _
-          (command_keeps_invariant first (Sched schedule) invariant) (states_equiv.state not_entered);
+          (command_keeps_invariant bench (Sched schedule) invariant) (states_equiv.state not_entered);
     }
-equivalence enclave first second command invariant other_invariant equiv blind runs_on_none =
-    by_noninterference enclave first second command invariant other_invariant equiv blind runs_on_none
+equivalence enclave bench other_bench command invariant other_invariant equiv blind runs_on_none =
+    state_alike_if_hart_avoided enclave bench other_bench command invariant other_invariant equiv blind runs_on_none

@@ -14,13 +14,13 @@ next_of after continued watch_hit last at_break =
 
 -- Case analysis of `next_of` for two runs side by side that stop alike. A property holds after the step, if it holds for each stop and for the runs
 -- that continue.
-pub next_cases : {A B : Type 0} (P : AfterRun A → AfterRun B → Type 0) (a : AfterSteps A) (b : AfterSteps B) (one : AfterRun A)
-    (other : AfterRun B) (hit : Option ℕ) (last at_break : Bool) → ((stop : Stop) → P (ended a stop) (ended b stop)) → P one other
-    → P (next_of a one hit last at_break) (next_of b other hit last at_break)
-next_cases P a b one other (Some address) last at_break at_stop at_continuation = at_stop (Watch address)
-next_cases P a b one other None true at_break at_stop at_continuation = at_stop Done
-next_cases P a b one other None false true at_stop at_continuation = at_stop Break
-next_cases P a b one other None false false at_stop at_continuation = at_continuation
+pub next_cases : {A B : Type 0} (P : AfterRun A → AfterRun B → Type 0) (so_far : AfterSteps A) (other_so_far : AfterSteps B) (one : AfterRun A)
+    (other : AfterRun B) (hit : Option ℕ) (last at_break : Bool) → ((stop : Stop) → P (ended so_far stop) (ended other_so_far stop)) → P one other
+    → P (next_of so_far one hit last at_break) (next_of other_so_far other hit last at_break)
+next_cases P so_far other_so_far one other (Some address) last at_break at_stop at_continuation = at_stop (Watch address)
+next_cases P so_far other_so_far one other None true at_break at_stop at_continuation = at_stop Done
+next_cases P so_far other_so_far one other None false true at_stop at_continuation = at_stop Break
+next_cases P so_far other_so_far one other None false false at_stop at_continuation = at_continuation
 
 -- a property of a run holds if it holds at the end of the run, and before a step whenever it holds after the step
 pub run_induction : {A : Type 0} (step : A → Stepped A) (pc : A → ℕ) (breaks watches : List ℕ) (P : AfterSteps A → AfterRun A → Type 0)
@@ -63,7 +63,7 @@ module _ {A : Type 0} (step : A → Stepped A) (pc : A → ℕ) (breaks watches 
   -- a run of `left` + 1 steps is its first step, and then ends or continues as `next` says
   run-next : (count left : ℕ) (before : AfterSteps A) → count ≡ left + 1 → run step pc breaks watches count before ≡ next left before
   run-next count left before count_is =
-      let count_is_suc : count ≡ suc left = omega arith in ap (λ n. run step pc breaks watches n before) count_is_suc ∙ run-suc left before
+      let count_is_suc : count ≡ suc left = omega arith in ap (λ total. run step pc breaks watches total before) count_is_suc ∙ run-suc left before
 
   -- a run ends after a step that accesses a watched byte
   run-watch : (count left : ℕ) (before : AfterSteps A) (address : ℕ) → count ≡ left + 1

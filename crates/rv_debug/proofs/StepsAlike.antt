@@ -1,5 +1,5 @@
--- Runs of two monitored machines that are equivalent except for an enclave that is not the world of the selected hart. Both execute the same
--- steps, up to a step that enters it.
+-- Runs of two monitored machines that are equivalent except for an enclave that does not run on the selected hart. Both execute the same steps, up to
+-- a step that enters the enclave.
 use Rattle.std.proofs.Common.{◌≡◌, ℕ, zero, suc, ◌⊎◌, ◌==◌, Bool, true, false, List, Option, Some, None, refl, sym, ◌∙◌, ap, subst, inl, inr, arith}
 use Rattle.std.specs.Prelude.{bit_or, ◌^◌}
 use Rattle.std.proofs.lemmas.Nat.Bits.{bit_at_or, bit_at-lt, bit_at-pow_same}
@@ -35,14 +35,13 @@ entered_by_step enclave slots entered entered_is =
 
 -- ---- runs
 
--- both runs entered `enclave`
+-- both runs enter `enclave`
 pub record BothEnter (enclave : ℕ) (one other : AfterRun MonitoredMachine) : Type 0 where
-  pub first : is_entered enclave one.ran.entered ≡ true
-  pub second : is_entered enclave other.ran.entered ≡ true
+  pub one_enters : is_entered enclave one.ran.entered ≡ true
+  pub other_enters : is_entered enclave other.ran.entered ≡ true
 
--- Neither run entered `enclave`. Both have equal summaries (`ran`) and end in machines that are equivalent except for `enclave`, and
--- the enclave
--- does not run on the hart of the run.
+-- Neither run entered `enclave`. Both have equal summaries (`ran`) and end in machines that are equivalent except for `enclave`, and the enclave does
+-- not run on the hart of the run.
 pub record NeitherEnters (enclave hart : ℕ) (one other : AfterRun MonitoredMachine) : Type 0 where
   pub ran : one.ran ≡ other.ran
   pub state : EquivExcept enclave one.state other.state
@@ -90,9 +89,10 @@ module _ (enclave hart : ℕ) (breaks watches : List ℕ) where
       → is_entered enclave (next_run left before outcome state).ran.entered ≡ true
   run_enters left before outcome state enters_slot =
       let after = after_step before outcome state in
-      let rest = run_from left after in
+      let run_after = run_from left after in
       let entered_now = entered_by_step enclave before.entered outcome.entered enters_slot in
-      next_cases Enters after after rest rest (lowest_accessed watches outcome.step.touched) (left == 0) (is_among (hart_pc hart state) breaks)
+      next_cases Enters after after run_after run_after (lowest_accessed watches outcome.step.touched) (left == 0)
+      (is_among (hart_pc hart state) breaks)
       (λ stop. entered_now) (stays_entered_in_run left after entered_now)
 
   -- Noninterference of a run: in two equivalent machines, a run of a hart on which the enclave does not run is alike. The proof is by induction over
@@ -112,8 +112,8 @@ module _ (enclave hart : ℕ) (breaks watches : List ℕ) where
         | inl enters_slot ↦
             let entered_is = entered_some enclave first_step.outcome.entered enters_slot in
             inl (record {
-              first = run_enters left before first_step.outcome first_step.state entered_is;
-              second = run_enters left (with_state before other) second_step.outcome second_step.state
+              one_enters = run_enters left before first_step.outcome first_step.state entered_is;
+              other_enters = run_enters left (with_state before other) second_step.outcome second_step.state
                   (ap (λ (outcome : Outcome). outcome.entered) (sym alike_after.outcome) ∙ entered_is);
             })
         | inr does_not_enter ↦

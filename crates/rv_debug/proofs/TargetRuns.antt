@@ -83,7 +83,7 @@ entered-none breaks watches =
 pub enters_none : (breaks watches : List ℕ) (count : ℕ) (machine after : Machine) (ran : Ran)
     → run machine_stepped machine_pc breaks watches count (no_steps machine) ≡ record { state = after; ran = ran } → ran.entered ≡ 0
 enters_none breaks watches count machine after ran run_is =
-    ap (λ (a : AfterRun Machine). a.ran.entered) (sym run_is) ∙ entered-none breaks watches count (no_steps machine)
+    ap (λ (run_result : AfterRun Machine). run_result.ran.entered) (sym run_is) ∙ entered-none breaks watches count (no_steps machine)
 
 -- ---- the selected hart
 

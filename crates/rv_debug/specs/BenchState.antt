@@ -2,7 +2,7 @@
 use Rattle.std.specs.Prelude.{ℕ, List, []}
 use Rattle.rv_debug.specs.Prelude.{Bare, MonitoredMachine, Monitored, Machine, Target}
 
--- a bench has a target, and the sorted addresses of the breakpoints and of the watched bytes
+-- the state of a bench: its target, the sorted addresses of its breakpoints, and the sorted addresses of its watched bytes
 pub record BenchState : Type 0 where
   pub target : Target
   pub breaks : List ℕ

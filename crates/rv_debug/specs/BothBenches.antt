@@ -19,8 +19,8 @@ use Rattle.rv_debug.specs.declared.both.BothLine.TheVariants.{Faulty, Given}
 
 -- ---- equivalence of two benches
 
--- The selected hart is the same, and the machines are equivalent except for `enclave`, wherever it runs. They are equal except for
--- the bytes of its region, its context, and the hart on which it runs, if it runs. A bare machine has no enclave.
+-- The selected hart is the same, and the machines are equivalent except for `enclave`, wherever it runs. They are equal except for the bytes of its
+-- region, its context, and the hart on which it runs, if it runs. A bare machine has no enclave.
 pub record SelectedEquivExcept (enclave : ℕ) (one other : Selected) : Type 0 where
   pub hart : one.hart ≡ other.hart
   pub state : EquivExcept enclave one.state other.state
@@ -43,7 +43,7 @@ pub record BenchesEquivExcept (enclave : ℕ) (one other : BenchState) : Type 0 
 abbrev pub region_in : ℕ → Target → Block
 region_in enclave target = option_case (machine_in target) no_block (λ machine. region machine.shared.table enclave)
 
--- the command is not a mem, dis or poke with a byte in the region of `enclave`
+-- whether a command is blind to `enclave`: it is not a `mem`, `dis` or `poke` of a byte in the region of `enclave`
 unfoldable pub is_blind : ℕ → BenchState → Command → Bool
 is_blind enclave bench command = not (meets (bytes_named command) (region_in enclave bench.target))
 
@@ -69,7 +69,7 @@ RunsOnNoHart enclave target = IfSome (machine_in target) (λ machine. (hart : �
 abbrev pub AvoidsHart : ℕ → BenchState → Command → Type 0
 AvoidsHart enclave bench command = RunsOnNoneIn enclave (harts_shown bench.target command) bench.target
 
--- `enclave` is in a set of slots, given as bits
+-- whether a step entered `enclave`: the bit of this slot is set in the entered slots
 abbrev pub is_entered : ℕ → ℕ → Bool
 is_entered enclave slots = bit_at slots enclave == 1
 
@@ -93,7 +93,7 @@ both_do enclave first second = record {
   why = if is_entered enclave first.entered || is_entered enclave second.entered then Entered else All;
 }
 
--- neither executes a command that is not blind in both
+-- both benches execute a command that is blind in both, and neither executes any other command
 unfoldable pub both_execute : ℕ → BenchState → BenchState → Command → BothExecuted
 both_execute enclave first second command =
     if is_blind enclave first command && is_blind enclave second command then both_do enclave (execute first command) (execute second command)
@@ -101,7 +101,7 @@ both_execute enclave first second command =
 
 -- ---- one line for both
 
--- a blank line has no command
+-- whether a line has no command, because it is blank
 abbrev pub has_no_command : Command → Bool
 has_no_command Blank = true
 has_no_command _ = false
@@ -134,11 +134,11 @@ both_execute_line enclave first second line = both_line_executed enclave first s
 
 -- ---- a second, equivalent bench
 
--- an enclave is live in the slot, and does not run
+-- whether the slot `enclave` of a target has a live enclave that does not run
 abbrev pub can_scramble_in : ℕ → Target → Bool
 can_scramble_in enclave target = option_case (machine_in target) false (λ machine. can_scramble_of machine.shared.table enclave)
 
--- an enclave is live in slot `enclave` of the bench, and does not run
+-- whether the slot `enclave` of a bench has a live enclave that does not run
 abbrev pub can_scramble : ℕ → BenchState → Bool
 can_scramble enclave bench = can_scramble_in enclave bench.target
 
@@ -164,7 +164,7 @@ pub record BothRan : Type 0 where
 abbrev pub one_more_ran : BothRan → BothRan
 one_more_ran rest = record { first = rest.first; second = rest.second; ran = suc rest.ran; why = rest.why }
 
--- the remaining commands are executed if the first one allows it
+-- the result of a list of commands from the result `after` of its first command and the result `rest` of the others, which count only for `All`
 abbrev pub go_on : BothWhy → BothExecuted → BothRan → BothRan
 go_on All after rest = one_more_ran rest
 go_on Entered after rest = record { first = after.first; second = after.second; ran = 1; why = Entered }

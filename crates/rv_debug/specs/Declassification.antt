@@ -63,17 +63,19 @@ second_steps (Both (LineOf hart raised) ∷ moves) = second_steps moves
 pub record StepsAreMoves (enclave : ℕ) (one other : MonitoredMachine) (harts others : List ℕ) : Type 0 where
   pub moves : List Move
   pub steps : are_steps moves ≡ true
+  -- in the first machine, the moves are steps of `harts`, and in the second machine steps of `others`
   pub first : first_steps moves ≡ harts
   pub second : second_steps moves ≡ others
+  -- the moves are permitted in the two machines
   pub are : AreMoves enclave moves one other
 
--- the steps of a command in two benches; a command without steps has no condition
+-- the steps of a command in two monitored benches are those of a list of moves; bare benches have no condition
 abbrev pub HandsOverAlike : ℕ → BenchState → BenchState → Command → Type 0
-HandsOverAlike enclave first second command =
-    IfSome (machine_in first.target) (λ one. IfSome (machine_in second.target) (λ other.
-    StepsAreMoves enclave one other (harts_stepped (effect first command)) (harts_stepped (effect second command))))
+HandsOverAlike enclave bench other_bench command =
+    IfSome (machine_in bench.target) (λ one. IfSome (machine_in other_bench.target) (λ other.
+    StepsAreMoves enclave one other (harts_stepped (effect bench command)) (harts_stepped (effect other_bench command))))
 
--- `stop_of` is what ends the steps of a command
+-- `stop_of` is the reason for which the steps of a command end
 abbrev pub stop_of : BenchState → Command → Stop
 stop_of bench (Step count) = (steps_of bench.target [] [] count).ran.stop
 stop_of bench (Run count) = (steps_of bench.target bench.breaks bench.watches count).ran.stop
@@ -87,65 +89,71 @@ SetsOwnRegister enclave bench (SetReg number value) = is_selected enclave bench.
 SetsOwnRegister enclave bench _ = ⊥
 
 -- both benches execute one command, whose steps hand over the same, and end for the same reason
-pub record IsSameCommand (enclave : ℕ) (first second : BenchState) (here there : Command) : Type 0 where
-  pub same : here ≡ there
-  pub steps : HandsOverAlike enclave first second here
-  pub stop : stop_of first here ≡ stop_of second here
+pub record IsSameCommand (enclave : ℕ) (bench other_bench : BenchState) (command other_command : Command) : Type 0 where
+  pub same : command ≡ other_command
+  pub steps : HandsOverAlike enclave bench other_bench command
+  pub stop : stop_of bench command ≡ stop_of other_bench command
 
 -- the bytes of the window are equal, if the enclave runs
 abbrev pub WindowsAreEqual : ℕ → BenchState → BenchState → Type 0
-WindowsAreEqual enclave first second =
-    IfSome (machine_in first.target) (λ one. IfSome (machine_in second.target) (λ other.
+WindowsAreEqual enclave bench other_bench =
+    IfSome (machine_in bench.target) (λ one. IfSome (machine_in other_bench.target) (λ other.
     runs one.shared.table enclave ≡ true → SameWindow enclave one other))
 
 -- both benches execute one command, which in the first bench steps no hart on which the enclave runs, and does not enter the enclave
-pub record IsSameLowCommand (enclave : ℕ) (first second : BenchState) (here there : Command) : Type 0 where
-  pub same : here ≡ there
-  pub window : WindowsAreEqual enclave first second
-  pub none : RunsOnNoneIn enclave (harts_named first.target here) first.target
-  pub past : is_entered enclave (execute first here).entered ≡ false
+pub record IsSameLowCommand (enclave : ℕ) (bench other_bench : BenchState) (command other_command : Command) : Type 0 where
+  pub same : command ≡ other_command
+  pub window : WindowsAreEqual enclave bench other_bench
+  -- the enclave runs on none of the harts that the command may step
+  pub none : RunsOnNoneIn enclave (harts_named bench.target command) bench.target
+  -- the command does not enter the enclave
+  pub past : is_entered enclave (execute bench command).entered ≡ false
 
 -- Both benches execute the same command, which hands over the same or is low. Or both poke a secret into the region of the enclave, or both set a
 -- register of the hart on which it runs to a secret.
 abbrev pub CommandsAlike : ℕ → BenchState → BenchState → Command → Command → Type 0
-CommandsAlike enclave first second here there =
-    (IsSameCommand enclave first second here there ⊎ IsSameLowCommand enclave first second here there)
-    ⊎ ((PokesInto enclave first here × PokesInto enclave second there) ⊎ (SetsOwnRegister enclave first here × SetsOwnRegister enclave second there))
+CommandsAlike enclave bench other_bench command other_command =
+    (IsSameCommand enclave bench other_bench command other_command ⊎ IsSameLowCommand enclave bench other_bench command other_command)
+    ⊎ ((PokesInto enclave bench command × PokesInto enclave other_bench other_command)
+    ⊎ (SetsOwnRegister enclave bench command × SetsOwnRegister enclave other_bench other_command))
 
 -- the observations are equal, and the benches are related again
-pub record ObservedAlike (enclave : ℕ) (first second : BenchState) (here there : Command) : Type 0 where
-  pub observed : observed enclave first here ≡ observed enclave second there
-  pub state : BenchesAreRelated enclave (execute first here).state (execute second there).state
+pub record ObservedAlike (enclave : ℕ) (bench other_bench : BenchState) (command other_command : Command) : Type 0 where
+  pub observed : observed enclave bench command ≡ observed enclave other_bench other_command
+  pub state : BenchesAreRelated enclave (execute bench command).state (execute other_bench other_command).state
 
 -- two commands that are alike have equal observations on related benches, and leave them related
 abbrev pub CommandDeclassificationLaw : Type 0
 CommandDeclassificationLaw =
-    (enclave : ℕ) (first second : BenchState) (here there : Command) → TargetInvariant first.target → TargetInvariant second.target
-    → BenchesAreRelated enclave first second → CommandsAlike enclave first second here there → ObservedAlike enclave first second here there
+    (enclave : ℕ) (bench other_bench : BenchState) (command other_command : Command) → TargetInvariant bench.target
+    → TargetInvariant other_bench.target
+    → BenchesAreRelated enclave bench other_bench → CommandsAlike enclave bench other_bench command other_command
+    → ObservedAlike enclave bench other_bench command other_command
 
 -- ---- a command that executes no step of the enclave
 
 -- both benches execute equal steps of the command, and the windows are equal afterwards
-pub record IsLowCommand (enclave : ℕ) (first second : BenchState) (command : Command) : Type 0 where
-  pub same : IsSameCommand enclave first second command command
-  pub window : WindowsAreEqual enclave (execute first command).state (execute second command).state
+pub record IsLowCommand (enclave : ℕ) (bench other_bench : BenchState) (command : Command) : Type 0 where
+  pub same : IsSameCommand enclave bench other_bench command command
+  pub window : WindowsAreEqual enclave (execute bench command).state (execute other_bench command).state
 
 -- A command steps no hart on which the enclave runs, and does not enter it in the first bench. The condition on its steps then holds.
 abbrev pub LowCommandLaw : Type 0
 LowCommandLaw =
-    (enclave : ℕ) (first second : BenchState) (command : Command) → TargetInvariant first.target → TargetInvariant second.target
-    → BenchesAreRelated enclave first second → WindowsAreEqual enclave first second
-    → RunsOnNoneIn enclave (harts_named first.target command) first.target
-    → is_entered enclave (execute first command).entered ≡ false → IsLowCommand enclave first second command
+    (enclave : ℕ) (bench other_bench : BenchState) (command : Command) → TargetInvariant bench.target → TargetInvariant other_bench.target
+    → BenchesAreRelated enclave bench other_bench → WindowsAreEqual enclave bench other_bench
+    → RunsOnNoneIn enclave (harts_named bench.target command) bench.target
+    → is_entered enclave (execute bench command).entered ≡ false → IsLowCommand enclave bench other_bench command
 
 -- ---- lists of commands
 
 -- two lists of commands, one for each bench, are alike command by command
 abbrev pub AllCommandsAlike : ℕ → BenchState → BenchState → List Command → List Command → Type 0
-AllCommandsAlike enclave first second [] [] = Unit {0}
-AllCommandsAlike enclave first second (here ∷ commands) (there ∷ others) =
-    CommandsAlike enclave first second here there × AllCommandsAlike enclave (execute first here).state (execute second there).state commands others
-AllCommandsAlike enclave first second _ _ = ⊥
+AllCommandsAlike enclave bench other_bench [] [] = Unit {0}
+AllCommandsAlike enclave bench other_bench (command ∷ commands) (other_command ∷ other_commands) =
+    CommandsAlike enclave bench other_bench command other_command
+    × AllCommandsAlike enclave (execute bench command).state (execute other_bench other_command).state commands other_commands
+AllCommandsAlike enclave bench other_bench _ _ = ⊥
 
 -- `all_observed` has the observations of commands, one after another
 abbrev pub all_observed : ℕ → BenchState → List Command → List (List ℕ)
@@ -153,16 +161,17 @@ all_observed enclave bench [] = []
 all_observed enclave bench (command ∷ commands) = observed enclave bench command ∷ all_observed enclave (execute bench command).state commands
 
 -- all observations of two lists of commands are equal, and the benches are related after them
-pub record AllObservedAlike (enclave : ℕ) (first second : BenchState) (commands others : List Command) : Type 0 where
-  pub observed : all_observed enclave first commands ≡ all_observed enclave second others
-  pub state : BenchesAreRelated enclave (after_commands first commands) (after_commands second others)
+pub record AllObservedAlike (enclave : ℕ) (bench other_bench : BenchState) (commands other_commands : List Command) : Type 0 where
+  pub observed : all_observed enclave bench commands ≡ all_observed enclave other_bench other_commands
+  pub state : BenchesAreRelated enclave (after_commands bench commands) (after_commands other_bench other_commands)
 
 -- two lists of commands that are alike have equal observations on related benches, and leave them related
 abbrev pub ListDeclassificationLaw : Type 0
 ListDeclassificationLaw =
-    (enclave : ℕ) (first second : BenchState) (commands others : List Command) → TargetInvariant first.target → TargetInvariant second.target
-    → BenchesAreRelated enclave first second → AllCommandsAlike enclave first second commands others
-    → AllObservedAlike enclave first second commands others
+    (enclave : ℕ) (bench other_bench : BenchState) (commands other_commands : List Command) → TargetInvariant bench.target
+    → TargetInvariant other_bench.target
+    → BenchesAreRelated enclave bench other_bench → AllCommandsAlike enclave bench other_bench commands other_commands
+    → AllObservedAlike enclave bench other_bench commands other_commands
 
 -- ---- the observation of a command that has nothing to do with the enclave
 
@@ -170,7 +179,7 @@ ListDeclassificationLaw =
 abbrev pub DoesNotRun : ℕ → Target → Type 0
 DoesNotRun enclave target = IfSome (machine_in target) (λ machine. runs machine.shared.table enclave ≡ false)
 
--- what others observe of the command is its whole reply; for `csr` it is the reply in the guest view
+-- the observation of the command is its whole reply; for `csr` the observation is the reply in the guest view
 abbrev pub IsObserved : ℕ → BenchState → Command → Type 0
 IsObserved enclave bench (Csr number) = observed enclave bench (Csr number) ≡ csr_reply (guest_target bench.target) number
 IsObserved enclave bench command = observed enclave bench command ≡ (execute bench command).reply
@@ -190,23 +199,23 @@ EnclaveHasEnded enclave target = IfSome (machine_in target) (λ machine. is_live
 
 -- the benches are related for every slot, so that no secret is left
 abbrev pub AreRelatedForAll : BenchState → BenchState → Type 0
-AreRelatedForAll first second = (k : ℕ) → BenchesAreRelated k first second
+AreRelatedForAll bench other_bench = (slot : ℕ) → BenchesAreRelated slot bench other_bench
 
 -- After an enclave has ended, related benches are related for every slot. The same command then satisfies the condition on its steps for every slot,
 -- even if it runs another enclave, and the benches are related for every slot again.
 pub record EndedLaw : Type 0 where
-  pub ended : (enclave : ℕ) (first second : BenchState) → TargetInvariant first.target → BenchesAreRelated enclave first second
-      → EnclaveHasEnded enclave first.target
-      → AreRelatedForAll first second
-  pub same : (k : ℕ) (first second : BenchState) (command : Command) → TargetInvariant first.target → TargetInvariant second.target
-      → AreRelatedForAll first second → IsSameCommand k first second command command
-  pub again : (first second : BenchState) (command : Command) → TargetInvariant first.target → TargetInvariant second.target
-      → AreRelatedForAll first second → AreRelatedForAll (execute first command).state (execute second command).state
+  pub ended : (enclave : ℕ) (bench other_bench : BenchState) → TargetInvariant bench.target → BenchesAreRelated enclave bench other_bench
+      → EnclaveHasEnded enclave bench.target
+      → AreRelatedForAll bench other_bench
+  pub same : (slot : ℕ) (bench other_bench : BenchState) (command : Command) → TargetInvariant bench.target → TargetInvariant other_bench.target
+      → AreRelatedForAll bench other_bench → IsSameCommand slot bench other_bench command command
+  pub again : (bench other_bench : BenchState) (command : Command) → TargetInvariant bench.target → TargetInvariant other_bench.target
+      → AreRelatedForAll bench other_bench → AreRelatedForAll (execute bench command).state (execute other_bench command).state
 
 -- ---- where the relation begins
 
 -- A bench is related to itself. Benches that are equivalent except for an enclave are related, if it runs on no hart.
 pub record BenchRelationLaw : Type 0 where
   pub itself : (enclave : ℕ) (bench : BenchState) → BenchesAreRelated enclave bench bench
-  pub begins : (enclave : ℕ) (first second : BenchState)
-      → BenchesEquivExcept enclave first second → RunsOnNoHart enclave first.target → BenchesAreRelated enclave first second
+  pub begins : (enclave : ℕ) (bench other_bench : BenchState)
+      → BenchesEquivExcept enclave bench other_bench → RunsOnNoHart enclave bench.target → BenchesAreRelated enclave bench other_bench

@@ -6,11 +6,11 @@ use Rattle.rv_debug.specs.ScheduledSteps.{schedule_start, scheduled_steps}
 use Rattle.rv_debug.specs.Steps.{AfterRun, no_steps, run}
 use Rattle.rv_debug.specs.Targets.{selected_of, harts_of, pc_of, target_stepped, register_set, timer_set, poked, with_selected}
 
--- the effect of a command:
+-- the effect of a command on the target is one of five kinds:
 -- - none;
--- - steps of these harts in this order, after which the given hart is selected;
+-- - one step of each hart in the list `harts`, in this order, after which the hart `selected` is selected;
 -- - a write of a register of the selected hart;
--- - a change of its timer line;
+-- - a change of the timer line of the selected hart;
 -- - a write of a byte, if its address is in RAM
 pub data Effect : Type 0 where
   Nothing : Effect
@@ -41,7 +41,7 @@ harts_stepped _ = []
 
 -- ---- the effect of a command
 
--- at most `count` steps of the selected hart; a watchpoint or a breakpoint may end them
+-- `steps_of` is a run of at most `count` steps of the selected hart, which a watchpoint or a breakpoint may end
 abbrev pub steps_of : Target → List ℕ → List ℕ → ℕ → AfterRun Target
 steps_of target breaks watches count = run target_stepped pc_of breaks watches count (no_steps target)
 
@@ -50,11 +50,12 @@ abbrev pub run_effect : Target → List ℕ → List ℕ → ℕ → Effect
 run_effect target breaks watches count =
     Steps (replicate (steps_of target breaks watches count).ran.steps (selected_of target)) (selected_of target)
 
--- a hart is selected, if there is one with this number
+-- `hart_effect` is the effect of `hart`: it selects the hart, or has no effect if no hart has this number
 abbrev pub hart_effect : Target → ℕ → Effect
 hart_effect target hart = if nat_lt hart (harts_of target) then Steps [] hart else Nothing
 
--- the steps of a schedule do not change the selected hart; if the schedule names a hart that does not exist, no step is executed
+-- `sched_effect` is the effect of `sched`: the steps of the schedule, or no effect if some hart of the schedule does not exist. The selected hart
+-- stays the same.
 abbrev pub sched_effect : Target → List ℕ → Effect
 sched_effect target harts = if has_all (harts_of target) harts then Steps harts (selected_of target) else Nothing
 

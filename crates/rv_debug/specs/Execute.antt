@@ -17,17 +17,17 @@ use Rattle.rv_debug.specs.Targets.{selected_of, hart_of, harts_of, memory_of, wo
 
 -- ---- breakpoints and watchpoints
 
--- `set_after` is a set after an address was inserted, or unchanged if the set is full
+-- `set_after` is the set after the insertion of an address, where `set` is None if the old set is full and therefore unchanged
 abbrev pub set_after : List ℕ → Option (List ℕ) → List ℕ
 set_after old set = option_case set old (λ new. new)
 
--- the breakpoints after a command; those of a full set are unchanged
+-- the breakpoints after a command; a full set gets no new address
 abbrev pub breaks_after : BenchState → Command → List ℕ
 breaks_after bench (Break address) = set_after bench.breaks (with_room_for address bench.breaks)
 breaks_after bench (Clear address) = without_address address bench.breaks
 breaks_after bench _ = bench.breaks
 
--- the watchpoints after a command; those of a full set are unchanged
+-- the watchpoints after a command; a full set gets no new address
 abbrev pub watches_after : BenchState → Command → List ℕ
 watches_after bench (Watch address) = set_after bench.watches (with_room_for address bench.watches)
 watches_after bench (Unwatch address) = without_address address bench.watches
@@ -35,7 +35,7 @@ watches_after bench _ = bench.watches
 
 -- ---- replies
 
--- an address was inserted into a set, or the set is full
+-- the reply to `break` or `watch`: the address is in the set, or the set is full
 abbrev pub set_reply : Option (List ℕ) → List ℕ
 set_reply set = option_case set full_text (λ new. ok_text)
 
@@ -43,18 +43,18 @@ set_reply set = option_case set full_text (λ new. ok_text)
 abbrev pub ran_reply : AfterRun Target → List ℕ
 ran_reply after = ran_text (pc_of after.state) (hart_of after.state).mode (world_text after.state) after.ran
 
--- a byte is written to memory, if its address is in RAM
+-- the reply to `poke`: the byte is written, or its address is outside RAM
 abbrev pub poke_reply : Target → ℕ → ℕ → List ℕ
 poke_reply target address byte = option_case (poked target address byte) outside_text (λ after. ok_text)
 
--- mhartid (F14, which is 3860) shows the number of the selected hart, and every other CSR its value as mode M reads it, if there is one with the
--- number
+-- The reply to `csr`. For mhartid (number F14, which is 3860) it shows the number of the selected hart. For every other CSR it shows the value that
+-- mode M reads, or an error if no CSR has the number.
 abbrev pub csr_reply : Target → ℕ → List ℕ
 csr_reply target number =
     if number == 3860 then csr_text number (selected_of target)
     else result_case (read_result (hart_of target).csrs number M) (csr_text number) (λ _. no_csr_text)
 
--- a hart is selected, if there is one with the number
+-- the reply to `hart`: the hart is selected, or no hart has the number
 abbrev pub hart_reply : Target → ℕ → List ℕ
 hart_reply target hart = if nat_lt hart (harts_of target) then ok_text else no_hart_text
 
@@ -74,15 +74,15 @@ abbrev pub sched_reply : Target → List ℕ → List ℕ
 sched_reply target harts =
     if has_all (harts_of target) harts then harts_summary_text (scheduled_steps harts (schedule_start target)) else no_hart_text
 
--- bytes of memory are shown if all of them are in RAM
+-- the reply to `mem`: the bytes, or an error if some of them are outside RAM
 abbrev pub memory_reply : List ℕ → ℕ → ℕ → List ℕ
 memory_reply memory address count = option_case (read memory address count) outside_text (memory_text address)
 
--- the word at an address, lowest byte first, is shown if all of its bytes are in RAM
+-- the reply to `dis`: the word at the address, whose lowest byte comes first, or an error if some of its bytes are outside RAM
 abbrev pub dis_reply : List ℕ → ℕ → List ℕ
 dis_reply memory address = option_case (read memory address 4) outside_text (λ bytes. dis_text address (number_of_bytes bytes))
 
--- an access is outside if one of its bytes is outside RAM; otherwise the reply is the verdict of the PMP entries in the given mode
+-- the reply to `access`: the verdict of the PMP entries in this mode, or `denied outside` if some byte of the access is outside RAM
 abbrev pub access_reply : List ℕ → Entries → Mode → AccessKind → ℕ → Width → List ℕ
 access_reply memory entries mode access address width =
     option_case (read memory address (bytes_in width)) denied_outside_text
@@ -126,13 +126,13 @@ only_shows Enclaves = true
 only_shows (Access mode access address width) = true
 only_shows _ = false
 
--- a state, the text of a reply, and the slots of the enclaves that were entered: bit k is set for slot k
+-- the result of a command: the bench after the command, the text of the reply, and the entered slots as bits (bit 3 is set if slot 3 was entered)
 pub record Executed : Type 0 where
   pub state : BenchState
   pub reply : List ℕ
   pub entered : ℕ
 
--- one command: its effect, the breakpoints and watchpoints after it, and its reply
+-- `execute` is the result of one command: the bench with the effect on its target and the new breakpoints and watchpoints, and the reply
 unfoldable pub execute : BenchState → Command → Executed
 execute bench command = record {
   state = record {
@@ -144,7 +144,7 @@ execute bench command = record {
   entered = entered_by bench.target (effect bench command);
 }
 
--- one line: the reply to a line with an error is that error, and nothing changes
+-- `execute_or_fault` is the result of one line: a line with an error has the error as its reply, and does not change the bench
 abbrev pub execute_or_fault : BenchState → Result Command CommandFault → Executed
 execute_or_fault bench (Ok command) = execute bench command
 execute_or_fault bench (Err fault) = record { state = bench; reply = command_fault_text fault; entered = 0 }

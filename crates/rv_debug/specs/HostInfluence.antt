@@ -31,9 +31,9 @@ pub data BenchMove : Type 0 where
 
 -- the move is a foreign action in its machine, or a step of the enclave in both machines
 abbrev pub IsBenchMove : ℕ → ℕ → BenchMove → MonitoredMachine → MonitoredMachine → Type 0
-IsBenchMove i j (InFirst action) one other = IsForeignAction i action one
-IsBenchMove i j (InSecond action) one other = IsForeignAction j action other
-IsBenchMove i j (InBoth hart other_hart) one other = IsOwnStep (at i hart) (at j other_hart) one other
+IsBenchMove enclave other_enclave (InFirst action) one other = IsForeignAction enclave action one
+IsBenchMove enclave other_enclave (InSecond action) one other = IsForeignAction other_enclave action other
+IsBenchMove enclave other_enclave (InBoth hart other_hart) one other = IsOwnStep (at enclave hart) (at other_enclave other_hart) one other
 
 -- `moved_first` is the first machine after a move
 abbrev pub moved_first : BenchMove → MonitoredMachine → MonitoredMachine
@@ -49,9 +49,9 @@ moved_second (InBoth hart other_hart) machine = (step_of other_hart machine).sta
 
 -- each move in the list is permitted in the two machines that the moves before it lead to
 abbrev pub AreBenchMoves : ℕ → ℕ → List BenchMove → MonitoredMachine → MonitoredMachine → Type 0
-AreBenchMoves i j [] one other = Unit {0}
-AreBenchMoves i j (move ∷ moves) one other =
-    IsBenchMove i j move one other × AreBenchMoves i j moves (moved_first move one) (moved_second move other)
+AreBenchMoves enclave other_enclave [] one other = Unit {0}
+AreBenchMoves enclave other_enclave (move ∷ moves) one other =
+    IsBenchMove enclave other_enclave move one other × AreBenchMoves enclave other_enclave moves (moved_first move one) (moved_second move other)
 
 -- `first_actions` has the actions in the first machine
 abbrev pub first_actions : List BenchMove → List Action
@@ -67,28 +67,33 @@ second_actions (InFirst action ∷ moves) = second_actions moves
 second_actions (InSecond action ∷ moves) = action ∷ second_actions moves
 second_actions (InBoth hart other_hart ∷ moves) = Occurs (StepOf other_hart) ∷ second_actions moves
 
--- every step of the enclave is the same in both
+-- every step of the enclave is equal in both machines
 abbrev pub EnclaveStepsAreSame : ℕ → ℕ → List BenchMove → MonitoredMachine → MonitoredMachine → Type 0
-EnclaveStepsAreSame i j [] one other = Unit {0}
-EnclaveStepsAreSame i j (InFirst action ∷ moves) one other = EnclaveStepsAreSame i j moves (after_action action one) other
-EnclaveStepsAreSame i j (InSecond action ∷ moves) one other = EnclaveStepsAreSame i j moves one (after_action action other)
-EnclaveStepsAreSame i j (InBoth hart other_hart ∷ moves) one other =
-    SameOwnStep (at i hart) (at j other_hart) one other × EnclaveStepsAreSame i j moves (step_of hart one).state (step_of other_hart other).state
+EnclaveStepsAreSame enclave other_enclave [] one other = Unit {0}
+EnclaveStepsAreSame enclave other_enclave (InFirst action ∷ moves) one other =
+    EnclaveStepsAreSame enclave other_enclave moves (after_action action one) other
+EnclaveStepsAreSame enclave other_enclave (InSecond action ∷ moves) one other =
+    EnclaveStepsAreSame enclave other_enclave moves one (after_action action other)
+EnclaveStepsAreSame enclave other_enclave (InBoth hart other_hart ∷ moves) one other =
+    SameOwnStep (at enclave hart) (at other_enclave other_hart) one other
+    × EnclaveStepsAreSame enclave other_enclave moves (step_of hart one).state (step_of other_hart other).state
 
 -- ---- two lists of commands
 
--- The enclave of slot i in the first machine and that of slot j in the second are at one point. The actions of the commands are those of moves.
-pub record IsSameLife (i j : ℕ) (first second : BenchState) (commands others : List Command) (one other : MonitoredMachine) : Type 0 where
-  pub point : AreAtOnePoint i j one other
+-- The slots `enclave` of the first machine and `other_enclave` of the second have enclaves at one point of their lives. The commands of each bench
+-- have the actions of `moves` in this machine, and these moves are permitted.
+pub record IsSameLife (enclave other_enclave : ℕ) (bench other_bench : BenchState) (commands other_commands : List Command)
+    (one other : MonitoredMachine) : Type 0 where
+  pub point : AreAtOnePoint enclave other_enclave one other
   pub moves : List BenchMove
-  pub here : first_actions moves ≡ actions_of first commands
-  pub there : second_actions moves ≡ actions_of second others
-  pub are : AreBenchMoves i j moves one other
+  pub first_commands : first_actions moves ≡ actions_of bench commands
+  pub second_commands : second_actions moves ≡ actions_of other_bench other_commands
+  pub moves_permitted : AreBenchMoves enclave other_enclave moves one other
 
--- the enclaves of slots i and j make equal steps, and are at one point after the commands
-pub record HasSameLife (i j : ℕ) (moves : List BenchMove) (one other : MonitoredMachine) (after after_too : Target) : Type 0 where
-  pub steps : EnclaveStepsAreSame i j moves one other
-  pub point : IsSomeAnd (machine_in after) (λ a. IsSomeAnd (machine_in after_too) (AreAtOnePoint i j a))
+-- the two enclaves make equal steps, and are at one point of their lives after the commands
+pub record HasSameLife (enclave other_enclave : ℕ) (moves : List BenchMove) (one other : MonitoredMachine) (after other_after : Target) : Type 0 where
+  pub steps : EnclaveStepsAreSame enclave other_enclave moves one other
+  pub point : IsSomeAnd (machine_in after) (λ machine. IsSomeAnd (machine_in other_after) (AreAtOnePoint enclave other_enclave machine))
 
 -- pc and the S-mode registers of a monitored machine have legal values
 abbrev pub IsLegalTarget : Target → Type 0
@@ -96,10 +101,12 @@ IsLegalTarget target = IfSome (machine_in target) IsLegalMachine
 
 -- commands of other worlds influence an enclave only by its window and its entry, and legal targets stay legal
 pub record HostInfluenceLaw : Type 0 where
-  pub same : (i j : ℕ) (first second : BenchState) (commands others : List Command) → TargetInvariant first.target → TargetInvariant second.target
-      → IsLegalTarget first.target → IsLegalTarget second.target
-      → IfSome (machine_in first.target) (λ one. IfSome (machine_in second.target) (λ other.
-      (life : IsSameLife i j first second commands others one other)
-      → HasSameLife i j life.moves one other (after_commands first commands).target (after_commands second others).target))
+  pub same : (enclave other_enclave : ℕ) (bench other_bench : BenchState) (commands other_commands : List Command)
+      → TargetInvariant bench.target → TargetInvariant other_bench.target
+      → IsLegalTarget bench.target → IsLegalTarget other_bench.target
+      → IfSome (machine_in bench.target) (λ one. IfSome (machine_in other_bench.target) (λ other.
+      (life : IsSameLife enclave other_enclave bench other_bench commands other_commands one other)
+      → HasSameLife enclave other_enclave life.moves one other (after_commands bench commands).target
+      (after_commands other_bench other_commands).target))
   pub legal : (bench : BenchState) (command : Command) → TargetInvariant bench.target → IsLegalTarget bench.target
       → IsLegalTarget (execute bench command).state.target

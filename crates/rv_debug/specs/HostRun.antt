@@ -51,12 +51,12 @@ hosted_new harts hart byte = with_memory (hosted_next hart (hosted_start harts h
 
 -- The first machine has one hart. Its host runs the enclave, interrupts it after the load, and resumes it. The second has two. Its hart 1 runs the
 -- enclave, and hart 0 makes a call that is refused.
-abbrev pub first : ℕ → MonitoredMachine
-first byte = hosted_new 1 0 byte
+abbrev pub first_machine : ℕ → MonitoredMachine
+first_machine byte = hosted_new 1 0 byte
 
 -- the second machine of the example: two harts, and the enclave is created on hart 1
-abbrev pub second : ℕ → MonitoredMachine
-second byte = hosted_new 2 1 byte
+abbrev pub second_machine : ℕ → MonitoredMachine
+second_machine byte = hosted_new 2 1 byte
 
 -- the moves of the example: the enclave's load and store are steps of both machines, all other events are of one machine
 abbrev pub hosted_moves : List LifeMove
@@ -64,14 +64,14 @@ hosted_moves =
     InFirst (StepOf 0) ∷ InFirst (StepOf 0) ∷ InSecond (StepOf 1) ∷ InSecond (StepOf 1) ∷ Own 0 1 ∷ InFirst (LineOf 0 true) ∷ InFirst (StepOf 0)
     ∷ InFirst (StepOf 0) ∷ InFirst (StepOf 0) ∷ InFirst (StepOf 0) ∷ InSecond (StepOf 0) ∷ Own 0 1 ∷ []
 
--- For two bytes a and b: the moves of the example are permitted (`are`), and the steps of the enclave are the same (`alike`). The enclave stores 7,
--- which it loaded, at 80014008 in both machines.
-pub record RunsUnderBoth (a b : ℕ) : Type 0 where
-  pub are : AreLifeMoves 0 0 hosted_moves (first a) (second b)
-  pub alike : LiveAlike 0 0 hosted_moves (first a) (second b)
-  pub stored : slice_index (one_end hosted_moves (first a)).shared.memory 0x14008 ≡ 7
-  pub stored_too : slice_index (other_end hosted_moves (second b)).shared.memory 0x14008 ≡ 7
+-- For any two bytes of the hosts' choice, the moves of the example are permitted, and the steps of the enclave are equal. In both machines the
+-- enclave stores 7, which it loaded, at 80014008.
+pub record RunsUnderBoth (choice other_choice : ℕ) : Type 0 where
+  pub moves_permitted : AreLifeMoves 0 0 hosted_moves (first_machine choice) (second_machine other_choice)
+  pub steps_equal : LiveAlike 0 0 hosted_moves (first_machine choice) (second_machine other_choice)
+  pub stored : slice_index (one_end hosted_moves (first_machine choice)).shared.memory 0x14008 ≡ 7
+  pub stored_too : slice_index (other_end hosted_moves (second_machine other_choice)).shared.memory 0x14008 ≡ 7
 
 -- for all bytes of the two hosts' choice, the example is one life of the enclave
 abbrev pub HostRunLaw : Type 0
-HostRunLaw = (a b : ℕ) → RunsUnderBoth a b
+HostRunLaw = (choice other_choice : ℕ) → RunsUnderBoth choice other_choice

@@ -19,7 +19,7 @@ use Rattle.rv_debug.specs.Targets.{TargetInvariant, selected_of, harts_of, machi
 
 -- `access` replies with a verdict that permits exactly the accesses that are accessible to the world that runs
 pub record ReportsVerdict (machine : HartView) (mode : Mode) (access : AccessKind) (address : ℕ) (width : Width) : Type 0 where
-  pub told : access_reply machine.shared.memory machine.hart_state.hart.csrs.pmp mode access address width
+  pub reply_is_verdict : access_reply machine.shared.memory machine.hart_state.hart.csrs.pmp mode access address width
       ≡ verdict_text (verdict_on machine.hart_state.hart.csrs.pmp mode access address width)
   pub exact : permits (verdict_on machine.hart_state.hart.csrs.pmp mode access address width)
       ≡ is_accessible machine.shared.memory machine.shared.table machine.hart_state.world access (bytes_from address (bytes_in width))
@@ -33,8 +33,8 @@ ReportsAccess _ _ = Unit {0}
 
 -- ---- integrity
 
--- the enclave in `slot` is undisturbed by an effect on a machine: it is live, the steps leave it undisturbed, and no byte of its region is
--- poked. It may run on a hart that does not step.
+-- The enclave in `slot` is undisturbed by an effect on a machine: it is live, the steps leave it undisturbed, and the effect pokes no byte of its
+-- region. The enclave may run on a hart that does not step.
 abbrev pub UndisturbedByEffect : ℕ → MonitoredMachine → Effect → Type 0
 UndisturbedByEffect slot machine (Steps harts selected) = IsUndisturbed slot harts machine
 UndisturbedByEffect slot machine (OneByte address byte) =
@@ -58,17 +58,17 @@ PokesNone slot machine _ = Unit {0}
 -- an enclave that runs on a hart is undisturbed by every command that does not step that hart and pokes no byte of its region
 abbrev pub RunningLaw : Type 0
 RunningLaw =
-    (slot own : ℕ) (bench : BenchState) (command : Command) → TargetInvariant bench.target
+    (slot own_hart : ℕ) (bench : BenchState) (command : Command) → TargetInvariant bench.target
     → IfSome (machine_in bench.target) (λ machine.
-    let does = effect bench command in
-    runs_on slot own machine ≡ true → RunsOnNone slot (harts_stepped does) machine → PokesNone slot machine does
-    → UndisturbedByEffect slot machine does)
+    let change = effect bench command in
+    runs_on slot own_hart machine ≡ true → RunsOnNone slot (harts_stepped change) machine → PokesNone slot machine change
+    → UndisturbedByEffect slot machine change)
 
 -- a command preserves each enclave that it leaves undisturbed
 abbrev pub PreservesUndisturbed : BenchState → Command → BenchState → Type 0
 PreservesUndisturbed before command after = (slot : ℕ) → UndisturbedBy slot before command → IsPreservedIn slot before.target after.target
 
--- an effect may change a byte that one of its steps changes, or that it pokes
+-- an effect may change a byte if one of its steps changes the byte, or if the effect pokes the byte
 abbrev pub MayChange : MonitoredMachine → Effect → ℕ → Type 0
 MayChange machine (Steps harts selected) byte = IsChangedInOrder harts machine byte
 MayChange machine (OneByte address value) byte = byte ≡ address
@@ -82,9 +82,9 @@ ChangesMemory before command after =
 
 -- ---- the other harts
 
--- the effect avoids this hart: it makes no step of it, and sets neither its registers nor its timer line
+-- the effect avoids the hart: it makes no step of the hart, and sets neither its registers nor its timer line
 abbrev pub LeavesHart : ℕ → Target → Effect → Type 0
-LeavesHart hart target (Steps harts selected) = list_all (λ named. not (named == hart)) harts ≡ true
+LeavesHart hart target (Steps harts selected) = list_all (λ stepped. not (stepped == hart)) harts ≡ true
 LeavesHart hart target (Register number value) = hart ≢ selected_of target
 LeavesHart hart target (TimerLine raised) = hart ≢ selected_of target
 LeavesHart hart target _ = Unit {0}
@@ -95,14 +95,14 @@ KeepsHart hart before after =
     MatchOption (machine_in before) (machine_in after ≡ None)
     (λ one. IsSomeAnd (machine_in after) (λ other. hart_state_of hart other ≡ reprogrammed other.shared.table (hart_state_of hart one)))
 
--- a command leaves each hart as it was, apart from PMP entries and mie, that its effect avoids
+-- a command leaves each hart that its effect avoids as it was, apart from PMP entries and mie
 abbrev pub PreservesHarts : BenchState → Command → BenchState → Type 0
 PreservesHarts before command after =
     (hart : ℕ) → hart < harts_of before.target → LeavesHart hart before.target (effect before command) → KeepsHart hart before.target after.target
 
 -- ---- lists of commands
 
--- the enclave is undisturbed by commands, one after another
+-- the enclave in `slot` is undisturbed by each command of a list, in turn, and is live before and after them
 abbrev pub UndisturbedByAll : ℕ → BenchState → List Command → Type 0
 UndisturbedByAll slot bench [] = IsSomeAnd (machine_in bench.target) (λ machine. is_live machine.shared.table slot ≡ true)
 UndisturbedByAll slot bench (command ∷ commands) =

@@ -21,7 +21,7 @@ abbrev pub is_selected : ℕ → Target → Bool
 is_selected enclave (Bare machine) = false
 is_selected enclave (Monitored selected) = runs_on enclave selected.hart selected.state
 
--- `unless` is a text, or nothing if it is hidden
+-- `unless` is the text, or no text if the text is hidden
 abbrev pub unless : Bool → List ℕ → List ℕ
 unless hidden text = if hidden then [] else text
 
@@ -31,17 +31,17 @@ unless hidden text = if hidden then [] else text
 abbrev pub one_more_observed : Bool → Option Trap → HartRan → HartRan
 one_more_observed is_own trap ran = record { steps = if is_own then 0 else ran.steps + 1; trap = option_or trap ran.trap }
 
--- `with_observed_step` has the observed steps of hart `own` after a step of any hart
+-- `with_observed_step` has the observed steps of the hart `shown_hart` after a step of any hart
 abbrev pub with_observed_step : ℕ → ℕ → ℕ → MonitoredMachine → HartRan → HartRan
-with_observed_step enclave own hart machine ran =
-    if own == hart then one_more_observed (runs_on enclave hart machine) (step_of hart machine).outcome.step.trap ran else ran
+with_observed_step enclave shown_hart hart machine ran =
+    if shown_hart == hart then one_more_observed (runs_on enclave hart machine) (step_of hart machine).outcome.step.trap ran else ran
 
--- `observed_steps` has the steps of hart `own` among one step of each of these harts, in order: their number after the last step of the enclave, and
--- the last trap
+-- `observed_steps` summarizes the steps of the hart `shown_hart`, where each hart of a list makes one step in turn. The summary has the number of its
+-- steps after the last step of the enclave, and its last trap.
 abbrev pub observed_steps : ℕ → ℕ → List ℕ → MonitoredMachine → HartRan → HartRan
-observed_steps enclave own [] machine ran = ran
-observed_steps enclave own (hart ∷ harts) machine ran =
-    observed_steps enclave own harts (step_of hart machine).state (with_observed_step enclave own hart machine ran)
+observed_steps enclave shown_hart [] machine ran = ran
+observed_steps enclave shown_hart (hart ∷ harts) machine ran =
+    observed_steps enclave shown_hart harts (step_of hart machine).state (with_observed_step enclave shown_hart hart machine ran)
 
 -- `observed_count` is the number of steps of the selected hart after the last step of the enclave, among `count` steps
 abbrev pub observed_count : ℕ → Target → ℕ → ℕ
@@ -60,13 +60,13 @@ observed_run enclave before after =
 abbrev pub observed_hart : ℕ → Target → ℕ → HartRan → List ℕ
 observed_hart enclave target hart ran = unless (is_selected enclave (with_selected hart target)) (hart_summary_text target hart ran)
 
--- what is observed of a schedule: the summaries of the harts, without what `enclave` on them decides
+-- `observed_harts` is the observation of a schedule: the summary of each hart on which `enclave` does not run after the schedule
 abbrev pub observed_harts : ℕ → AfterSchedule → List ℕ
 observed_harts enclave after =
     observed_hart enclave after.state 0 after.did.first
     ++ (if nat_lt 1 (harts_of after.state) then observed_hart enclave after.state 1 after.did.second else [])
 
--- what is observed of sched, or the error if a hart of the schedule does not exist
+-- `observed_sched` is the observation of the command `sched`, or the error if a hart of the schedule does not exist
 abbrev pub observed_sched : ℕ → Target → List ℕ → List ℕ
 observed_sched enclave target harts =
     if has_all (harts_of target) harts then observed_harts enclave (scheduled_steps harts (schedule_start target)) else no_hart_text
@@ -78,7 +78,7 @@ abbrev pub guest_target : Target → Target
 guest_target (Bare machine) = Bare machine
 guest_target (Monitored selected) = selected_at selected.hart (guest_view selected.state)
 
--- the command names a byte of the region, or of the window while the enclave runs
+-- whether the command names a byte of the region of `enclave`, or a byte of its window while the enclave runs
 abbrev pub names_private : ℕ → Target → Command → Bool
 names_private enclave target command =
     option_case (machine_in target) false (λ machine.
@@ -87,7 +87,7 @@ names_private enclave target command =
 
 -- ---- every command
 
--- what is observed of the reply to each command: the reply without what the private state of `enclave` decides
+-- `observed` is the observation of a command: its reply without the parts that the private state of `enclave` decides
 abbrev pub observed : ℕ → BenchState → Command → List ℕ
 observed enclave bench (Step count) = observed_run enclave bench.target (steps_of bench.target [] [] count)
 observed enclave bench (Run count) = observed_run enclave bench.target (steps_of bench.target bench.breaks bench.watches count)

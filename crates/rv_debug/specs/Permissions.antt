@@ -8,21 +8,21 @@ use Rattle.rv_enclaves.specs.CallNumbers.{record_at}
 use Rattle.rv_enclaves.specs.declared.world.World.TheVariants.{Enclave, Host}
 use Rattle.rv_debug.specs.Prelude.{Block, Invariant, MonitoredMachine, S, Slots, count_of, hart_state_of, option_case}
 
--- the address is in the block
+-- whether the address of a byte is in the block
 abbrev pub is_within : Block → ℕ → Bool
 is_within block byte = nat_le block.base byte && nat_lt byte (block.base + block.size)
 
--- the host may store above the monitor's range, which ends at 80010000, and outside the region of each of the 13 slots
+-- whether the host may store a byte: its address is not below 80010000, where the monitor's range ends, and is in the region of none of the 13 slots
 abbrev pub host_stores : Slots → ℕ → Bool
 host_stores slots byte =
     nat_le 0x80010000 byte
     && not (list_any (λ slot. option_case (record_at slots slot) false (λ info. is_within info.region byte)) (range_with_len 0 13))
 
--- the enclave in `slot` may store a byte of its region or its window
+-- whether the enclave in `slot` may store a byte: its address is in the region or in the window of the enclave
 abbrev pub enclave_stores : Slots → ℕ → ℕ → Bool
 enclave_stores slots slot byte = option_case (record_at slots slot) false (λ info. is_within info.region byte || is_within info.window byte)
 
--- the PMP of a hart permits S to store a byte of the memory
+-- whether the PMP entries of a hart permit S-mode to store one byte
 abbrev pub permits_store : ℕ → MonitoredMachine → ℕ → Bool
 permits_store hart machine byte = permits (verdict (hart_state_of hart machine).hart.csrs.pmp S Write (bytes_from byte 1))
 

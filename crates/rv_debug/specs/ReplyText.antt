@@ -27,13 +27,13 @@ stop_text Done = codes "done"
 stop_text Break = codes "break"
 stop_text (Watch address) = codes "watch:" ++ hex8 address
 
--- `ran S pc=hhhhhhhh mode=m world=w why=r trap=t`
+-- a reply shows the summary of a run as `ran S pc=hhhhhhhh mode=m world=w why=r trap=t`
 unfoldable pub ran_text : ℕ → Mode → List ℕ → Ran → List ℕ
 ran_text pc mode world ran =
     codes "ran " ++ decimal ran.steps ++ codes " pc=" ++ hex8 pc ++ codes " mode=" ++ mode_text mode
     ++ codes " world=" ++ world ++ codes " why=" ++ stop_text ran.stop ++ codes " trap=" ++ trap_text ran.trap ++ codes "\n"
 
--- `hart H S pc=hhhhhhhh mode=m world=w trap=t`
+-- a reply shows the summary of a hart after a schedule as `hart H S pc=hhhhhhhh mode=m world=w trap=t`
 unfoldable pub hart_text : ℕ → ℕ → Mode → List ℕ → HartRan → List ℕ
 hart_text hart pc mode world ran =
     codes "hart " ++ decimal hart ++ codes " " ++ decimal ran.steps ++ codes " pc=" ++ hex8 pc ++ codes " mode=" ++ mode_text mode
@@ -81,7 +81,7 @@ verdict_text (Denied number) = codes "denied entry " ++ decimal number ++ codes 
 verdict_text (DeniedPartial number) = codes "denied partial " ++ decimal number ++ codes "\n"
 verdict_text DeniedFree = codes "denied free\n"
 
--- a byte of the access is outside RAM
+-- `denied_outside_text` is the reply to `access` if a byte of the access is outside RAM
 unfoldable pub denied_outside_text : List ℕ
 denied_outside_text = codes "denied outside\n"
 
@@ -99,14 +99,14 @@ command_fault_text BadLine = codes "error line\n"
 command_fault_text UnknownCommand = codes "error command\n"
 command_fault_text BadOperand = codes "error operand\n"
 
--- there is no CSR with the number
+-- `no_csr_text` is the reply if no CSR has the number
 unfoldable pub no_csr_text : List ℕ
 no_csr_text = codes "error csr\n"
 
--- there is no hart with the number
+-- `no_hart_text` is the reply if no hart has the number
 unfoldable pub no_hart_text : List ℕ
 no_hart_text = codes "error hart\n"
 
--- a byte that the command accesses is outside RAM
+-- `outside_text` is the reply if a byte that the command accesses is outside RAM
 unfoldable pub outside_text : List ℕ
 outside_text = codes "error outside\n"

@@ -23,9 +23,9 @@ schedule_start state = record { state = state; did = record { first = nothing_ra
 abbrev pub with_own_step : Option Trap → HartRan → HartRan
 with_own_step trap ran = record { steps = ran.steps + 1; trap = option_or trap ran.trap }
 
--- `with_own` is the summary of hart `own` after one more step, which counts if it is a step of this hart
+-- `with_own` is the summary of the hart `shown_hart` after one more step, which counts only if it is a step of this hart
 abbrev pub with_own : ℕ → ℕ → Option Trap → HartRan → HartRan
-with_own own hart trap ran = if own == hart then with_own_step trap ran else ran
+with_own shown_hart hart trap ran = if shown_hart == hart then with_own_step trap ran else ran
 
 -- `with_hart_step` has a summary and one more step: its hart, its trap, and the slot that it entered
 abbrev pub with_hart_step : ℕ → Option Trap → Option ℕ → Scheduled → Scheduled
@@ -35,11 +35,12 @@ with_hart_step hart trap entered did = record {
   entered = slots_with did.entered entered;
 }
 
--- scheduled steps and one more, of this hart
+-- `with_scheduled_step` has the scheduled steps and one more step, `last`, which is a step of this hart
 abbrev pub with_scheduled_step : ℕ → AfterSchedule → Stepped Target → AfterSchedule
 with_scheduled_step hart before last = record { state = last.state; did = with_hart_step hart last.outcome.trap last.entered before.did }
 
--- one step of each of these harts, in this order; breakpoints and watchpoints have no effect, and then the last hart is selected
+-- `scheduled_steps` executes one step of each hart in the list, in order. Breakpoints and watchpoints have no effect. The hart of the last step is
+-- then selected.
 unfoldable pub scheduled_steps : List ℕ → AfterSchedule → AfterSchedule
 scheduled_steps [] before = before
 scheduled_steps (hart ∷ harts) before = scheduled_steps harts (with_scheduled_step hart before (target_stepped (with_selected hart before.state)))

@@ -79,10 +79,10 @@ secret_moves =
     ∷ Both (StepOf 0)
     ∷ First 0 ∷ Second 0 ∷ []
 
--- for two secrets a and b: the moves of the example are permitted (`are`), and every low step has equal outcomes (`alike`)
-pub record IsConcealed (a b : ℕ) : Type 0 where
-  pub are : AreMoves 0 secret_moves (secret_new a) (secret_new b)
-  pub alike : MovedAlike 0 secret_moves (secret_new a) (secret_new b)
+-- for two secrets, the moves of the example are permitted, and every low step has equal outcomes
+pub record IsConcealed (secret other_secret : ℕ) : Type 0 where
+  pub moves_permitted : AreMoves 0 secret_moves (secret_new secret) (secret_new other_secret)
+  pub outcomes_equal : MovedAlike 0 secret_moves (secret_new secret) (secret_new other_secret)
 
 -- ---- the same by commands
 
@@ -95,13 +95,13 @@ abbrev pub secret_commands : ℕ → List Command
 secret_commands secret =
     Step 1 ∷ Poke 0x80018100 secret ∷ Step 2 ∷ Step 1 ∷ Timer true ∷ Step 1 ∷ Regs ∷ Step 3 ∷ Step 1 ∷ []
 
--- for two secrets a and b: the commands satisfy the premise of the law (`are`), and what others observe of the replies is equal (`alike`)
-pub record AreConcealed (a b : ℕ) : Type 0 where
-  pub are : AllCommandsAlike 0 secret_bench secret_bench (secret_commands a) (secret_commands b)
-  pub alike : AllObservedAlike 0 secret_bench secret_bench (secret_commands a) (secret_commands b)
+-- for two secrets, the commands satisfy the premise of the law, and what others observe of the replies is equal
+pub record AreConcealed (secret other_secret : ℕ) : Type 0 where
+  pub commands_alike : AllCommandsAlike 0 secret_bench secret_bench (secret_commands secret) (secret_commands other_secret)
+  pub observations_equal : AllObservedAlike 0 secret_bench secret_bench (secret_commands secret) (secret_commands other_secret)
 
 -- steps and commands conceal any two secrets, although the secret is in a0 when the timer interrupts the enclave (`in_a0`, for the secret 41)
 pub record SecretRunLaw : Type 0 where
-  pub concealed : (a b : ℕ) → IsConcealed a b
-  pub commands : (a b : ℕ) → AreConcealed a b
+  pub concealed : (secret other_secret : ℕ) → IsConcealed secret other_secret
+  pub commands : (secret other_secret : ℕ) → AreConcealed secret other_secret
   pub in_a0 : slice_index (hart_state_of 0 (secret_raised 0x41)).hart.regs 10 ≡ 0x41

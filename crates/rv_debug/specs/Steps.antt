@@ -6,25 +6,25 @@ use Rattle.rv_debug.specs.Prelude.{Break, Done, Ran, Stop, Trap, Watch, option_c
 use Rattle.rv_debug.specs.Addresses.{is_among}
 use Rattle.rv_debug.specs.Stops.{lowest_accessed}
 
--- a state after one step, the outcome of the step, and the slot of the enclave that it entered, if any
+-- the result of one step: the state after the step, its outcome, and the slot of the enclave that it entered, if any
 pub record Stepped (A : Type 0) : Type 0 where
   pub state : A
   pub outcome : StepOutcome
   pub entered : Option ℕ
 
--- a state after steps, the number of steps, the last trap, and the slots that they entered: bit k is set for slot k
+-- the result of steps: the state after them, their number, the last trap, and the entered slots as bits (bit 3 is set if slot 3 was entered)
 pub record AfterSteps (A : Type 0) : Type 0 where
   pub state : A
   pub steps : ℕ
   pub trap : Option Trap
   pub entered : ℕ
 
--- a state after a run, and the summary of the run
+-- the result of a run: the state after the run, and the summary of the run
 pub record AfterRun (A : Type 0) : Type 0 where
   pub state : A
   pub ran : Ran
 
--- a state before the first step of a run
+-- `no_steps` is the state before the first step of a run
 abbrev pub no_steps : {A : Type 0} → A → AfterSteps A
 no_steps state = record { state = state; steps = 0; trap = None; entered = 0 }
 
@@ -49,8 +49,8 @@ ended after stop = record {
   ran = record { steps = after.steps; trap = after.trap; stop = stop; entered = after.entered };
 }
 
--- At most `count` more steps. After each step, an access to a watched byte ends the run. Otherwise the run ends if all steps are executed, and
--- then if the next instruction is at a breakpoint.
+-- `run` executes at most as many steps as the number says, after the steps `before`. After each step, an access to a watched byte ends the run.
+-- Otherwise the run ends if all steps are executed, and otherwise if the next instruction is at a breakpoint.
 unfoldable pub run : {A : Type 0} → (A → Stepped A) → (A → ℕ) → List ℕ → List ℕ → ℕ → AfterSteps A → AfterRun A
 run step pc breaks watches zero before = ended before Done
 run step pc breaks watches (suc left) before =

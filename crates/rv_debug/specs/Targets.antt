@@ -36,12 +36,12 @@ abbrev pub world_name : World → List ℕ
 world_name Host = codes "host"
 world_name (Enclave slot) = codes "e" ++ decimal slot
 
--- `world_text` is the name of the world of a target
+-- `world_text` is the name of the world of the selected hart; a bare machine has the name `bare`
 abbrev pub world_text : Target → List ℕ
 world_text (Bare machine) = codes "bare"
 world_text (Monitored selected) = world_name (selected_hart_state selected).world
 
--- a line for each live enclave; a bare machine has none
+-- `enclaves_text` has one line for each live enclave; a bare machine has no line
 abbrev pub enclaves_text : Target → List ℕ
 enclaves_text target = option_case (machine_in target) [] (λ machine. table_text machine.shared.table)
 
@@ -91,7 +91,7 @@ abbrev pub with_selected : ℕ → Target → Target
 with_selected hart (Bare machine) = Bare machine
 with_selected hart (Monitored selected) = selected_at hart selected.state
 
--- a word written to a register; x0 stays 0
+-- `register_set` is the target after a write of a word to a register of the selected hart; x0 stays 0
 abbrev pub register_set : Target → ℕ → ℕ → Target
 register_set (Bare machine) number value =
     Bare (record machine { hart = record machine.hart { regs = with_register machine.hart.regs number value } })
@@ -122,6 +122,6 @@ IsBare (Monitored selected) = ⊥
 abbrev pub TargetInvariant : Target → Type 0
 TargetInvariant target = IfSome (machine_in target) Invariant
 
--- the host's saved context of each hart is as a hart stores it
+-- on each hart, the saved context of the host has legal values
 abbrev pub HostContextsAreLegalIn : Target → Type 0
 HostContextsAreLegalIn target = IfSome (machine_in target) HostContextsAreLegal

@@ -174,7 +174,7 @@ fn place_of(sorted: &[u32], address: u32) -> Result<usize, usize>
     sorted.binary_search(&address)
 }
 
-/// Returns the lower of two addresses, or the one that is present.
+/// Returns the lower of two addresses, or the only address if the other is `None`.
 #[inline(always)]
 fn lower(first: Option<u32>, second: Option<u32>) -> Option<u32>
     ensures { result ≡ lower first second }

@@ -50,7 +50,7 @@ fn push_mode(out: &mut Reply, mode: Mode)
     }
 }
 
-/// Writes why steps ended.
+/// Writes the reason for which a run ended.
 #[tactic(auto, unfolding(crate::specs::ReplyText::stop_text))]
 fn push_stop(out: &mut Reply, stop: Stop)
     requires room { array_vec_len out.old + 14 ≤ 2048 }
@@ -281,7 +281,7 @@ pub(crate) fn push_pmp(out: &mut Reply, pmp: &Pmp)
     }
 }
 
-/// Writes a word or two and the number of the entry that decides the access.
+/// Writes the words of a verdict and the number of the PMP entry that decides the access.
 fn push_decider(out: &mut Reply, words: &str, index: PmpIndex)
     requires room { array_vec_len out.old + (length words.now + 11) ≤ 2048 }
     ensures items { out.new.items ≡ out.old.items ++ (words.now ++ decimal index ++ codes "\n") }

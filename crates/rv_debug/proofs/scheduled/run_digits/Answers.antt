@@ -14,25 +14,26 @@ step_hart-outcome-requires g c =
     let next = has_next count c.args.digits.now c.loop-digit.digit-index _ c.loop-digit-test.true refl c.loop-digit.invariant.harts_exist in
     subst (λ (hart : ℕ). hart < count) (sym c.hart-hart.ensures.which) next.0
 
--- After the step of the hart of digit n, the loop invariant holds for the digits from n + 1 on. A step does not change the number of harts.
+-- After the step of the hart of a digit, the loop invariant holds for the digits after it. A step does not change the number of harts.
 pub loop-digit-preserved : goal.loop-digit-preserved
 loop-digit-preserved g c =
     let target = g.T.Harts.as_target in
     let digits = c.args.digits.now in
-    let n = c.loop-digit.digit-index in
+    let index = c.loop-digit.digit-index in
     let hart = c.hart-hart.result in
     let so_far = c.loop-digit.invariant in
     let before : AfterSchedule = after_schedule (target c.loop-digit.target) c.loop-digit.did in
     let after : AfterSchedule = after_schedule (target c.step_hart-outcome.new.self) c.add.new.self in
     let after_is = ap (with_scheduled_step hart before) c.step_hart-outcome.ensures ∙ ap (after_schedule after.state) (sym c.add.ensures.step) in
     let same_count = sym (ap (λ (last : Stepped Target). harts_of last.state) c.step_hart-outcome.ensures) ∙ step_harts hart before.state in
-    let next = has_next (harts_of before.state) digits n _ c.loop-digit-test.true refl so_far.harts_exist in
+    let next = has_next (harts_of before.state) digits index _ c.loop-digit-test.true refl so_far.harts_exist in
     record {
       scheduled_steps =
-          so_far.scheduled_steps ∙ scheduled_step_more digits n _ hart before after c.loop-digit-test.true refl c.hart-hart.ensures.which after_is;
-      harts_exist = ap (λ (count : ℕ). has_all count (harts_from (n + 1) digits)) same_count ∙ next.1;
-      first = omega (arith, c.add.ensures.first_one, so_far.first);
-      second = omega (arith, c.add.ensures.second_one, so_far.second);
+          so_far.scheduled_steps
+          ∙ scheduled_step_more digits index _ hart before after c.loop-digit-test.true refl c.hart-hart.ensures.which after_is;
+      harts_exist = ap (λ (count : ℕ). has_all count (harts_from (index + 1) digits)) same_count ∙ next.1;
+      hart_0_steps = omega (arith, c.add.ensures.first_one, so_far.hart_0_steps);
+      hart_1_steps = omega (arith, c.add.ensures.second_one, so_far.hart_1_steps);
     }
 
 -- after the last digit, no steps remain, so the target and the summary are those of the whole schedule

@@ -12,8 +12,8 @@ returns-then-place-sorted c = λ address at_or_above_from below_to.
     let is_last : c.in-Err.place ≡ length c.self.inside.sorted.items = rw c.as_slice-sorted.ensures.value at c.if-place-sorted.true in
     let member_below : 0 < c.in-Err.place → get_or c.self.inside.sorted.items (c.in-Err.place - 1) 0 < c.if-place-eq0.from =
     elim c.if-place-eq0.branch [
-      | then-place-eq0 w ↦ λ not_zero. absurd (omega arith)
-      | else-place-eq0 w ↦ λ not_zero. rw (← c.as_slice-sorted.ensures.value) (omega arith)
+      | then-place-eq0 branch ↦ λ not_zero. absurd (omega arith)
+      | else-place-eq0 branch ↦ λ not_zero. rw (← c.as_slice-sorted.ensures.value) (omega arith)
     ] in
     rw (← c.self.view_is)
     (gap-free _ _ _ _ _ c.self.invariant insertion.within member_below (λ in_bounds. absurd (omega arith)) at_or_above_from below_to)
@@ -26,7 +26,7 @@ returns-else-place-sorted c = λ address at_or_above_from below_to.
     rw c.as_slice-sorted.ensures.value at c.from-to.ensures in
     let member_below : 0 < c.in-Err.place → get_or c.self.inside.sorted.items (c.in-Err.place - 1) 0 < c.if-place-eq0.from =
     elim c.if-place-eq0.branch [
-      | then-place-eq0 w ↦ λ not_zero. absurd (omega arith)
-      | else-place-eq0 w ↦ λ not_zero. rw (← c.as_slice-sorted.ensures.value) (omega arith)
+      | then-place-eq0 branch ↦ λ not_zero. absurd (omega arith)
+      | else-place-eq0 branch ↦ λ not_zero. rw (← c.as_slice-sorted.ensures.value) (omega arith)
     ] in
     rw (← c.self.view_is) (gap-free _ _ _ _ _ c.self.invariant insertion.within member_below (λ in_bounds. omega arith) at_or_above_from below_to)

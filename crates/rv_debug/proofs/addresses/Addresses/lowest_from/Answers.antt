@@ -19,7 +19,7 @@ returns-then-place-len c =
 -- if the next member is `count` or more above the address, no member is one of the `count` addresses
 pub returns-then-found-address : goal.returns-then-found-address
 returns-then-found-address c =
-    let next_member = ap (λ xs. get_or xs c.in-Err.place 0) c.as_slice-2.ensures.value in
+    let next_member = ap (λ addresses. get_or addresses c.in-Err.place 0) c.as_slice-2.ensures.value in
     let is_past_interval : c.args.address + c.args.count ≤ get_or c.self.inside.sorted.items c.in-Err.place 0 = omega (arith, next_member) in
     rw (← c.self.view_is) (find-nothing_between _ _ _ _ c.self.invariant (rw c.as_slice.ensures.value at c.in-Err.ensures) (λ _. is_past_interval))
 
@@ -27,7 +27,7 @@ returns-then-found-address c =
 pub returns : goal.returns
 returns c =
     let insertion : HasPlace c.self.inside.sorted.items c.args.address c.in-Err.place = rw c.as_slice.ensures.value at c.in-Err.ensures in
-    let next_member = ap (λ xs. get_or xs c.in-Err.place 0) c.as_slice-2.ensures.value in
+    let next_member = ap (λ addresses. get_or addresses c.in-Err.place 0) c.as_slice-2.ensures.value in
     let within : c.in-Err.place ≤ length c.self.inside.sorted.items = insertion.within in
     let in_bounds : c.in-Err.place < length c.self.inside.sorted.items = omega (arith, within) in
     let is_in_interval : get_or c.self.inside.sorted.items c.in-Err.place 0 < c.args.address + c.args.count = omega (arith, next_member) in

@@ -9,7 +9,8 @@ use Rattle.rv_debug.proofs.bench.Bench.command.Goals as goal
 -- before the command, the selected hart is one of the harts of the target
 selected_exists : (c : goal.After-execute) → selected_of c.args.self.now.target < harts_of c.args.self.now.target
 selected_exists c =
-    let selected_in_range = subst (λ (n : ℕ). n < harts_of c.self.inside.target) c.selected.ensures.selected c.selected.ensures.has in
+    let selected_in_range =
+    subst (λ (hart_count : ℕ). hart_count < harts_of c.self.inside.target) c.selected.ensures.selected c.selected.ensures.has in
     subst (λ (target : Target). selected_of target < harts_of target) (ap (λ (bench : BenchState). bench.target) c.self.view_is) selected_in_range
 
 -- clause `accessible`: the command `access` reports exactly the accesses that are accessible to the world of the selected hart (`ReportsAccess`)
