@@ -67,11 +67,12 @@ any_of test (content ∷ contents) each_fails =
 is_block_of-passes : (memory : List ℕ) (block : Block) → IsBlockOf memory block → is_block_of memory block ≡ true
 is_block_of-passes memory block valid_block =
     let size_holds =
-    any_in (λ exponent. block.size == 2 ^ exponent) 12 20 valid_block.exponent valid_block.at_least (omega (arith, valid_block.below))
-    (eq-eqb block.size (2 ^ valid_block.exponent) valid_block.size) in
-    let multiple_holds = eq-eqb (block.base % block.size) 0 valid_block.multiple in
-    let from_ram_base = le-leb 0x80000000 block.base valid_block.from in
-    let to_ram_end = le-leb (block.base + block.size) (0x80000000 + length memory) valid_block.to in
+    any_in (λ exponent. block.size == 2 ^ exponent) 12 20 valid_block.exponent valid_block.exponent_at_least_12
+    (omega (arith, valid_block.exponent_below_32))
+    (eq-eqb block.size (2 ^ valid_block.exponent) valid_block.size_is_power) in
+    let multiple_holds = eq-eqb (block.base % block.size) 0 valid_block.base_is_multiple in
+    let from_ram_base = le-leb 0x80000000 block.base valid_block.from_ram_base in
+    let to_ram_end = le-leb (block.base + block.size) (0x80000000 + length memory) valid_block.to_ram_end in
     rw (size_holds, multiple_holds, from_ram_base, to_ram_end) refl
 
 -- a window that is empty, or is a valid block, passes the test of a window
@@ -116,9 +117,9 @@ unfolding create_rows
 create_passes shared regs slot creatable =
     no_condition_holds _ _ _ _ _ (is_block_of-passes shared.memory (region_named regs) creatable.region)
     (window_is shared.memory regs creatable.window)
-    (none_of _ _ _ _ creatable.monitor creatable.monitor_too creatable.own
-    (any_of (overlap_enclave (region_named regs) (window_named regs)) shared.table creatable.others))
-    (all_of _ _ _ (eq-eqb (register regs 14 % 4) 0 creatable.aligned) (le-leb (register regs 10) (register regs 14) creatable.entry_from)
+    (none_of _ _ _ _ creatable.region_outside_monitor creatable.window_outside_monitor creatable.window_outside_region
+    (any_of (overlap_enclave (region_named regs) (window_named regs)) shared.table creatable.others_apart))
+    (all_of _ _ _ (eq-eqb (register regs 14 % 4) 0 creatable.entry_aligned) (le-leb (register regs 10) (register regs 14) creatable.entry_from)
     (lt-ltb (register regs 14) (register regs 10 + register regs 11) creatable.entry_to))
     (ap (λ (found : Option ℕ). is_none found) (free_is shared regs slot creatable))
 
@@ -142,8 +143,8 @@ measure_passes : (shared : Shared) (entries : Entries) (slot address : ℕ) → 
 unfolding measure_rows
 measure_passes shared entries slot address measurable =
     let live = measurable.live in
-    let end_in_ram = measurable.to in
-    let start_in_ram = measurable.from in
+    let end_in_ram = measurable.to_ram_end in
+    let start_in_ram = measurable.from_ram_base in
     let may_store_all = all_in (is_storable shared.memory entries) address 32 (λ byte from_address before_end.
     let byte_from_ram_base = le-leb 0x80000000 byte (omega (arith, start_in_ram, from_address)) in
     let byte_before_ram_end = le-leb (byte + 1) (0x80000000 + length shared.memory) (omega (arith, end_in_ram, before_end)) in
@@ -186,12 +187,12 @@ module _ (shared : Shared) (entries : Entries) (regs : List ℕ) where
       free_is shared regs slot conditions,
     );
     destroy = λ requested conditions. accepted Host Destroy (asks_host _ _ 2 Destroy requested.a7 requested.a6 refl)
-        (state_passes does_not_run shared.table (register regs 10) conditions.info conditions.held
+        (state_passes does_not_run shared.table (register regs 10) conditions.info conditions.record_is
         (rests conditions.info.state conditions.not_running));
     run = λ requested conditions. accepted Host Run (asks_host _ _ 3 Run requested.a7 requested.a6 refl)
-        (state_passes is_fresh shared.table (register regs 10) conditions.info conditions.held (ap is_fresh conditions.is));
+        (state_passes is_fresh shared.table (register regs 10) conditions.info conditions.record_is (ap is_fresh conditions.state_is));
     resume = λ requested conditions. accepted Host Resume (asks_host _ _ 4 Resume requested.a7 requested.a6 refl)
-        (state_passes is_stopped shared.table (register regs 10) conditions.info conditions.held (ap is_stopped conditions.is));
+        (state_passes is_stopped shared.table (register regs 10) conditions.info conditions.record_is (ap is_stopped conditions.state_is));
     measure = λ world requested conditions. accepted world Measure (numbers_asked world requested)
         (measure_passes shared entries (slot_named world regs) (register regs 11) conditions);
     stop = λ slot requested. accepted (Enclave slot) Stop (asks_enclave slot _ _ 6 Stop requested.a7 requested.a6 refl) refl;

@@ -30,7 +30,7 @@ use Rattle.rv_enclaves.proofs.SharedInvariantLemmas.{free_slot_from, live_in_ran
 pub itself : (enclave : ℕ) (shared : Shared) → SharedEquivExcept enclave shared shared
 itself enclave shared = record {
   table = refl;
-  memory = record { size = refl; bytes = λ i shown. refl };
+  memory = record { size = refl; bytes = λ index not_hidden. refl };
   contexts = record { size = refl; others = λ slot is_other. refl };
   gone = λ dead. refl;
 }

@@ -145,21 +145,23 @@ measurement_law one_memory other_memory one other ram_size same_length valid_one
     let words_one = are_words one_memory one ram_limit valid_one in
     let words_other = are_words other_memory other (omega (arith, ram_limit, same_length)) valid_other in
     -- the input is the five words of the heading and then the bytes of the region, and each step takes off one word
-    let after_base = same_front one.region.base other.region.base _ _ words_one.base words_other.base same_input in
-    let after_size = same_front one.region.size other.region.size _ _ words_one.size words_other.size after_base.1 in
-    let after_window_base = same_front one.window.base other.window.base _ _ words_one.window_base words_other.window_base after_size.1 in
-    let after_window_size = same_front one.window.size other.window.size _ _ words_one.window_size words_other.window_size after_window_base.1 in
-    let after_entry =
+    let (same_base, after_base) = same_front one.region.base other.region.base _ _ words_one.base words_other.base same_input in
+    let (same_size, after_size) = same_front one.region.size other.region.size _ _ words_one.size words_other.size after_base in
+    let (same_window_base, after_window_base) =
+    same_front one.window.base other.window.base _ _ words_one.window_base words_other.window_base after_size in
+    let (same_window_size, after_window_size) =
+    same_front one.window.size other.window.size _ _ words_one.window_size words_other.window_size after_window_base in
+    let (same_entry, after_entry) =
     same_front one.entry other.entry (bytes_of_block one_memory one.region) (bytes_of_block other_memory other.region)
-    words_one.entry words_other.entry after_window_size.1 in
+    words_one.entry words_other.entry after_window_size in
     let block : ℕ → ℕ → Block = λ base size. record { base = base; size = size } in
-    let same_region : one.region ≡ other.region = ap₂ block after_base.0 after_size.0 in
-    let same_window : one.window ≡ other.window = ap₂ block after_window_base.0 after_window_size.0 in
+    let same_region : one.region ≡ other.region = ap₂ block same_base same_size in
+    let same_window : one.window ≡ other.window = ap₂ block same_window_base same_window_size in
     let same_region_bytes : bytes_of_block one_memory one.region ≡ bytes_of_block other_memory one.region =
-    after_entry.1 ∙ ap (bytes_of_block other_memory) (sym same_region) in
+    after_entry ∙ ap (bytes_of_block other_memory) (sym same_region) in
     let valid_block : is_valid_block other_memory one.region ≡ true = ap (is_valid_block other_memory) same_region ∙ valid_other.region in
     record {
-      args = equal_args same_region same_window after_entry.0;
+      args = equal_args same_region same_window same_entry;
       bytes = record {
         size = same_length;
         bytes =

@@ -81,7 +81,8 @@ block_covers memory block previous address ram_size is_valid =
     let exponent_below_32 : exponent < 32 = block_valid.power.2 in
     let exponent_from_3 : exponent ≡ (exponent - 3) + 3 = omega arith in
     let power : block.size ≡ 2 ^ ((exponent - 3) + 3) = block_valid.power.3 ∙ ap (λ exponent. 2 ^ exponent) exponent_from_3 in
-    napot_matches block.base block.size (exponent - 3) previous address (omega arith) power block_valid.aligned (omega (arith, block_valid.to_ram_end))
+    napot_matches block.base block.size (exponent - 3) previous address (omega arith) power block_valid.aligned
+    (omega (arith, block_valid.to_ram_end))
 
 -- the PMP entry of a slot matches exactly the bytes of the slot's region
 region_covers : (memory : List ℕ) (world : World) (slot : ℕ) (maybe_info : Option SlotInfo) (previous address : ℕ) → length memory ≤ 0x1000000

@@ -78,7 +78,8 @@ slot_rests None has_context = cc
 slot_rests (Some info) has_context = (refl, not-true (is_running info.state) has_context)
 
 -- a slot with a saved context is a slot of the table
-in_range : (shared : Shared) (slot : ℕ) (o : Option SlotInfo) → slot_at shared.table slot ≡ o → length shared.table ≡ slot_count → is_held o ≡ true
+in_range : (shared : Shared) (slot : ℕ) (maybe_info : Option SlotInfo) → slot_at shared.table slot ≡ maybe_info
+    → length shared.table ≡ slot_count → is_held maybe_info ≡ true
     → slot < slot_count
 in_range shared slot None slot_is table_length has_context = cc
 in_range shared slot (Some info) slot_is table_length has_context = live_in_range shared.table slot info table_length slot_is
@@ -89,10 +90,10 @@ module _ (shared : Shared) (worlds : List World) (slot : ℕ) (shared_invariant 
   -- a slot that may be scrambled has a live enclave that does not run
   slot_may_scramble : MayScramble shared slot
   slot_may_scramble =
-      let parts = slot_rests (slot_at shared.table slot) may_scramble in
+      let (live, not_running) = slot_rests (slot_at shared.table slot) may_scramble in
       record {
-        live = parts.0;
-        not_running = parts.1;
+        live = live;
+        not_running = not_running;
         in_range = in_range shared slot (slot_at shared.table slot) refl shared_invariant.valid.count may_scramble;
       }
 

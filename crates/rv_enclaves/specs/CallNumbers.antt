@@ -247,36 +247,36 @@ pub record Requests (number : ℕ) (regs : List ℕ) : Type 0 where
 -- `slot` has an enclave in the state `state`, and `info` is its record
 pub record HasState (table : Slots) (slot : ℕ) (state : EnclaveState) : Type 0 where
   pub info : SlotInfo
-  pub held : record_at table slot ≡ Some info
-  pub is : info.state ≡ state
+  pub record_is : record_at table slot ≡ Some info
+  pub state_is : info.state ≡ state
 
 -- `slot` has an enclave that does not run, and `info` is its record
 pub record IsAtRest (table : Slots) (slot : ℕ) : Type 0 where
   pub info : SlotInfo
-  pub held : record_at table slot ≡ Some info
+  pub record_is : record_at table slot ≡ Some info
   pub not_running : info.state ≢ Running
 
 -- A block that may be a region. Its size is a power of two from 4096 to 2 ^ 31, its base is a multiple of the size, and it is inside memory.
 pub record IsBlockOf (memory : List ℕ) (block : Block) : Type 0 where
   pub exponent : ℕ
-  pub at_least : 12 ≤ exponent
-  pub below : exponent < 32
-  pub size : block.size ≡ 2 ^ exponent
-  pub multiple : block.base % block.size ≡ 0
-  pub from : 0x80000000 ≤ block.base
-  pub to : block.base + block.size ≤ 0x80000000 + length memory
+  pub exponent_at_least_12 : 12 ≤ exponent
+  pub exponent_below_32 : exponent < 32
+  pub size_is_power : block.size ≡ 2 ^ exponent
+  pub base_is_multiple : block.base % block.size ≡ 0
+  pub from_ram_base : 0x80000000 ≤ block.base
+  pub to_ram_end : block.base + block.size ≤ 0x80000000 + length memory
 
 -- The arguments in a0 to a4 meet the conditions of create, and `slot` is the lowest free slot. The new region (a0 and a1), the new window (a2 and a3)
 -- and the monitor's range share no byte with each other. a4 is the entry.
 pub record IsCreatable (shared : Shared) (regs : List ℕ) (slot : ℕ) : Type 0 where
   pub region : IsBlockOf shared.memory (region_named regs)
   pub window : (register regs 13 ≡ 0) ⊎ IsBlockOf shared.memory (window_named regs)
-  pub monitor : meets monitor_range (region_named regs) ≡ false
-  pub monitor_too : meets monitor_range (window_named regs) ≡ false
-  pub own : meets (region_named regs) (window_named regs) ≡ false
+  pub region_outside_monitor : meets monitor_range (region_named regs) ≡ false
+  pub window_outside_monitor : meets monitor_range (window_named regs) ≡ false
+  pub window_outside_region : meets (region_named regs) (window_named regs) ≡ false
   -- the new region meets no region or window of another enclave, and the new window meets no region of another enclave
-  pub others : (other : ℕ) → overlap_enclave (region_named regs) (window_named regs) (record_at shared.table other) ≡ false
-  pub aligned : register regs 14 % 4 ≡ 0
+  pub others_apart : (other : ℕ) → overlap_enclave (region_named regs) (window_named regs) (record_at shared.table other) ≡ false
+  pub entry_aligned : register regs 14 % 4 ≡ 0
   pub entry_from : register regs 10 ≤ register regs 14
   pub entry_to : register regs 14 < register regs 10 + register regs 11
   pub in_range : slot < 13
@@ -287,8 +287,8 @@ pub record IsCreatable (shared : Shared) (regs : List ℕ) (slot : ℕ) : Type 0
 -- the enclave of `slot` is live, the 32 bytes from `address` on are in memory, and S-mode may store each of them
 pub record IsMeasurable (shared : Shared) (entries : Entries) (slot address : ℕ) : Type 0 where
   pub live : is_some (record_at shared.table slot) ≡ true
-  pub from : 0x80000000 ≤ address
-  pub to : address + 32 ≤ 0x80000000 + length shared.memory
+  pub from_ram_base : 0x80000000 ≤ address
+  pub to_ram_end : address + 32 ≤ 0x80000000 + length shared.memory
   pub storable : (byte : ℕ) → address ≤ byte → byte < address + 32 → permits (verdict entries S Write (bytes_from byte 1)) ≡ true
 
 -- the registers request this call, and the monitor does not refuse it

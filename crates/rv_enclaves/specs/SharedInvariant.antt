@@ -21,7 +21,9 @@ is_held (Some info) = not (is_running info.state)
 -- a slot has a saved context if and only if its enclave is live and does not run, and a hart can continue with each saved context
 pub record SavedContextsInvariant (shared : Shared) : Type 0 where
   pub count : length shared.contexts ≡ slot_count
+  -- a slot has a saved context if and only if its enclave is live and does not run
   pub kept : (slot : ℕ) → is_some (context_at shared.contexts slot) ≡ is_held (slot_at shared.table slot)
+  -- a hart can continue with each saved context
   pub held : (slot : ℕ) → IfSome (context_at shared.contexts slot) (λ context. can_go_on context ≡ true)
 
 -- a slot runs if and only if it is the world of some hart
