@@ -160,10 +160,13 @@ reach_cases : (memory : List ℕ) (table : Slots) (world : World) (access : Acce
     ⊎ ((slot : ℕ) × (world ≡ Enclave slot)
     × ((list_all (has (region table slot)) bytes ≡ true) ⊎ ((access ≢ Fetch) × (list_all (has (window table slot)) bytes ≡ true))))
 unfolding is_accessible
+-- the host reaches its own bytes
 reach_cases memory table Host access bytes accessible =
     elim (or_cases _ _ accessible) [ inl all_of_host ↦ inl (refl, all_of_host) | inr contradiction ↦ absurd (false≢true contradiction) ]
+-- an enclave fetches only from its region
 reach_cases memory table (Enclave slot) Fetch bytes accessible =
     elim (or_cases _ _ accessible) [ inl all_in_region ↦ inr (slot, refl, inl all_in_region) | inr contradiction ↦ absurd (false≢true contradiction) ]
+-- an enclave loads from its region or its window, and stores there
 reach_cases memory table (Enclave slot) Read bytes accessible = elim (or_cases _ _ accessible) [
   | inl all_in_region ↦ inr (slot, refl, inl all_in_region)
   | inr not_in_region ↦
@@ -219,6 +222,7 @@ pub accessible_apart : (memory : List ℕ) (table : Slots) (world : World) (acce
 accessible_apart memory table world access start size slot table_valid runs_other accessible address from_start before_end =
     let apart_bytes = apart memory table table_valid in
     elim (reach_cases memory table world access (bytes_from start size) accessible) [
+      -- the host runs: its bytes are in no region
       | inl (host_runs, all_of_host) ↦
           let of_host_only =
           and_parts (not (has monitor_block address)) (not (is_in_region table address))
@@ -227,6 +231,7 @@ accessible_apart memory table world access start size slot table_valid runs_othe
           (none_from_any (λ other. has (region table other) address) 0 slot_count (not-true _ of_host_only.1) slot (omega arith)
           (slot_in_range memory table world slot address table_valid in_its_region))
           in_its_region)
+      -- an enclave runs: its region and its window share no byte with another region
       | inr (running, world_is, all_in_block) ↦
           let other_enclave : running ≢ slot = λ is_equal. both_ways _ runs_other (rw world_is (eq-eqb running slot is_equal)) in
           elim all_in_block [
@@ -318,10 +323,12 @@ module _ (memory : List ℕ) (table : Slots) (world : World) (mode : Mode) (acce
   accessible_by : (entry : ℕ) → IsFirst (λ lower. list_any (covers entries lower) bytes) 0 16 entry → list_all (covers entries entry) bytes ≡ true
       → grants mode access (cfg_of entries entry) ≡ true → is_accessible memory table world access bytes ≡ true
   accessible_by entry first_match covered permission = elim (entry_cases entry first_match.high) [
+    -- entry 0 has no permission
     | inl is_monitor ↦
         let granted_by_entry = rw is_monitor at permission in
         absurd (both_ways _ (no_permission_refuses access) (sym (grants_if_cfg 0 _ cfg_of-monitor) ∙ granted_by_entry))
     | inr not_monitor ↦ elim not_monitor [
+      -- the entry of a region has permissions only while the enclave of this region runs
       | inl (slot, slot_in_bounds, is_slot_entry) ↦
           let covered_by_entry = rw is_slot_entry at covered in
           let granted_by_entry = rw is_slot_entry at permission in
@@ -329,11 +336,13 @@ module _ (memory : List ℕ) (table : Slots) (world : World) (mode : Mode) (acce
           (slot_gives world slot (slot_at table slot) access (sym (grants_if_cfg (slot + 1) _ (cfg_of-slot slot slot_in_bounds)) ∙ granted_by_entry))
           (sym (all_slot slot slot_in_bounds) ∙ covered_by_entry)
       | inr from_window ↦ elim from_window [
+        -- entry 14 covers the window of the running enclave
         | inl is_window ↦
             let covered_by_entry = rw is_window at covered in
             let granted_by_entry = rw is_window at permission in
             window_reaches memory table world access bytes (sym (grants_if_cfg 14 _ cfg_of-window) ∙ granted_by_entry)
             (sym all_window ∙ covered_by_entry)
+        -- entry 15 has permissions only while the host runs, and no lower entry covers a byte of the access
         | inr is_host_entry ↦
             let granted_by_entry = rw is_host_entry at permission in
             host_reaches memory table world access bytes

@@ -71,13 +71,16 @@ same_write hidden one_memory other_memory address bytes one_after other_after eq
       size = length-write one_memory address bytes one_after written_one ∙ equal_outside.size
           ∙ sym (length-write other_memory address bytes other_after written_other);
       bytes = λ byte_index not_hidden. rw (write_one.2, write_other.2) (elim (cases_lt byte_index index) [
+        -- an index before the write: the byte is unchanged in both memories
         | inl before_start ↦
             index-below one_memory index bytes byte_index fits_one before_start ∙ equal_outside.bytes byte_index not_hidden
             ∙ sym (index-below other_memory index bytes byte_index fits_other before_start)
         | inr from_start ↦ elim (cases_lt byte_index (index + length bytes)) [
+          -- an index inside the write: the byte is the written byte in both memories
           | inl before_end ↦
               index-within one_memory index bytes byte_index fits_one from_start before_end
               ∙ sym (index-within other_memory index bytes byte_index fits_other from_start before_end)
+          -- an index after the write: the byte is unchanged in both memories
           | inr after_end ↦
               index-above one_memory index bytes byte_index fits_one after_end ∙ equal_outside.bytes byte_index not_hidden
               ∙ sym (index-above other_memory index bytes byte_index fits_other after_end)
@@ -138,12 +141,14 @@ zeros-alike hidden hidden_after one_memory other_memory base count equal_outside
     rw (write_one, write_other) (record {
       size = equal_after.size;
       bytes = λ byte_index not_hidden_after. elim (cases_Bool (hidden (ram_base + byte_index))) [
+        -- the byte was hidden: it is in the range, so it is 0 in both memories
         | inl is_hidden ↦
             let in_zeroed_range = hidden_in_range (ram_base + byte_index) is_hidden in
             let from_index : index ≤ byte_index = omega (arith, in_zeroed_range.0, in_memory.0) in
             let before_end : byte_index < index + length bytes = omega (arith, in_zeroed_range.1, in_memory.0, zeros_length) in
             index-within one_memory index bytes byte_index fits_one from_index before_end
             ∙ sym (index-within other_memory index bytes byte_index fits_other from_index before_end)
+        -- the byte was not hidden: it is equal in both memories
         | inr not_hidden ↦ equal_after.bytes byte_index not_hidden
       ];
     })

@@ -43,6 +43,7 @@ trailing_ones-block half ones ones_below_32 fits =
     let lower_bits_are_1 : (bit : ℕ) → bit < ones → bit_at number bit ≡ 1 =
     λ bit in_ones. bit_at_cat_low (2 * half) ones (2 ^ ones - 1) bit in_ones ∙ bit_at_ones ones bit in_ones in
     elim (cases_order trailing ones) [
+      -- the number of trailing ones is compared with `ones`: fewer and more both contradict the bits of the number
       | inl equal ↦ equal
       | inr different ↦ elim different [
         | inl fewer ↦ let bit_is_1 = lower_bits_are_1 trailing fewer in let bit_is_0 = trailing_facts.1 in absurd (omega (arith, bit_is_1, bit_is_0))

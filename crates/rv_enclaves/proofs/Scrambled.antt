@@ -28,14 +28,17 @@ inside_agrees memory block inside =
     record {
       size = sym (length-with_complements memory index block.size fits);
       bytes = λ byte_index not_hidden. elim (cases_lt byte_index index) [
+        -- an index before the block
         | inl before_start ↦ sym (below memory index block.size byte_index fits before_start)
         | inr from_start ↦ elim (cases_lt byte_index (index + block.size)) [
+          -- an index in the block: its address is hidden, against the premise
           | inl before_end ↦
               let from_base : nat_le block.base (ram_base + byte_index) ≡ true =
               le-leb block.base (ram_base + byte_index) (omega (arith, bounds.0)) in
               let before_block_end : nat_lt (ram_base + byte_index) (block.base + block.size) ≡ true =
               lt-ltb (ram_base + byte_index) (block.base + block.size) (omega (arith, bounds.0)) in
               let contradiction : true ≡ false = sym (and_from _ _ from_base before_block_end) ∙ not_hidden in cc
+          -- an index after the block
           | inr after_end ↦ sym (above memory index block.size byte_index fits after_end)
         ]
       ];

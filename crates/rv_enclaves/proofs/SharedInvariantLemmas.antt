@@ -331,12 +331,14 @@ module _ (other_worlds : List World) where
       → (let slot = running_slot world in
       SharedInvariant (record shared { table = with_state shared.table slot state; contexts = with_context shared.contexts slot (Some saved) })
       (Host ∷ other_worlds))
+  -- the host runs: neither the table nor the contexts change
   left_sound shared Host state saved shared_invariant not_running can_continue =
       rw (
         state_past shared.table state shared_invariant.valid.count,
         context_past shared.contexts
             (Some saved) shared_invariant.contexts.count,
       ) shared_invariant
+  -- an enclave runs: it gets a new state and a saved context
   left_sound shared (Enclave slot) state saved shared_invariant not_running can_continue =
       let slot_is_itself : (slot == slot) ≡ true = eq-eqb slot slot refl in
       let live = running_live (slot_at shared.table slot) (shared_invariant.running slot ∙ rw slot_is_itself refl) in

@@ -66,6 +66,7 @@ module _ (memory : List ℕ) (table : Slots) (slot : ℕ) (maybe_info : Option S
   -- no two regions of the new table meet
   regions_after : (left right : ℕ) → left ≢ right → meets (region after left) (region after right) ≡ false
   regions_after left right distinct = elim (cases_eq left slot) [
+    -- the left region is the new region
     | inl left_is_slot ↦ elim (cases_eq right slot) [
       | inl right_is_slot ↦ absurd (distinct (left_is_slot ∙ sym right_is_slot))
       | inr right_is_other ↦
@@ -73,6 +74,7 @@ module _ (memory : List ℕ) (table : Slots) (slot : ℕ) (maybe_info : Option S
           (ap (λ block. meets block (region after right)) new_region_at_slot
           ∙ ap (meets (region_of maybe_info)) (other_region_unchanged right right_is_other) ∙ fits.regions right right_is_other)
     ]
+    -- the left region is unchanged
     | inr left_is_other ↦ elim (cases_eq right slot) [
       | inl right_is_slot ↦
           rw right_is_slot
@@ -89,6 +91,7 @@ module _ (memory : List ℕ) (table : Slots) (slot : ℕ) (maybe_info : Option S
   -- no region of the new table meets a window
   windows_after : (left right : ℕ) → meets (region after left) (window after right) ≡ false
   windows_after left right = elim (cases_eq left slot) [
+    -- the region is the new region
     | inl left_is_slot ↦ elim (cases_eq right slot) [
       | inl right_is_slot ↦
           rw (left_is_slot, right_is_slot)
@@ -98,6 +101,7 @@ module _ (memory : List ℕ) (table : Slots) (slot : ℕ) (maybe_info : Option S
           (ap (λ block. meets block (window after right)) new_region_at_slot
           ∙ ap (meets (region_of maybe_info)) (other_window_unchanged right right_is_other) ∙ fits.windows right right_is_other)
     ]
+    -- the region is unchanged
     | inr left_is_other ↦ elim (cases_eq right slot) [
       | inl right_is_slot ↦
           rw right_is_slot
