@@ -184,15 +184,19 @@ module _ (enclave : ℕ) where
   run_alike one other [] invariant other_invariant equiv =
       subst (EndAlike one other []) (sym (run_of_none one other)) (λ avoids_hart. none_alike one other invariant equiv)
   run_alike one other (command ∷ commands) invariant other_invariant equiv = elim (one_cases one other command) [
+    -- the first command is not blind: neither bench executes a command
     | inl stop ↦ subst (EndAlike one other (command ∷ commands))
         (sym (run_more_by one other command commands (stopped one other) NotBlind stop.1 refl))
         (λ avoids_hart. none_alike one other invariant equiv)
     | inr executes ↦ elim (cases_Bool (is_entered enclave (execute one command).entered)) [
+      -- the first command enters the enclave in the first bench: it is the last command
       | inl first_enters ↦ entered_last one other command commands invariant equiv executes.1
           (why_is one other command true (is_entered enclave (execute other command).entered) first_enters refl)
       | inr first_does_not ↦ elim (cases_Bool (is_entered enclave (execute other command).entered)) [
+        -- the first command enters the enclave only in the second bench: it is the last command
         | inl second_enters ↦
             entered_last one other command commands invariant equiv executes.1 (why_is one other command false true first_does_not second_enters)
+        -- the first command enters the enclave in neither bench: the replies are equal, and the remaining commands are alike by induction
         | inr second_does_not ↦
             let rest_ran = both_run enclave (execute one command).state (execute other command).state commands in
             subst (EndAlike one other (command ∷ commands))

@@ -113,6 +113,7 @@ module _ (breaks watches : List ℕ) where
       → actions_of (bench_over breaks watches (Monitored selected)) (commands_for list) ≡ map Occurs list
   unfolding execute scheduled_steps run lowest_accessed
   commands_for_events [] selected harts_exist = refl
+  -- a step of a hart: `hart` selects the hart, and `step 1` executes the step
   commands_for_events (StepOf hart ∷ list) selected harts_exist =
       let exist = and_parts _ _ harts_exist in
       let after = (step_of hart selected.state).state in
@@ -120,6 +121,7 @@ module _ (breaks watches : List ℕ) where
       selection_is_no_action selected hart (Step 1 ∷ commands_for list) exist.0
       ∙ ap (λ (actions : List Action). Occurs (StepOf hart) ∷ actions)
       (commands_for_events list (record { hart = hart; state = after }) remaining_exist)
+  -- a change of a timer line: `hart` selects the hart, and `timer` changes the line
   commands_for_events (LineOf hart raised ∷ list) selected harts_exist =
       let exist = and_parts _ _ harts_exist in
       let after = with_timer hart selected.state raised in

@@ -117,6 +117,7 @@ module _ (enclave hart : ℕ) (one other : MonitoredMachine) (invariant : Invari
       let same_size = memory.size in
       let bytes = byte ∷ [] in
       elim (cases_Bool (is_inside one.shared.memory address 1)) [
+        -- the address is in RAM: the same byte is written to both memories
         | inl in_ram ↦
             let first_write = write-some one.shared.memory address bytes in_ram in
             let second_write = write-some other.shared.memory address bytes (rw (← same_size) in_ram) in
@@ -130,6 +131,7 @@ module _ (enclave hart : ℕ) (one other : MonitoredMachine) (invariant : Invari
               state = record { hart = refl; state = memory_related enclave one other _ _ related written_equal same_if_ended };
               reply = refl;
             })
+        -- the address is outside RAM: neither target changes
         | inr outside_ram ↦
             let first_write = write-none one.shared.memory address bytes outside_ram in
             let second_write = write-none other.shared.memory address bytes (rw (← same_size) outside_ram) in
@@ -224,24 +226,29 @@ module _ (enclave hart : ℕ) (one other : MonitoredMachine) (invariant : Invari
   -- a command that both benches execute has equal observations, if the enclave hands over the same and both runs stop alike
   observed_equal : (command : Command) → HandsOverAlike enclave (as_bench one) (as_bench other) command
       → stop_of (as_bench one) command ≡ stop_of (as_bench other) command → ObservedEqual command
+  -- commands with steps: the steps are moves of both machines, and the runs stop for the same reason
   observed_equal (Step count) steps stop = runs_alike enclave hart one other [] [] count invariant other_invariant related steps stop
   observed_equal (Run count) steps stop = runs_alike enclave hart one other breaks watches count invariant other_invariant related steps stop
   observed_equal (Sched schedule) steps stop =
       let harts = harts_in schedule in
       schedule_observed harts (has_all (count_of one) harts) (has_all (count_of other) harts)
       (ap (λ (hart_count : ℕ). has_all hart_count harts) related.harts) steps
+  -- commands that show the selected hart: its guest state is equal if the enclave does not run on it, and is hidden otherwise
   observed_equal (Reg number) steps stop =
       hart_texts enclave hart one other related (λ (hart_state : HartState). register_text number (register hart_state.hart.regs number))
   observed_equal Regs steps stop =
       hart_texts enclave hart one other related (λ (hart_state : HartState). registers_text hart_state.hart.regs hart_state.hart.pc)
   observed_equal (Csr number) steps stop = csrs_alike enclave hart one other number related
+  -- commands that show bytes: a block without private bytes is equal, and a block with private bytes is hidden
   observed_equal (Mem address count) steps stop =
       memory_texts enclave one other related (record { base = address; size = count })
       (λ (bytes : Option (List ℕ)). option_case bytes outside_text (memory_text address))
   observed_equal (Dis address) steps stop =
       memory_texts enclave one other related (record { base = address; size = 4 })
       (λ (bytes : Option (List ℕ)). option_case bytes outside_text (λ bytes. dis_text address (number_of_bytes bytes)))
+  -- equal pokes have equal replies
   observed_equal (Poke address byte) steps stop = (pokes_alike address byte).reply
+  -- the PMP entries, the tables and the number of harts are equal
   observed_equal Pmp steps stop = ap pmp_text (entries_alike enclave hart one other invariant other_invariant related)
   observed_equal Enclaves steps stop = ap (λ (table : Slots). table_text table) related.table
   observed_equal (Access mode access address width) steps stop =

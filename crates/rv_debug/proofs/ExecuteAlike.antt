@@ -277,6 +277,7 @@ module _ (enclave hart : ℕ) (one other : MonitoredMachine) (equiv : EquivExcep
       let same_size = memory.size in
       let bytes = byte ∷ [] in
       elim (cases_Bool (is_inside one.shared.memory address 1)) [
+        -- the address is in RAM: the same byte is written to both memories
         | inl in_ram ↦
             let first_write = write-some one.shared.memory address bytes in_ram in
             let second_write = write-some other.shared.memory address bytes (rw (← same_size) in_ram) in
@@ -293,6 +294,7 @@ module _ (enclave hart : ℕ) (one other : MonitoredMachine) (equiv : EquivExcep
                     (shared.gone has_ended);
               });
             }) refl)
+        -- the address is outside RAM: neither bench changes
         | inr outside_ram ↦
             let first_write = write-none one.shared.memory address bytes outside_ram in
             let second_write = write-none other.shared.memory address bytes (rw (← same_size) outside_ram) in
@@ -394,8 +396,10 @@ module _ (enclave hart : ℕ) (one other : MonitoredMachine) (equiv : EquivExcep
     command_alike : (command : Command) → is_blind enclave first_bench command ≡ true → AvoidsHart enclave first_bench command
         → Alike enclave (execute first_bench command) (execute second_bench command)
     unfolding execute is_blind
+    -- `step` and `run` execute steps of the selected hart, on which the enclave does not run
     command_alike (Step count) blind avoids_hart = run_alike_executed [] [] count invariant other_invariant avoids_hart
     command_alike (Run count) blind avoids_hart = run_alike_executed breaks watches count invariant other_invariant avoids_hart
+    -- a command that shows the selected hart shows equal states, because the enclave does not run on this hart
     command_alike (Reg number) blind avoids_hart =
         unchanged_alike _ _
         (ap (λ (hart_state : HartState). register_text number (register hart_state.hart.regs number)) (same_selected_hart avoids_hart))
@@ -404,6 +408,7 @@ module _ (enclave hart : ℕ) (one other : MonitoredMachine) (equiv : EquivExcep
     command_alike (Csr number) blind avoids_hart =
         unchanged_alike _ _ (ap (λ (hart_state : HartState). if number == mhartid then csr_text number hart
         else result_case (read_result hart_state.hart.csrs number M) (csr_text number) (λ _. no_csr_text)) (same_selected_hart avoids_hart))
+    -- a write of a register or of the timer line makes the same change in both machines
     command_alike (SetReg number value) blind avoids_hart = equal_replies_alike enclave _ _ breaks watches ok_text ok_text (record {
       hart = refl;
       state = changed_equiv enclave hart (reg_set number value) one other (λ hart_state. refl) equiv;
@@ -412,6 +417,7 @@ module _ (enclave hart : ℕ) (one other : MonitoredMachine) (equiv : EquivExcep
       hart = refl;
       state = changed_equiv enclave hart (timer_line_set raised) one other (λ hart_state. refl) equiv;
     }) refl
+    -- a blind command reads or writes only bytes outside the region, which are equal in both memories
     command_alike (Mem address count) blind avoids_hart =
         unchanged_alike _ _ (ap (λ (bytes : Option (List ℕ)). option_case bytes outside_text (memory_text address))
         (same_visible_read (record { base = address; size = count }) (not-true _ blind)))
@@ -419,6 +425,7 @@ module _ (enclave hart : ℕ) (one other : MonitoredMachine) (equiv : EquivExcep
         unchanged_alike _ _ (ap (λ (bytes : Option (List ℕ)). option_case bytes outside_text (λ bytes. dis_text address (number_of_bytes bytes)))
         (same_visible_read (record { base = address; size = 4 }) (not-true _ blind)))
     command_alike (Poke address byte) blind avoids_hart = poke_alike address byte
+    -- both machines have the same number of harts, so they select the same hart and execute the same schedules
     command_alike (Hart number) blind avoids_hart =
         hart_selection_alike number (nat_lt number (count_of one)) (nat_lt number (count_of other))
         (λ hart_exists. if hart_exists then ok_text else no_hart_text) (ap (nat_lt number) equiv.harts)
@@ -426,6 +433,7 @@ module _ (enclave hart : ℕ) (one other : MonitoredMachine) (equiv : EquivExcep
         let harts = harts_in schedule in
         sched_executed_alike harts (has_all (count_of one) harts) (has_all (count_of other) harts)
         (ap (λ (hart_count : ℕ). has_all hart_count harts) equiv.harts) invariant other_invariant (on_no_hart_of_machine enclave one avoids_hart)
+    -- the PMP entries and the tables are equal in both machines
     command_alike (Access mode access address width) blind avoids_hart =
         let memory = memory_equiv in
         let same_size = memory.size in
@@ -435,6 +443,7 @@ module _ (enclave hart : ℕ) (one other : MonitoredMachine) (equiv : EquivExcep
     command_alike Pmp blind avoids_hart = unchanged_alike _ _ (ap pmp_text (same_entries invariant other_invariant))
     command_alike Enclaves blind avoids_hart =
         unchanged_alike _ _ (ap (λ (table : Slots). table_text table) (let shared = equiv.shared in shared.table))
+    -- the other commands change only breakpoints or watchpoints, or nothing
     command_alike _ blind avoids_hart = equal_replies_alike enclave _ _ _ _ _ _ targets_equiv refl
 
 -- ---- any two benches
@@ -504,6 +513,7 @@ equiv_again enclave one other invariant equiv =
 -- Proves the noninterference law for a command of each kind. The second bench is rewritten to the breakpoints and watchpoints of the first.
 pub noninterference : NoninterferenceLaw
 noninterference enclave bench other_bench command invariant other_invariant equiv blind avoids_hart =
+    -- the second bench is rewritten to the breakpoints and watchpoints of the first bench
     let alike_unless_entered =
     subst (λ (breaks : List ℕ). Alike enclave (execute bench command)
     (execute (bench_of other_bench.target breaks other_bench.watches) command)) equiv.breaks

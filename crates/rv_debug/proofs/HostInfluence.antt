@@ -53,6 +53,7 @@ write_cases P machine address byte unchanged written = result_cases (write machi
 action_sound : (action : Action) (machine : MonitoredMachine) → IsSound machine → IsSound (after_action action machine)
 action_sound (Occurs event) machine sound =
     record { invariant = event_invariant event machine sound.invariant; legal = event_stored event machine sound.invariant sound.legal }
+-- a write of a register changes neither a pc nor an S-mode register
 action_sound (SetsRegister hart number value) machine sound =
     let own_hart = (hart_state_of hart machine).hart in
     record {
@@ -71,6 +72,7 @@ action_sound (SetsRegister hart number value) machine sound =
         contexts = sound.legal.contexts;
       };
     }
+-- a write of a byte keeps the size of the memory
 action_sound (SetsByte address byte) machine sound =
     write_cases IsSound machine address byte sound (λ memory written. record {
       invariant = invariant_by_size machine memory sound.invariant (sym (length-write machine.shared.memory address (byte ∷ []) memory written));
@@ -102,9 +104,11 @@ register_stays slot hart number value context machine continues not_on_hart =
     record {
       continues = record {
         running = λ any_hart runs. elim (cases_eq any_hart hart) [
+          -- the enclave does not run on the written hart
           | inl is_written_hart ↦
               absurd (both_ways _ not_on_hart
               (ap (λ (hart_number : ℕ). runs_on slot hart_number machine) (sym is_written_hart) ∙ sym (same_world any_hart) ∙ runs))
+          -- the state of any other hart is unchanged
           | inr is_other_hart ↦ ap (λ (hart_state : HartState). continuation hart_state.hart)
               (get_or-set_other machine.hart_states hart any_hart (reg_set number value (hart_state_of hart machine))
               (hart_state_at_start 0) is_other_hart)
@@ -132,12 +136,15 @@ byte_stays slot address byte context machine continues outside_region =
       table = refl;
       size = length-write old address (byte ∷ []) memory written;
       bytes = λ byte_index in_region. rw written_is.2 (elim (cases_lt byte_index index) [
+        -- a byte below the written byte is unchanged
         | inl below_byte ↦ index-below old index (byte ∷ []) byte_index within_memory below_byte
         | inr not_below_byte ↦ elim (cases_lt byte_index (index + 1)) [
+          -- the written byte is outside the region
           | inl is_byte ↦
               let byte_address : ram_base + byte_index ≡ address = omega (arith, written_is.0) in
               let never : true ≡ false = sym (ap not (ap (has (region machine.shared.table slot)) byte_address ∙ outside_region)) ∙ in_region in
               cc
+          -- a byte above the written byte is unchanged
           | inr above_byte ↦ index-above old index (byte ∷ []) byte_index within_memory above_byte
         ]
       ]);
@@ -261,6 +268,7 @@ module _ (enclave other_enclave : ℕ) (bench other_bench : BenchState) (command
       record {
         steps = moved_alike.steps;
         point =
+            -- the machines after the commands are the machines after the actions of the moves
             let first_end = first_leads ∙ ap (λ (actions : List Action). some (after_actions actions one)) (sym life.first_commands) in
             let second_end = second_leads ∙ ap (λ (actions : List Action). some (after_actions actions other)) (sym life.second_commands) in
             subst (λ (machine_or_none : Option MonitoredMachine).

@@ -43,7 +43,9 @@ same_window enclave one other invariant equiv =
     record {
       size = memory.size;
       bytes = λ index in_window. elim (cases_Bool (has region_block (ram_base + index))) [
+        -- a byte outside the region is equal in both memories
         | inr outside_region ↦ memory.bytes index outside_region
+        -- a byte of the region is not in the window
         | inl in_region ↦
             let region_bounds =
             and_parts (nat_le region_block.base (ram_base + index)) (nat_lt (ram_base + index) (region_block.base + region_block.size)) in_region in
@@ -124,9 +126,11 @@ low_schedule enclave (hart ∷ harts) one other summary invariant other_invarian
     let second_step = step_of hart other.state in
     let alike_after = guest_step_equiv enclave hart one.state other.state invariant other_invariant equiv runs_on_none.0 in
     elim (cases_Bool (enters enclave first_step.outcome.entered)) [
+      -- the step enters the enclave: the schedule then enters it too, against the premise
       | inl enters_slot ↦ absurd (both_ways _ not_entered
           (schedule_enters enclave hart harts summary first_step.state first_step.outcome
           (entered_some enclave first_step.outcome.entered enters_slot)))
+      -- the step does not enter the enclave: the remaining steps are low moves by induction
       | inr does_not_enter ↦ one_more_move enclave hart harts one.state other.state invariant equiv runs_on_none.0
           (low_schedule enclave harts (record { hart = hart; state = first_step.state }) (record { hart = hart; state = second_step.state }) _
           (invariant_law hart one.state invariant) (invariant_law hart other.state other_invariant) alike_after.state
@@ -365,17 +369,20 @@ module _ (enclave hart : ℕ) (one other : MonitoredMachine) (invariant : Invari
   low_kind : (command : Command) → RunsOnNoneIn enclave (harts_named (as_target one) command) (as_target one)
       → is_entered enclave (execute (as_bench one) command).entered ≡ false → IsLow command
   unfolding execute
+  -- `step` and `run`: the run has equal summaries and low moves
   low_kind (Step count) runs_on_none not_entered =
       let (steps, stop, after) = low_runs_are_low [] [] count (low_runs [] [] count runs_on_none.0 not_entered) in
       record { same = record { same = refl; steps = steps; stop = stop }; window = after }
   low_kind (Run count) runs_on_none not_entered =
       let (steps, stop, after) = low_runs_are_low breaks watches count (low_runs breaks watches count runs_on_none.0 not_entered) in
       record { same = record { same = refl; steps = steps; stop = stop }; window = after }
+  -- `sched`: both machines have the same harts, and the steps of the schedule are low moves
   low_kind (Sched schedule) runs_on_none not_entered =
       let harts = harts_in schedule in
       let same_exist = ap (λ (hart_count : ℕ). has_all hart_count harts) related.harts in
       let (steps, after) = low_sched harts (has_all (count_of one) harts) (has_all (count_of other) harts) same_exist runs_on_none not_entered in
       record { same = record { same = refl; steps = steps; stop = refl }; window = after }
+  -- commands without steps
   low_kind (Hart number) runs_on_none not_entered =
       let (steps, after) = low_hart number (nat_lt number (count_of one)) (nat_lt number (count_of other)) in
       record { same = record { same = refl; steps = steps; stop = refl }; window = after }

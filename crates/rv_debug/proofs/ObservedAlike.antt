@@ -82,8 +82,10 @@ run_texts enclave hart one other one_run other_run first_observed second_observe
     λ not_on_hart. both_moved.ran (ap (runs_on enclave hart) first_observed.state ∙ not_on_hart) in
     let hart_related = related.hart_states hart in
     elim (cases_Bool (runs_on enclave hart one_run.state)) [
+      -- the enclave runs on the hart after the first run, and therefore after the second run: both texts are empty
       | inl on_hart ↦ let same_on_other : runs_on enclave hart other_run.state ≡ true = sym (ap (is_world_of enclave) hart_related.world) ∙ on_hart in
           rw (on_hart, same_on_other) refl
+      -- the enclave runs on the hart after neither run: the observed steps, the last trap and the state of the hart are equal
       | inr not_on_hart ↦
           let same_on_other : runs_on enclave hart other_run.state ≡ false = sym (ap (is_world_of enclave) hart_related.world) ∙ not_on_hart in
           let trap : one_run.ran.trap ≡ other_run.ran.trap =

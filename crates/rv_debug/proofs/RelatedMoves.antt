@@ -97,6 +97,7 @@ moved : (enclave shown_hart : ℕ) (moves : List Move) (one other : MonitoredMac
     → Moved enclave shown_hart (first_steps moves) (second_steps moves) one other one_ran other_ran
 moved enclave shown_hart [] one other one_ran other_ran invariant other_invariant related all_steps moves same_ran =
     record { state = related; ran = same_ran }
+-- a step of the enclave in the first machine
 moved enclave shown_hart (First hart ∷ rest_moves) one other one_ran other_ran invariant other_invariant related all_steps moves same_ran =
     let next = (declassification_law enclave (First hart ∷ []) one other invariant other_invariant related (moves.0, tt)).state in
     let moved_rest =
@@ -104,6 +105,7 @@ moved enclave shown_hart (First hart ∷ rest_moves) one other one_ran other_ran
     (invariant_law hart one invariant) other_invariant next all_steps moves.1
     (same_after_first enclave shown_hart hart one other one_ran other_ran related same_ran moves.0) in
     record { state = moved_rest.state; ran = moved_rest.ran }
+-- a step of the enclave in the second machine
 moved enclave shown_hart (Second hart ∷ rest_moves) one other one_ran other_ran invariant other_invariant related all_steps moves same_ran =
     let next = (declassification_law enclave (Second hart ∷ []) one other invariant other_invariant related (moves.0, tt)).state in
     let moved_rest =
@@ -113,6 +115,7 @@ moved enclave shown_hart (Second hart ∷ rest_moves) one other one_ran other_ra
     record { state = moved_rest.state; ran = moved_rest.ran }
 moved enclave shown_hart
     (Both (LineOf hart raised) ∷ rest_moves) one other one_ran other_ran invariant other_invariant related all_steps moves same_ran = cc
+-- a step of both machines is a low step, or an exit of the enclave from both
 moved enclave shown_hart (Both (StepOf hart) ∷ rest_moves) one other one_ran other_ran invariant other_invariant related all_steps moves same_ran =
     let alike = declassification_law enclave (Both (StepOf hart) ∷ []) one other invariant other_invariant related (moves.0, tt) in
     let same_after : IsLowStep enclave hart one other ⊎ ExitsAlike enclave hart one other

@@ -111,8 +111,10 @@ exit_after_entry hart (Monitored selected) breaks watches first_command commands
     let at_entry = (sched enter_and_leave.before machine).state in
     let after = (step_of hart at_entry).state in
     let invariant_at_entry = sched_invariant enter_and_leave.before machine invariant in
+    -- the host runs on the hart before the entry, and an enclave after it
     let runs_host = ap (λ (view : HartView). is_host view.hart_state.world) (sym enter_and_leave.entry_is) ∙ enter_and_leave.host in
     let enclave_runs = runs_at_first hart enter_and_leave.after after next commands exit enter_and_leave.leaves in
+    -- the saved context after the first command is the saved context after its steps
     let same_context = context_after_effect hart selected (effect bench first_command)
     ∙ ap (λ (harts : List ℕ). host_on hart (sched harts machine).state) enter_and_leave.steps_are
     ∙ ap (host_on hart) (sched_in_turn enter_and_leave.before (hart ∷ enter_and_leave.after) machine) in

@@ -111,6 +111,7 @@ scheduled_steps_alike enclave (hart ∷ harts) one other summary invariant other
     let second_step = step_of hart other.state in
     let alike_after = noninterference hart one.state invariant enclave other.state other_invariant equiv.state runs_on_none.0 in
     elim (cases_Bool (enters enclave first_step.outcome.entered)) [
+      -- the step enters the enclave in both machines, so both schedules enter it
       | inl enters_slot ↦
           let entered_is = entered_some enclave first_step.outcome.entered enters_slot in
           inl (record {
@@ -118,6 +119,7 @@ scheduled_steps_alike enclave (hart ∷ harts) one other summary invariant other
             other_enters = schedule_enters enclave hart harts summary second_step.state second_step.outcome
                 (ap (λ (outcome : Outcome). outcome.entered) (sym alike_after.outcome) ∙ entered_is);
           })
+      -- the step enters the enclave in neither machine: the outcomes are equal, and the remaining schedules are alike by induction
       | inr does_not_enter ↦
           let first_next : Selected = record { hart = hart; state = first_step.state } in
           let second_next : Selected = record { hart = hart; state = second_step.state } in

@@ -57,6 +57,7 @@ module _ (one other : MonitoredMachine) (commands other_commands : List Command)
       let bench_over : Target → BenchState = λ target. record { target = target; breaks = []; watches = [] } in
       ap bench_over (sym (schedule_is_sched harts start _ 0))
       ∙ ap (λ (change : Effect). bench_over (done (Monitored start) change)) (sym (is_step.steps machine)) in (
+        -- the steps of the command are the moves, and both runs stop for the same reason
         inl (inl (record {
           same = refl;
           steps = record {
@@ -68,6 +69,7 @@ module _ (one other : MonitoredMachine) (commands other_commands : List Command)
           };
           stop = is_step.stops one ∙ sym (is_step.stops other);
         })),
+        -- the remaining commands begin in the benches after the steps
         subst (λ (bench : BenchState). AllCommandsAlike 0 bench (execute (monitored other) (Step count)).state commands other_commands) (after one)
             (subst (λ (bench : BenchState). AllCommandsAlike 0 (monitored (sched harts one).state) bench commands other_commands)
             (after other) rest_alike),

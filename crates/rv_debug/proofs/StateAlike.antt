@@ -113,12 +113,14 @@ state_alike_if_hart_avoided enclave bench other_bench command invariant other_in
 -- and a schedule is treated above; noninterference covers all others.
 pub equivalence : EquivalenceLaw
 unfolding execute
+-- commands that show a hart change nothing
 equivalence enclave bench other_bench (Reg number) invariant other_invariant equiv blind runs_on_none =
     record { entered = refl; state = λ not_entered. equiv_again enclave bench other_bench invariant equiv }
 equivalence enclave bench other_bench Regs invariant other_invariant equiv blind runs_on_none =
     record { entered = refl; state = λ not_entered. equiv_again enclave bench other_bench invariant equiv }
 equivalence enclave bench other_bench (Csr number) invariant other_invariant equiv blind runs_on_none =
     record { entered = refl; state = λ not_entered. equiv_again enclave bench other_bench invariant equiv }
+-- a schedule steps no hart of the enclave; the second bench is rewritten to the breakpoints and watchpoints of the first bench
 equivalence enclave bench other_bench (Sched schedule) invariant other_invariant equiv blind runs_on_none =
     let states_equiv = subst (λ (breaks : List ℕ). EquivUnlessEntered enclave (execute bench (Sched schedule))
     (execute (bench_of other_bench.target breaks other_bench.watches) (Sched schedule)))
@@ -132,5 +134,6 @@ equivalence enclave bench other_bench (Sched schedule) invariant other_invariant
       state = λ not_entered. equiv_again enclave _ _
           (command_keeps_invariant bench (Sched schedule) invariant) (states_equiv.state not_entered);
     }
+-- every other command avoids the hart of the enclave
 equivalence enclave bench other_bench command invariant other_invariant equiv blind runs_on_none =
     state_alike_if_hart_avoided enclave bench other_bench command invariant other_invariant equiv blind runs_on_none
