@@ -22,7 +22,9 @@ any_in : (test : ℕ → Bool) (start count number : ℕ) → start ≤ number �
     → list_any test (range_with_len start count) ≡ true
 any_in test start zero number from_start before_end holds = absurd (omega (arith, from_start, before_end))
 any_in test start (suc count) number from_start before_end holds = elim (cases_eq number start) [
-  | inl is_start ↦ let passes_at_start : test start ≡ true = subst (λ (lower : ℕ). test lower ≡ true) is_start holds in rw passes_at_start refl
+  | inl is_start ↦
+      let passes_at_start : test start ≡ true = subst (λ (lower : ℕ). test lower ≡ true) is_start holds in
+      rw passes_at_start refl
   | inr not_start ↦
       let passes_later = any_in test (start + 1) count number (omega (arith, from_start, not_start)) (omega (arith, before_end)) holds in
       rw passes_later (or-true (test start))
@@ -78,7 +80,9 @@ is_block_of-passes memory block valid_block =
 -- a window that is empty, or is a valid block, passes the test of a window
 window_is : (memory : List ℕ) (regs : List ℕ) → (register regs 13 ≡ 0) ⊎ IsBlockOf memory (window_named regs)
     → (register regs 13 == 0 || is_block_of memory (window_named regs)) ≡ true
-window_is memory regs (inl size_is_0) = let test_is = eq-eqb (register regs 13) 0 size_is_0 in rw test_is refl
+window_is memory regs (inl size_is_0) =
+    let test_is = eq-eqb (register regs 13) 0 size_is_0 in
+    rw test_is refl
 window_is memory regs (inr block) =
     let is_valid = is_block_of-passes memory (window_named regs) block in rw is_valid (or-true (register regs 13 == 0))
 

@@ -76,7 +76,9 @@ slot_gives : (world : World) (slot : ℕ) (maybe_info : Option SlotInfo) (access
 slot_gives world slot None access permission = absurd (both_ways _ (off_refuses access) permission)
 slot_gives world slot (Some info) access permission = elim (cases_Bool (is_world_of slot world)) [
   | inl runs_enclave ↦ runs_enclave
-  | inr runs_other ↦ let no_permission_given = rw runs_other at permission in absurd (both_ways _ (no_permission_refuses access) no_permission_given)
+  | inr runs_other ↦
+      let no_permission_given = rw runs_other at permission in
+      absurd (both_ways _ (no_permission_refuses access) no_permission_given)
 ]
 
 -- the PMP entry of a slot whose region has a byte gives every permission to the enclave in this slot

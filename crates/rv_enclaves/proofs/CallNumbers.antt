@@ -84,7 +84,9 @@ any_same : {X : Type 0} (test other_test : X → Bool) → ((x : X) → test x �
     → list_any test elements ≡ list_any other_test elements
 any_same test other_test same_tests [] = refl
 any_same test other_test same_tests (x ∷ elements) =
-    let same_first = same_tests x in let same_rest = any_same test other_test same_tests elements in rw (same_first, same_rest) refl
+    let same_first = same_tests x in
+    let same_rest = any_same test other_test same_tests elements in
+    rw (same_first, same_rest) refl
 
 -- both definitions of the test for overlap agree
 same_overlap : (new : CreateArgs) (maybe_info : Option SlotInfo) → collides new maybe_info ≡ overlap_enclave new.region new.window maybe_info

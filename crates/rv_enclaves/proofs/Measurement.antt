@@ -126,7 +126,9 @@ same_bytes : (one_memory other_memory : List ℕ) (block : Block) (memory_index 
     → slice_index one_memory memory_index ≡ slice_index other_memory memory_index
 same_bytes one_memory other_memory block memory_index is_valid other_valid same_block_bytes not_outside =
     elim (cases_Bool (has block (ram_base + memory_index))) [
-      | inr outside_block ↦ let contradiction : true ≡ false = sym (ap not outside_block) ∙ not_outside in cc
+      | inr outside_block ↦
+          let contradiction : true ≡ false = sym (ap not outside_block) ∙ not_outside in
+          cc
       | inl in_block ↦
           let (not_below_base, below_end) = and_parts (nat_le block.base (ram_base + memory_index)) _ in_block in
           let from_base = leb-true _ _ not_below_base in

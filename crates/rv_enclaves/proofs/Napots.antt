@@ -46,8 +46,13 @@ trailing_ones-block half ones ones_below_32 fits =
       -- the number of trailing ones is compared with `ones`: fewer and more both contradict the bits of the number
       | inl equal ↦ equal
       | inr different ↦ elim different [
-        | inl fewer ↦ let bit_is_1 = lower_bits_are_1 trailing fewer in let bit_is_0 = trailing_facts.1 in absurd (omega (arith, bit_is_1, bit_is_0))
-        | inr more ↦ let bit_is_1 = trailing_facts.2 ones more in absurd (omega (arith, bit_is_1, bit_after_ones_is_0))
+        | inl fewer ↦
+            let bit_is_1 = lower_bits_are_1 trailing fewer in
+            let bit_is_0 = trailing_facts.1 in
+            absurd (omega (arith, bit_is_1, bit_is_0))
+        | inr more ↦
+            let bit_is_1 = trailing_facts.2 ones more in
+            absurd (omega (arith, bit_is_1, bit_after_ones_is_0))
       ]
     ]
 

@@ -47,7 +47,9 @@ inside_agrees memory block inside =
 -- the complement of any block changes no byte outside the block
 block_agrees : (memory : List ℕ) (block : Block) → EqualOutside (has block) memory (complemented_block memory block)
 block_agrees memory block = elim (cases_Bool (is_inside memory block.base block.size)) [
-  | inl inside ↦ let complement_is = complemented-is memory block.base block.size inside in rw complement_is (inside_agrees memory block inside)
+  | inl inside ↦
+      let complement_is = complemented-is memory block.base block.size inside in
+      rw complement_is (inside_agrees memory block inside)
   | inr outside ↦
       let reads_none = read-none memory block.base block.size outside in
       rw reads_none (record { size = refl; bytes = λ byte_index not_hidden. refl })

@@ -52,7 +52,9 @@ block_twice memory block are_bytes = elim (cases_Bool (is_inside memory block.ba
       let complement_is = complemented-is memory block.base block.size inside in
       let complement_again_is = complemented-is once block.base block.size inside_after in
       rw (complement_is, complement_again_is) (complemented_twice memory index block.size fits are_bytes)
-  | inr outside ↦ let reads_none = read-none memory block.base block.size outside in rw (reads_none, reads_none) refl
+  | inr outside ↦
+      let reads_none = read-none memory block.base block.size outside in
+      rw (reads_none, reads_none) refl
 ]
 
 -- proves that two scrambles restore the shared state

@@ -56,7 +56,8 @@ module _ (memory : List ℕ) (table : Slots) (slot : ℕ) (maybe_info : Option S
   -- each record of the new table is valid
   well_formed_after : (each_slot : ℕ) → IfSome (slot_at after each_slot) (IsValidSlot memory)
   well_formed_after each_slot = elim (cases_eq each_slot slot) [
-    | inl is_slot ↦ let Valid : Option SlotInfo → Type 0 = λ changed. IfSome changed (IsValidSlot memory) in
+    | inl is_slot ↦
+        let Valid : Option SlotInfo → Type 0 = λ changed. IfSome changed (IsValidSlot memory) in
         rw is_slot (subst Valid (sym new_record_at_slot) fits.well_formed)
     | inr is_other ↦
         let Valid : Option SlotInfo → Type 0 = λ changed. IfSome changed (IsValidSlot memory) in
