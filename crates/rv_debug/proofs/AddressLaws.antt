@@ -13,10 +13,12 @@ among-filter test address (first ∷ rest) = with_first (test first) refl (first
   with_first : (passes : Bool) → test first ≡ passes → (first_is_address : Bool) → (first == address) ≡ first_is_address
       → is_among address (filter test rest) ≡ (test address && is_among address rest)
       → is_among address (cond passes (first ∷ filter test rest) (filter test rest)) ≡ (test address && (first_is_address || is_among address rest))
-  with_first true passes true is_first same_members = let first_is_address : first ≡ address = grind arith in
+  with_first true passes true is_first same_members =
+      let first_is_address : first ≡ address = grind arith in
       let address_passes : test address ≡ true = sym (ap test first_is_address) ∙ passes in rw (is_first, address_passes) refl
   with_first true passes false not_first same_members = rw not_first same_members
-  with_first false fails true is_first same_members = let first_is_address : first ≡ address = grind arith in
+  with_first false fails true is_first same_members =
+      let first_is_address : first ≡ address = grind arith in
       let address_fails : test address ≡ false = sym (ap test first_is_address) ∙ fails in rw address_fails (rw address_fails at same_members)
   with_first false fails false not_first same_members = same_members
 

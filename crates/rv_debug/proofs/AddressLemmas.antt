@@ -44,10 +44,13 @@ sorted-at (first ∷ rest) sorted (suc earlier) (suc later) is_before in_bounds 
 pub sorted-le : (addresses : List ℕ) → IsSorted addresses → (earlier later : ℕ) → earlier ≤ later → later < length addresses
     → get_or addresses earlier 0 ≤ get_or addresses later 0
 sorted-le addresses sorted earlier later at_most in_bounds = elim (cases_lt earlier later) [
-  | inl is_before ↦ let is_above : get_or addresses earlier 0 < get_or addresses later 0 =
-      sorted-at addresses sorted earlier later is_before in_bounds in omega arith
-  | inr is_at_or_after ↦ let same_index : earlier ≡ later = omega arith in
-      let same_address : get_or addresses earlier 0 ≡ get_or addresses later 0 = ap (λ index. get_or addresses index 0) same_index in omega arith
+  | inl is_before ↦
+      let is_above : get_or addresses earlier 0 < get_or addresses later 0 = sorted-at addresses sorted earlier later is_before in_bounds in
+      omega arith
+  | inr is_at_or_after ↦
+      let same_index : earlier ≡ later = omega arith in
+      let same_address : get_or addresses earlier 0 ≡ get_or addresses later 0 = ap (λ index. get_or addresses index 0) same_index in
+      omega arith
 ]
 
 -- a binary search of a sorted list returns the index of the address, or the index at which the address would be inserted
@@ -68,8 +71,12 @@ searched-place addresses address result sorted search_result =
 pub not_at_insertion : (address : ℕ) (addresses : List ℕ) (place : ℕ) → HasPlace addresses address place → (index : ℕ)
     → index < length addresses → get_or addresses index 0 ≢ address
 not_at_insertion address addresses place insertion index in_bounds is_address = elim (cases_lt index place) [
-  | inl is_before ↦ let is_below : get_or addresses index 0 < address = insertion.below index is_before in absurd (omega arith)
-  | inr is_at_or_after ↦ let is_above : address < get_or addresses index 0 = insertion.above index is_at_or_after in_bounds in absurd (omega arith)
+  | inl is_before ↦
+      let is_below : get_or addresses index 0 < address = insertion.below index is_before in
+      absurd (omega arith)
+  | inr is_at_or_after ↦
+      let is_above : address < get_or addresses index 0 = insertion.above index is_at_or_after in_bounds in
+      absurd (omega arith)
 ]
 
 -- ---- an address in the list
@@ -118,7 +125,9 @@ insertion_in_rest address first rest place insertion = record {
 
 -- no address has an index for insertion past the end of the empty list
 no_insertion_past_end : (address place : ℕ) → HasPlace [] address (suc place) → ⊥
-no_insertion_past_end address place insertion = let within = insertion.within in omega (arith, within)
+no_insertion_past_end address place insertion =
+    let within = insertion.within in
+    omega (arith, within)
 
 -- if `place` is the index for insertion of the address, the lower addresses are the first `place` addresses, and the higher addresses are the others
 filter_at_index : (address : ℕ) (addresses : List ℕ) (place : ℕ) → HasPlace addresses address place
@@ -172,14 +181,16 @@ sorted-insert address (first ∷ rest) (suc place) sorted insertion =
 pub full_has_no_room : (address : ℕ) (addresses : List ℕ) (place : ℕ) → HasPlace addresses address place → length addresses ≡ 32
     → None ≡ with_room_for address addresses
 unfolding with_room_for
-full_has_no_room address addresses place insertion is_full = let fails : ltb (length addresses) 32 ≡ false = grind (arith, nat_tests) in
+full_has_no_room address addresses place insertion is_full =
+    let fails : ltb (length addresses) 32 ≡ false = grind (arith, nat_tests) in
     rw (among-insertion address addresses place insertion, fails) refl
 
 -- a set of fewer than 32 addresses with a new address is the list after the insertion at the index that the search returns
 pub insert_with_room : (address : ℕ) (addresses : List ℕ) (place : ℕ) → HasPlace addresses address place → length addresses < 32
     → Some (insert addresses place address) ≡ with_room_for address addresses
 unfolding with_room_for
-insert_with_room address addresses place insertion has_room = let passes : ltb (length addresses) 32 ≡ true = grind (arith, nat_tests) in
+insert_with_room address addresses place insertion has_room =
+    let passes : ltb (length addresses) 32 ≡ true = grind (arith, nat_tests) in
     rw (among-insertion address addresses place insertion, passes) (ap Some (insert-is address addresses place insertion))
 
 -- ---- an address removed
@@ -261,9 +272,13 @@ find-above test low (first ∷ rest) found_address sorted_above found =
       with_first : (passes : Bool) → cond passes (Some first) (find test rest) ≡ Some found_address
           → (find test rest ≡ Some found_address → first < found_address) → low < found_address
       with_first true found_is rest_above =
-          let first_is_found : first ≡ found_address = cc in let first_above : low < first = sorted_above.0 in omega arith
+          let first_is_found : first ≡ found_address = cc in
+          let first_above : low < first = sorted_above.0 in
+          omega arith
       with_first false found_is rest_above =
-          let first_above : low < first = sorted_above.0 in let found_above_first : first < found_address = rest_above found_is in omega arith
+          let first_above : low < first = sorted_above.0 in
+          let found_above_first : first < found_address = rest_above found_is in
+          omega arith
 
 -- the lower of an address and of a higher found address is the address; `found` may be None
 lower-before : (address : ℕ) (found : Option ℕ) → ((found_address : ℕ) → found ≡ Some found_address → address < found_address)
@@ -292,7 +307,9 @@ find-either test other_test (first ∷ rest) sorted =
           → lower (find test rest) (find other_test rest) ≡ find (λ address. test address || other_test address) rest
           → lower (cond passes (Some first) (find test rest)) (cond passes_other (Some first) (find other_test rest))
           ≡ cond (passes || passes_other) (Some first) (find (λ address. test address || other_test address) rest)
-      with_first true true rest_equal = let min_is : min first first ≡ first = omega arith in ap Some min_is
+      with_first true true rest_equal =
+          let min_is : min first first ≡ first = omega arith in
+          ap Some min_is
       with_first true false rest_equal =
           lower-before first (find other_test rest) (λ found_address. find-above other_test first rest found_address sorted)
       with_first false true rest_equal = lower-after first (find test rest) (λ found_address. find-above test first rest found_address sorted)
@@ -342,8 +359,11 @@ find-nothing_between address count addresses place sorted insertion is_past_inte
       -- no address of the list is one of the `count` addresses from x on
       not_in_interval : (index : ℕ) → index < length addresses → is_between address count (get_or addresses index 0) ≡ false
       not_in_interval index in_bounds = elim (cases_lt index place) [
-        | inl is_before ↦ let is_below : get_or addresses index 0 < address = insertion.below index is_before in grind (arith, nat_tests)
-        | inr is_at_or_after ↦ let interval_is_below : address + count ≤ get_or addresses place 0 = is_past_interval (omega arith) in
+        | inl is_before ↦
+            let is_below : get_or addresses index 0 < address = insertion.below index is_before in
+            grind (arith, nat_tests)
+        | inr is_at_or_after ↦
+            let interval_is_below : address + count ≤ get_or addresses place 0 = is_past_interval (omega arith) in
             let is_above : get_or addresses place 0 ≤ get_or addresses index 0 = sorted-le addresses sorted place index is_at_or_after in_bounds in
             grind (arith, nat_tests)
       ]

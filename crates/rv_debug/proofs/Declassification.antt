@@ -338,7 +338,9 @@ module _ (enclave : ℕ) (machine : Machine) (breaks watches : List ℕ) where
 
   -- a bare machine has no region, so no command pokes into it
   bare_pokes : (command : Command) → PokesInto enclave bench command → ⊥
-  bare_pokes (Poke address byte) pokes_secret = let never = live_if_in_region None address pokes_secret in cc
+  bare_pokes (Poke address byte) pokes_secret =
+      let never = live_if_in_region None address pokes_secret in
+      cc
   bare_pokes _ pokes_secret = pokes_secret
 
   -- a bare machine has no enclave, so no command sets its registers

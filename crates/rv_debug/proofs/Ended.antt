@@ -48,7 +48,8 @@ use Rattle.rv_debug.proofs.LowCommands.{low_command}
 
 -- the table has no record at index `slot_count`, which is past the last slot
 no_slot_at_count : (machine : MonitoredMachine) → Invariant machine → slot_at machine.shared.table slot_count ≡ None
-no_slot_at_count machine invariant = let table_size = invariant.shared.valid.count in
+no_slot_at_count machine invariant =
+    let table_size = invariant.shared.valid.count in
     get_or_past {X = Option SlotInfo} machine.shared.table slot_count None (omega (arith, table_size))
 
 -- no hart runs an enclave of slot `slot_count`, which is past the last slot

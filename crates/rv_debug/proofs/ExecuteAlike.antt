@@ -230,7 +230,9 @@ module _ (enclave hart : ℕ) (one other : MonitoredMachine) (equiv : EquivExcep
 
   -- if a command that shows the selected hart avoids the hart of the enclave, the state of the selected hart is equal in both machines
   same_selected_hart : AvoidsHart enclave first_bench Regs → hart_state_of hart one ≡ hart_state_of hart other
-  same_selected_hart avoids_hart = let hart_equiv = equiv.hart_states hart in hart_equiv.same avoids_hart.0
+  same_selected_hart avoids_hart =
+      let hart_equiv = equiv.hart_states hart in
+      hart_equiv.same avoids_hart.0
 
   -- two equivalent machines have equal PMP entries in each hart
   same_entries : Invariant one → Invariant other → (hart_state_of hart one).hart.csrs.pmp ≡ (hart_state_of hart other).hart.csrs.pmp

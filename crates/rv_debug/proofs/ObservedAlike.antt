@@ -31,7 +31,8 @@ pub hart_texts : (enclave hart : ℕ) (one other : MonitoredMachine) → AreRela
 hart_texts enclave hart one other related text =
     let hart_related = related.hart_states hart in
     elim (cases_Bool (runs_on enclave hart one)) [
-      | inl on_hart ↦ let same_on_other : runs_on enclave hart other ≡ true = sym (ap (is_world_of enclave) hart_related.world) ∙ on_hart in
+      | inl on_hart ↦
+          let same_on_other : runs_on enclave hart other ≡ true = sym (ap (is_world_of enclave) hart_related.world) ∙ on_hart in
           rw (on_hart, same_on_other) refl
       | inr not_on_hart ↦
           let same_on_other : runs_on enclave hart other ≡ false = sym (ap (is_world_of enclave) hart_related.world) ∙ not_on_hart in
@@ -83,7 +84,8 @@ run_texts enclave hart one other one_run other_run first_observed second_observe
     let hart_related = related.hart_states hart in
     elim (cases_Bool (runs_on enclave hart one_run.state)) [
       -- the enclave runs on the hart after the first run, and therefore after the second run: both texts are empty
-      | inl on_hart ↦ let same_on_other : runs_on enclave hart other_run.state ≡ true = sym (ap (is_world_of enclave) hart_related.world) ∙ on_hart in
+      | inl on_hart ↦
+          let same_on_other : runs_on enclave hart other_run.state ≡ true = sym (ap (is_world_of enclave) hart_related.world) ∙ on_hart in
           rw (on_hart, same_on_other) refl
       -- the enclave runs on the hart after neither run: the observed steps, the last trap and the state of the hart are equal
       | inr not_on_hart ↦
@@ -283,8 +285,10 @@ module _ (enclave : ℕ) (one other : MonitoredMachine) (related : AreRelated en
       let same_names : names_private_bytes one block ≡ names_private_bytes other block =
       ap (λ (table : Slots). meets block (region table enclave) || (runs table enclave && meets block (window table enclave))) related.table in
       elim (cases_Bool (names_private_bytes one block)) [
-        | inl is_private ↦ let same_in_other : names_private_bytes other block ≡ true = sym same_names ∙ is_private in
+        | inl is_private ↦
+            let same_in_other : names_private_bytes other block ≡ true = sym same_names ∙ is_private in
             rw (is_private, same_in_other) refl
-        | inr not_private ↦ let same_in_other : names_private_bytes other block ≡ false = sym same_names ∙ not_private in
+        | inr not_private ↦
+            let same_in_other : names_private_bytes other block ≡ false = sym same_names ∙ not_private in
             rw (not_private, same_in_other) (ap text (reads_alike block not_private))
       ]

@@ -51,7 +51,8 @@ hidden_writes hidden memory other_memory address other_address byte other_byte m
 
 -- a slot whose region has a byte is live
 pub live_if_in_region : (maybe_info : Option SlotInfo) (address : ℕ) → has (region_of maybe_info) address ≡ true → is_some maybe_info ≡ true
-live_if_in_region None address in_region = let bounds = and_parts (nat_le 0 address) (nat_lt address 0) in_region in
+live_if_in_region None address in_region =
+    let bounds = and_parts (nat_le 0 address) (nat_lt address 0) in_region in
     let never = ltb-true address 0 bounds.1 in
     absurd (omega (arith, never))
 live_if_in_region (Some info) address in_region = refl
@@ -61,7 +62,9 @@ region_in_ram : (memory : List ℕ) (maybe_info : Option SlotInfo) (address : �
     → has (region_of maybe_info) address ≡ true
     → is_inside memory address 1 ≡ true
 unfolding is_valid_block
-region_in_ram memory None address valid in_region = let never = live_if_in_region None address in_region in cc
+region_in_ram memory None address valid in_region =
+    let never = live_if_in_region None address in_region in
+    cc
 region_in_ram memory (Some info) address valid in_region =
     let block = info.region in
     let well_formed = and_parts (is_block_size block.size) _ valid.region in

@@ -112,7 +112,8 @@ module _ (one other : MonitoredMachine) (commands other_commands : List Command)
 write_replaces : (before after : List ℕ) (byte new_byte : ℕ)
     → write_bytes (before ++ (byte ∷ after)) (length before) (new_byte ∷ []) ≡ before ++ (new_byte ∷ after)
 write_replaces [] after byte new_byte = refl
-write_replaces (first ∷ before) after byte new_byte = let next_index : suc (length before) + 1 ≡ suc (length before + 1) = omega arith in
+write_replaces (first ∷ before) after byte new_byte =
+    let next_index : suc (length before) + 1 ≡ suc (length before + 1) = omega arith in
     rw next_index (ap (λ (tail : List ℕ). first ∷ tail) (write_replaces before after byte new_byte))
 
 -- the address of the secret is in RAM

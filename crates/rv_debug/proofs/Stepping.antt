@@ -151,4 +151,6 @@ module _ {A : Type 0} (step : A → Stepped A) (pc : A → ℕ) (breaks watches 
   -- the run ends with `Done` when at least `count` steps are executed
   pub stops-done : (count done : ℕ) (so_far : AfterSteps A) → count ≤ done → run step pc breaks watches (count - done) so_far ≡ ended so_far Done
   unfolding run
-  stops-done count done so_far all_executed = let nothing_left : count - done ≡ 0 = omega arith in rw nothing_left refl
+  stops-done count done so_far all_executed =
+      let nothing_left : count - done ≡ 0 = omega arith in
+      rw nothing_left refl
