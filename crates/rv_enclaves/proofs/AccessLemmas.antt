@@ -70,11 +70,11 @@ rwx_permits Read = refl
 rwx_permits Write = refl
 
 -- the PMP entry of a slot gives a permission only to the enclave in this slot
-slot_gives : (world : World) (slot : ℕ) (maybe_info : Option SlotInfo) (access : Access)
+region_permits_only_enclave : (world : World) (slot : ℕ) (maybe_info : Option SlotInfo) (access : Access)
     → has_permission access (region_entry world slot maybe_info).cfg ≡ true
     → is_world_of slot world ≡ true
-slot_gives world slot None access permission = absurd (both_ways _ (off_refuses access) permission)
-slot_gives world slot (Some info) access permission = elim (cases_Bool (is_world_of slot world)) [
+region_permits_only_enclave world slot None access permission = absurd (both_ways _ (off_refuses access) permission)
+region_permits_only_enclave world slot (Some info) access permission = elim (cases_Bool (is_world_of slot world)) [
   | inl runs_enclave ↦ runs_enclave
   | inr runs_other ↦
       let no_permission_given = rw runs_other at permission in
@@ -82,11 +82,11 @@ slot_gives world slot (Some info) access permission = elim (cases_Bool (is_world
 ]
 
 -- the PMP entry of a slot whose region has a byte gives every permission to the enclave in this slot
-slot_gives_all : (world : World) (slot : ℕ) (maybe_info : Option SlotInfo) (access : Access) (address : ℕ) → is_world_of slot world ≡ true
+region_permits_enclave : (world : World) (slot : ℕ) (maybe_info : Option SlotInfo) (access : Access) (address : ℕ) → is_world_of slot world ≡ true
     → has (region_of maybe_info) address ≡ true
     → has_permission access (region_entry world slot maybe_info).cfg ≡ true
-slot_gives_all world slot None access address runs_enclave in_region = absurd (both_ways _ (has_nothing address) in_region)
-slot_gives_all world slot (Some info) access address runs_enclave in_region = rw runs_enclave (rwx_permits access)
+region_permits_enclave world slot None access address runs_enclave in_region = absurd (both_ways _ (has_nothing address) in_region)
+region_permits_enclave world slot (Some info) access address runs_enclave in_region = rw runs_enclave (rwx_permits access)
 
 -- a cfg byte with R and W permits loads and stores
 read_or_write : (access : Access) → access ≢ Fetch → has_permission access read_write ≡ true
@@ -95,28 +95,29 @@ read_or_write Read no_fetch = refl
 read_or_write Write no_fetch = refl
 
 -- PMP entry 15 permits every access while the host runs
-host_gives : (world : World) (access : Access) → is_host world ≡ true → has_permission access (host_entry world).cfg ≡ true
-host_gives Host access host_runs = rwx_permits access
-host_gives (Enclave slot) access host_runs = absurd (false≢true host_runs)
+host_entry_permits_host : (world : World) (access : Access) → is_host world ≡ true → has_permission access (host_entry world).cfg ≡ true
+host_entry_permits_host Host access host_runs = rwx_permits access
+host_entry_permits_host (Enclave slot) access host_runs = absurd (false≢true host_runs)
 
 -- if PMP entry 15 permits some access, then the host runs
-host_gives_to_host : (world : World) (access : Access) → has_permission access (host_entry world).cfg ≡ true → is_host world ≡ true
-host_gives_to_host Host access permission = refl
-host_gives_to_host (Enclave slot) access permission = absurd (both_ways _ (off_refuses access) permission)
+host_entry_permits_only_host : (world : World) (access : Access) → has_permission access (host_entry world).cfg ≡ true → is_host world ≡ true
+host_entry_permits_only_host Host access permission = refl
+host_entry_permits_only_host (Enclave slot) access permission = absurd (both_ways _ (off_refuses access) permission)
 
 -- the PMP entry of a window permits no fetch
-window_gives_no_fetch : (maybe_info : Option SlotInfo) → has_permission Fetch (window_entry_of maybe_info).cfg ≡ false
-window_gives_no_fetch None = refl
-window_gives_no_fetch (Some info) = elim (cases_Bool (info.window.size == 0)) [
+window_permits_no_fetch : (maybe_info : Option SlotInfo) → has_permission Fetch (window_entry_of maybe_info).cfg ≡ false
+window_permits_no_fetch None = refl
+window_permits_no_fetch (Some info) = elim (cases_Bool (info.window.size == 0)) [
   | inl window_empty ↦ rw window_empty refl
   | inr window_nonempty ↦ rw window_nonempty refl
 ]
 
 -- the PMP entry of a window that has a byte permits loads and stores
-window_gives : (maybe_info : Option SlotInfo) (access : Access) (address : ℕ) → access ≢ Fetch → has (window_of maybe_info) address ≡ true
+window_permits_loads_and_stores : (maybe_info : Option SlotInfo) (access : Access) (address : ℕ) → access ≢ Fetch
+    → has (window_of maybe_info) address ≡ true
     → has_permission access (window_entry_of maybe_info).cfg ≡ true
-window_gives None access address no_fetch in_window = absurd (both_ways _ (has_nothing address) in_window)
-window_gives (Some info) access address no_fetch in_window =
+window_permits_loads_and_stores None access address no_fetch in_window = absurd (both_ways _ (has_nothing address) in_window)
+window_permits_loads_and_stores (Some info) access address no_fetch in_window =
     let (not_below_base, below_end) = and_parts _ _ in_window in
     let from_base = leb-true info.window.base address not_below_base in
     let before_end = ltb-true address (info.window.base + info.window.size) below_end in
@@ -131,45 +132,45 @@ world_is_enclave slot Host runs_enclave = absurd (false≢true runs_enclave)
 world_is_enclave slot (Enclave running) runs_enclave = ap Enclave (eqb-true running slot runs_enclave)
 
 -- the bytes of a region are accessible to the enclave of this region
-region_reaches : (memory : List ℕ) (table : Slots) (world : World) (access : Access) (bytes : List ℕ) (slot : ℕ) → is_world_of slot world ≡ true
+region_is_accessible : (memory : List ℕ) (table : Slots) (world : World) (access : Access) (bytes : List ℕ) (slot : ℕ) → is_world_of slot world ≡ true
     → list_all (has (region table slot)) bytes ≡ true → is_accessible memory table world access bytes ≡ true
 unfolding is_accessible
-region_reaches memory table world access bytes slot runs_enclave all_in_region =
+region_is_accessible memory table world access bytes slot runs_enclave all_in_region =
     rw (world_is_enclave slot world runs_enclave) (or_left _ _ all_in_region)
 
 -- the bytes of a window are accessible to the enclave of this window, if PMP entry 14 has the permission for the access
-window_reaches : (memory : List ℕ) (table : Slots) (world : World) (access : Access) (bytes : List ℕ)
+window_is_accessible : (memory : List ℕ) (table : Slots) (world : World) (access : Access) (bytes : List ℕ)
     → has_permission access (window_entry table world).cfg ≡ true → list_all (has (world_window table world)) bytes ≡ true
     → is_accessible memory table world access bytes ≡ true
 unfolding is_accessible
-window_reaches memory table Host access bytes permission all_in_window = absurd (both_ways _ (off_refuses access) permission)
-window_reaches memory table (Enclave slot) Fetch bytes permission all_in_window =
-    absurd (both_ways _ (window_gives_no_fetch (slot_at table slot)) permission)
-window_reaches memory table (Enclave slot) Read bytes permission all_in_window = or_right _ _ (or_left _ _ all_in_window)
-window_reaches memory table (Enclave slot) Write bytes permission all_in_window = or_right _ _ (or_left _ _ all_in_window)
+window_is_accessible memory table Host access bytes permission all_in_window = absurd (both_ways _ (off_refuses access) permission)
+window_is_accessible memory table (Enclave slot) Fetch bytes permission all_in_window =
+    absurd (both_ways _ (window_permits_no_fetch (slot_at table slot)) permission)
+window_is_accessible memory table (Enclave slot) Read bytes permission all_in_window = or_right _ _ (or_left _ _ all_in_window)
+window_is_accessible memory table (Enclave slot) Write bytes permission all_in_window = or_right _ _ (or_left _ _ all_in_window)
 
 -- bytes that belong to the host are accessible to the host
-host_reaches : (memory : List ℕ) (table : Slots) (world : World) (access : Access) (bytes : List ℕ) → is_host world ≡ true
+host_bytes_are_accessible : (memory : List ℕ) (table : Slots) (world : World) (access : Access) (bytes : List ℕ) → is_host world ≡ true
     → list_all (host_has memory table) bytes ≡ true → is_accessible memory table world access bytes ≡ true
 unfolding is_accessible
-host_reaches memory table Host access bytes host_runs all_of_host = or_left _ _ all_of_host
-host_reaches memory table (Enclave slot) access bytes host_runs all_of_host = absurd (false≢true host_runs)
+host_bytes_are_accessible memory table Host access bytes host_runs all_of_host = or_left _ _ all_of_host
+host_bytes_are_accessible memory table (Enclave slot) access bytes host_runs all_of_host = absurd (false≢true host_runs)
 
 -- accessible bytes are all in the region of the running enclave, all in its window, or all bytes of the host
-reach_cases : (memory : List ℕ) (table : Slots) (world : World) (access : Access) (bytes : List ℕ)
+accessible_cases : (memory : List ℕ) (table : Slots) (world : World) (access : Access) (bytes : List ℕ)
     → is_accessible memory table world access bytes ≡ true →
     ((is_host world ≡ true) × (list_all (host_has memory table) bytes ≡ true))
     ⊎ ((slot : ℕ) × (world ≡ Enclave slot)
     × ((list_all (has (region table slot)) bytes ≡ true) ⊎ ((access ≢ Fetch) × (list_all (has (window table slot)) bytes ≡ true))))
 unfolding is_accessible
 -- the host reaches its own bytes
-reach_cases memory table Host access bytes accessible =
+accessible_cases memory table Host access bytes accessible =
     elim (or_cases _ _ accessible) [ inl all_of_host ↦ inl (refl, all_of_host) | inr contradiction ↦ absurd (false≢true contradiction) ]
 -- an enclave fetches only from its region
-reach_cases memory table (Enclave slot) Fetch bytes accessible =
+accessible_cases memory table (Enclave slot) Fetch bytes accessible =
     elim (or_cases _ _ accessible) [ inl all_in_region ↦ inr (slot, refl, inl all_in_region) | inr contradiction ↦ absurd (false≢true contradiction) ]
 -- an enclave loads from its region or its window, and stores there
-reach_cases memory table (Enclave slot) Read bytes accessible = elim (or_cases _ _ accessible) [
+accessible_cases memory table (Enclave slot) Read bytes accessible = elim (or_cases _ _ accessible) [
   | inl all_in_region ↦ inr (slot, refl, inl all_in_region)
   | inr not_in_region ↦
       elim (or_cases _ _ not_in_region) [
@@ -177,7 +178,7 @@ reach_cases memory table (Enclave slot) Read bytes accessible = elim (or_cases _
         | inr contradiction ↦ absurd (false≢true contradiction)
       ]
 ]
-reach_cases memory table (Enclave slot) Write bytes accessible = elim (or_cases _ _ accessible) [
+accessible_cases memory table (Enclave slot) Write bytes accessible = elim (or_cases _ _ accessible) [
   | inl all_in_region ↦ inr (slot, refl, inl all_in_region)
   | inr not_in_region ↦
       elim (or_cases _ _ not_in_region) [
@@ -223,7 +224,7 @@ pub accessible_apart : (memory : List ℕ) (table : Slots) (world : World) (acce
     → has (region table slot) address ≡ false
 accessible_apart memory table world access start size slot table_valid runs_other accessible address from_start before_end =
     let apart_bytes = apart memory table table_valid in
-    elim (reach_cases memory table world access (bytes_from start size) accessible) [
+    elim (accessible_cases memory table world access (bytes_from start size) accessible) [
       -- the host runs: its bytes are in no region
       | inl (host_runs, all_of_host) ↦
           let of_host_only =
@@ -322,9 +323,10 @@ module _ (memory : List ℕ) (table : Slots) (world : World) (mode : Mode) (acce
       and_from _ _ in_ram (and_from _ _ (ap not not_in_monitor) (ap not in_no_region)))
 
   -- if the first matching PMP entry covers all bytes of the access and grants the access, then these bytes are accessible to the world
-  accessible_by : (entry : ℕ) → IsFirst (λ lower. list_any (covers entries lower) bytes) 0 16 entry → list_all (covers entries entry) bytes ≡ true
+  accessible_if_granted : (entry : ℕ) → IsFirst (λ lower. list_any (covers entries lower) bytes) 0 16 entry
+      → list_all (covers entries entry) bytes ≡ true
       → grants mode access (cfg_of entries entry) ≡ true → is_accessible memory table world access bytes ≡ true
-  accessible_by entry first_match covered permission = elim (entry_cases entry first_match.high) [
+  accessible_if_granted entry first_match covered permission = elim (entry_cases entry first_match.high) [
     -- entry 0 has no permission
     | inl is_monitor ↦
         let granted_by_entry = rw is_monitor at permission in
@@ -334,21 +336,22 @@ module _ (memory : List ℕ) (table : Slots) (world : World) (mode : Mode) (acce
       | inl (slot, slot_in_bounds, is_slot_entry) ↦
           let covered_by_entry = rw is_slot_entry at covered in
           let granted_by_entry = rw is_slot_entry at permission in
-          region_reaches memory table world access bytes slot
-          (slot_gives world slot (slot_at table slot) access (sym (grants_if_cfg (slot + 1) _ (cfg_of-slot slot slot_in_bounds)) ∙ granted_by_entry))
+          region_is_accessible memory table world access bytes slot
+          (region_permits_only_enclave world slot (slot_at table slot) access
+          (sym (grants_if_cfg (slot + 1) _ (cfg_of-slot slot slot_in_bounds)) ∙ granted_by_entry))
           (sym (all_slot slot slot_in_bounds) ∙ covered_by_entry)
       | inr from_window ↦ elim from_window [
         -- entry 14 covers the window of the running enclave
         | inl is_window ↦
             let covered_by_entry = rw is_window at covered in
             let granted_by_entry = rw is_window at permission in
-            window_reaches memory table world access bytes (sym (grants_if_cfg 14 _ cfg_of-window) ∙ granted_by_entry)
+            window_is_accessible memory table world access bytes (sym (grants_if_cfg 14 _ cfg_of-window) ∙ granted_by_entry)
             (sym all_window ∙ covered_by_entry)
         -- entry 15 has permissions only while the host runs, and no lower entry covers a byte of the access
         | inr is_host_entry ↦
             let granted_by_entry = rw is_host_entry at permission in
-            host_reaches memory table world access bytes
-            (host_gives_to_host world access (sym (grants_if_cfg 15 _ cfg_of-host) ∙ granted_by_entry))
+            host_bytes_are_accessible memory table world access bytes
+            (host_entry_permits_only_host world access (sym (grants_if_cfg 15 _ cfg_of-host) ∙ granted_by_entry))
             (uncovered_is_host (λ lower is_lower. first_match.first lower (omega arith) (omega arith)))
       ]
     ]
@@ -359,18 +362,18 @@ module _ (memory : List ℕ) (table : Slots) (world : World) (mode : Mode) (acce
   accessible_if_permitted permitted = elim (verdict_cases entries mode access bytes) [
     | inl (entry, verdict_is, first_match) ↦
         let covers_all = list_all (covers entries entry) bytes in
-        let covered_and_granted =
+        let (covered, granted) =
         and_parts covers_all (grants mode access (cfg_of entries entry))
         (sym (permits-match_verdict entries mode access entry covers_all) ∙ ap permits (sym verdict_is) ∙ permitted) in
-        accessible_by entry first_match covered_and_granted.0 covered_and_granted.1
+        accessible_if_granted entry first_match covered granted
     | inr none_matches ↦ absurd (both_ways _ (no_match_refuses mode mode_below_m) (ap permits (sym none_matches) ∙ permitted))
   ]
 
   -- if a PMP entry covers all bytes of the access and grants the access, and no lower entry covers any of these bytes, then the layout permits the
   -- access
-  permitted_by : (entry : ℕ) → entry < 16 → list_all (covers entries entry) bytes ≡ true → grants mode access (cfg_of entries entry) ≡ true
+  permitted_if_granted : (entry : ℕ) → entry < 16 → list_all (covers entries entry) bytes ≡ true → grants mode access (cfg_of entries entry) ≡ true
       → ((lower : ℕ) → lower < entry → list_any (covers entries lower) bytes ≡ false) → permits (verdict entries mode access bytes) ≡ true
-  permitted_by entry in_range covered permission none_lower_matches =
+  permitted_if_granted entry in_range covered permission none_lower_matches =
       let matches_some =
       any_at (covers entries entry) start size start (omega arith) (omega arith)
       (each_from_all (covers entries entry) start size covered start (omega arith) (omega arith)) in
@@ -388,10 +391,10 @@ module _ (memory : List ℕ) (table : Slots) (world : World) (mode : Mode) (acce
       (and_parts (is_inside memory address 1) _ (each_from_all (host_has memory table) start size all_of_host address from_start before_end)).1 in
       (not-true _ outside_monitor, not-true _ outside_regions) in
       -- entry 15 covers every byte and grants the access, and each lower entry covers none of the bytes
-      permitted_by 15 (lit< tt)
+      permitted_if_granted 15 (lit< tt)
       (all_each (covers entries 15) start size
       (λ address from_start before_end. covers_host memory table world ram_size table_valid address (omega (arith, inside.1, ram_size)) ∙ host_runs))
-      (grants_if_cfg 15 _ cfg_of-host ∙ host_gives world access host_runs)
+      (grants_if_cfg 15 _ cfg_of-host ∙ host_entry_permits_host world access host_runs)
       (λ lower is_lower. elim (entry_cases lower (omega arith)) [
         | inl is_monitor ↦
             rw is_monitor
@@ -421,10 +424,10 @@ module _ (memory : List ℕ) (table : Slots) (world : World) (mode : Mode) (acce
       let in_range = slot_in_range memory table world slot start table_valid first_in_range in
       let runs_enclave : is_world_of slot world ≡ true = rw world_is_slot (eq-eqb slot slot refl) in
       -- the region shares no byte with the monitor's range or another region, which are the only blocks of lower entries
-      permitted_by (slot + 1) (omega arith)
+      permitted_if_granted (slot + 1) (omega arith)
       (all_slot slot in_range ∙ all_in_region)
       (grants_if_cfg (slot + 1) _ (cfg_of-slot slot in_range)
-      ∙ slot_gives_all world slot (slot_at table slot) access start runs_enclave first_in_range)
+      ∙ region_permits_enclave world slot (slot_at table slot) access start runs_enclave first_in_range)
       (λ lower is_lower. elim (entry_cases lower (omega arith)) [
         | inl is_monitor ↦
             rw is_monitor
@@ -450,9 +453,10 @@ module _ (memory : List ℕ) (table : Slots) (world : World) (mode : Mode) (acce
       let each_in_window = each_from_all (has (window table slot)) start size all_in_window in
       let first_in_range = each_in_window start (omega arith) (omega arith) in
       -- the window shares no byte with the monitor's range or a region, which are the only blocks of lower entries
-      permitted_by 14 (lit< tt)
+      permitted_if_granted 14 (lit< tt)
       (all_window ∙ rw world_is_slot all_in_window)
-      (grants_if_cfg 14 _ cfg_of-window ∙ rw world_is_slot (window_gives (slot_at table slot) access start no_fetch first_in_range))
+      (grants_if_cfg 14 _ cfg_of-window
+      ∙ rw world_is_slot (window_permits_loads_and_stores (slot_at table slot) access start no_fetch first_in_range))
       (λ lower is_lower. elim (entry_cases lower (omega arith)) [
         | inl is_monitor ↦
             rw is_monitor
@@ -470,7 +474,7 @@ module _ (memory : List ℕ) (table : Slots) (world : World) (mode : Mode) (acce
 
   -- if the accessed bytes are accessible to the world, then the layout permits the access
   permitted_if_accessible : is_accessible memory table world access bytes ≡ true → permits (verdict entries mode access bytes) ≡ true
-  permitted_if_accessible accessible = elim (reach_cases memory table world access bytes accessible) [
+  permitted_if_accessible accessible = elim (accessible_cases memory table world access bytes accessible) [
     | inl (host_runs, all_of_host) ↦ permitted_by_host host_runs all_of_host
     | inr (slot, world_is, all_in_block) ↦ elim all_in_block [
       | inl all_in_region ↦ permitted_by_region slot world_is all_in_region

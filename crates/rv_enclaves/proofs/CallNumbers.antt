@@ -94,18 +94,18 @@ same_overlap new None = refl
 same_overlap new (Some info) = refl
 
 -- a window passes the test `is_window` if and only if the window has size 0 or is a valid block
-window_by : (memory : List ℕ) (base size : ℕ) (is_empty : Bool) → (size == 0) ≡ is_empty
+window_test_agrees : (memory : List ℕ) (base size : ℕ) (is_empty : Bool) → (size == 0) ≡ is_empty
     → is_window memory (if is_empty then record { base = 0; size = 0 } else record { base = base; size = size })
     ≡ (is_empty || is_block_of memory (if is_empty then record { base = 0; size = 0 } else record { base = base; size = size }))
 unfolding is_window is_valid_block
-window_by memory base size true test_is = refl
-window_by memory base size false test_is = rw (test_is, and-false (base == 0)) refl
+window_test_agrees memory base size true test_is = refl
+window_test_agrees memory base size false test_is = rw (test_is, and-false (base == 0)) refl
 
 -- the refusals of create agree with the table
 creates : (shared : Shared) (regs : List ℕ) → in_numbers (create_refusals shared (create_args_of regs)) ≡ create_rows shared regs
 unfolding create_refusals create_rows is_valid_block overlaps is_entry free_slot
 creates shared regs =
-    let window_agrees = window_by shared.memory (register regs 12) (register regs 13) (register regs 13 == 0) refl in
+    let window_agrees = window_test_agrees shared.memory (register regs 12) (register regs 13) (register regs 13 == 0) refl in
     let overlap_agrees =
     any_same (collides (create_args_of regs)) (overlap_enclave (region_named regs) (window_named regs))
     (same_overlap (create_args_of regs)) shared.table in
@@ -114,18 +114,19 @@ creates shared regs =
 -- ---- destroy, run and resume
 
 -- both definitions of a test of an enclave's state agree
-in_state : (call : Call) (accepts : EnclaveState → Bool) → ((state : EnclaveState) → takes call state ≡ accepts state)
+same_state_test : (call : Call) (accepts : EnclaveState → Bool) → ((state : EnclaveState) → takes call state ≡ accepts state)
     → (maybe_info : Option SlotInfo)
     → option_case maybe_info false (λ info. takes call info.state) ≡ option_case maybe_info false (λ info. accepts info.state)
-in_state call accepts same_tests None = refl
-in_state call accepts same_tests (Some info) = same_tests info.state
+same_state_test call accepts same_tests None = refl
+same_state_test call accepts same_tests (Some info) = same_tests info.state
 
 -- the refusals of destroy, run and resume agree with the table
-states_by : (table : Slots) (call : Call) (accepts : EnclaveState → Bool) (slot : ℕ) → ((state : EnclaveState) → takes call state ≡ accepts state)
+state_refusals_agree : (table : Slots) (call : Call) (accepts : EnclaveState → Bool) (slot : ℕ)
+    → ((state : EnclaveState) → takes call state ≡ accepts state)
     → in_numbers (state_refusals table call slot) ≡ state_rows accepts table slot
 unfolding state_refusals state_rows
-states_by table call accepts slot same_tests =
-    let state_tests_agree = in_state call accepts same_tests (slot_at table slot) in rw state_tests_agree refl
+state_refusals_agree table call accepts slot same_tests =
+    let state_tests_agree = same_state_test call accepts same_tests (slot_at table slot) in rw state_tests_agree refl
 
 -- Destroy accepts each state except Running. Each case holds by computation.
 destroy_accepts_idle : (state : EnclaveState) → takes calls.Destroy state ≡ does_not_run state
@@ -186,9 +187,9 @@ call_numbers shared entries regs = record {
   call = λ world. requests world (register regs 17) (register regs 16);
   status = no_success;
   create = creates shared regs;
-  destroy = λ slot. states_by shared.table calls.Destroy does_not_run slot destroy_accepts_idle;
-  run = λ slot. states_by shared.table calls.Run is_fresh slot run_accepts_fresh;
-  resume = λ slot. states_by shared.table calls.Resume is_stopped slot resume_accepts_stopped;
+  destroy = λ slot. state_refusals_agree shared.table calls.Destroy does_not_run slot destroy_accepts_idle;
+  run = λ slot. state_refusals_agree shared.table calls.Run is_fresh slot run_accepts_fresh;
+  resume = λ slot. state_refusals_agree shared.table calls.Resume is_stopped slot resume_accepts_stopped;
   measure = measures shared entries;
   slot = λ world. measured_slots_agree world regs;
   created = create_effects_agree shared regs;

@@ -49,20 +49,20 @@ host_is_plain Host = record { stored = refl; unlocked = refl }
 host_is_plain (Enclave slot) = record { stored = refl; unlocked = refl }
 
 -- the cfg byte of each kind of entry of the layout (monitor, region, window, host) is stored unchanged and unlocked
-plain_by : (is_monitor is_region is_window : Bool) (table : Slots) (world : World) (slot : ℕ)
+each_kind_is_plain : (is_monitor is_region is_window : Bool) (table : Slots) (world : World) (slot : ℕ)
     → IsPlain
     (if is_monitor then napot no_permission monitor_block else
     (if is_region then region_entry world slot (slot_at table slot) else (if is_window then window_entry table world else host_entry world))).cfg
 unfolding stored_cfg
-plain_by true is_region is_window table world slot = record { stored = refl; unlocked = refl }
-plain_by false true is_window table world slot = region_is_plain world slot (slot_at table slot)
-plain_by false false true table world slot = window_is_plain table world
-plain_by false false false table world slot = host_is_plain world
+each_kind_is_plain true is_region is_window table world slot = record { stored = refl; unlocked = refl }
+each_kind_is_plain false true is_window table world slot = region_is_plain world slot (slot_at table slot)
+each_kind_is_plain false false true table world slot = window_is_plain table world
+each_kind_is_plain false false false table world slot = host_is_plain world
 
 -- no entry of the layout is locked or has a reserved combination of permissions
 pub entry_is_plain : (table : Slots) (world : World) (number : ℕ) → IsPlain (entry_at table world number).cfg
 unfolding entry_at
-entry_is_plain table world number = plain_by (number == 0) (nat_lt number 14) (number == 14) table world (number - 1)
+entry_is_plain table world number = each_kind_is_plain (number == 0) (nat_lt number 14) (number == 14) table world (number - 1)
 
 -- two lists of PMP entries are equal if their cfg bytes and their addresses are equal
 entries_are : (entries other : Entries) → entries.cfgs ≡ other.cfgs → entries.addrs ≡ other.addrs → entries ≡ other

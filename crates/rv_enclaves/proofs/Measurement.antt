@@ -37,10 +37,10 @@ same_measurement one_memory other_memory new same_bytes = ap (λ (bytes : List �
 -- ---- the words at the front of the input
 
 -- two words with four equal bytes are equal
-word_by_bytes : (word other_word : ℕ) → word < 2 ^ 32 → other_word < 2 ^ 32 → byte_of word 0 ≡ byte_of other_word 0
+equal_words : (word other_word : ℕ) → word < 2 ^ 32 → other_word < 2 ^ 32 → byte_of word 0 ≡ byte_of other_word 0
     → byte_of word 1 ≡ byte_of other_word 1 → byte_of word 2 ≡ byte_of other_word 2
     → byte_of word 3 ≡ byte_of other_word 3 → word ≡ other_word
-word_by_bytes word other_word in_word other_in_word same_byte_0 same_byte_1 same_byte_2 same_byte_3 =
+equal_words word other_word in_word other_in_word same_byte_0 same_byte_1 same_byte_2 same_byte_3 =
     omega (arith, in_word, other_in_word, same_byte_0, same_byte_1, same_byte_2, same_byte_3)
 
 -- if two lists that begin with the four bytes of a word are equal, then the words are equal, and so are the rests of the lists
@@ -52,7 +52,7 @@ same_front word other_word rest other_rest in_word other_in_word same_bytes =
     let same_byte_2 : byte_of word 2 ≡ byte_of other_word 2 = cc in
     let same_byte_3 : byte_of word 3 ≡ byte_of other_word 3 = cc in
     let same_rest : rest ≡ other_rest = cc in
-    (word_by_bytes word other_word in_word other_in_word same_byte_0 same_byte_1 same_byte_2 same_byte_3, same_rest)
+    (equal_words word other_word in_word other_in_word same_byte_0 same_byte_1 same_byte_2 same_byte_3, same_rest)
 
 -- ---- the numbers of a valid slot are words
 

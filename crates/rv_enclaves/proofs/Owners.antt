@@ -193,9 +193,9 @@ host_owned Host previous address address_below =
 module _ (memory : List ℕ) (table : Slots) (world : World) (ram_size : length memory ≤ 0x1000000) (table_valid : IsValid memory table)
     (address : ℕ) where
   -- if the entry from `entry_at` matches the byte if and only if `owned` holds, then so does the entry of the layout with the same number
-  at_entry : (entry : ℕ) (value : Entry) (owned : Bool) → entry < 16 → entry_at table world entry ≡ value
+  covers_if_matches : (entry : ℕ) (value : Entry) (owned : Bool) → entry < 16 → entry_at table world entry ≡ value
       → ((previous : ℕ) → matches (matching_of value.cfg) previous value.addr address ≡ owned) → covers (layout table world) entry address ≡ owned
-  at_entry entry value owned in_range entry_at_is matches_if_owned =
+  covers_if_matches entry value owned in_range entry_at_is matches_if_owned =
       covers-layout table world entry address in_range
       ∙ ap (λ (value : Entry). matches (matching_of value.cfg) (addr_before (layout table world) entry) value.addr address) entry_at_is
       ∙ matches_if_owned (addr_before (layout table world) entry)
@@ -203,20 +203,22 @@ module _ (memory : List ℕ) (table : Slots) (world : World) (ram_size : length 
   -- entry 0 of the layout covers exactly the bytes of the monitor's range
   pub covers_monitor : covers (layout table world) 0 address ≡ has monitor_block address
   covers_monitor =
-      at_entry 0 _ _ (lit< tt) (entry_at-monitor table world)
+      covers_if_matches 0 _ _ (lit< tt) (entry_at-monitor table world)
       (λ previous. napot_matches ram_base 0x10000 13 previous address (lit< tt) refl refl (lit≤ tt))
 
   -- entry `slot` + 1 of the layout covers exactly the bytes of the region of `slot`
   pub covers_slot : (slot : ℕ) → slot < slot_count → covers (layout table world) (slot + 1) address ≡ has (region table slot) address
   covers_slot slot in_range =
-      at_entry (slot + 1) _ _ (omega arith) (entry_at-slot table world slot in_range)
+      covers_if_matches (slot + 1) _ _ (omega arith) (entry_at-slot table world slot in_range)
       (λ previous. region_covers memory world slot (slot_at table slot) previous address ram_size (table_valid.well_formed slot))
 
   -- entry 14 of the layout covers exactly the bytes of the world's window
   pub covers_window : covers (layout table world) 14 address ≡ has (world_window table world) address
   covers_window =
-      at_entry 14 _ _ (lit< tt) (entry_at-window table world) (λ previous. window_owned memory table world previous address ram_size table_valid)
+      covers_if_matches 14 _ _ (lit< tt) (entry_at-window table world)
+      (λ previous. window_owned memory table world previous address ram_size table_valid)
 
   -- entry 15 of the layout covers every byte while the host runs, and no byte while an enclave runs
   pub covers_host : address < 2 ^ 35 → covers (layout table world) 15 address ≡ is_host world
-  covers_host address_below = at_entry 15 _ _ (lit< tt) (entry_at-host table world) (λ previous. host_owned world previous address address_below)
+  covers_host address_below =
+      covers_if_matches 15 _ _ (lit< tt) (entry_at-host table world) (λ previous. host_owned world previous address address_below)

@@ -95,9 +95,9 @@ pub may_measure : (shared : Shared) (entries : Entries) (slot address : ℕ) →
     → MayMeasure shared entries slot address
 unfolding measure_refusals
 may_measure shared entries slot address no_refusal =
-    let live_row = no_condition_holds (not (is_live shared.table slot)) _ _ no_refusal in
-    let stores_row = no_condition_holds (not (may_store_all shared.memory entries address)) _ _ live_row.1 in
-    record { live = not-false (is_live shared.table slot) live_row.0; stores = not-false (may_store_all shared.memory entries address) stores_row.0 }
+    let (live_test, store_rows) = no_condition_holds (not (is_live shared.table slot)) _ _ no_refusal in
+    let (store_test, no_more_rows) = no_condition_holds (not (may_store_all shared.memory entries address)) _ _ store_rows in
+    record { live = not-false (is_live shared.table slot) live_test; stores = not-false (may_store_all shared.memory entries address) store_test }
 
 -- ---- the rows depend on memory only by its size
 

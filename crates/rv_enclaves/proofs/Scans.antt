@@ -30,7 +30,7 @@ pub verdict_cases : (entries : Entries) (mode : Mode) (access : Access) (bytes :
     × IsFirst (λ entry. list_any (covers entries entry) bytes) 0 16 entry) ⊎ (verdict entries mode access bytes ≡ no_match_verdict mode)
 unfolding verdict matching_entry
 verdict_cases entries mode access bytes = elim (find_cases (λ entry. list_any (covers entries entry) bytes) 0 16) [
-  | inl found ↦ inl (found.0, ap (verdict_by entries mode access bytes) found.1, found.2)
+  | inl (entry, find_is, first_match) ↦ inl (entry, ap (verdict_by entries mode access bytes) find_is, first_match)
   | inr none_matches ↦ inr (ap (verdict_by entries mode access bytes) none_matches.0)
 ]
 

@@ -128,26 +128,26 @@ none_from None no_value = refl
 none_from (Some x) no_value = cc
 
 -- the number that a search of a range finds is in the range, and passes the test
-found-by : (test : ℕ → Bool) (start count number : ℕ) → find test (range_with_len start count) ≡ Some number
+found_number_passes : (test : ℕ → Bool) (start count number : ℕ) → find test (range_with_len start count) ≡ Some number
     → (number < start + count) × (test number ≡ true)
-found-by test start zero number found = cc
-found-by test start (suc count) number found = elim (cases_Bool (test start)) [
+found_number_passes test start zero number found = cc
+found_number_passes test start (suc count) number found = elim (cases_Bool (test start)) [
   | inl holds ↦
       let found_start : Some start ≡ Some number = sym (cond-true (test start) _ _ holds) ∙ found in
       let start_is_number : start ≡ number = cc in
       (omega arith, rw start_is_number at holds)
   | inr fails ↦
       let found_start : find test (range_with_len (start + 1) count) ≡ Some number = sym (cond-false (test start) _ _ fails) ∙ found in
-      let found_later = found-by test (start + 1) count number found_start in
-      (omega (arith, found_later.0), found_later.1)
+      let (before_end, passes) = found_number_passes test (start + 1) count number found_start in
+      (omega (arith, before_end), passes)
 ]
 
 -- the slot that `free_slot` finds is a slot of the table, and is free
 pub free_slot_from : (table : Slots) (slot : ℕ) → free_slot table ≡ Some slot → IsFreeSlot table slot
 unfolding free_slot
 free_slot_from table slot free_slot_is =
-    let found = found-by (λ candidate. is_none (slot_at table candidate)) 0 slot_count slot free_slot_is in
-    record { in_range = omega arith; free = none_from (slot_at table slot) found.1 }
+    let (before_end, is_free) = found_number_passes (λ candidate. is_none (slot_at table candidate)) 0 slot_count slot free_slot_is in
+    record { in_range = omega arith; free = none_from (slot_at table slot) is_free }
 
 -- a measurement has 32 bytes
 length_measurement : (memory : List ℕ) (new : CreateArgs) → length (measurement_of memory new) ≡ 32
@@ -341,15 +341,14 @@ module _ (other_worlds : List World) where
   -- an enclave runs: it gets a new state and a saved context
   left_sound shared (Enclave slot) state saved shared_invariant not_running can_continue =
       let slot_is_itself : (slot == slot) ≡ true = eq-eqb slot slot refl in
-      let live = running_live (slot_at shared.table slot) (shared_invariant.running slot ∙ rw slot_is_itself refl) in
-      let info = live.0 in
+      let (info, slot_is) = running_live (slot_at shared.table slot) (shared_invariant.running slot ∙ rw slot_is_itself refl) in
       let saved_is_held : true ≡ is_held (Some (record info { state = state })) = rw not_running refl in
       let runs_on_no_other : list_any (is_world_of slot) other_worlds ≡ false = shared_invariant.apart.0 slot slot_is_itself in
-      rw (with_state_is shared.table slot info state live.1)
+      rw (with_state_is shared.table slot info state slot_is)
       (shared_invariant-with_slot shared (Enclave slot ∷ other_worlds) (Host ∷ other_worlds) slot (Some (record info { state = state })) (Some saved)
       shared.memory shared_invariant
-      (live_in_range shared.table slot info shared_invariant.valid.count live.1) refl
-      (own_fits shared.memory shared.table slot info state shared_invariant.valid live.1) saved_is_held can_continue
+      (live_in_range shared.table slot info shared_invariant.valid.count slot_is) refl
+      (own_fits shared.memory shared.table slot info state shared_invariant.valid slot_is) saved_is_held can_continue
       (not_running ∙ sym runs_on_no_other) (λ other is_other. sym (other_worlds_unchanged other slot is_other))
       (λ other runs_other. let contradiction : false ≡ true = runs_other in cc, shared_invariant.apart.1))
 
