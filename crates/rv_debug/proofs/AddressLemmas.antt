@@ -102,7 +102,7 @@ among-insertion address addresses place insertion = among-absent address address
 pub found-is : (address : ℕ) (addresses : List ℕ) (result : Result ℕ ℕ)
     → MatchResult result (λ place. (place < length addresses) × (get_or addresses place 0 ≡ address)) (HasPlace addresses address)
     → is_ok result ≡ is_among address addresses
-found-is address addresses (Ok place) found = sym (among-found address addresses place found.0 found.1)
+found-is address addresses (Ok place) (in_bounds, element_is) = sym (among-found address addresses place in_bounds element_is)
 found-is address addresses (Err place) insertion = sym (among-insertion address addresses place insertion)
 
 -- ---- the insertion of an address between the lower and the higher addresses
@@ -139,21 +139,21 @@ filter_at_index address (first ∷ rest) zero insertion =
     let is_above : address < first = insertion.above 0 (omega arith) (omega arith) in
     let fails : ltb first address ≡ false = grind (arith, nat_tests) in
     let passes : ltb address first ≡ true = grind (arith, nat_tests) in
-    let rest_filtered = filter_at_index address rest zero (insertion_before_rest address first rest insertion) in
-    (rw fails rest_filtered.0, rw passes (ap (λ tail. first ∷ tail) rest_filtered.1))
+    let (lower_filtered, higher_filtered) = filter_at_index address rest zero (insertion_before_rest address first rest insertion) in
+    (rw fails lower_filtered, rw passes (ap (λ tail. first ∷ tail) higher_filtered))
 filter_at_index address (first ∷ rest) (suc place) insertion =
     let is_below : first < address = insertion.below 0 (omega arith) in
     let passes : ltb first address ≡ true = grind (arith, nat_tests) in
     let fails : ltb address first ≡ false = grind (arith, nat_tests) in
-    let rest_filtered = filter_at_index address rest place (insertion_in_rest address first rest place insertion) in
-    (rw passes (ap (λ tail. first ∷ tail) rest_filtered.0), rw fails rest_filtered.1)
+    let (lower_filtered, higher_filtered) = filter_at_index address rest place (insertion_in_rest address first rest place insertion) in
+    (rw passes (ap (λ tail. first ∷ tail) lower_filtered), rw fails higher_filtered)
 
 -- an insertion at the index that the search returns gives the set with the address
 pub insert-is : (address : ℕ) (addresses : List ℕ) (place : ℕ) → HasPlace addresses address place
     → insert addresses place address ≡ with_address address addresses
 insert-is address addresses place insertion =
-    let filtered = filter_at_index address addresses place insertion in
-    ap₂ (λ (lower_addresses higher_addresses : List ℕ). lower_addresses ++ address ∷ higher_addresses) (sym filtered.0) (sym filtered.1)
+    let (lower_filtered, higher_filtered) = filter_at_index address addresses place insertion in
+    ap₂ (λ (lower_addresses higher_addresses : List ℕ). lower_addresses ++ address ∷ higher_addresses) (sym lower_filtered) (sym higher_filtered)
 
 -- the insertion of an address above `low` into a list that is sorted above `low` leaves the list sorted above `low`
 sorted_above-insert : (low address : ℕ) (addresses : List ℕ) (place : ℕ) → IsSortedAbove low addresses → low < address

@@ -23,11 +23,11 @@ module _ (enclave : ℕ) where
   -- ---- one command
 
   -- both benches execute a command that is blind in both benches, and neither executes any other command
-  one_cases : (one other : BenchState) (command : Command)
+  executed_or_stopped : (one other : BenchState) (command : Command)
       → (((is_blind enclave one command && is_blind enclave other command) ≡ false) × (both_execute enclave one other command ≡ stopped one other))
       ⊎ ((is_blind enclave one command ≡ true) × (both_execute enclave one other command ≡ both_done one other command))
   unfolding both_execute
-  one_cases one other command = elim (cases_Bool (is_blind enclave one command && is_blind enclave other command)) [
+  executed_or_stopped one other command = elim (cases_Bool (is_blind enclave one command && is_blind enclave other command)) [
     | inl both_blind ↦ inr ((and_parts _ _ both_blind).0, rw both_blind refl)
     | inr not_both ↦ inl (not_both, rw not_both refl)
   ]
@@ -52,11 +52,11 @@ module _ (enclave : ℕ) where
   first_test_fails false other_test same_tests and_fails = refl
 
   -- the reason after a command that both benches execute is `Entered` if the command enters the slot in either bench, and `All` otherwise
-  why_is : (one other : BenchState) (command : Command) (first_entered second_entered : Bool)
+  reason_of_entries : (one other : BenchState) (command : Command) (first_entered second_entered : Bool)
       → is_entered enclave (execute one command).entered ≡ first_entered
       → is_entered enclave (execute other command).entered ≡ second_entered
       → (both_done one other command).why ≡ (if first_entered || second_entered then Entered else All)
-  why_is one other command first_entered second_entered first_enters second_enters =
+  reason_of_entries one other command first_entered second_entered first_enters second_enters =
       ap₂ (λ (first_entered second_entered : Bool). if first_entered || second_entered then Entered else All) first_enters second_enters
 
   -- two executions that the law relates are alike for the reason that the command gives
@@ -66,41 +66,42 @@ module _ (enclave : ℕ) where
     | inl first_enters ↦
         let second_enters = sym alike.entered ∙ first_enters in
         subst (λ (why : BothWhy). AlikeBy enclave one other command (both_done one other command) why)
-        (sym (why_is one other command true true first_enters second_enters)) (record { in_first = first_enters; in_second = second_enters })
+        (sym (reason_of_entries one other command true true first_enters second_enters))
+        (record { in_first = first_enters; in_second = second_enters })
     | inr not_entered ↦
         let passed = alike.passed not_entered in
         subst (λ (why : BothWhy). AlikeBy enclave one other command (both_done one other command) why)
-        (sym (why_is one other command false false not_entered (sym alike.entered ∙ not_entered)))
+        (sym (reason_of_entries one other command false false not_entered (sym alike.entered ∙ not_entered)))
         (record { reply = passed.reply; state = passed.state })
   ]
 
   -- proves that one command for both benches is alike for each reason to go on or to end
   pub both_alike : (one other : BenchState) (command : Command) → TargetInvariant one.target
       → TargetInvariant other.target → StayAlike enclave one other command (both_execute enclave one other command)
-  both_alike one other command invariant other_invariant equiv avoids_hart = elim (one_cases one other command) [
-    | inl stop ↦
-        let not_blind = first_test_fails _ _ (same_blind one other command equiv) stop.0 in
-        subst (λ (after : BothExecuted). AlikeBy enclave one other command after after.why) (sym stop.1)
+  both_alike one other command invariant other_invariant equiv avoids_hart = elim (executed_or_stopped one other command) [
+    | inl (not_both_blind, is_stopped) ↦
+        let not_blind = first_test_fails _ _ (same_blind one other command equiv) not_both_blind in
+        subst (λ (after : BothExecuted). AlikeBy enclave one other command after after.why) (sym is_stopped)
         (record { in_first = not_blind; in_second = sym (same_blind one other command equiv) ∙ not_blind })
-    | inr executes ↦ subst (λ (after : BothExecuted). AlikeBy enclave one other command after after.why) (sym executes.1)
-        (done_alike one other command (noninterference enclave one other command invariant other_invariant equiv executes.0 avoids_hart))
+    | inr (blind, both_execute_is) ↦ subst (λ (after : BothExecuted). AlikeBy enclave one other command after after.why) (sym both_execute_is)
+        (done_alike one other command (noninterference enclave one other command invariant other_invariant equiv blind avoids_hart))
   ]
 
   -- ---- a list of commands
 
   -- the result of a list of commands, where `after` is the result of its first command and `why` says whether the list goes on
-  run_more_by : (one other : BenchState) (command : Command) (commands : List Command) (after : BothExecuted) (why : BothWhy)
+  run_with_first_command : (one other : BenchState) (command : Command) (commands : List Command) (after : BothExecuted) (why : BothWhy)
       → both_execute enclave one other command ≡ after
       → after.why ≡ why → both_run enclave one other (command ∷ commands) ≡ go_on why after (both_run enclave after.first after.second commands)
   unfolding both_run
-  run_more_by one other command commands after why both_execute_is reason_is =
+  run_with_first_command one other command commands after why both_execute_is reason_is =
       ap (λ (after : BothExecuted). go_on after.why after (both_run enclave after.first after.second commands)) both_execute_is
       ∙ ap (λ (why : BothWhy). go_on why after (both_run enclave after.first after.second commands)) reason_is
 
   -- an empty list of commands leaves both benches as they are
-  run_of_none : (one other : BenchState) → both_run enclave one other [] ≡ record { first = one; second = other; ran = 0; why = All }
+  empty_run : (one other : BenchState) → both_run enclave one other [] ≡ record { first = one; second = other; ran = 0; why = All }
   unfolding both_run
-  run_of_none one other = refl
+  empty_run one other = refl
 
   -- each bench ends in the state that it has if it executes alone those commands that both have executed
   abbrev pub Folded : BenchState → BenchState → List Command → BothRan → Type 0
@@ -122,12 +123,13 @@ module _ (enclave : ℕ) where
 
   -- Proves `Folded` for each list of commands, by induction over the list.
   pub folded : (one other : BenchState) (commands : List Command) → Folded one other commands (both_run enclave one other commands)
-  folded one other [] = subst (Folded one other []) (sym (run_of_none one other)) (refl, refl)
-  folded one other (command ∷ commands) = elim (one_cases one other command) [
-    | inl stop ↦ subst (Folded one other (command ∷ commands))
-        (sym (run_more_by one other command commands (stopped one other) NotBlind stop.1 refl)) (refl, refl)
-    | inr executes ↦
-        subst (Folded one other (command ∷ commands)) (sym (run_more_by one other command commands (both_done one other command) _ executes.1 refl))
+  folded one other [] = subst (Folded one other []) (sym (empty_run one other)) (refl, refl)
+  folded one other (command ∷ commands) = elim (executed_or_stopped one other command) [
+    | inl (not_both_blind, is_stopped) ↦ subst (Folded one other (command ∷ commands))
+        (sym (run_with_first_command one other command commands (stopped one other) NotBlind is_stopped refl)) (refl, refl)
+    | inr (blind, both_execute_is) ↦
+        subst (Folded one other (command ∷ commands))
+        (sym (run_with_first_command one other command commands (both_done one other command) _ both_execute_is refl))
         (folded_more one other command commands _ (both_run enclave (execute one command).state (execute other command).state commands)
         (not_stopped _)
         (folded (execute one command).state (execute other command).state commands))
@@ -140,8 +142,8 @@ module _ (enclave : ℕ) where
   EndAlike one other commands end = CommandsAvoidHart enclave one (take end.ran commands) → DoneAlike enclave one other commands end.ran end.why
 
   -- an empty list of commands has equal replies and leaves the benches equivalent
-  none_alike : (one other : BenchState) → TargetInvariant one.target → BenchesEquivExcept enclave one other → AllAlike enclave one other []
-  none_alike one other invariant equiv = record { replies = refl; state = equiv_again enclave one other invariant equiv }
+  no_commands_alike : (one other : BenchState) → TargetInvariant one.target → BenchesEquivExcept enclave one other → AllAlike enclave one other []
+  no_commands_alike one other invariant equiv = record { replies = refl; state = equiv_again enclave one other invariant equiv }
 
   -- if one command has equal replies and the remaining commands are alike, then all of them are alike
   one_more_alike : (one other : BenchState) (command : Command) (commands : List Command)
@@ -174,36 +176,37 @@ module _ (enclave : ℕ) where
       → EndAlike one other (command ∷ commands) (both_run enclave one other (command ∷ commands))
   entered_last one other command commands invariant equiv both_execute_is reason_is =
       subst (EndAlike one other (command ∷ commands))
-      (sym (run_more_by one other command commands (both_done one other command) Entered both_execute_is reason_is))
-      (λ avoids_hart. (0, refl, none_alike one other invariant equiv))
+      (sym (run_with_first_command one other command commands (both_done one other command) Entered both_execute_is reason_is))
+      (λ avoids_hart. (0, refl, no_commands_alike one other invariant equiv))
 
   -- Proves that a list of commands is alike in both benches, by induction over the list. The first command has four cases. It is not
   -- blind, it enters `enclave` in the first bench, it enters the slot in the second bench only, or it enters the slot in neither.
   pub run_alike : (one other : BenchState) (commands : List Command) → TargetInvariant one.target
       → TargetInvariant other.target → BenchesEquivExcept enclave one other → EndAlike one other commands (both_run enclave one other commands)
   run_alike one other [] invariant other_invariant equiv =
-      subst (EndAlike one other []) (sym (run_of_none one other)) (λ avoids_hart. none_alike one other invariant equiv)
-  run_alike one other (command ∷ commands) invariant other_invariant equiv = elim (one_cases one other command) [
+      subst (EndAlike one other []) (sym (empty_run one other)) (λ avoids_hart. no_commands_alike one other invariant equiv)
+  run_alike one other (command ∷ commands) invariant other_invariant equiv = elim (executed_or_stopped one other command) [
     -- the first command is not blind: neither bench executes a command
-    | inl stop ↦ subst (EndAlike one other (command ∷ commands))
-        (sym (run_more_by one other command commands (stopped one other) NotBlind stop.1 refl))
-        (λ avoids_hart. none_alike one other invariant equiv)
-    | inr executes ↦ elim (cases_Bool (is_entered enclave (execute one command).entered)) [
+    | inl (not_both_blind, is_stopped) ↦ subst (EndAlike one other (command ∷ commands))
+        (sym (run_with_first_command one other command commands (stopped one other) NotBlind is_stopped refl))
+        (λ avoids_hart. no_commands_alike one other invariant equiv)
+    | inr (blind, both_execute_is) ↦ elim (cases_Bool (is_entered enclave (execute one command).entered)) [
       -- the first command enters the enclave in the first bench: it is the last command
-      | inl first_enters ↦ entered_last one other command commands invariant equiv executes.1
-          (why_is one other command true (is_entered enclave (execute other command).entered) first_enters refl)
+      | inl first_enters ↦ entered_last one other command commands invariant equiv both_execute_is
+          (reason_of_entries one other command true (is_entered enclave (execute other command).entered) first_enters refl)
       | inr first_does_not ↦ elim (cases_Bool (is_entered enclave (execute other command).entered)) [
         -- the first command enters the enclave only in the second bench: it is the last command
         | inl second_enters ↦
-            entered_last one other command commands invariant equiv executes.1 (why_is one other command false true first_does_not second_enters)
+            entered_last one other command commands invariant equiv both_execute_is
+            (reason_of_entries one other command false true first_does_not second_enters)
         -- the first command enters the enclave in neither bench: the replies are equal, and the remaining commands are alike by induction
         | inr second_does_not ↦
             let rest_ran = both_run enclave (execute one command).state (execute other command).state commands in
             subst (EndAlike one other (command ∷ commands))
-            (sym (run_more_by one other command commands (both_done one other command) All executes.1
-            (why_is one other command false false first_does_not second_does_not)))
+            (sym (run_with_first_command one other command commands (both_done one other command) All both_execute_is
+            (reason_of_entries one other command false false first_does_not second_does_not)))
             (λ avoids_hart.
-            let alike = noninterference enclave one other command invariant other_invariant equiv executes.0 avoids_hart.0 in
+            let alike = noninterference enclave one other command invariant other_invariant equiv blind avoids_hart.0 in
             let passed = alike.passed first_does_not in
             done_more_alike one other command commands rest_ran.ran rest_ran.why passed.reply
             (run_alike (execute one command).state (execute other command).state commands (command_keeps_invariant one command invariant)
@@ -230,23 +233,23 @@ module _ (enclave : ℕ) where
       (so_far : later index (both_run enclave one other (drop index commands)) ≡ all_ran)
       (executed : both_execute enclave one other command ≡ after) where
     -- the result of all commands, by the reason (why) for which the commands go on or end after the command at index n
-    result_by : (why : BothWhy) → after.why ≡ why
+    result_if_reason : (why : BothWhy) → after.why ≡ why
         → all_ran ≡ later index (go_on why after (both_run enclave after.first after.second (drop (index + 1) commands)))
-    result_by why reason_is =
+    result_if_reason why reason_is =
         sym so_far
         ∙ ap (λ (remaining : List Command). later index (both_run enclave one other remaining))
         (next_command commands index command in_bounds command_is)
-        ∙ ap (later index) (run_more_by one other command (drop (index + 1) commands) after why executed reason_is)
+        ∙ ap (later index) (run_with_first_command one other command (drop (index + 1) commands) after why executed reason_is)
 
     -- after a command that enters `enclave`, the list ends, and this command is counted
     pub at_entered : after.why ≡ Entered → all_ran ≡ record { first = after.first; second = after.second; ran = index + 1; why = Entered }
-    at_entered reason_is = result_by Entered reason_is
+    at_entered reason_is = result_if_reason Entered reason_is
 
     -- at a command that is not blind, the list ends, and this command is not counted
     pub at_blind : after.why ≡ NotBlind → all_ran ≡ record { first = after.first; second = after.second; ran = index; why = NotBlind }
     at_blind reason_is =
         let count : index + 0 ≡ index = omega arith in
-        result_by NotBlind reason_is ∙ ap (λ (ran : ℕ). record { first = after.first; second = after.second; ran = ran; why = NotBlind }) count
+        result_if_reason NotBlind reason_is ∙ ap (λ (ran : ℕ). record { first = after.first; second = after.second; ran = ran; why = NotBlind }) count
 
     -- after any other command, the result is that of the remaining commands
     pub at_more : after.why ≡ All → later (index + 1) (both_run enclave after.first after.second (drop (index + 1) commands)) ≡ all_ran
@@ -254,7 +257,7 @@ module _ (enclave : ℕ) where
         let rest_ran = both_run enclave after.first after.second (drop (index + 1) commands) in
         let count : index + 1 + rest_ran.ran ≡ index + suc rest_ran.ran = omega arith in
         ap (λ (ran : ℕ). record { first = rest_ran.first; second = rest_ran.second; ran = ran; why = rest_ran.why }) count
-        ∙ sym (result_by All reason_is)
+        ∙ sym (result_if_reason All reason_is)
 
   -- after the last command, the result is that all were executed
   pub at_last : (one other : BenchState) (commands : List Command) (index : ℕ) (all_ran : BothRan)
@@ -264,5 +267,5 @@ module _ (enclave : ℕ) where
       let nothing_left : drop index commands ≡ [] = drop_all index commands (omega arith) in
       let count : index + 0 ≡ length commands = omega (arith, at_end) in
       sym so_far ∙ ap (λ (remaining : List Command). later index (both_run enclave one other remaining)) nothing_left
-      ∙ ap (later index) (run_of_none one other)
+      ∙ ap (later index) (empty_run one other)
       ∙ ap (λ (ran : ℕ). record { first = one; second = other; ran = ran; why = All }) count

@@ -115,20 +115,20 @@ module _ (breaks watches : List ℕ) where
   commands_for_events [] selected harts_exist = refl
   -- a step of a hart: `hart` selects the hart, and `step 1` executes the step
   commands_for_events (StepOf hart ∷ list) selected harts_exist =
-      let exist = and_parts _ _ harts_exist in
+      let (hart_exists, rest_exist) = and_parts _ _ harts_exist in
       let after = (step_of hart selected.state).state in
-      let remaining_exist = ap (λ (count : ℕ). are_of_harts count list) (step_count hart selected.state) ∙ exist.1 in
-      selection_is_no_action selected hart (Step 1 ∷ commands_for list) exist.0
+      let remaining_exist = ap (λ (count : ℕ). are_of_harts count list) (step_count hart selected.state) ∙ rest_exist in
+      selection_is_no_action selected hart (Step 1 ∷ commands_for list) hart_exists
       ∙ ap (λ (actions : List Action). Occurs (StepOf hart) ∷ actions)
       (commands_for_events list (record { hart = hart; state = after }) remaining_exist)
   -- a change of a timer line: `hart` selects the hart, and `timer` changes the line
   commands_for_events (LineOf hart raised ∷ list) selected harts_exist =
-      let exist = and_parts _ _ harts_exist in
+      let (hart_exists, rest_exist) = and_parts _ _ harts_exist in
       let after = with_timer hart selected.state raised in
       let same_count : count_of after ≡ count_of selected.state =
       length-set selected.state.hart_states hart (timer_line_set raised (hart_state_of hart selected.state)) in
-      let remaining_exist = ap (λ (count : ℕ). are_of_harts count list) same_count ∙ exist.1 in
-      selection_is_no_action selected hart (Timer raised ∷ commands_for list) exist.0
+      let remaining_exist = ap (λ (count : ℕ). are_of_harts count list) same_count ∙ rest_exist in
+      selection_is_no_action selected hart (Timer raised ∷ commands_for list) hart_exists
       ∙ ap (λ (actions : List Action). Occurs (LineOf hart raised) ∷ actions)
       (commands_for_events list (record { hart = hart; state = after }) remaining_exist)
 

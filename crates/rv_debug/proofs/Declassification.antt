@@ -27,7 +27,7 @@ use Rattle.rv_debug.proofs.LowCommands.{low_command}
 use Rattle.rv_debug.proofs.ObservedAlike.{csrs_alike, entries_alike, hart_texts, memory_texts, runs_alike, schedules_alike}
 use Rattle.rv_debug.proofs.PokesAlike.{live_if_in_region, hidden_writes, poke_succeeds}
 use Rattle.rv_monitor.proofs.RelatedChanges.{changed_related, memory_related, related_itself}
-use Rattle.rv_debug.proofs.RelatedMoves.{moved_by}
+use Rattle.rv_debug.proofs.RelatedMoves.{related_after_moves}
 use Rattle.rv_debug.proofs.ScheduledSteps.{bare_target, schedule_is_sched}
 
 -- the two commands are the same command, two pokes of secrets, or two writes of secrets to registers of the enclave
@@ -58,7 +58,7 @@ module _ (enclave hart : ℕ) (one other : MonitoredMachine) (invariant : Invari
   related_after_steps : (harts others : List ℕ) (selected : ℕ) → StepsAreMoves enclave one other harts others
       → TargetsAreRelated enclave (done (as_target one) (Steps harts selected)) (done (as_target other) (Steps others selected))
   related_after_steps harts others selected steps =
-      let moved = moved_by enclave 0 harts others one other invariant other_invariant related steps in
+      let moved = related_after_moves enclave 0 harts others one other invariant other_invariant related steps in
       subst (λ (target : Target). TargetsAreRelated enclave target (done (as_target other) (Steps others selected)))
       (sym (schedule_is_sched harts (record { hart = hart; state = one }) _ selected))
       (subst (TargetsAreRelated enclave (selected_at selected (sched harts one).state))
@@ -312,8 +312,10 @@ module _ (enclave hart : ℕ) (one other : MonitoredMachine) (invariant : Invari
       → Alike command other_command
   commands_alike command other_command (inl same_command) =
       subst (Alike command) same_command.same (same_observed command same_command.steps same_command.stop)
-  commands_alike command other_command (inr (inl pokes_secret)) = secret_pokes_alike command other_command pokes_secret.0 pokes_secret.1
-  commands_alike command other_command (inr (inr sets_secret)) = secret_registers_alike command other_command sets_secret.0 sets_secret.1
+  commands_alike command other_command (inr (inl (pokes_secret, other_pokes_secret))) =
+      secret_pokes_alike command other_command pokes_secret other_pokes_secret
+  commands_alike command other_command (inr (inr (sets_secret, other_sets_secret))) =
+      secret_registers_alike command other_command sets_secret other_sets_secret
 
 -- ---- any two benches
 

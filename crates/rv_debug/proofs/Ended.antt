@@ -307,27 +307,28 @@ guest_moves enclave (hart ∷ harts) one other invariant other_invariant related
 -- the moves of two machines for slot `slot_count` are steps of both, so both machines step the same harts
 steps_of_both : (moves : List Move) (one other : MonitoredMachine) → Invariant one → Invariant other → AreMoves slot_count moves one other
     → first_steps moves ≡ second_steps moves
-steps_of_both [] one other invariant other_invariant are = refl
-steps_of_both (First hart ∷ moves) one other invariant other_invariant are = absurd (both_ways _ (runs_on_no_hart one invariant hart) are.0.before)
-steps_of_both (Second hart ∷ moves) one other invariant other_invariant are =
-    absurd (both_ways _ (runs_on_no_hart other other_invariant hart) are.0.before)
-steps_of_both (Both (LineOf hart raised) ∷ moves) one other invariant other_invariant are =
+steps_of_both [] one other invariant other_invariant permitted = refl
+steps_of_both (First hart ∷ moves) one other invariant other_invariant (permitted, rest_permitted) =
+    absurd (both_ways _ (runs_on_no_hart one invariant hart) permitted.before)
+steps_of_both (Second hart ∷ moves) one other invariant other_invariant (permitted, rest_permitted) =
+    absurd (both_ways _ (runs_on_no_hart other other_invariant hart) permitted.before)
+steps_of_both (Both (LineOf hart raised) ∷ moves) one other invariant other_invariant (permitted, rest_permitted) =
     steps_of_both moves (with_timer hart one raised) (with_timer hart other raised) (line_invariant hart raised one invariant)
-    (line_invariant hart raised other other_invariant) are.1
-steps_of_both (Both (StepOf hart) ∷ moves) one other invariant other_invariant are =
-    ap (λ (hs : List ℕ). hart ∷ hs)
+    (line_invariant hart raised other other_invariant) rest_permitted
+steps_of_both (Both (StepOf hart) ∷ moves) one other invariant other_invariant (permitted, rest_permitted) =
+    ap (λ (later_harts : List ℕ). hart ∷ later_harts)
     (steps_of_both moves (step_of hart one).state (step_of hart other).state (invariant_law hart one invariant)
-    (invariant_law hart other other_invariant) are.1)
+    (invariant_law hart other other_invariant) rest_permitted)
 
 -- steps of two related targets that are moves for slot `slot_count` are moves for every `enclave`
-moves_for_each_slot : (enclave : ℕ) (one other : Target) (harts others : List ℕ)
+moves_for_each_slot : (enclave : ℕ) (one other : Target) (harts other_harts : List ℕ)
     → TargetInvariant one → TargetInvariant other → TargetsAreRelated slot_count one other → IfSome (machine_in one)
-    (λ one_machine. IfSome (machine_in other) (λ other_machine. StepsAreMoves slot_count one_machine other_machine harts others))
+    (λ one_machine. IfSome (machine_in other) (λ other_machine. StepsAreMoves slot_count one_machine other_machine harts other_harts))
     → IfSome (machine_in one) (λ one_machine. IfSome (machine_in other)
-    (λ other_machine. StepsAreMoves enclave one_machine other_machine harts others))
-moves_for_each_slot enclave (Bare one) other harts others invariant other_invariant related steps = tt
-moves_for_each_slot enclave (Monitored one) (Bare other) harts others invariant other_invariant related steps = tt
-moves_for_each_slot enclave (Monitored one) (Monitored other) harts others invariant other_invariant related steps =
+    (λ other_machine. StepsAreMoves enclave one_machine other_machine harts other_harts))
+moves_for_each_slot enclave (Bare one) other harts other_harts invariant other_invariant related steps = tt
+moves_for_each_slot enclave (Monitored one) (Bare other) harts other_harts invariant other_invariant related steps = tt
+moves_for_each_slot enclave (Monitored one) (Monitored other) harts other_harts invariant other_invariant related steps =
     let same_harts = sym steps.first ∙ steps_of_both steps.moves one.state other.state invariant other_invariant steps.are ∙ steps.second in
     subst (StepsAreMoves enclave one.state other.state harts) same_harts
     (guest_moves enclave harts one.state other.state invariant other_invariant related.state)

@@ -233,19 +233,19 @@ moved : (enclave other_enclave : ℕ) (moves : List BenchMove) (one other : Moni
     → AreAtOnePoint enclave other_enclave one other
     → AreBenchMoves enclave other_enclave moves one other → MovedAlike enclave other_enclave moves one other
 moved enclave other_enclave [] one other one_sound other_sound point permitted = record { steps = tt; point = point }
-moved enclave other_enclave (InFirst action ∷ moves) one other one_sound other_sound point permitted =
+moved enclave other_enclave (InFirst action ∷ moves) one other one_sound other_sound point (permitted, rest_permitted) =
     let moved_rest = moved enclave other_enclave moves (after_action action one) other (action_sound action one one_sound) other_sound
-    (foreign_in_first enclave other_enclave one other point one_sound other_sound action permitted.0) permitted.1 in
+    (foreign_in_first enclave other_enclave one other point one_sound other_sound action permitted) rest_permitted in
     record { steps = moved_rest.steps; point = moved_rest.point }
-moved enclave other_enclave (InSecond action ∷ moves) one other one_sound other_sound point permitted =
+moved enclave other_enclave (InSecond action ∷ moves) one other one_sound other_sound point (permitted, rest_permitted) =
     let moved_rest = moved enclave other_enclave moves one (after_action action other) one_sound (action_sound action other other_sound)
-    (foreign_in_second enclave other_enclave one other point one_sound other_sound action permitted.0) permitted.1 in
+    (foreign_in_second enclave other_enclave one other point one_sound other_sound action permitted) rest_permitted in
     record { steps = moved_rest.steps; point = moved_rest.point }
-moved enclave other_enclave (InBoth hart other_hart ∷ moves) one other one_sound other_sound point permitted =
-    let own_step = one_move enclave other_enclave one other point one_sound other_sound (Own hart other_hart) permitted.0 in
+moved enclave other_enclave (InBoth hart other_hart ∷ moves) one other one_sound other_sound point (permitted, rest_permitted) =
+    let own_step = one_move enclave other_enclave one other point one_sound other_sound (Own hart other_hart) permitted in
     let moved_rest =
     moved enclave other_enclave moves (step_of hart one).state (step_of other_hart other).state (action_sound (Occurs (StepOf hart)) one one_sound)
-    (action_sound (Occurs (StepOf other_hart)) other other_sound) own_step.point permitted.1 in
+    (action_sound (Occurs (StepOf other_hart)) other other_sound) own_step.point rest_permitted in
     record { steps = (own_step.steps.0, moved_rest.steps); point = moved_rest.point }
 
 -- ---- commands

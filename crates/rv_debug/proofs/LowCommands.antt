@@ -47,12 +47,12 @@ same_window enclave one other invariant equiv =
         | inr outside_region ↦ memory.bytes index outside_region
         -- a byte of the region is not in the window
         | inl in_region ↦
-            let region_bounds =
+            let (not_below_base, below_end) =
             and_parts (nat_le region_block.base (ram_base + index)) (nat_lt (ram_base + index) (region_block.base + region_block.size)) in_region in
             let outside_window =
             seen_block region_block window_block (invariant.shared.valid.windows_apart enclave enclave) (ram_base + index)
-            (leb-true _ _ region_bounds.0)
-            (ltb-true _ _ region_bounds.1) in
+            (leb-true _ _ not_below_base)
+            (ltb-true _ _ below_end) in
             let never : not false ≡ false = sym (ap not outside_window) ∙ in_window in cc
       ];
     }

@@ -95,7 +95,8 @@ unfolding execute
 poked_on_no_hart enclave bench (Poke address byte) invariant on_no_hart pokes_region = written bench.target invariant on_no_hart where
   -- a write of a byte leaves the enclave on no hart
   written : (target : Target) → TargetInvariant target → RunsOnNoHart enclave target → RunsOnNoHart enclave (done target (OneByte address byte))
-  written (Bare machine) invariant on_no_hart = bare_target (RunsOnNoHart enclave) (λ bare_machine. tt) _ (effect_stays_bare machine (OneByte address byte))
+  written (Bare machine) invariant on_no_hart =
+      bare_target (RunsOnNoHart enclave) (λ bare_machine. tt) _ (effect_stays_bare machine (OneByte address byte))
   written (Monitored machine) invariant on_no_hart =
       poke_on_no_hart enclave machine (write machine.state.shared.memory address (byte ∷ [])) on_no_hart
 poked_on_no_hart enclave bench _ invariant on_no_hart pokes_region = absurd pokes_region

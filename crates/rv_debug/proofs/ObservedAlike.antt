@@ -18,7 +18,7 @@ use Rattle.rv_debug.proofs.Prelude.{AfterRun, Selected, cases_Bool, csr_text, ha
 use Rattle.rv_debug.proofs.Prelude.{scheduled_steps, seen_block, selected_at, steps_of, harts_of, target_stepped, with_scheduled_step, with_selected}
 use Rattle.rv_debug.proofs.Prelude.{world_name}
 use Rattle.rv_debug.proofs.ObservedRuns.{RunObserved, own_steps, run_observed, same_numbers, same_traps, schedule_did}
-use Rattle.rv_debug.proofs.RelatedMoves.{Moved, moved_by}
+use Rattle.rv_debug.proofs.RelatedMoves.{Moved, related_after_moves}
 use Rattle.rv_debug.proofs.ScheduledSteps.{after_schedule}
 use Rattle.rv_debug.proofs.TargetRuns.{hart_pc, hart_stepped, run_monitored}
 
@@ -121,7 +121,8 @@ runs_alike enclave hart one other breaks watches count invariant other_invariant
     observed_run_is enclave hart breaks watches count one
     ∙ run_texts enclave hart one other (ran one) (ran other) (run_observed enclave hart breaks watches count one)
     (run_observed enclave hart breaks watches count other)
-    (moved_by enclave hart _ _ one other invariant other_invariant related machine_steps) (sym (ap stops one_is) ∙ stop ∙ ap stops other_is)
+    (related_after_moves enclave hart _ _ one other invariant other_invariant related machine_steps)
+    (sym (ap stops one_is) ∙ stop ∙ ap stops other_is)
     ∙ sym (observed_run_is enclave hart breaks watches count other)
 
 -- ---- schedules
@@ -161,11 +162,11 @@ observed_harts_are : (enclave : ℕ) (harts : List ℕ) (machine : Selected) (su
 observed_harts_are enclave harts machine summary =
     let after = scheduled_steps harts (after_schedule (Monitored machine) summary) in
     let state_after = schedule_state harts machine summary in
-    let own_summaries = schedule_did harts machine summary in
+    let (ran_0_is, ran_1_is) = schedule_did harts machine summary in
     let lines : Target → HartRan → HartRan → List ℕ = λ target ran_0 ran_1.
     observed_hart enclave target 0 ran_0 ++ (if nat_lt 1 (harts_of target) then observed_hart enclave target 1 ran_1 else []) in
     ap (λ (target : Target). lines target after.did.first after.did.second) state_after.state_is
-    ∙ ap₂ (lines (selected_at state_after.hart (sched harts machine.state).state)) own_summaries.0 own_summaries.1
+    ∙ ap₂ (lines (selected_at state_after.hart (sched harts machine.state).state)) ran_0_is ran_1_is
 
 -- the steps of the harts are moves of both machines, for the observations of each hart
 module _ (enclave : ℕ) (harts : List ℕ) (one other : MonitoredMachine)
@@ -212,7 +213,8 @@ pub schedules_alike : (enclave hart : ℕ) (harts : List ℕ) (one other : Monit
     ≡ observed_harts enclave (scheduled_steps harts (schedule_start (selected_at hart other)))
 schedules_alike enclave hart harts one other invariant other_invariant related steps =
     observed_harts_are enclave harts (record { hart = hart; state = one }) _
-    ∙ same_hart_lines enclave harts one other (λ observed. moved_by enclave observed harts harts one other invariant other_invariant related steps)
+    ∙ same_hart_lines enclave harts one other
+    (λ observed. related_after_moves enclave observed harts harts one other invariant other_invariant related steps)
     ∙ sym (observed_harts_are enclave harts (record { hart = hart; state = other }) _)
 
 -- ---- registers
@@ -252,13 +254,13 @@ module _ (enclave : ℕ) (one other : MonitoredMachine) (related : AreRelated en
   -- every byte of a block that names no private bytes must be equal in related memories
   no_private_byte : (block : Block) → names_private_bytes one block ≡ false → IsSeen (may_differ one.shared.table enclave) block.base block.size
   no_private_byte block not_private byte at_or_above_base below_end =
-      let outside_blocks = both_parts_fail (meets block (region one.shared.table enclave)) _ not_private in
-      let outside_region = seen_block block (region one.shared.table enclave) outside_blocks.0 byte at_or_above_base below_end in
+      let (outside_region_block, not_in_window_while_running) = both_parts_fail (meets block (region one.shared.table enclave)) _ not_private in
+      let outside_region = seen_block block (region one.shared.table enclave) outside_region_block byte at_or_above_base below_end in
       elim (cases_Bool (runs one.shared.table enclave)) [
         | inr not_running ↦ rw (outside_region, not_running) refl
         | inl running ↦
             let outside_window_block =
-            ap (λ (runs_now : Bool). runs_now && meets block (window one.shared.table enclave)) (sym running) ∙ outside_blocks.1 in
+            ap (λ (runs_now : Bool). runs_now && meets block (window one.shared.table enclave)) (sym running) ∙ not_in_window_while_running in
             let outside_window = seen_block block (window one.shared.table enclave) outside_window_block byte at_or_above_base below_end in
             rw (outside_region, running, outside_window) refl
       ]

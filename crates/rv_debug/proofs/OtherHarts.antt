@@ -29,12 +29,12 @@ sched_leaves : (hart : ℕ) (harts : List ℕ) (machine : MonitoredMachine) → 
     → hart_state_of hart (sched harts machine).state ≡ reprogrammed (sched harts machine).state.shared.table (hart_state_of hart machine)
 sched_leaves hart [] machine invariant in_range others_step = reprogrammed_as_is hart machine invariant in_range
 sched_leaves hart (stepped ∷ harts) machine invariant in_range others_step =
-    let first_and_rest = and_parts (not (stepped == hart)) (list_all (λ stepped. not (stepped == hart)) harts) others_step in
+    let (stepped_is_other, rest_are_other) = and_parts (not (stepped == hart)) (list_all (λ stepped. not (stepped == hart)) harts) others_step in
     let next = (step_of stepped machine).state in
     let last = (sched harts next).state.shared.table in
     sched_leaves hart harts next (invariant_law stepped machine invariant)
-    (subst (λ (hart_count : ℕ). hart < hart_count) (sym (step_count stepped machine)) in_range) first_and_rest.1
-    ∙ ap (reprogrammed last) (step_programmed stepped hart machine invariant (differs_if_test_fails stepped hart first_and_rest.0) in_range)
+    (subst (λ (hart_count : ℕ). hart < hart_count) (sym (step_count stepped machine)) in_range) rest_are_other
+    ∙ ap (reprogrammed last) (step_programmed stepped hart machine invariant (differs_if_test_fails stepped hart stepped_is_other) in_range)
 
 -- ---- a command
 

@@ -52,8 +52,8 @@ module _ (hart byte : ℕ) (machine : MonitoredMachine) (invariant : Invariant m
   same_in_region (Some info) = refl
 
   -- a byte is outside the monitor's range if it is at 80010000 or above
-  past_monitor : not (has monitor_block byte) ≡ nat_le 0x80010000 byte
-  past_monitor = grind (arith, nat_tests, in_ram_from)
+  outside_monitor_range : not (has monitor_block byte) ≡ nat_le 0x80010000 byte
+  outside_monitor_range = grind (arith, nat_tests, in_ram_from)
 
   -- what the host may store is the same in both definitions
   host_accessible : is_accessible machine.shared.memory table Host Write (byte ∷ []) ≡ host_stores table byte
@@ -62,7 +62,7 @@ module _ (hart byte : ℕ) (machine : MonitoredMachine) (invariant : Invariant m
       let regions = same_any (λ slot. has (region table slot) byte)
       (λ slot. option_case (record_at table slot) false (λ info. is_within info.region byte))
       (λ slot. same_in_region (record_at table slot)) (range_with_len 0 slot_count) in
-      rw (in_ram, past_monitor, regions) (drop_constants _) where
+      rw (in_ram, outside_monitor_range, regions) (drop_constants _) where
         -- a test with true and false added is the test
         drop_constants : (test : Bool) → ((test && true) || false) ≡ test
         drop_constants true = refl

@@ -68,12 +68,13 @@ region_in_ram memory None address valid in_region =
 region_in_ram memory (Some info) address valid in_region =
     let block = info.region in
     let well_formed = and_parts (is_block_size block.size) _ valid.region in
-    let block_in_ram = inside-bounds memory block.base block.size (and_parts (block.base % block.size == 0) _ well_formed.1).1 in
-    let in_block = and_parts (nat_le block.base address) (nat_lt address (block.base + block.size)) in_region in
-    let at_or_above_base = leb-true _ _ in_block.0 in
-    let below_end = ltb-true _ _ in_block.1 in
-    and_from _ _ (le-leb ram_base address (omega (arith, block_in_ram.0, at_or_above_base)))
-    (le-leb (address + 1) (ram_base + length memory) (omega (arith, block_in_ram.1, below_end)))
+    let (block_from_ram_base, block_to_ram_end) =
+    inside-bounds memory block.base block.size (and_parts (block.base % block.size == 0) _ well_formed.1).1 in
+    let (not_below_base, before_end) = and_parts (nat_le block.base address) (nat_lt address (block.base + block.size)) in_region in
+    let at_or_above_base = leb-true _ _ not_below_base in
+    let below_end = ltb-true _ _ before_end in
+    and_from _ _ (le-leb ram_base address (omega (arith, block_from_ram_base, at_or_above_base)))
+    (le-leb (address + 1) (ram_base + length memory) (omega (arith, block_to_ram_end, below_end)))
 
 -- a poke into the region of an enclave is in RAM, and so succeeds
 pub poke_succeeds : (state : MonitoredMachine) (enclave address byte : ℕ) → Invariant state → has (region state.shared.table enclave) address ≡ true

@@ -133,10 +133,10 @@ moved enclave shown_hart (Both (StepOf hart) ∷ rest_moves) one other one_ran o
     record { state = moved_rest.state; ran = moved_rest.ran }
 
 -- steps of two commands that are moves leave related machines and equal observations
-pub moved_by : (enclave shown_hart : ℕ) (harts others : List ℕ) (one other : MonitoredMachine) → Invariant one → Invariant other
+pub related_after_moves : (enclave shown_hart : ℕ) (harts others : List ℕ) (one other : MonitoredMachine) → Invariant one → Invariant other
     → AreRelated enclave one other
     → StepsAreMoves enclave one other harts others → Moved enclave shown_hart harts others one other nothing_ran nothing_ran
-moved_by enclave shown_hart harts others one other invariant other_invariant related steps =
+related_after_moves enclave shown_hart harts others one other invariant other_invariant related steps =
     subst (λ (one_harts : List ℕ). Moved enclave shown_hart one_harts others one other nothing_ran nothing_ran) steps.first
     (subst (λ (other_harts : List ℕ). Moved enclave shown_hart (first_steps steps.moves) other_harts one other nothing_ran nothing_ran) steps.second
     (moved enclave shown_hart steps.moves one other nothing_ran nothing_ran invariant other_invariant related steps.steps steps.are

@@ -86,10 +86,10 @@ has_all_is_first_and_rest count hart harts = refl
 pub has_next : (count : ℕ) (digits : List ℕ) (index digit : ℕ) → index < length digits → digit ≡ get_or digits index 0
     → has_all count (harts_from index digits) ≡ true → (hart_of_digit digit < count) × (has_all count (harts_from (index + 1) digits) ≡ true)
 has_next count digits index digit in_bounds digit_is all_exist =
-    let next_and_later = and_parts (nat_lt (hart_of_digit digit) count) (has_all count (harts_from (index + 1) digits))
+    let (next_exists, later_exist) = and_parts (nat_lt (hart_of_digit digit) count) (has_all count (harts_from (index + 1) digits))
     (sym (has_all_is_first_and_rest count (hart_of_digit digit) (harts_from (index + 1) digits))
     ∙ ap (has_all count) (sym (next_digit digits index digit in_bounds digit_is)) ∙ all_exist) in
-    let is_below_count = next_and_later.0 in (grind (arith, nat_tests, is_below_count), next_and_later.1)
+    (grind (arith, nat_tests, next_exists), later_exist)
 
 -- after the last digit, the steps of the schedule are done
 pub no_digits_left : (digits : List ℕ) (index : ℕ) (before : AfterSchedule) → length digits ≤ index

@@ -47,11 +47,11 @@ module _ (one other : MonitoredMachine) (commands other_commands : List Command)
   RestAlike one_machine other_machine = AllCommandsAlike 0 (monitored one_machine) (monitored other_machine) commands other_commands
 
   -- commands that begin with `step`, whose steps are these moves, are alike, if the rest of the commands is alike after the moves
-  alike_by_step : (count : ℕ) (harts : List ℕ) (moves : List Move) → IsStepOf count harts → are_steps moves ≡ true → first_steps moves ≡ harts
+  alike_with_step : (count : ℕ) (harts : List ℕ) (moves : List Move) → IsStepOf count harts → are_steps moves ≡ true → first_steps moves ≡ harts
       → second_steps moves ≡ harts → AreMoves 0 moves one other → RestAlike (sched harts one).state (sched harts other).state
       → AllCommandsAlike 0 (monitored one) (monitored other) (Step count ∷ commands) (Step count ∷ other_commands)
   unfolding execute
-  alike_by_step count harts moves is_step all_steps first_harts_are second_harts_are moved rest_alike =
+  alike_with_step count harts moves is_step all_steps first_harts_are second_harts_are moved rest_alike =
       let after : (machine : MonitoredMachine) → monitored (sched harts machine).state ≡ (execute (monitored machine) (Step count)).state = λ machine.
       let start : Selected = record { hart = 0; state = machine } in
       let bench_over : Target → BenchState = λ target. record { target = target; breaks = []; watches = [] } in
@@ -76,26 +76,27 @@ module _ (one other : MonitoredMachine) (commands other_commands : List Command)
       )
 
   -- commands that begin with a change of the timer line are alike, if the rest of the commands is alike after the change
-  alike_by_timer : RestAlike (with_timer 0 one true) (with_timer 0 other true)
+  alike_with_timer : RestAlike (with_timer 0 one true) (with_timer 0 other true)
       → AllCommandsAlike 0 (monitored one) (monitored other) (Timer true ∷ commands) (Timer true ∷ other_commands)
   unfolding execute
-  alike_by_timer rest =
+  alike_with_timer rest =
       (inl (inl (record { same = refl; steps = record { moves = []; steps = refl; first = refl; second = refl; are = tt }; stop = refl })), rest)
 
   -- commands that begin with `regs` are alike, if the rest of the commands is alike
-  alike_by_regs : RestAlike one other → AllCommandsAlike 0 (monitored one) (monitored other) (Regs ∷ commands) (Regs ∷ other_commands)
+  alike_with_regs : RestAlike one other → AllCommandsAlike 0 (monitored one) (monitored other) (Regs ∷ commands) (Regs ∷ other_commands)
   unfolding execute
-  alike_by_regs rest =
+  alike_with_regs rest =
       (inl (inl (record { same = refl; steps = record { moves = []; steps = refl; first = refl; second = refl; are = tt }; stop = refl })), rest)
 
   -- commands that begin with a poke of each secret are alike, if the rest of the commands is alike after the pokes
-  alike_by_poke : (address secret other_secret : ℕ) (one_after other_after : List ℕ) → write one.shared.memory address (secret ∷ []) ≡ Some one_after
+  alike_with_poke : (address secret other_secret : ℕ) (one_after other_after : List ℕ)
+      → write one.shared.memory address (secret ∷ []) ≡ Some one_after
       → write other.shared.memory address (other_secret ∷ []) ≡ Some other_after
       → has (region one.shared.table 0) address ≡ true → has (region other.shared.table 0) address ≡ true
       → RestAlike (with_memory one one_after) (with_memory other other_after)
       → AllCommandsAlike 0 (monitored one) (monitored other) (Poke address secret ∷ commands) (Poke address other_secret ∷ other_commands)
   unfolding execute
-  alike_by_poke address secret other_secret one_after other_after first_write second_write in_region other_in_region rest_alike =
+  alike_with_poke address secret other_secret one_after other_after first_write second_write in_region other_in_region rest_alike =
       let after : MonitoredMachine → Option (List ℕ) → BenchState = λ machine written.
       let target = selected_at 0 machine in
       record { target = option_case (option_map (over_memory target) written) target (λ unchanged. unchanged); breaks = []; watches = [] } in (
@@ -145,28 +146,30 @@ commands_alike secret other_secret =
     -- the moves of the example: the call run, the load, the timer line, the interrupt, the call resume, the last step
     let (run_1, (run_2, (load_1, (load_2, (_, (exits, (resume_1, (resume_2, (resume_3, (last_1, (last_2, _))))))))))) =
     moves_permitted secret other_secret in
-    let ends = alike_by_step (secret_resumed secret) (secret_resumed other_secret) [] [] 1 (0 ∷ []) (First 0 ∷ Second 0 ∷ []) one_step refl refl refl
+    let ends =
+    alike_with_step (secret_resumed secret) (secret_resumed other_secret) [] [] 1 (0 ∷ []) (First 0 ∷ Second 0 ∷ []) one_step refl refl refl
     (last_1, (last_2, tt)) tt in
-    let resumes = alike_by_step (secret_interrupted secret) (secret_interrupted other_secret) (Step 1 ∷ []) (Step 1 ∷ []) 3 (0 ∷ 0 ∷ 0 ∷ [])
+    let resumes = alike_with_step (secret_interrupted secret) (secret_interrupted other_secret) (Step 1 ∷ []) (Step 1 ∷ []) 3 (0 ∷ 0 ∷ 0 ∷ [])
     (Both (StepOf 0) ∷ Both (StepOf 0) ∷ Both (StepOf 0) ∷ []) three_steps refl refl refl
     (resume_1, (resume_2, (resume_3, tt))) ends in
     let interrupts =
-    alike_by_step (secret_raised secret) (secret_raised other_secret) (Regs ∷ resume) (Regs ∷ resume) 1 (0 ∷ []) (Both (StepOf 0) ∷ []) one_step refl
-    refl refl (exits, tt) (alike_by_regs (secret_interrupted secret) (secret_interrupted other_secret) resume resume resumes) in
+    alike_with_step (secret_raised secret) (secret_raised other_secret) (Regs ∷ resume) (Regs ∷ resume) 1 (0 ∷ [])
+    (Both (StepOf 0) ∷ []) one_step refl
+    refl refl (exits, tt) (alike_with_regs (secret_interrupted secret) (secret_interrupted other_secret) resume resume resumes) in
     let loads =
-    alike_by_step (secret_entered secret) (secret_entered other_secret) interrupt interrupt 1 (0 ∷ [])
+    alike_with_step (secret_entered secret) (secret_entered other_secret) interrupt interrupt 1 (0 ∷ [])
     (First 0 ∷ Second 0 ∷ []) one_step refl refl refl
     (load_1, (load_2, tt))
-    (alike_by_timer (secret_next (secret_entered secret)) (secret_next (secret_entered other_secret)) (Step 1 ∷ Regs ∷ resume)
+    (alike_with_timer (secret_next (secret_entered secret)) (secret_next (secret_entered other_secret)) (Step 1 ∷ Regs ∷ resume)
     (Step 1 ∷ Regs ∷ resume) interrupts) in
-    let runs_enclave = alike_by_step (secret_new secret) (secret_new other_secret) (Step 1 ∷ interrupt) (Step 1 ∷ interrupt) 2 (0 ∷ 0 ∷ [])
+    let runs_enclave = alike_with_step (secret_new secret) (secret_new other_secret) (Step 1 ∷ interrupt) (Step 1 ∷ interrupt) 2 (0 ∷ 0 ∷ [])
     (Both (StepOf 0) ∷ Both (StepOf 0) ∷ []) two_steps refl refl refl (run_1, (run_2, tt)) loads in
     let rest_commands : List Command = Step 2 ∷ Step 1 ∷ interrupt in
-    alike_by_step secret_start secret_start (Poke secret_address secret ∷ rest_commands) (Poke secret_address other_secret ∷ rest_commands) 1
+    alike_with_step secret_start secret_start (Poke secret_address secret ∷ rest_commands) (Poke secret_address other_secret ∷ rest_commands) 1
     (0 ∷ []) (Both (StepOf 0) ∷ [])
     one_step refl refl refl
     (inl (record { low = start_idle.not_on_hart; window = λ running. absurd (both_ways _ start_idle.not_running running) }), tt)
-    (alike_by_poke (secret_next secret_start) (secret_next secret_start) rest_commands rest_commands secret_address secret other_secret
+    (alike_with_poke (secret_next secret_start) (secret_next secret_start) rest_commands rest_commands secret_address secret other_secret
     (secret_ram secret) (secret_ram other_secret)
     (poke_gives_secret_ram secret) (poke_gives_secret_ram other_secret) (computed 0).region_has (computed 0).region_has runs_enclave)
 

@@ -21,9 +21,10 @@ record EquivUnlessEntered (enclave : ℕ) (one other : Executed) : Type 0 where
   state : is_entered enclave one.entered ≡ false → BenchesEquivExcept enclave one.state other.state
 
 -- two schedules that do not enter the enclave leave equivalent benches
-past_equiv : (enclave hart : ℕ) (breaks watches : List ℕ) (start : Selected) (one other : AfterSchedule) → NeitherEnters enclave start one other
+equiv_if_not_entered : (enclave hart : ℕ) (breaks watches : List ℕ) (start : Selected) (one other : AfterSchedule)
+    → NeitherEnters enclave start one other
     → EquivUnlessEntered enclave (schedule_executed hart breaks watches one) (schedule_executed hart breaks watches other)
-past_equiv enclave hart breaks watches start one other neither_enters =
+equiv_if_not_entered enclave hart breaks watches start one other neither_enters =
     subst (λ (target : Target). EquivUnlessEntered enclave (schedule_executed hart breaks watches (after_schedule target one.did))
     (schedule_executed hart breaks watches other))
     (sym neither_enters.first_is)
@@ -67,7 +68,7 @@ module _ (enclave hart : ℕ) (one other : MonitoredMachine)
           entered = both_enter.one_enters ∙ sym both_enter.other_enters;
           state = λ not_entered. let never : true ≡ false = sym both_enter.one_enters ∙ not_entered in cc;
         }
-        | inr neither_enters ↦ past_equiv enclave hart breaks watches (as_selected one) _ _ neither_enters
+        | inr neither_enters ↦ equiv_if_not_entered enclave hart breaks watches (as_selected one) _ _ neither_enters
       ]
   sched_equiv harts false false same_exist invariant other_invariant runs_on_none =
       record { entered = refl; state = λ not_entered. record { target = equiv; breaks = refl; watches = refl } }
