@@ -35,7 +35,7 @@ with_bytes_at memory address bytes = option_case (write memory address bytes) me
 
 -- the recorded measurement of the enclave of a slot, or [] if no enclave is live there, which the refusal NoEnclave excludes
 abbrev pub measurement_at : Slots → ℕ → List ℕ
-measurement_at table slot = option_case (slot_at table slot) [] (λ info. info.measurement)
+measurement_at slots slot = option_case (slot_at slots slot) [] (λ info. info.measurement)
 
 -- the conditions that refuse a measure, in the order in which they are checked
 unfoldable pub measure_refusals : Shared → Entries → ℕ → ℕ → List (Bool × Refusal)

@@ -13,7 +13,7 @@ use Rattle.rv_enclaves.specs.declared.shared.Shared.{Shared}
 
 -- the slots with a saved context: the enclave is live and does not run
 abbrev pub can_scramble : Slots → ℕ → Bool
-can_scramble table slot = is_held (slot_at table slot)
+can_scramble slots slot = is_held (slot_at slots slot)
 
 -- the registers x1 to x31 complemented; x0 stays 0
 abbrev pub complemented_registers : List ℕ → List ℕ
