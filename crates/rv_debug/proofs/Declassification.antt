@@ -55,14 +55,14 @@ module _ (enclave hart : ℕ) (one other : MonitoredMachine) (invariant : Invari
   -- ---- effects
 
   -- the targets are related after steps that are moves of the two machines
-  related_after_steps : (harts others : List ℕ) (selected : ℕ) → StepsAreMoves enclave one other harts others
-      → TargetsAreRelated enclave (done (as_target one) (Steps harts selected)) (done (as_target other) (Steps others selected))
-  related_after_steps harts others selected steps =
-      let moved = related_after_moves enclave 0 harts others one other invariant other_invariant related steps in
-      subst (λ (target : Target). TargetsAreRelated enclave target (done (as_target other) (Steps others selected)))
+  related_after_steps : (harts other_harts : List ℕ) (selected : ℕ) → StepsAreMoves enclave one other harts other_harts
+      → TargetsAreRelated enclave (done (as_target one) (Steps harts selected)) (done (as_target other) (Steps other_harts selected))
+  related_after_steps harts other_harts selected steps =
+      let moved = related_after_moves enclave 0 harts other_harts one other invariant other_invariant related steps in
+      subst (λ (target : Target). TargetsAreRelated enclave target (done (as_target other) (Steps other_harts selected)))
       (sym (schedule_is_sched harts (record { hart = hart; state = one }) _ selected))
       (subst (TargetsAreRelated enclave (selected_at selected (sched harts one).state))
-      (sym (schedule_is_sched others (record { hart = hart; state = other }) _ selected)) (record { hart = refl; state = moved.state }))
+      (sym (schedule_is_sched other_harts (record { hart = hart; state = other }) _ selected)) (record { hart = refl; state = moved.state }))
 
   -- the targets are related after the same write of a register
   related_after_setreg : (number value : ℕ) → TargetsAreRelated enclave (done (as_target one) (effect (as_bench one) (SetReg number value)))

@@ -85,10 +85,10 @@ module _ (enclave shown_hart hart : ℕ) (one other : MonitoredMachine) (one_ran
 -- ---- all moves
 
 -- after moves that are steps, the machines are related, and the hart `shown_hart` has equal observations in both
-pub record Moved (enclave shown_hart : ℕ) (harts others : List ℕ) (one other : MonitoredMachine) (one_ran other_ran : HartRan) : Type 0 where
-  pub state : AreRelated enclave (sched harts one).state (sched others other).state
+pub record Moved (enclave shown_hart : ℕ) (harts other_harts : List ℕ) (one other : MonitoredMachine) (one_ran other_ran : HartRan) : Type 0 where
+  pub state : AreRelated enclave (sched harts one).state (sched other_harts other).state
   pub ran : SameUnlessOnHart enclave shown_hart (sched harts one).state (observed_steps enclave shown_hart harts one one_ran)
-      (observed_steps enclave shown_hart others other other_ran)
+      (observed_steps enclave shown_hart other_harts other other_ran)
 
 -- Moves that are steps leave related machines and equal observations of the hart `shown_hart`. The proof is by induction over the list of moves.
 moved : (enclave shown_hart : ℕ) (moves : List Move) (one other : MonitoredMachine) (one_ran other_ran : HartRan) → Invariant one → Invariant other
@@ -133,11 +133,11 @@ moved enclave shown_hart (Both (StepOf hart) ∷ rest_moves) one other one_ran o
     record { state = moved_rest.state; ran = moved_rest.ran }
 
 -- steps of two commands that are moves leave related machines and equal observations
-pub related_after_moves : (enclave shown_hart : ℕ) (harts others : List ℕ) (one other : MonitoredMachine) → Invariant one → Invariant other
+pub related_after_moves : (enclave shown_hart : ℕ) (harts other_harts : List ℕ) (one other : MonitoredMachine) → Invariant one → Invariant other
     → AreRelated enclave one other
-    → StepsAreMoves enclave one other harts others → Moved enclave shown_hart harts others one other nothing_ran nothing_ran
-related_after_moves enclave shown_hart harts others one other invariant other_invariant related steps =
-    subst (λ (one_harts : List ℕ). Moved enclave shown_hart one_harts others one other nothing_ran nothing_ran) steps.first
+    → StepsAreMoves enclave one other harts other_harts → Moved enclave shown_hart harts other_harts one other nothing_ran nothing_ran
+related_after_moves enclave shown_hart harts other_harts one other invariant other_invariant related steps =
+    subst (λ (one_harts : List ℕ). Moved enclave shown_hart one_harts other_harts one other nothing_ran nothing_ran) steps.first
     (subst (λ (other_harts : List ℕ). Moved enclave shown_hart (first_steps steps.moves) other_harts one other nothing_ran nothing_ran) steps.second
     (moved enclave shown_hart steps.moves one other nothing_ran nothing_ran invariant other_invariant related steps.steps steps.are
     (λ not_on_hart. refl)))

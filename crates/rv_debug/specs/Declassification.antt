@@ -88,11 +88,12 @@ abbrev pub SetsOwnRegister : ℕ → BenchState → Command → Type 0
 SetsOwnRegister enclave bench (SetReg number value) = is_selected enclave bench.target ≡ true
 SetsOwnRegister enclave bench _ = ⊥
 
--- both benches execute one command, whose steps hand over the same, and end for the same reason
-pub record IsSameCommand (enclave : ℕ) (bench other_bench : BenchState) (command other_command : Command) : Type 0 where
-  pub same : command ≡ other_command
-  pub steps : HandsOverAlike enclave bench other_bench command
-  pub stop : stop_of bench command ≡ stop_of other_bench command
+-- The command `here` of the first bench and the command `there` of the second are equal. In both benches the enclave hands over the same at each exit,
+-- and the steps of the command end for the same reason.
+pub record IsSameCommand (enclave : ℕ) (first second : BenchState) (here there : Command) : Type 0 where
+  pub same : here ≡ there
+  pub steps : HandsOverAlike enclave first second here
+  pub stop : stop_of first here ≡ stop_of second here
 
 -- the bytes of the window are equal, if the enclave runs
 abbrev pub WindowsAreEqual : ℕ → BenchState → BenchState → Type 0
@@ -100,17 +101,18 @@ WindowsAreEqual enclave bench other_bench =
     IfSome (machine_in bench.target) (λ one. IfSome (machine_in other_bench.target) (λ other.
     runs one.shared.table enclave ≡ true → SameWindow enclave one other))
 
--- both benches execute one command, which in the first bench steps no hart on which the enclave runs, and does not enter the enclave
-pub record IsSameLowCommand (enclave : ℕ) (bench other_bench : BenchState) (command other_command : Command) : Type 0 where
-  pub same : command ≡ other_command
-  pub window : WindowsAreEqual enclave bench other_bench
+-- The command `here` of the first bench and the command `there` of the second are equal. In the first bench the command steps no hart on which the
+-- enclave runs, and does not enter the enclave.
+pub record IsSameLowCommand (enclave : ℕ) (first second : BenchState) (here there : Command) : Type 0 where
+  pub same : here ≡ there
+  pub window : WindowsAreEqual enclave first second
   -- the enclave runs on none of the harts that the command may step
-  pub none : RunsOnNoneIn enclave (harts_named bench.target command) bench.target
+  pub none : RunsOnNoneIn enclave (harts_named first.target here) first.target
   -- the command does not enter the enclave
-  pub past : is_entered enclave (execute bench command).entered ≡ false
+  pub past : is_entered enclave (execute first here).entered ≡ false
 
--- Both benches execute the same command, which hands over the same or is low. Or both poke a secret into the region of the enclave, or both set a
--- register of the hart on which it runs to a secret.
+-- Both benches execute the same command, which hands over the same or is low. Or each bench pokes a secret into the region of the enclave, or sets a
+-- register of the hart on which the enclave runs to a secret.
 abbrev pub CommandsAlike : ℕ → BenchState → BenchState → Command → Command → Type 0
 CommandsAlike enclave bench other_bench command other_command =
     (IsSameCommand enclave bench other_bench command other_command ⊎ IsSameLowCommand enclave bench other_bench command other_command)
@@ -140,10 +142,10 @@ pub record IsLowCommand (enclave : ℕ) (bench other_bench : BenchState) (comman
 -- A command steps no hart on which the enclave runs, and does not enter it in the first bench. The condition on its steps then holds.
 abbrev pub LowCommandLaw : Type 0
 LowCommandLaw =
-    (enclave : ℕ) (bench other_bench : BenchState) (command : Command) → TargetInvariant bench.target → TargetInvariant other_bench.target
-    → BenchesAreRelated enclave bench other_bench → WindowsAreEqual enclave bench other_bench
-    → RunsOnNoneIn enclave (harts_named bench.target command) bench.target
-    → is_entered enclave (execute bench command).entered ≡ false → IsLowCommand enclave bench other_bench command
+    (enclave : ℕ) (first second : BenchState) (command : Command) → TargetInvariant first.target → TargetInvariant second.target
+    → BenchesAreRelated enclave first second → WindowsAreEqual enclave first second
+    → RunsOnNoneIn enclave (harts_named first.target command) first.target
+    → is_entered enclave (execute first command).entered ≡ false → IsLowCommand enclave first second command
 
 -- ---- lists of commands
 
@@ -197,9 +199,9 @@ ObservationLaw =
 abbrev pub EnclaveHasEnded : ℕ → Target → Type 0
 EnclaveHasEnded enclave target = IfSome (machine_in target) (λ machine. is_live machine.shared.table enclave ≡ false)
 
--- the benches are related for every slot, so that no secret is left
+-- the two benches are related for the slot of each number, so that no secret is left
 abbrev pub AreRelatedForAll : BenchState → BenchState → Type 0
-AreRelatedForAll bench other_bench = (slot : ℕ) → BenchesAreRelated slot bench other_bench
+AreRelatedForAll first second = (k : ℕ) → BenchesAreRelated k first second
 
 -- After an enclave has ended, related benches are related for every slot. The same command then satisfies the condition on its steps for every slot,
 -- even if it runs another enclave, and the benches are related for every slot again.
@@ -217,5 +219,5 @@ pub record EndedLaw : Type 0 where
 -- A bench is related to itself. Benches that are equivalent except for an enclave are related, if it runs on no hart.
 pub record BenchRelationLaw : Type 0 where
   pub itself : (enclave : ℕ) (bench : BenchState) → BenchesAreRelated enclave bench bench
-  pub begins : (enclave : ℕ) (bench other_bench : BenchState)
-      → BenchesEquivExcept enclave bench other_bench → RunsOnNoHart enclave bench.target → BenchesAreRelated enclave bench other_bench
+  pub begins : (enclave : ℕ) (first second : BenchState)
+      → BenchesEquivExcept enclave first second → RunsOnNoHart enclave first.target → BenchesAreRelated enclave first second

@@ -101,12 +101,12 @@ IsLegalTarget target = IfSome (machine_in target) IsLegalMachine
 
 -- commands of other worlds influence an enclave only by its window and its entry, and legal targets stay legal
 pub record HostInfluenceLaw : Type 0 where
-  pub same : (enclave other_enclave : ℕ) (bench other_bench : BenchState) (commands other_commands : List Command)
-      → TargetInvariant bench.target → TargetInvariant other_bench.target
-      → IsLegalTarget bench.target → IsLegalTarget other_bench.target
-      → IfSome (machine_in bench.target) (λ one. IfSome (machine_in other_bench.target) (λ other.
-      (life : IsSameLife enclave other_enclave bench other_bench commands other_commands one other)
-      → HasSameLife enclave other_enclave life.moves one other (after_commands bench commands).target
-      (after_commands other_bench other_commands).target))
+  pub same : (enclave other_enclave : ℕ) (first second : BenchState) (commands other_commands : List Command)
+      → TargetInvariant first.target → TargetInvariant second.target
+      → IsLegalTarget first.target → IsLegalTarget second.target
+      → IfSome (machine_in first.target) (λ one. IfSome (machine_in second.target) (λ other.
+      (life : IsSameLife enclave other_enclave first second commands other_commands one other)
+      → HasSameLife enclave other_enclave life.moves one other (after_commands first commands).target
+      (after_commands second other_commands).target))
   pub legal : (bench : BenchState) (command : Command) → TargetInvariant bench.target → IsLegalTarget bench.target
       → IsLegalTarget (execute bench command).state.target

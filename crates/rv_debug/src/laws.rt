@@ -70,8 +70,8 @@ pub const fn equivalent_benches_are_related()
     ensures { BenchRelationLaw }
 {}
 
-/// States when the condition of that law on the steps of a command holds by itself. The command steps no hart on which the enclave runs, and does
-/// not enter it. If the enclave runs, the bytes of its window are equal before the command, and they are so after it.
+/// States when a command satisfies the condition on its steps in `noninterference_with_declassification`. The command steps no hart on which the
+/// enclave runs, and does not enter it. If the enclave runs, the bytes of its window are equal before the command and after it.
 pub const fn low_commands_are_alike()
     ensures { LowCommandLaw }
 {}
@@ -89,15 +89,17 @@ pub const fn ended_enclaves_have_no_secret()
 {}
 
 /// States two closed instances of laws about steps. Each machine begins at reset, and the steps are computed. In `secret` an enclave is interrupted
-/// with a secret in a0 and resumed, and the secret is concealed; so it is from commands that execute these steps. In `host` an enclave runs under two
-/// unlike hosts, which differ in a byte of the window, in the number of harts and in the schedule. Its steps are the same, and it stores what it loaded.
+/// with a secret in a0 and resumed. The steps conceal the secret, and so do the observations of commands that execute these steps. In `host` an
+/// enclave runs under two unlike hosts, which differ in a byte of the window, in the number of harts and in the schedule. Its steps are the same, and
+/// it stores what it loaded.
 pub const fn closed_runs()
     ensures secret { SecretRunLaw }
     ensures host { HostRunLaw }
 {}
 
-/// States that commands are lists of actions: events, and writes of a register or a byte. Every list of events is that of commands. A law about lists
-/// of events is therefore one about commands: an attacker that chooses the commands also chooses the schedule and every change of a timer line.
+/// States that commands are lists of actions: events, and writes of a register or a byte. Every list of events is the list of actions of some commands.
+/// A law about lists of events is therefore a law about commands: an attacker that chooses the commands also chooses the schedule and every change of
+/// a timer line.
 pub const fn any_events_are_commands()
     ensures { CommandEventsLaw }
 {}
