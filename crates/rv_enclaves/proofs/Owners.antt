@@ -51,8 +51,10 @@ apart memory table table_valid = record {
 
 -- the size of a block is a power of two from 2 ^ 12 on, the base is a multiple of the size, and the block is inside memory
 pub record IsBlock (memory : List ℕ) (base size : ℕ) : Type 0 where
+  -- the size is a power of two from 2 ^ 12 to 2 ^ 31
   pub power : (exponent : ℕ) × (12 ≤ exponent) × (exponent < 32) × (size ≡ 2 ^ exponent)
   pub aligned : base % size ≡ 0
+  -- the block is inside memory
   pub from_ram_base : ram_base ≤ base
   pub to_ram_end : base + size ≤ ram_base + length memory
 

@@ -25,6 +25,7 @@ pub record WorksAlike (enclave : ℕ) (one other : Shared) : Type 0 where
   pub creates : (new : CreateArgs) → MayCreate one new → SharedEquivExcept enclave (created one new) (created other new)
   pub destroys : (slot : ℕ) → SlotIsAccepted one.table Destroy slot → SharedEquivExcept enclave (destroyed one slot) (destroyed other slot)
   pub measures : (slot address : ℕ) → SharedEquivExcept enclave (measured one slot address) (measured other slot address)
+  -- the saved context of each other slot is equal in both states
   pub contexts : (slot : ℕ) → slot ≢ enclave → saved_context one.contexts slot ≡ saved_context other.contexts slot
   pub switches : (slot : ℕ) (state : EnclaveState) (maybe_context : Option Context)
       → SharedEquivExcept enclave (switched one slot state maybe_context) (switched other slot state maybe_context)

@@ -26,4 +26,5 @@ pub record SharedEquivExcept (enclave : ℕ) (one other : Shared) : Type 0 where
   pub table : one.table ≡ other.table
   pub memory : EqualOutside (is_private one.table enclave) one.memory other.memory
   pub contexts : SameContexts enclave one.contexts other.contexts
+  -- if `enclave` is not live, nothing is private to it
   pub gone : is_live one.table enclave ≡ false → one ≡ other

@@ -38,7 +38,10 @@ AreApart (world ∷ worlds) =
 
 -- the invariant of the shared state, given the world that runs on each hart
 pub record SharedInvariant (shared : Shared) (worlds : List World) : Type 0 where
+  -- the table of enclaves is valid
   pub valid : IsValid shared.memory shared.table
   pub contexts : SavedContextsInvariant shared
+  -- a slot is Running if and only if it is the world of some hart
   pub running : RunningMatchesWorlds shared.table worlds
+  -- no slot is the world of two harts
   pub apart : AreApart worlds

@@ -103,16 +103,24 @@ is_window memory block = block.base == 0 && block.size == 0 || is_valid_block me
 pub record IsValidSlot (memory : List ℕ) (info : SlotInfo) : Type 0 where
   pub region : is_valid_block memory info.region ≡ true
   pub window : is_window memory info.window ≡ true
+  -- the entry point is a multiple of 4 in the region
   pub aligned : info.entry % 4 ≡ 0
   pub entry : has info.region info.entry ≡ true
   pub measured : length info.measurement ≡ 32
 
--- regions share no byte with each other, with any window or with the monitor's range, and windows share none with the monitor's range
+-- a valid table: its records are valid, and its regions share no byte with each other, with a window or with the monitor's range
 pub record IsValid (memory : List ℕ) (table : Slots) : Type 0 where
+  -- the RAM has a permitted size
   pub ram : is_ram_size (length memory) ≡ true
+  -- the table has thirteen slots
   pub count : length table ≡ slot_count
+  -- each record is valid
   pub well_formed : (slot : ℕ) → IfSome (slot_at table slot) (IsValidSlot memory)
+  -- no two regions share a byte
   pub regions_apart : (other slot : ℕ) → other ≢ slot → meets (region table other) (region table slot) ≡ false
+  -- no region shares a byte with a window
   pub windows_apart : (other slot : ℕ) → meets (region table other) (window table slot) ≡ false
+  -- no region shares a byte with the monitor's range
   pub regions_free : (slot : ℕ) → meets monitor_block (region table slot) ≡ false
+  -- no window shares a byte with the monitor's range
   pub windows_free : (slot : ℕ) → meets monitor_block (window table slot) ≡ false
