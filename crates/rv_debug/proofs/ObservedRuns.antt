@@ -34,7 +34,7 @@ counted_more enclave hart before end rest = record {
       (own_trap enclave hart before.state ran ∙ ap (option_or (step_of hart before.state).outcome.step.trap) last_trap);
 }
 
--- every run is counted, by induction over its steps
+-- every run has the properties `IsCounted`; the proof is by induction over its steps
 is_counted : (enclave hart : ℕ) (breaks watches : List ℕ) (count : ℕ) (before : AfterSteps MonitoredMachine)
     → IsCounted enclave hart before (run (hart_stepped hart) (hart_pc hart) breaks watches count before)
 is_counted enclave hart breaks watches =

@@ -71,7 +71,7 @@ module _ {A : Type 0} (step : A → Stepped A) (pc : A → ℕ) (breaks watches 
       → run step pc breaks watches count before ≡ ended (with_step before (step before.state)) (Watch address)
   run-watch count left before address count_is watch_hit = run-next count left before count_is ∙ rw (← watch_hit) refl
 
-  -- a run ends at a breakpoint after a step that was not the last
+  -- a run ends after a step that leads to a breakpoint, if the step accesses no watched byte and is not the last step
   run-break : (count left : ℕ) (before : AfterSteps A) → count ≡ left + 1 → 0 < left
       → None ≡ lowest_accessed watches (step before.state).outcome.touched → true ≡ is_among (pc (step before.state).state) breaks
       → run step pc breaks watches count before ≡ ended (with_step before (step before.state)) Break
@@ -79,14 +79,14 @@ module _ {A : Type 0} (step : A → Stepped A) (pc : A → ℕ) (breaks watches 
       let not_last : (left == 0) ≡ false = grind arith in
       run-next count left before count_is ∙ rw (← no_watch_hit, not_last, ← at_break) refl
 
-  -- a run of one step ends after it, if it accesses no watched byte
+  -- a run of one step continues with no step left, if the step accesses no watched byte
   run-last : (count left : ℕ) (before : AfterSteps A) → count ≡ left + 1 → left ≡ 0
       → None ≡ lowest_accessed watches (step before.state).outcome.touched
       → run step pc breaks watches count before ≡ run step pc breaks watches left (with_step before (step before.state))
   unfolding run
   run-last count left before count_is is_last no_watch_hit = run-next count left before count_is ∙ rw (← no_watch_hit, is_last) refl
 
-  -- the steps continue, or all are executed
+  -- a run continues after a step that accesses no watched byte, if this step is the last step or leads to no breakpoint
   run-more : (count left : ℕ) (before : AfterSteps A) → count ≡ left + 1 → None ≡ lowest_accessed watches (step before.state).outcome.touched
       → (0 < left → is_among (pc (step before.state).state) breaks ≡ false)
       → run step pc breaks watches count before ≡ run step pc breaks watches left (with_step before (step before.state))
