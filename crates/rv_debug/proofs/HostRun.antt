@@ -116,15 +116,20 @@ record FirstMachineFacts (choice : ℕ) : Type 0 where
   live : is_live (first_machine choice).shared.table 0 ≡ true
   saved : context_at (first_machine choice).shared.contexts 0 ≡ Some context
   hidden : not (has (region (first_machine choice).shared.table 0) choice_address) ≡ true
+  -- the two steps of the host that call run
   before_run : IsOtherStep 0 (first_machine choice)
   run : IsOtherStep 0 (hosted_next 0 (first_machine choice))
+  -- the load of the enclave, which does not read the byte of the host's choice
   loads : IsBeforeOwnStep 0 choice (entered choice)
   load_ignores_choice : ignores_choice 0 (entered choice) ≡ true
+  -- the timer interrupt
   line_is_set : (hart_state_of 0 (loaded choice)).hart.csrs.timer ≡ true
   interrupted_live : is_live (interrupted choice).shared.table 0 ≡ true
+  -- the three steps of the host that call resume
   resume_1 : IsOtherStep 0 (interrupted choice)
   resume_2 : IsOtherStep 0 (hosted_next 0 (interrupted choice))
   resume_3 : IsOtherStep 0 (hosted_next 0 (hosted_next 0 (interrupted choice)))
+  -- the store of the enclave, which stores 7
   stores : IsBeforeOwnStep 0 choice (resumed choice)
   store_ignores_choice : ignores_choice 0 (resumed choice) ≡ true
   stored : slice_index (hosted_next 0 (resumed choice)).shared.memory stored_offset ≡ 7
@@ -134,10 +139,14 @@ record FirstMachineFacts (choice : ℕ) : Type 0 where
 record SecondMachineFacts (choice : ℕ) : Type 0 where
   size : length (hosted_next 1 (hosted_start 2 1)).shared.memory ≡ length (hosted_ram choice)
   saved : context_at (second_machine choice).shared.contexts 0 ≡ Some context
+  -- the two steps of hart 1 that call run
   before_run : IsOtherStep 1 (second_machine choice)
   run : IsOtherStep 1 (hosted_next 1 (second_machine choice))
+  -- the load of the enclave
   loads : IsBeforeOwnStep 1 choice (second_entered choice)
+  -- the refused call of hart 0
   refused_call : IsOtherStep 0 (hosted_next 1 (second_entered choice))
+  -- the store of the enclave, which stores 7
   stores : IsBeforeOwnStep 1 choice (after_refusal choice)
   stored : slice_index (hosted_next 1 (after_refusal choice)).shared.memory stored_offset ≡ 7
 

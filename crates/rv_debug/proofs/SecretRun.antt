@@ -67,18 +67,23 @@ pub record Computed (secret : ℕ) : Type 0 where
   live : is_live (secret_next secret_start).shared.table 0 ≡ true
   pub region_has : has (region (secret_next secret_start).shared.table 0) secret_address ≡ true
   secret_in_region : may_differ (secret_next secret_start).shared.table 0 secret_address ≡ true
+  -- the two steps of the host that call run
   run_1 : IsIdle (secret_new secret)
   run_2 : IsIdle (secret_next (secret_new secret))
+  -- the enclave runs before and after it loads the secret
   before_load : runs_on 0 0 (secret_entered secret) ≡ true
   after_load : runs_on 0 0 (secret_next (secret_entered secret)) ≡ true
+  -- the timer interrupt: the enclave runs before the interrupt, has no window, and exits to the host
   running : runs_on 0 0 (secret_raised secret) ≡ true
   window : window (secret_raised secret).shared.table 0 ≡ no_block
   memory_size : length (secret_raised secret).shared.memory ≡ 131072
   trap : (step_of 0 (secret_raised secret)).outcome.step.trap ≡ Some timer_trap
   exits : (hart_state_of 0 (secret_interrupted secret)).world ≡ Host
+  -- the three steps of the host that call resume
   resume_1 : IsIdle (secret_interrupted secret)
   resume_2 : IsIdle (secret_next (secret_interrupted secret))
   resume_3 : IsIdle (secret_next (secret_next (secret_interrupted secret)))
+  -- the enclave runs before and after its last step
   before_last : runs_on 0 0 (secret_resumed secret) ≡ true
   after_last : runs_on 0 0 (secret_next (secret_resumed secret)) ≡ true
 
