@@ -84,7 +84,10 @@ module _ (enclave hart : ℕ) (one other : MonitoredMachine) (invariant : Invari
     hart = refl;
     state = changed_related enclave hart (reg_set number value) (reg_set other_number other_value) one other related (record {
       world = refl;
-      state = λ hart_related. record { world = hart_related.world; same = λ not_on_hart. let never : true ≡ false = sym on_hart ∙ not_on_hart in cc };
+      state = λ hart_related. record {
+        world = hart_related.world;
+        same = λ not_on_hart. let contradiction : true ≡ false = sym on_hart ∙ not_on_hart in cc;
+      };
       host = λ hart_related. record { host = hart_related.host; rest = hart_related.rest };
     });
   }
@@ -157,7 +160,7 @@ module _ (enclave hart : ℕ) (one other : MonitoredMachine) (invariant : Invari
         state = record {
           hart = refl;
           state = memory_related enclave one other _ _ related memory (λ has_ended.
-              let never : true ≡ false = sym (live_if_in_region (slot_at one.shared.table enclave) address in_region) ∙ has_ended in cc);
+              let contradiction : true ≡ false = sym (live_if_in_region (slot_at one.shared.table enclave) address in_region) ∙ has_ended in cc);
         };
         reply = refl;
       })
@@ -341,7 +344,7 @@ module _ (enclave : ℕ) (machine : Machine) (breaks watches : List ℕ) where
   -- a bare machine has no region, so no command pokes into it
   bare_pokes : (command : Command) → PokesInto enclave bench command → ⊥
   bare_pokes (Poke address byte) pokes_secret =
-      let never = live_if_in_region None address pokes_secret in
+      let contradiction = live_if_in_region None address pokes_secret in
       cc
   bare_pokes _ pokes_secret = pokes_secret
 

@@ -311,7 +311,7 @@ module _ (enclave hart : ℕ) (one other : MonitoredMachine) (equiv : EquivExcep
       (steps_execute breaks watches (target_of (selected_at hart) other_ran))
   runs_executed_alike one_ran other_ran (inl both_enter) = record {
     entered = both_enter.one_enters ∙ sym both_enter.other_enters;
-    passed = λ not_entered. let never : true ≡ false = sym both_enter.one_enters ∙ not_entered in cc;
+    passed = λ not_entered. let contradiction : true ≡ false = sym both_enter.one_enters ∙ not_entered in cc;
   }
   runs_executed_alike one_ran other_ran (inr neither_enters) = record {
     entered = ap (λ (ran : Ran). is_entered enclave ran.entered) neither_enters.ran;
@@ -383,7 +383,7 @@ module _ (enclave hart : ℕ) (one other : MonitoredMachine) (equiv : EquivExcep
       (on_none_of enclave harts one on_no_hart)) [
         | inl both_enter ↦ record {
           entered = both_enter.one_enters ∙ sym both_enter.other_enters;
-          passed = λ not_entered. let never : true ≡ false = sym both_enter.one_enters ∙ not_entered in cc;
+          passed = λ not_entered. let contradiction : true ≡ false = sym both_enter.one_enters ∙ not_entered in cc;
         }
         | inr neither_enters ↦ unentered_schedules_alike enclave hart breaks watches (as_selected one) _ _ on_no_hart neither_enters
       ]

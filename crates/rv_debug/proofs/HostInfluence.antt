@@ -142,7 +142,8 @@ byte_stays slot address byte context machine continues outside_region =
           -- the written byte is outside the region
           | inl is_byte ↦
               let byte_address : ram_base + byte_index ≡ address = omega (arith, written_is.0) in
-              let never : true ≡ false = sym (ap not (ap (has (region machine.shared.table slot)) byte_address ∙ outside_region)) ∙ in_region in
+              let contradiction : true ≡ false =
+              sym (ap not (ap (has (region machine.shared.table slot)) byte_address ∙ outside_region)) ∙ in_region in
               cc
           -- a byte above the written byte is unchanged
           | inr above_byte ↦ index-above old index (byte ∷ []) byte_index within_memory above_byte

@@ -48,7 +48,7 @@ poke_preserves slot address byte machine (Some memory) written outside_region =
     record {
       slot = refl;
       bytes = λ other in_region.
-          let differs : other ≢ address = λ is_address. let never : true ≡ false =
+          let differs : other ≢ address = λ is_address. let contradiction : true ≡ false =
           sym (subst (λ (other_address : ℕ). has own_region other_address ≡ true) is_address in_region) ∙ outside_region in cc in
           byte_at-write machine.state.shared.memory address (byte ∷ []) memory other written (before_or_after other address differs);
       context = refl;

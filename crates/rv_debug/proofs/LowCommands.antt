@@ -53,7 +53,7 @@ same_window enclave one other invariant equiv =
             seen_block region_block window_block (invariant.shared.valid.windows_apart enclave enclave) (ram_base + index)
             (leb-true _ _ not_below_base)
             (ltb-true _ _ below_end) in
-            let never : not false ≡ false = sym (ap not outside_window) ∙ in_window in cc
+            let contradiction : not false ≡ false = sym (ap not outside_window) ∙ in_window in cc
       ];
     }
 
@@ -148,9 +148,9 @@ record IsLowRun (enclave hart before : ℕ) (one other : MonitoredMachine) (one_
 
 -- runs of hart `hart` in two machines that are equivalent in the guest view
 module _ (enclave hart : ℕ) (breaks watches : List ℕ) where
-  -- `run_from` is the run of a machine with `left` steps left, after the steps so far
+  -- `run_from` is the run of a machine with `remaining` steps left, after the steps so far
   abbrev run_from : ℕ → AfterSteps MonitoredMachine → AfterRun MonitoredMachine
-  run_from left before = run (hart_stepped hart) (hart_pc hart) breaks watches left before
+  run_from remaining before = run (hart_stepped hart) (hart_pc hart) breaks watches remaining before
 
   -- the number of steps and the outcomes so far are unchanged, with another machine
   abbrev with_state : AfterSteps MonitoredMachine → MonitoredMachine → AfterSteps MonitoredMachine
@@ -162,9 +162,9 @@ module _ (enclave hart : ℕ) (breaks watches : List ℕ) where
 
   -- `next_run` is the run after one more step
   abbrev next_run : ℕ → AfterSteps MonitoredMachine → Outcome → MonitoredMachine → AfterRun MonitoredMachine
-  next_run left before outcome state =
+  next_run remaining before outcome state =
       let after = after_step before outcome state in
-      next_of after (run_from left after) (lowest_accessed watches outcome.step.touched) (left == 0) (is_among (hart_pc hart state) breaks)
+      next_of after (run_from remaining after) (lowest_accessed watches outcome.step.touched) (remaining == 0) (is_among (hart_pc hart state) breaks)
 
   -- if the first run does not enter the enclave, then the two runs have equal summaries and their steps are low moves
   abbrev LowUnlessEntered : AfterSteps MonitoredMachine → MonitoredMachine → AfterRun MonitoredMachine → AfterRun MonitoredMachine → Type 0
@@ -183,34 +183,34 @@ module _ (enclave hart : ℕ) (breaks watches : List ℕ) where
 
   -- A run of a hart on which the enclave does not run has the same summary in both machines, and its steps are low moves. The proof is by induction
   -- over the number of steps left.
-  low-run : (left : ℕ) (before : AfterSteps MonitoredMachine) (other : MonitoredMachine) → Invariant before.state → Invariant other
+  low-run : (remaining : ℕ) (before : AfterSteps MonitoredMachine) (other : MonitoredMachine) → Invariant before.state → Invariant other
       → EquivToGuests enclave before.state other → runs_on enclave hart before.state ≡ false
-      → LowUnlessEntered before other (run_from left before) (run_from left (with_state before other))
+      → LowUnlessEntered before other (run_from remaining before) (run_from remaining (with_state before other))
   unfolding run
   low-run zero before other invariant other_invariant equiv not_on_hart not_entered =
       record { count = 0; steps = omega arith; ran = refl; low = no_moves enclave before.state other equiv }
-  low-run (suc left) before other invariant other_invariant equiv not_on_hart not_entered =
+  low-run (suc remaining) before other invariant other_invariant equiv not_on_hart not_entered =
       let first_step = step_of hart before.state in
       let second_step = step_of hart other in
       let after = after_step before first_step.outcome first_step.state in
       let alike_after = guest_step_equiv enclave hart before.state other invariant other_invariant equiv not_on_hart in
       elim (cases_Bool (enters enclave first_step.outcome.entered)) [
         | inl enters_slot ↦ absurd (both_ways _ not_entered
-            (run_enters enclave hart breaks watches left before first_step.outcome first_step.state
+            (run_enters enclave hart breaks watches remaining before first_step.outcome first_step.state
             (entered_some enclave first_step.outcome.entered enters_slot)))
         | inr does_not_enter ↦
             -- the enclave does not run on the hart after the step, and the rest of the run is low by induction
             let still_off = entry_law enclave hart hart before.state not_on_hart does_not_enter in
-            let rest_low = low-run left after second_step.state (invariant_law hart before.state invariant)
+            let rest_low = low-run remaining after second_step.state (invariant_law hart before.state invariant)
             (invariant_law hart other other_invariant) alike_after.state still_off in
             let first_move : AreLowMoves enclave (hart ∷ []) before.state other =
             one_more_move enclave hart [] before.state other invariant equiv not_on_hart
             (no_moves enclave first_step.state second_step.state alike_after.state) in
             -- the run ends after this step in both machines, or continues in both
             let alike_in_both =
-            next_cases (LowUnlessEntered before other) after (with_state after second_step.state) (run_from left after)
-            (run_from left (with_state after second_step.state))
-            (lowest_accessed watches first_step.outcome.step.touched) (left == 0) (is_among (hart_pc hart first_step.state) breaks)
+            next_cases (LowUnlessEntered before other) after (with_state after second_step.state) (run_from remaining after)
+            (run_from remaining (with_state after second_step.state))
+            (lowest_accessed watches first_step.outcome.step.touched) (remaining == 0) (is_among (hart_pc hart first_step.state) breaks)
             (λ stop not_entered. record { count = 1; steps = omega arith; ran = refl; low = first_move })
             (λ not_entered. let rest_run = rest_low not_entered in record {
               count = suc rest_run.count;
@@ -220,11 +220,11 @@ module _ (enclave hart : ℕ) (breaks watches : List ℕ) where
             }) in
             -- the outcomes of the step are equal, and the next instruction is at a breakpoint in both machines or in neither
             let same_break = ap (λ (pc : ℕ). is_among pc breaks) (pc_alike first_step.state second_step.state alike_after.state still_off) in
-            subst (λ (outcome : Outcome). LowUnlessEntered before other (next_run left before first_step.outcome first_step.state)
-            (next_run left (with_state before other) outcome second_step.state)) alike_after.outcome
-            (subst (λ (at_break : Bool). LowUnlessEntered before other (next_run left before first_step.outcome first_step.state)
-            (next_of (with_state after second_step.state) (run_from left (with_state after second_step.state))
-            (lowest_accessed watches first_step.outcome.step.touched) (left == 0) at_break))
+            subst (λ (outcome : Outcome). LowUnlessEntered before other (next_run remaining before first_step.outcome first_step.state)
+            (next_run remaining (with_state before other) outcome second_step.state)) alike_after.outcome
+            (subst (λ (at_break : Bool). LowUnlessEntered before other (next_run remaining before first_step.outcome first_step.state)
+            (next_of (with_state after second_step.state) (run_from remaining (with_state after second_step.state))
+            (lowest_accessed watches first_step.outcome.step.touched) (remaining == 0) at_break))
             same_break alike_in_both) not_entered
       ]
 

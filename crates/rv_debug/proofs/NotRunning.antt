@@ -31,7 +31,7 @@ steps_on_no_hart enclave selected harts machine invariant on_no_hart not_entered
     record { hart = refl; state = equiv_itself enclave machine.state (itself enclave machine.state.shared) } in
     elim (scheduled_steps_alike enclave harts machine machine _ invariant invariant equiv_with_itself
     (on_none_of enclave harts machine.state on_no_hart)) [
-      | inl both_enter ↦ absurd (let never : true ≡ false = sym both_enter.one_enters ∙ not_entered in cc)
+      | inl both_enter ↦ absurd (let contradiction : true ≡ false = sym both_enter.one_enters ∙ not_entered in cc)
       | inr neither_enters ↦ selection_on_no_hart _
           (subst (RunsOnNoHart enclave) (sym neither_enters.first_is) (neither_enters.on_no_hart on_no_hart))
     ] where

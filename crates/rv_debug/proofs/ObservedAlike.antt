@@ -32,11 +32,11 @@ hart_texts enclave hart one other related text =
     let hart_related = related.hart_states hart in
     elim (cases_Bool (runs_on enclave hart one)) [
       | inl on_hart ↦
-          let same_on_other : runs_on enclave hart other ≡ true = sym (ap (is_world_of enclave) hart_related.world) ∙ on_hart in
-          rw (on_hart, same_on_other) refl
+          let on_other_hart : runs_on enclave hart other ≡ true = sym (ap (is_world_of enclave) hart_related.world) ∙ on_hart in
+          rw (on_hart, on_other_hart) refl
       | inr not_on_hart ↦
-          let same_on_other : runs_on enclave hart other ≡ false = sym (ap (is_world_of enclave) hart_related.world) ∙ not_on_hart in
-          rw (not_on_hart, same_on_other) (ap text (hart_related.same not_on_hart))
+          let not_on_other_hart : runs_on enclave hart other ≡ false = sym (ap (is_world_of enclave) hart_related.world) ∙ not_on_hart in
+          rw (not_on_hart, not_on_other_hart) (ap text (hart_related.same not_on_hart))
     ]
 
 -- ---- runs
@@ -85,18 +85,18 @@ run_texts enclave hart one other one_run other_run first_observed second_observe
     elim (cases_Bool (runs_on enclave hart one_run.state)) [
       -- the enclave runs on the hart after the first run, and therefore after the second run: both texts are empty
       | inl on_hart ↦
-          let same_on_other : runs_on enclave hart other_run.state ≡ true = sym (ap (is_world_of enclave) hart_related.world) ∙ on_hart in
-          rw (on_hart, same_on_other) refl
+          let on_other_hart : runs_on enclave hart other_run.state ≡ true = sym (ap (is_world_of enclave) hart_related.world) ∙ on_hart in
+          rw (on_hart, on_other_hart) refl
       -- the enclave runs on the hart after neither run: the observed steps, the last trap and the state of the hart are equal
       | inr not_on_hart ↦
-          let same_on_other : runs_on enclave hart other_run.state ≡ false = sym (ap (is_world_of enclave) hart_related.world) ∙ not_on_hart in
+          let not_on_other_hart : runs_on enclave hart other_run.state ≡ false = sym (ap (is_world_of enclave) hart_related.world) ∙ not_on_hart in
           let trap : one_run.ran.trap ≡ other_run.ran.trap =
           sym first_observed.trap ∙ ap (λ (ran : HartRan). ran.trap) (same_ran not_on_hart) ∙ second_observed.trap in
           let steps : one_observed.steps ≡ other_observed.steps = ap (λ (ran : HartRan). ran.steps) (same_ran not_on_hart) in
           let text : HartState → ℕ → Option Trap → Stop → List ℕ = λ hart_state steps trap stop.
           ran_text hart_state.hart.pc hart_state.hart.mode (world_name hart_state.world)
           (record { steps = steps; trap = trap; stop = stop; entered = 0 }) in
-          rw (not_on_hart, same_on_other)
+          rw (not_on_hart, not_on_other_hart)
           (ap₂ (λ (hart_state : HartState) (steps : ℕ). text hart_state steps one_run.ran.trap one_run.ran.stop) (hart_related.same not_on_hart) steps
           ∙ ap₂ (text (guest_state (hart_state_of hart other_run.state)) other_observed.steps) trap stop)
     ]
@@ -181,11 +181,11 @@ module _ (enclave : ℕ) (harts : List ℕ) (one other : MonitoredMachine)
       let hart_related = moved_alike.state.hart_states shown_hart in
       elim (cases_Bool (runs_on enclave shown_hart (sched harts one).state)) [
         | inl on_hart ↦
-            let same_on_other : runs_on enclave shown_hart (sched harts other).state ≡ true =
+            let on_other_hart : runs_on enclave shown_hart (sched harts other).state ≡ true =
             sym (ap (is_world_of enclave) hart_related.world) ∙ on_hart in
-            rw (on_hart, same_on_other) refl
+            rw (on_hart, on_other_hart) refl
         | inr not_on_hart ↦
-            let same_on_other : runs_on enclave shown_hart (sched harts other).state ≡ false = sym (ap (is_world_of enclave) hart_related.world)
+            let not_on_other_hart : runs_on enclave shown_hart (sched harts other).state ≡ false = sym (ap (is_world_of enclave) hart_related.world)
             ∙ not_on_hart in
             let steps : one_ran.steps ≡ other_ran.steps = same_numbers shown_hart harts one other nothing_ran nothing_ran refl in
             let trap : one_ran.trap ≡ other_ran.trap = same_traps enclave shown_hart harts one nothing_ran nothing_ran refl
@@ -193,7 +193,7 @@ module _ (enclave : ℕ) (harts : List ℕ) (one other : MonitoredMachine)
             ∙ sym (same_traps enclave shown_hart harts other nothing_ran nothing_ran refl) in
             let text : HartState → ℕ → Option Trap → List ℕ = λ hart_state steps trap.
             hart_text shown_hart hart_state.hart.pc hart_state.hart.mode (world_name hart_state.world) (record { steps = steps; trap = trap }) in
-            rw (not_on_hart, same_on_other)
+            rw (not_on_hart, not_on_other_hart)
             (ap (λ (hart_state : HartState). text hart_state one_ran.steps one_ran.trap) (hart_related.same not_on_hart)
             ∙ ap₂ (text (guest_state (hart_state_of shown_hart (sched harts other).state))) steps trap)
       ]

@@ -21,7 +21,7 @@ reprogrammed_as_is hart machine invariant in_range =
 differs_if_test_fails : (stepped hart : ℕ) → not (stepped == hart) ≡ true → hart ≢ stepped
 differs_if_test_fails stepped hart not_equal equal =
     let is_same = eq-eqb stepped hart (sym equal) in
-    let never : false ≡ true = rw is_same at not_equal in cc
+    let contradiction : false ≡ true = rw is_same at not_equal in cc
 
 -- Steps of other harts leave a hart as it is, except for its PMP entries and mie. The proof is by induction over the harts that step.
 sched_leaves : (hart : ℕ) (harts : List ℕ) (machine : MonitoredMachine) → Invariant machine → hart < count_of machine

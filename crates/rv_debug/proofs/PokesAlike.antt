@@ -28,7 +28,7 @@ hidden_write hidden memory other_memory address byte memory_after equiv poke_suc
         | inr not_below_byte ↦ elim (cases_lt byte_index (index + 1)) [
           | inl is_byte ↦
               let byte_address : ram_base + byte_index ≡ address = omega (arith, write_result.0) in
-              let never : true ≡ false = sym is_hidden ∙ ap hidden (sym byte_address) ∙ not_hidden in cc
+              let contradiction : true ≡ false = sym is_hidden ∙ ap hidden (sym byte_address) ∙ not_hidden in cc
           | inr above_byte ↦ index-above memory index (byte ∷ []) byte_index within above_byte ∙ equiv.bytes byte_index not_hidden
         ]
       ]);
@@ -53,8 +53,8 @@ hidden_writes hidden memory other_memory address other_address byte other_byte m
 pub live_if_in_region : (maybe_info : Option SlotInfo) (address : ℕ) → has (region_of maybe_info) address ≡ true → is_some maybe_info ≡ true
 live_if_in_region None address in_region =
     let bounds = and_parts (nat_le 0 address) (nat_lt address 0) in_region in
-    let never = ltb-true address 0 bounds.1 in
-    absurd (omega (arith, never))
+    let contradiction = ltb-true address 0 bounds.1 in
+    absurd (omega (arith, contradiction))
 live_if_in_region (Some info) address in_region = refl
 
 -- a byte of the region of a slot is in RAM, if the record of the slot is valid
@@ -63,7 +63,7 @@ region_in_ram : (memory : List ℕ) (maybe_info : Option SlotInfo) (address : �
     → is_inside memory address 1 ≡ true
 unfolding is_valid_block
 region_in_ram memory None address valid in_region =
-    let never = live_if_in_region None address in_region in
+    let contradiction = live_if_in_region None address in_region in
     cc
 region_in_ram memory (Some info) address valid in_region =
     let block = info.region in
@@ -106,7 +106,7 @@ module _ (enclave : ℕ) (one other : Selected) (address other_address byte othe
               byte other_byte memory_after other_after
               shared.memory first_write second_write in_region other_in_region;
           contexts = shared.contexts;
-          gone = λ not_live. let never : true ≡ false = sym (live_if_in_region (slot_at one.state.shared.table enclave) address in_region)
+          gone = λ not_live. let contradiction : true ≡ false = sym (live_if_in_region (slot_at one.state.shared.table enclave) address in_region)
               ∙ not_live in cc;
         });
       }
@@ -134,12 +134,12 @@ targets_alike enclave (Monitored one) (Monitored other) breaks watches address o
       entered = refl;
       state = record {
         but = record { target = alike_after; breaks = refl; watches = refl };
-        gone = λ not_live. let never : true ≡ false = sym (live_if_in_region (slot_at one.state.shared.table enclave) address in_region)
+        gone = λ not_live. let contradiction : true ≡ false = sym (live_if_in_region (slot_at one.state.shared.table enclave) address in_region)
             ∙ not_live in cc;
       };
     })
 targets_alike enclave (Bare one) other breaks watches address other_address byte other_byte invariant other_invariant equiv in_region
-    other_in_region = let never = live_if_in_region None address in_region in cc
+    other_in_region = let contradiction = live_if_in_region None address in_region in cc
 targets_alike enclave (Monitored one) (Bare other) breaks watches address other_address byte other_byte invariant other_invariant equiv in_region
     other_in_region = absurd equiv
 

@@ -66,7 +66,7 @@ module _ (enclave hart : ℕ) (one other : MonitoredMachine)
       elim (scheduled_steps_alike enclave harts (as_selected one) (as_selected other) _ invariant other_invariant equiv runs_on_none) [
         | inl both_enter ↦ record {
           entered = both_enter.one_enters ∙ sym both_enter.other_enters;
-          state = λ not_entered. let never : true ≡ false = sym both_enter.one_enters ∙ not_entered in cc;
+          state = λ not_entered. let contradiction : true ≡ false = sym both_enter.one_enters ∙ not_entered in cc;
         }
         | inr neither_enters ↦ equiv_if_not_entered enclave hart breaks watches (as_selected one) _ _ neither_enters
       ]

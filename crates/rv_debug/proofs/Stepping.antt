@@ -29,13 +29,13 @@ pub run_induction : {A : Type 0} (step : A → Stepped A) (pc : A → ℕ) (brea
     → (count : ℕ) (before : AfterSteps A) → P before (run step pc breaks watches count before)
 unfolding run
 run_induction step pc breaks watches P at_end before_step zero before = at_end before Done
-run_induction {A} step pc breaks watches P at_end before_step (suc left) before =
+run_induction {A} step pc breaks watches P at_end before_step (suc remaining) before =
     let last = step before.state in
     let after = with_step before last in
-    let continued = run step pc breaks watches left after in
+    let continued = run step pc breaks watches remaining after in
     let Ends : AfterRun A → AfterRun A → Type 0 = λ end _. P after end in
-    before_step before _ (next_cases Ends after after continued continued (lowest_accessed watches last.outcome.touched) (left == 0)
-    (is_among (pc last.state) breaks) (at_end after) (run_induction step pc breaks watches P at_end before_step left after))
+    before_step before _ (next_cases Ends after after continued continued (lowest_accessed watches last.outcome.touched) (remaining == 0)
+    (is_among (pc last.state) breaks) (at_end after) (run_induction step pc breaks watches P at_end before_step remaining after))
 
 -- ---- one step of a run
 
@@ -47,55 +47,57 @@ pub record IsNextStep {A : Type 0} (step : A → Stepped A) (before : AfterSteps
 
 -- runs of any machine with a step function
 module _ {A : Type 0} (step : A → Stepped A) (pc : A → ℕ) (breaks watches : List ℕ) where
-  -- `next` is a run after one step from `before`: it ends, or continues with `left` steps left
+  -- `next` is a run after one step from `before`: it ends, or continues with `remaining` steps left
   abbrev next : ℕ → AfterSteps A → AfterRun A
-  next left before =
+  next remaining before =
       let last = step before.state in
       let after = with_step before last in
-      next_of after (run step pc breaks watches left after) (lowest_accessed watches last.outcome.touched) (left == 0)
+      next_of after (run step pc breaks watches remaining after) (lowest_accessed watches last.outcome.touched) (remaining == 0)
       (is_among (pc last.state) breaks)
 
   -- a run of at least one step is its first step, and then ends or continues as `next` says
-  run-suc : (left : ℕ) (before : AfterSteps A) → run step pc breaks watches (suc left) before ≡ next left before
+  run-suc : (remaining : ℕ) (before : AfterSteps A) → run step pc breaks watches (suc remaining) before ≡ next remaining before
   unfolding run
-  run-suc left before = refl
+  run-suc remaining before = refl
 
-  -- a run of `left` + 1 steps is its first step, and then ends or continues as `next` says
-  run-next : (count left : ℕ) (before : AfterSteps A) → count ≡ left + 1 → run step pc breaks watches count before ≡ next left before
-  run-next count left before count_is =
-      let count_is_suc : count ≡ suc left = omega arith in ap (λ total. run step pc breaks watches total before) count_is_suc ∙ run-suc left before
+  -- a run of `remaining` + 1 steps is its first step, and then ends or continues as `next` says
+  run-next : (count remaining : ℕ) (before : AfterSteps A) → count ≡ remaining + 1 → run step pc breaks watches count before ≡ next remaining before
+  run-next count remaining before count_is =
+      let count_is_suc : count ≡ suc remaining = omega arith in
+      ap (λ total. run step pc breaks watches total before) count_is_suc ∙ run-suc remaining before
 
   -- a run ends after a step that accesses a watched byte
-  run-watch : (count left : ℕ) (before : AfterSteps A) (address : ℕ) → count ≡ left + 1
+  run-watch : (count remaining : ℕ) (before : AfterSteps A) (address : ℕ) → count ≡ remaining + 1
       → Some address ≡ lowest_accessed watches (step before.state).outcome.touched
       → run step pc breaks watches count before ≡ ended (with_step before (step before.state)) (Watch address)
-  run-watch count left before address count_is watch_hit = run-next count left before count_is ∙ rw (← watch_hit) refl
+  run-watch count remaining before address count_is watch_hit = run-next count remaining before count_is ∙ rw (← watch_hit) refl
 
   -- a run ends after a step that leads to a breakpoint, if the step accesses no watched byte and is not the last step
-  run-break : (count left : ℕ) (before : AfterSteps A) → count ≡ left + 1 → 0 < left
+  run-break : (count remaining : ℕ) (before : AfterSteps A) → count ≡ remaining + 1 → 0 < remaining
       → None ≡ lowest_accessed watches (step before.state).outcome.touched → true ≡ is_among (pc (step before.state).state) breaks
       → run step pc breaks watches count before ≡ ended (with_step before (step before.state)) Break
-  run-break count left before count_is steps_left no_watch_hit at_break =
-      let not_last : (left == 0) ≡ false = grind arith in
-      run-next count left before count_is ∙ rw (← no_watch_hit, not_last, ← at_break) refl
+  run-break count remaining before count_is steps_left no_watch_hit at_break =
+      let not_last : (remaining == 0) ≡ false = grind arith in
+      run-next count remaining before count_is ∙ rw (← no_watch_hit, not_last, ← at_break) refl
 
   -- a run of one step continues with no step left, if the step accesses no watched byte
-  run-last : (count left : ℕ) (before : AfterSteps A) → count ≡ left + 1 → left ≡ 0
+  run-last : (count remaining : ℕ) (before : AfterSteps A) → count ≡ remaining + 1 → remaining ≡ 0
       → None ≡ lowest_accessed watches (step before.state).outcome.touched
-      → run step pc breaks watches count before ≡ run step pc breaks watches left (with_step before (step before.state))
+      → run step pc breaks watches count before ≡ run step pc breaks watches remaining (with_step before (step before.state))
   unfolding run
-  run-last count left before count_is is_last no_watch_hit = run-next count left before count_is ∙ rw (← no_watch_hit, is_last) refl
+  run-last count remaining before count_is is_last no_watch_hit = run-next count remaining before count_is ∙ rw (← no_watch_hit, is_last) refl
 
   -- a run continues after a step that accesses no watched byte, if this step is the last step or leads to no breakpoint
-  run-more : (count left : ℕ) (before : AfterSteps A) → count ≡ left + 1 → None ≡ lowest_accessed watches (step before.state).outcome.touched
-      → (0 < left → is_among (pc (step before.state).state) breaks ≡ false)
-      → run step pc breaks watches count before ≡ run step pc breaks watches left (with_step before (step before.state))
-  run-more count left before count_is no_watch_hit no_break = elim (cases_eq left 0) [
-    | inl is_last ↦ run-last count left before count_is is_last no_watch_hit
+  run-more : (count remaining : ℕ) (before : AfterSteps A) → count ≡ remaining + 1
+      → None ≡ lowest_accessed watches (step before.state).outcome.touched
+      → (0 < remaining → is_among (pc (step before.state).state) breaks ≡ false)
+      → run step pc breaks watches count before ≡ run step pc breaks watches remaining (with_step before (step before.state))
+  run-more count remaining before count_is no_watch_hit no_break = elim (cases_eq remaining 0) [
+    | inl is_last ↦ run-last count remaining before count_is is_last no_watch_hit
     | inr not_zero ↦
-        let not_last : (left == 0) ≡ false = grind arith in
-        let steps_left : 0 < left = omega arith in
-        run-next count left before count_is ∙ rw (← no_watch_hit, not_last, no_break steps_left) refl
+        let not_last : (remaining == 0) ≡ false = grind arith in
+        let steps_left : 0 < remaining = omega arith in
+        run-next count remaining before count_is ∙ rw (← no_watch_hit, not_last, no_break steps_left) refl
   ]
 
   -- `after_step` has the steps so far and one more, with the last trap and the entered slots after it

@@ -59,7 +59,7 @@ with_state before state = record before { state = state }
 module _ (enclave hart : ℕ) (breaks watches : List ℕ) where
   -- `run_from` is the run of a machine from the steps so far
   abbrev run_from : ℕ → AfterSteps MonitoredMachine → AfterRun MonitoredMachine
-  run_from left before = run (hart_stepped hart) (hart_pc hart) breaks watches left before
+  run_from remaining before = run (hart_stepped hart) (hart_pc hart) breaks watches remaining before
 
   -- `after_step` has the steps so far and one more step
   abbrev after_step : AfterSteps MonitoredMachine → Outcome → MonitoredMachine → AfterSteps MonitoredMachine
@@ -67,17 +67,17 @@ module _ (enclave hart : ℕ) (breaks watches : List ℕ) where
 
   -- `next_run` is the run after one more step
   abbrev next_run : ℕ → AfterSteps MonitoredMachine → Outcome → MonitoredMachine → AfterRun MonitoredMachine
-  next_run left before outcome state =
+  next_run remaining before outcome state =
       let after = after_step before outcome state in
-      next_of after (run_from left after) (lowest_accessed watches outcome.step.touched) (left == 0) (is_among (hart_pc hart state) breaks)
+      next_of after (run_from remaining after) (lowest_accessed watches outcome.step.touched) (remaining == 0) (is_among (hart_pc hart state) breaks)
 
   -- The run has entered `enclave` at its end. The second run is there since `next_cases` takes two runs.
   abbrev Enters : AfterRun MonitoredMachine → AfterRun MonitoredMachine → Type 0
   Enters end _ = is_entered enclave end.ran.entered ≡ true
 
   -- a run that has entered `enclave` has entered `enclave` at its end
-  stays_entered_in_run : (left : ℕ) (before : AfterSteps MonitoredMachine) → is_entered enclave before.entered ≡ true
-      → is_entered enclave (run_from left before).ran.entered ≡ true
+  stays_entered_in_run : (remaining : ℕ) (before : AfterSteps MonitoredMachine) → is_entered enclave before.entered ≡ true
+      → is_entered enclave (run_from remaining before).ran.entered ≡ true
   stays_entered_in_run =
       run_induction (hart_stepped hart) (hart_pc hart) breaks watches (λ before end. is_entered enclave before.entered ≡ true → Enters end end)
       (λ after stop has_entered. has_entered)
@@ -85,24 +85,25 @@ module _ (enclave hart : ℕ) (breaks watches : List ℕ) where
       (stays_entered_with enclave before.entered (hart_stepped hart before.state).entered has_entered))
 
   -- a slot that this step enters stays among the entered slots
-  pub run_enters : (left : ℕ) (before : AfterSteps MonitoredMachine) (outcome : Outcome) (state : MonitoredMachine) → outcome.entered ≡ Some enclave
-      → is_entered enclave (next_run left before outcome state).ran.entered ≡ true
-  run_enters left before outcome state enters_slot =
+  pub run_enters : (remaining : ℕ) (before : AfterSteps MonitoredMachine) (outcome : Outcome) (state : MonitoredMachine)
+      → outcome.entered ≡ Some enclave
+      → is_entered enclave (next_run remaining before outcome state).ran.entered ≡ true
+  run_enters remaining before outcome state enters_slot =
       let after = after_step before outcome state in
-      let run_after = run_from left after in
+      let run_after = run_from remaining after in
       let entered_now = entered_by_step enclave before.entered outcome.entered enters_slot in
-      next_cases Enters after after run_after run_after (lowest_accessed watches outcome.step.touched) (left == 0)
+      next_cases Enters after after run_after run_after (lowest_accessed watches outcome.step.touched) (remaining == 0)
       (is_among (hart_pc hart state) breaks)
-      (λ stop. entered_now) (stays_entered_in_run left after entered_now)
+      (λ stop. entered_now) (stays_entered_in_run remaining after entered_now)
 
   -- Noninterference of a run: in two equivalent machines, a run of a hart on which the enclave does not run is alike. The proof is by induction over
   -- the number of steps left.
-  pub run-alike : (left : ℕ) (before : AfterSteps MonitoredMachine) (other : MonitoredMachine) → Invariant before.state → Invariant other
+  pub run-alike : (remaining : ℕ) (before : AfterSteps MonitoredMachine) (other : MonitoredMachine) → Invariant before.state → Invariant other
       → EquivExcept enclave before.state other → runs_on enclave hart before.state ≡ false
-      → RunAlike enclave hart (run_from left before) (run_from left (with_state before other))
+      → RunAlike enclave hart (run_from remaining before) (run_from remaining (with_state before other))
   unfolding run
   run-alike zero before other invariant other_invariant equiv not_on_hart = inr (record { ran = refl; state = equiv; not_on_hart = not_on_hart })
-  run-alike (suc left) before other invariant other_invariant equiv not_on_hart =
+  run-alike (suc remaining) before other invariant other_invariant equiv not_on_hart =
       let first_step = step_of hart before.state in
       let second_step = step_of hart other in
       let after = after_step before first_step.outcome first_step.state in
@@ -112,24 +113,24 @@ module _ (enclave hart : ℕ) (breaks watches : List ℕ) where
         | inl enters_slot ↦
             let entered_is = entered_some enclave first_step.outcome.entered enters_slot in
             inl (record {
-              one_enters = run_enters left before first_step.outcome first_step.state entered_is;
-              other_enters = run_enters left (with_state before other) second_step.outcome second_step.state
+              one_enters = run_enters remaining before first_step.outcome first_step.state entered_is;
+              other_enters = run_enters remaining (with_state before other) second_step.outcome second_step.state
                   (ap (λ (outcome : Outcome). outcome.entered) (sym alike_after.outcome) ∙ entered_is);
             })
         | inr does_not_enter ↦
             -- the enclave does not run on the hart after the step, and the rest of the run is alike by induction
             let still_off = entry_law enclave hart hart before.state not_on_hart does_not_enter in
-            let rest_alike = run-alike left after second_step.state (invariant_law hart before.state invariant)
+            let rest_alike = run-alike remaining after second_step.state (invariant_law hart before.state invariant)
             (invariant_law hart other other_invariant) alike_after.state still_off in
             let alike_at_stop = λ (stop : Stop). inr (record { ran = refl; state = alike_after.state; not_on_hart = still_off }) in
-            let alike = next_cases (RunAlike enclave hart) after (with_state after second_step.state) _ _ watch_hit (left == 0)
+            let alike = next_cases (RunAlike enclave hart) after (with_state after second_step.state) _ _ watch_hit (remaining == 0)
             (is_among (hart_pc hart first_step.state) breaks) alike_at_stop rest_alike in
             -- the outcomes of the step are equal, and the next instruction is at a breakpoint in both machines or in neither
             let hart_states = (let state = alike_after.state in state.hart_states hart) in
             let same_break = ap (λ (hart_state : HartState). is_among hart_state.hart.pc breaks) (hart_states.same still_off) in
-            subst (λ (outcome : Outcome). RunAlike enclave hart (next_run left before first_step.outcome first_step.state)
-            (next_run left (with_state before other) outcome second_step.state)) alike_after.outcome
-            (subst (λ (at_break : Bool). RunAlike enclave hart (next_run left before first_step.outcome first_step.state)
-            (next_of (with_state after second_step.state) (run_from left (with_state after second_step.state)) watch_hit
-            (left == 0) at_break)) same_break alike)
+            subst (λ (outcome : Outcome). RunAlike enclave hart (next_run remaining before first_step.outcome first_step.state)
+            (next_run remaining (with_state before other) outcome second_step.state)) alike_after.outcome
+            (subst (λ (at_break : Bool). RunAlike enclave hart (next_run remaining before first_step.outcome first_step.state)
+            (next_of (with_state after second_step.state) (run_from remaining (with_state after second_step.state)) watch_hit
+            (remaining == 0) at_break)) same_break alike)
       ]

@@ -19,9 +19,9 @@ module _ {A : Type 0} (target : A → Target) (step : A → Stepped A) (pc : A �
     (pcs : (machine : A) → pc_of (target machine) ≡ pc machine) (breaks watches : List ℕ) where
   -- `next_in` is the run of the target after one more step: ended, or continued
   abbrev next_in : ℕ → AfterSteps Target → Stepped Target → ℕ → AfterRun Target
-  next_in left before last next_pc =
+  next_in remaining before last next_pc =
       let after = with_step before last in
-      next_of after (run target_stepped pc_of breaks watches left after) (lowest_accessed watches last.outcome.touched) (left == 0)
+      next_of after (run target_stepped pc_of breaks watches remaining after) (lowest_accessed watches last.outcome.touched) (remaining == 0)
       (is_among next_pc breaks)
 
   -- a run of the machine is the run of its target, with the steps so far; by induction over the number of steps left
@@ -29,14 +29,14 @@ module _ {A : Type 0} (target : A → Target) (step : A → Stepped A) (pc : A �
       → run target_stepped pc_of breaks watches count (in_target target before) ≡ target_of target (run step pc breaks watches count before)
   unfolding run
   run-in zero before = refl
-  run-in (suc left) before =
+  run-in (suc remaining) before =
       let last = step before.state in
       let after = with_step before last in
-      ap (λ (seen : Stepped Target). next_in left (in_target target before) seen (pc_of seen.state)) (steps before.state)
-      ∙ (ap (next_in left (in_target target before) (with_target target last)) (pcs last.state)
+      ap (λ (seen : Stepped Target). next_in remaining (in_target target before) seen (pc_of seen.state)) (steps before.state)
+      ∙ (ap (next_in remaining (in_target target before) (with_target target last)) (pcs last.state)
       ∙ next_cases (λ (target_run : AfterRun Target) (machine_run : AfterRun A). target_run ≡ target_of target machine_run)
       (in_target target after) after _ _
-      (lowest_accessed watches last.outcome.touched) (left == 0) (is_among (pc last.state) breaks) (λ stop. refl) (run-in left after))
+      (lowest_accessed watches last.outcome.touched) (remaining == 0) (is_among (pc last.state) breaks) (λ stop. refl) (run-in remaining after))
 
   -- a run of the machine is a run of the target with this machine
   runs-in : (count : ℕ) (machine after : A) (ran : Ran)
