@@ -227,11 +227,11 @@ accessible_apart memory table world access start size slot table_valid runs_othe
     elim (accessible_cases memory table world access (bytes_from start size) accessible) [
       -- the host runs: its bytes are in no region
       | inl (host_runs, all_of_host) ↦
-          let of_host_only =
+          let (_, in_no_region) =
           and_parts (not (has monitor_block address)) (not (is_in_region table address))
           (and_parts (is_inside memory address 1) _ (each_from_all (host_has memory table) start size all_of_host address from_start before_end)).1 in
           false_from_ne_true _ (λ in_its_region. both_ways _
-          (none_from_any (λ other. has (region table other) address) 0 slot_count (not-true _ of_host_only.1) slot (omega arith)
+          (none_from_any (λ other. has (region table other) address) 0 slot_count (not-true _ in_no_region) slot (omega arith)
           (slot_in_range memory table world slot address table_valid in_its_region))
           in_its_region)
       -- an enclave runs: its region and its window share no byte with another region
@@ -319,7 +319,8 @@ module _ (memory : List ℕ) (table : Slots) (world : World) (mode : Mode) (acce
       (λ slot _from_0 slot_in_bounds.
       none_from_any (has (region table slot)) start size
       (sym (any_slot slot slot_in_bounds) ∙ none_covers (slot + 1) (omega arith)) address from_start before_end) in
-      let in_ram : is_inside memory address 1 ≡ true = inside_from memory address (omega (arith, inside.0)) (omega (arith, inside.1)) in
+      let (from_ram_base, to_ram_end) = inside in
+      let in_ram : is_inside memory address 1 ≡ true = inside_from memory address (omega (arith, from_ram_base)) (omega (arith, to_ram_end)) in
       and_from _ _ in_ram (and_from _ _ (ap not not_in_monitor) (ap not in_no_region)))
 
   -- if the first matching PMP entry covers all bytes of the access and grants the access, then these bytes are accessible to the world

@@ -62,15 +62,15 @@ pub same_write : (hidden : ℕ → Bool) (one_memory other_memory : List ℕ) (a
     → write one_memory address bytes ≡ Some one_after → write other_memory address bytes ≡ Some other_after
     → EqualOutside hidden one_after other_after
 same_write hidden one_memory other_memory address bytes one_after other_after equal_outside written_one written_other =
-    let write_one = write-is one_memory address bytes one_after written_one in
-    let write_other = write-is other_memory address bytes other_after written_other in
+    let (from_ram_base, to_end_of_one, one_after_is) = write-is one_memory address bytes one_after written_one in
+    let (_, to_end_of_other, other_after_is) = write-is other_memory address bytes other_after written_other in
     let index = address - ram_base in
-    let fits_one : index + length bytes ≤ length one_memory = omega (arith, write_one.0, write_one.1) in
-    let fits_other : index + length bytes ≤ length other_memory = omega (arith, write_other.0, write_other.1) in
+    let fits_one : index + length bytes ≤ length one_memory = omega (arith, from_ram_base, to_end_of_one) in
+    let fits_other : index + length bytes ≤ length other_memory = omega (arith, from_ram_base, to_end_of_other) in
     record {
       size = length-write one_memory address bytes one_after written_one ∙ equal_outside.size
           ∙ sym (length-write other_memory address bytes other_after written_other);
-      bytes = λ byte_index not_hidden. rw (write_one.2, write_other.2) (elim (cases_lt byte_index index) [
+      bytes = λ byte_index not_hidden. rw (one_after_is, other_after_is) (elim (cases_lt byte_index index) [
         -- an index before the write: the byte is unchanged in both memories
         | inl before_start ↦
             index-below one_memory index bytes byte_index fits_one before_start ∙ equal_outside.bytes byte_index not_hidden
@@ -129,23 +129,24 @@ pub zeros-alike : (hidden hidden_after : ℕ → Bool) (one_memory other_memory 
 zeros-alike hidden hidden_after one_memory other_memory base count equal_outside in_memory hidden_in_range =
     let bytes = replicate count 0 in
     let zeros_length : length bytes ≡ count = length-replicate {A = ℕ} count 0 in
+    let (from_ram_base, to_ram_end) = in_memory in
     let write_inside : is_inside one_memory base (length bytes) ≡ true =
-    rw zeros_length (and_from _ _ (le-leb ram_base base in_memory.0) (le-leb (base + count) (ram_base + length one_memory) in_memory.1)) in
+    rw zeros_length (and_from _ _ (le-leb ram_base base from_ram_base) (le-leb (base + count) (ram_base + length one_memory) to_ram_end)) in
     let same_length = equal_outside.size in
     let write_one = write-some one_memory base bytes write_inside in
     let write_other = write-some other_memory base bytes (rw (← same_length) write_inside) in
     let equal_after = same_write hidden one_memory other_memory base bytes _ _ equal_outside write_one write_other in
     let index = base - ram_base in
-    let fits_one : index + length bytes ≤ length one_memory = omega (arith, in_memory.0, in_memory.1, zeros_length) in
-    let fits_other : index + length bytes ≤ length other_memory = omega (arith, in_memory.0, in_memory.1, zeros_length, same_length) in
+    let fits_one : index + length bytes ≤ length one_memory = omega (arith, from_ram_base, to_ram_end, zeros_length) in
+    let fits_other : index + length bytes ≤ length other_memory = omega (arith, from_ram_base, to_ram_end, zeros_length, same_length) in
     rw (write_one, write_other) (record {
       size = equal_after.size;
       bytes = λ byte_index not_hidden_after. elim (cases_Bool (hidden (ram_base + byte_index))) [
         -- the byte was hidden: it is in the range, so it is 0 in both memories
         | inl is_hidden ↦
-            let in_zeroed_range = hidden_in_range (ram_base + byte_index) is_hidden in
-            let from_index : index ≤ byte_index = omega (arith, in_zeroed_range.0, in_memory.0) in
-            let before_end : byte_index < index + length bytes = omega (arith, in_zeroed_range.1, in_memory.0, zeros_length) in
+            let (from_base, below_range_end) = hidden_in_range (ram_base + byte_index) is_hidden in
+            let from_index : index ≤ byte_index = omega (arith, from_base, from_ram_base) in
+            let before_end : byte_index < index + length bytes = omega (arith, below_range_end, from_ram_base, zeros_length) in
             index-within one_memory index bytes byte_index fits_one from_index before_end
             ∙ sym (index-within other_memory index bytes byte_index fits_other from_index before_end)
         -- the byte was not hidden: it is equal in both memories

@@ -79,11 +79,11 @@ module _ (quotient exponent : ℕ) (below_32 : exponent < 32) (fits : quotient *
       → matches (matching_of 0x18) previous (napot_addr (quotient * (8 * 2 ^ exponent)) (8 * 2 ^ exponent)) address
       ≡ is_within (quotient * (8 * 2 ^ exponent)) (8 * 2 ^ exponent) address
   block_matches previous address =
-      let same_quotient_iff = same_quotient (8 * 2 ^ exponent) quotient address (omega (arith, pow_pos exponent)) in
+      let (to_bounds, from_bounds) = same_quotient (8 * 2 ^ exponent) quotient address (omega (arith, pow_pos exponent)) in
       rw (napot_size_is, quotient_is)
       (equal_if_equivalent _ _
-      (λ test_holds. let bounds = same_quotient_iff.0 test_holds in and_from _ _ (le-leb _ _ bounds.0) (lt-ltb _ _ bounds.1))
-      (λ test_holds. let bounds = and_parts _ _ test_holds in same_quotient_iff.1 (leb-true _ _ bounds.0, ltb-true _ _ bounds.1)))
+      (λ test_holds. let (from_base, below_end) = to_bounds test_holds in and_from _ _ (le-leb _ _ from_base) (lt-ltb _ _ below_end))
+      (λ test_holds. let (from_base, below_end) = and_parts _ _ test_holds in from_bounds (leb-true _ _ from_base, ltb-true _ _ below_end)))
 
 -- the NAPOT entry for a block with this base and size matches exactly the bytes of the block
 pub napot_matches : (base size exponent previous address : ℕ) → exponent < 32 → size ≡ 2 ^ (exponent + 3) → base % size ≡ 0 → base + size ≤ 2 ^ 33

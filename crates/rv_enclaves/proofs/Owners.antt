@@ -65,9 +65,9 @@ valid_block memory block is_valid =
     let (size_test, aligned_and_inside_test) = and_parts (is_block_size block.size) _ is_valid in
     let (aligned_test, inside_test) = and_parts (block.base % block.size == 0) _ aligned_and_inside_test in
     let (base_in_ram, end_in_ram) = and_parts (nat_le ram_base block.base) _ inside_test in
-    let power = some_from_any (λ exponent. block.size == 2 ^ exponent) 12 20 size_test in
+    let (exponent, exponent_at_least_12, exponent_in_range, size_is_power) = some_from_any (λ exponent. block.size == 2 ^ exponent) 12 20 size_test in
     record {
-      power = (power.0, power.1, omega (arith, power.2), eqb-true _ _ power.3);
+      power = (exponent, exponent_at_least_12, omega (arith, exponent_in_range), eqb-true _ _ size_is_power);
       aligned = eqb-true _ _ aligned_test;
       from_ram_base = leb-true _ _ base_in_ram;
       to_ram_end = leb-true _ _ end_in_ram;
@@ -78,11 +78,9 @@ block_covers : (memory : List ℕ) (block : Block) (previous address : ℕ) → 
     → matches (matching_of 0x18) previous (napot_addr block.base block.size) address ≡ has block address
 block_covers memory block previous address ram_size is_valid =
     let block_valid = valid_block memory block is_valid in
-    let exponent = block_valid.power.0 in
-    let exponent_at_least_12 : 12 ≤ exponent = block_valid.power.1 in
-    let exponent_below_32 : exponent < 32 = block_valid.power.2 in
+    let (exponent, exponent_at_least_12, exponent_below_32, size_is_power) = block_valid.power in
     let exponent_from_3 : exponent ≡ (exponent - 3) + 3 = omega arith in
-    let power : block.size ≡ 2 ^ ((exponent - 3) + 3) = block_valid.power.3 ∙ ap (λ exponent. 2 ^ exponent) exponent_from_3 in
+    let power : block.size ≡ 2 ^ ((exponent - 3) + 3) = size_is_power ∙ ap (λ exponent. 2 ^ exponent) exponent_from_3 in
     napot_matches block.base block.size (exponent - 3) previous address (omega arith) power block_valid.aligned
     (omega (arith, block_valid.to_ram_end))
 
