@@ -52,22 +52,22 @@ module _ (enclave : ℕ) where
   first_test_fails false other_test same_tests and_fails = refl
 
   -- the reason after a command that both benches execute is `Entered` if the command enters the slot in either bench, and `All` otherwise
-  reason_of_entries : (one other : BenchState) (command : Command) (first_entered second_entered : Bool)
-      → is_entered enclave (execute one command).entered ≡ first_entered
-      → is_entered enclave (execute other command).entered ≡ second_entered
-      → (both_done one other command).why ≡ (if first_entered || second_entered then Entered else All)
-  reason_of_entries one other command first_entered second_entered first_enters second_enters =
-      ap₂ (λ (first_entered second_entered : Bool). if first_entered || second_entered then Entered else All) first_enters second_enters
+  reason_of_entries : (one other : BenchState) (command : Command) (one_entered other_entered : Bool)
+      → is_entered enclave (execute one command).entered ≡ one_entered
+      → is_entered enclave (execute other command).entered ≡ other_entered
+      → (both_done one other command).why ≡ (if one_entered || other_entered then Entered else All)
+  reason_of_entries one other command one_entered other_entered one_enters other_enters =
+      ap₂ (λ (one_entered other_entered : Bool). if one_entered || other_entered then Entered else All) one_enters other_enters
 
   -- two executions that the law relates are alike for the reason that the command gives
   done_alike : (one other : BenchState) (command : Command) → ExecuteAlike enclave (execute one command) (execute other command)
       → AlikeBy enclave one other command (both_done one other command) (both_done one other command).why
   done_alike one other command alike = elim (cases_Bool (is_entered enclave (execute one command).entered)) [
-    | inl first_enters ↦
-        let second_enters = sym alike.entered ∙ first_enters in
+    | inl one_enters ↦
+        let other_enters = sym alike.entered ∙ one_enters in
         subst (λ (why : BothWhy). AlikeBy enclave one other command (both_done one other command) why)
-        (sym (reason_of_entries one other command true true first_enters second_enters))
-        (record { in_first = first_enters; in_second = second_enters })
+        (sym (reason_of_entries one other command true true one_enters other_enters))
+        (record { in_first = one_enters; in_second = other_enters })
     | inr not_entered ↦
         let passed = alike.passed not_entered in
         subst (λ (why : BothWhy). AlikeBy enclave one other command (both_done one other command) why)
@@ -192,25 +192,25 @@ module _ (enclave : ℕ) where
         (λ avoids_hart. no_commands_alike one other invariant equiv)
     | inr (blind, both_execute_is) ↦ elim (cases_Bool (is_entered enclave (execute one command).entered)) [
       -- the first command enters the enclave in the first bench: it is the last command
-      | inl first_enters ↦ entered_last one other command commands invariant equiv both_execute_is
-          (reason_of_entries one other command true (is_entered enclave (execute other command).entered) first_enters refl)
-      | inr first_does_not ↦ elim (cases_Bool (is_entered enclave (execute other command).entered)) [
+      | inl one_enters ↦ entered_last one other command commands invariant equiv both_execute_is
+          (reason_of_entries one other command true (is_entered enclave (execute other command).entered) one_enters refl)
+      | inr one_does_not_enter ↦ elim (cases_Bool (is_entered enclave (execute other command).entered)) [
         -- the first command enters the enclave only in the second bench: it is the last command
-        | inl second_enters ↦
+        | inl other_enters ↦
             entered_last one other command commands invariant equiv both_execute_is
-            (reason_of_entries one other command false true first_does_not second_enters)
+            (reason_of_entries one other command false true one_does_not_enter other_enters)
         -- the first command enters the enclave in neither bench: the replies are equal, and the remaining commands are alike by induction
-        | inr second_does_not ↦
+        | inr other_does_not_enter ↦
             let rest_ran = both_run enclave (execute one command).state (execute other command).state commands in
             subst (EndAlike one other (command ∷ commands))
             (sym (run_with_first_command one other command commands (both_done one other command) All both_execute_is
-            (reason_of_entries one other command false false first_does_not second_does_not)))
+            (reason_of_entries one other command false false one_does_not_enter other_does_not_enter)))
             (λ avoids_hart.
             let alike = noninterference enclave one other command invariant other_invariant equiv blind avoids_hart.0 in
-            let passed = alike.passed first_does_not in
+            let passed = alike.passed one_does_not_enter in
             done_more_alike one other command commands rest_ran.ran rest_ran.why passed.reply
             (run_alike (execute one command).state (execute other command).state commands (command_keeps_invariant one command invariant)
-            (command_keeps_invariant other command other_invariant) passed.state.but (avoids_hart.1 first_does_not)))
+            (command_keeps_invariant other command other_invariant) passed.state.but (avoids_hart.1 one_does_not_enter)))
       ]
     ]
   ]

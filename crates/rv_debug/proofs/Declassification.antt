@@ -122,23 +122,23 @@ module _ (enclave hart : ℕ) (one other : MonitoredMachine) (invariant : Invari
       elim (cases_Bool (is_inside one.shared.memory address 1)) [
         -- the address is in RAM: the same byte is written to both memories
         | inl in_ram ↦
-            let first_write = write-some one.shared.memory address bytes in_ram in
-            let second_write = write-some other.shared.memory address bytes (rw (← same_size) in_ram) in
+            let write_to_one = write-some one.shared.memory address bytes in_ram in
+            let write_to_other = write-some other.shared.memory address bytes (rw (← same_size) in_ram) in
             let written_equal =
-            same_write (may_differ one.shared.table enclave) one.shared.memory other.shared.memory address bytes _ _ memory first_write
-            second_write in
+            same_write (may_differ one.shared.table enclave) one.shared.memory other.shared.memory address bytes _ _ memory write_to_one
+            write_to_other in
             let same_if_ended : (is_live one.shared.table enclave ≡ false)
             → write_bytes one.shared.memory (address - ram_base) bytes ≡ write_bytes other.shared.memory (address - ram_base) bytes =
             λ has_ended. ap (λ (shared : Shared). write_bytes shared.memory (address - ram_base) bytes) (related.gone has_ended) in
-            rw (first_write, second_write) (record {
+            rw (write_to_one, write_to_other) (record {
               state = record { hart = refl; state = memory_related enclave one other _ _ related written_equal same_if_ended };
               reply = refl;
             })
         -- the address is outside RAM: neither target changes
         | inr outside_ram ↦
-            let first_write = write-none one.shared.memory address bytes outside_ram in
-            let second_write = write-none other.shared.memory address bytes (rw (← same_size) outside_ram) in
-            rw (first_write, second_write) (record { state = targets_related; reply = refl })
+            let write_to_one = write-none one.shared.memory address bytes outside_ram in
+            let write_to_other = write-none other.shared.memory address bytes (rw (← same_size) outside_ram) in
+            rw (write_to_one, write_to_other) (record { state = targets_related; reply = refl })
       ]
 
   -- two pokes into the region, of two bytes and at two addresses, leave related targets and have equal replies
@@ -146,8 +146,8 @@ module _ (enclave hart : ℕ) (one other : MonitoredMachine) (invariant : Invari
       → has (region other.shared.table enclave) other_address ≡ true
       → PokedAlike (write one.shared.memory address (byte ∷ [])) (write other.shared.memory other_address (other_byte ∷ []))
   secret_pokes_related address byte other_address other_byte in_region other_in_region =
-      let first_write = poke_succeeds one enclave address byte invariant in_region in
-      let second_write = poke_succeeds other enclave other_address other_byte other_invariant other_in_region in
+      let write_to_one = poke_succeeds one enclave address byte invariant in_region in
+      let write_to_other = poke_succeeds other enclave other_address other_byte other_invariant other_in_region in
       let region_may_differ : (hidden_address : ℕ) → has (region one.shared.table enclave) hidden_address ≡ true
       → may_differ one.shared.table enclave hidden_address ≡ true =
       λ hidden_address within_region. rw within_region refl in
@@ -155,8 +155,8 @@ module _ (enclave hart : ℕ) (one other : MonitoredMachine) (invariant : Invari
       ap (λ (table : Slots). has (region table enclave) other_address) related.table ∙ other_in_region in
       let memory = hidden_writes (may_differ one.shared.table enclave) one.shared.memory other.shared.memory address other_address byte other_byte _
       _ related.memory
-      first_write second_write (region_may_differ address in_region) (region_may_differ other_address other_address_in_region) in
-      rw (first_write, second_write) (record {
+      write_to_one write_to_other (region_may_differ address in_region) (region_may_differ other_address other_address_in_region) in
+      rw (write_to_one, write_to_other) (record {
         state = record {
           hart = refl;
           state = memory_related enclave one other _ _ related memory (λ has_ended.

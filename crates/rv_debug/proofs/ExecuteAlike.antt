@@ -114,10 +114,10 @@ unentered_schedules_alike : (enclave hart : ℕ) (breaks watches : List ℕ) (st
 unentered_schedules_alike enclave hart breaks watches start one other on_no_hart neither_enters =
     subst (λ (target : Target). Alike enclave (schedule_executed hart breaks watches (after_schedule target one.did))
     (schedule_executed hart breaks watches other))
-    (sym neither_enters.first_is)
-    (subst (λ (target : Target). Alike enclave (schedule_executed hart breaks watches (after_schedule (Monitored neither_enters.first_end) one.did))
-    (schedule_executed hart breaks watches (after_schedule target other.did))) (sym neither_enters.second_is)
-    (equal_schedules_alike enclave hart breaks watches one.did other.did neither_enters.first_end neither_enters.second_end neither_enters.did
+    (sym neither_enters.one_state_is)
+    (subst (λ (target : Target). Alike enclave (schedule_executed hart breaks watches (after_schedule (Monitored neither_enters.end_of_one) one.did))
+    (schedule_executed hart breaks watches (after_schedule target other.did))) (sym neither_enters.other_state_is)
+    (equal_schedules_alike enclave hart breaks watches one.did other.did neither_enters.end_of_one neither_enters.end_of_other neither_enters.did
     neither_enters.state (neither_enters.on_no_hart on_no_hart)))
 
 -- ---- a run
@@ -208,13 +208,13 @@ module _ (enclave hart : ℕ) (one other : MonitoredMachine) (equiv : EquivExcep
   abbrev as_selected : MonitoredMachine → Selected
   as_selected machine = record { hart = hart; state = machine }
 
-  -- `first_bench` is the bench with the machine `one`
-  abbrev first_bench : BenchState
-  first_bench = bench_of (as_target one) breaks watches
+  -- `bench_of_one` is the bench with the machine `one`
+  abbrev bench_of_one : BenchState
+  bench_of_one = bench_of (as_target one) breaks watches
 
-  -- `second_bench` is the bench with the machine `other`
-  abbrev second_bench : BenchState
-  second_bench = bench_of (as_target other) breaks watches
+  -- `bench_of_other` is the bench with the machine `other`
+  abbrev bench_of_other : BenchState
+  bench_of_other = bench_of (as_target other) breaks watches
 
   -- the targets of the two benches are equivalent except for `enclave`
   targets_equiv : TargetsEquivExcept enclave (as_target one) (as_target other)
@@ -229,7 +229,7 @@ module _ (enclave hart : ℕ) (one other : MonitoredMachine) (equiv : EquivExcep
   -- ---- replies about a hart that does not run the enclave
 
   -- if a command that shows the selected hart avoids the hart of the enclave, the state of the selected hart is equal in both machines
-  same_selected_hart : AvoidsHart enclave first_bench Regs → hart_state_of hart one ≡ hart_state_of hart other
+  same_selected_hart : AvoidsHart enclave bench_of_one Regs → hart_state_of hart one ≡ hart_state_of hart other
   same_selected_hart avoids_hart =
       let hart_equiv = equiv.hart_states hart in
       hart_equiv.same avoids_hart.0
@@ -281,12 +281,12 @@ module _ (enclave hart : ℕ) (one other : MonitoredMachine) (equiv : EquivExcep
       elim (cases_Bool (is_inside one.shared.memory address 1)) [
         -- the address is in RAM: the same byte is written to both memories
         | inl in_ram ↦
-            let first_write = write-some one.shared.memory address bytes in_ram in
-            let second_write = write-some other.shared.memory address bytes (rw (← same_size) in_ram) in
+            let write_to_one = write-some one.shared.memory address bytes in_ram in
+            let write_to_other = write-some other.shared.memory address bytes (rw (← same_size) in_ram) in
             let written_equal =
-            same_write (is_private one.shared.table enclave) one.shared.memory other.shared.memory address bytes _ _ memory first_write
-            second_write in
-            rw (first_write, second_write) (equal_replies_alike enclave _ _ breaks watches ok_text ok_text (record {
+            same_write (is_private one.shared.table enclave) one.shared.memory other.shared.memory address bytes _ _ memory write_to_one
+            write_to_other in
+            rw (write_to_one, write_to_other) (equal_replies_alike enclave _ _ breaks watches ok_text ok_text (record {
               hart = refl;
               state = shared_equiv enclave one other _ _ equiv (record {
                 table = shared.table;
@@ -298,9 +298,9 @@ module _ (enclave hart : ℕ) (one other : MonitoredMachine) (equiv : EquivExcep
             }) refl)
         -- the address is outside RAM: neither bench changes
         | inr outside_ram ↦
-            let first_write = write-none one.shared.memory address bytes outside_ram in
-            let second_write = write-none other.shared.memory address bytes (rw (← same_size) outside_ram) in
-            rw (first_write, second_write) (unchanged_alike outside_text outside_text refl)
+            let write_to_one = write-none one.shared.memory address bytes outside_ram in
+            let write_to_other = write-none other.shared.memory address bytes (rw (← same_size) outside_ram) in
+            rw (write_to_one, write_to_other) (unchanged_alike outside_text outside_text refl)
       ]
 
   -- ---- steps
@@ -334,7 +334,7 @@ module _ (enclave hart : ℕ) (one other : MonitoredMachine) (equiv : EquivExcep
       ∙ ap (steps_execute breaks watches) (run_monitored hart at_breaks at_watches count (no_steps machine))
 
   -- the command `step` or `run` is alike in both benches, if it avoids the hart of the enclave
-  run_alike_executed : (at_breaks at_watches : List ℕ) (count : ℕ) → Invariant one → Invariant other → AvoidsHart enclave first_bench Regs
+  run_alike_executed : (at_breaks at_watches : List ℕ) (count : ℕ) → Invariant one → Invariant other → AvoidsHart enclave bench_of_one Regs
       → Alike enclave (run_execute (as_target one) breaks watches at_breaks at_watches count)
       (run_execute (as_target other) breaks watches at_breaks at_watches count)
   run_alike_executed at_breaks at_watches count invariant other_invariant avoids_hart =
@@ -395,8 +395,8 @@ module _ (enclave hart : ℕ) (one other : MonitoredMachine) (equiv : EquivExcep
   -- both machines have the invariant
   module _ (invariant : Invariant one) (other_invariant : Invariant other) where
     -- each command that accesses no byte of the region (blind) and avoids the hart of the enclave is alike in both benches
-    command_alike : (command : Command) → is_blind enclave first_bench command ≡ true → AvoidsHart enclave first_bench command
-        → Alike enclave (execute first_bench command) (execute second_bench command)
+    command_alike : (command : Command) → is_blind enclave bench_of_one command ≡ true → AvoidsHart enclave bench_of_one command
+        → Alike enclave (execute bench_of_one command) (execute bench_of_other command)
     unfolding execute is_blind
     -- `step` and `run` execute steps of the selected hart, on which the enclave does not run
     command_alike (Step count) blind avoids_hart = run_alike_executed [] [] count invariant other_invariant avoids_hart

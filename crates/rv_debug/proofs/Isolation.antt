@@ -137,11 +137,11 @@ changes_memory bench command invariant byte = in_target bench.target (effect ben
 -- an enclave that is preserved from `before` to `between`, and from there to `after`, is preserved from `before` to `after`
 preserved_after : (slot : ℕ) (before between after : Target) → IsPreservedIn slot before between
     → IsPreservedIn slot between after → IsPreservedIn slot before after
-preserved_after slot (Monitored before) (Monitored between) (Monitored after) first_preserved second_preserved =
-    preserved_twice slot before.state.shared between.state.shared after.state.shared first_preserved second_preserved
-preserved_after slot (Bare before) between after first_preserved second_preserved = absurd first_preserved
-preserved_after slot (Monitored before) (Bare between) after first_preserved second_preserved = absurd first_preserved
-preserved_after slot (Monitored before) (Monitored between) (Bare after) first_preserved second_preserved = absurd second_preserved
+preserved_after slot (Monitored before) (Monitored between) (Monitored after) preserved_to_between preserved_to_after =
+    preserved_twice slot before.state.shared between.state.shared after.state.shared preserved_to_between preserved_to_after
+preserved_after slot (Bare before) between after preserved_to_between preserved_to_after = absurd preserved_to_between
+preserved_after slot (Monitored before) (Bare between) after preserved_to_between preserved_to_after = absurd preserved_to_between
+preserved_after slot (Monitored before) (Monitored between) (Bare after) preserved_to_between preserved_to_after = absurd preserved_to_after
 
 -- a live enclave is preserved by an empty list of commands
 preserved_itself : (slot : ℕ) (target : Target) → IsSomeAnd (machine_in target) (λ machine. is_live machine.shared.table slot ≡ true)

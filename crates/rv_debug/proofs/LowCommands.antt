@@ -122,17 +122,17 @@ low_schedule : (enclave : ℕ) (harts : List ℕ) (one other : Selected) (summar
 unfolding scheduled_steps
 low_schedule enclave [] one other summary invariant other_invariant equiv runs_on_none not_entered = no_moves enclave one.state other.state equiv
 low_schedule enclave (hart ∷ harts) one other summary invariant other_invariant equiv runs_on_none not_entered =
-    let first_step = step_of hart one.state in
-    let second_step = step_of hart other.state in
+    let step_of_one = step_of hart one.state in
+    let step_of_other = step_of hart other.state in
     let alike_after = guest_step_equiv enclave hart one.state other.state invariant other_invariant equiv runs_on_none.0 in
-    elim (cases_Bool (enters enclave first_step.outcome.entered)) [
+    elim (cases_Bool (enters enclave step_of_one.outcome.entered)) [
       -- the step enters the enclave: the schedule then enters it too, against the premise
       | inl enters_slot ↦ absurd (both_ways _ not_entered
-          (schedule_enters enclave hart harts summary first_step.state first_step.outcome
-          (entered_some enclave first_step.outcome.entered enters_slot)))
+          (schedule_enters enclave hart harts summary step_of_one.state step_of_one.outcome
+          (entered_some enclave step_of_one.outcome.entered enters_slot)))
       -- the step does not enter the enclave: the remaining steps are low moves by induction
       | inr does_not_enter ↦ one_more_move enclave hart harts one.state other.state invariant equiv runs_on_none.0
-          (low_schedule enclave harts (record { hart = hart; state = first_step.state }) (record { hart = hart; state = second_step.state }) _
+          (low_schedule enclave harts (record { hart = hart; state = step_of_one.state }) (record { hart = hart; state = step_of_other.state }) _
           (invariant_law hart one.state invariant) (invariant_law hart other.state other_invariant) alike_after.state
           (runs_on_none_after enclave hart harts one.state does_not_enter runs_on_none.1) not_entered)
     ]
@@ -190,27 +190,27 @@ module _ (enclave hart : ℕ) (breaks watches : List ℕ) where
   low-run zero before other invariant other_invariant equiv not_on_hart not_entered =
       record { count = 0; steps = omega arith; ran = refl; low = no_moves enclave before.state other equiv }
   low-run (suc remaining) before other invariant other_invariant equiv not_on_hart not_entered =
-      let first_step = step_of hart before.state in
-      let second_step = step_of hart other in
-      let after = after_step before first_step.outcome first_step.state in
+      let step_of_one = step_of hart before.state in
+      let step_of_other = step_of hart other in
+      let after = after_step before step_of_one.outcome step_of_one.state in
       let alike_after = guest_step_equiv enclave hart before.state other invariant other_invariant equiv not_on_hart in
-      elim (cases_Bool (enters enclave first_step.outcome.entered)) [
+      elim (cases_Bool (enters enclave step_of_one.outcome.entered)) [
         | inl enters_slot ↦ absurd (both_ways _ not_entered
-            (run_enters enclave hart breaks watches remaining before first_step.outcome first_step.state
-            (entered_some enclave first_step.outcome.entered enters_slot)))
+            (run_enters enclave hart breaks watches remaining before step_of_one.outcome step_of_one.state
+            (entered_some enclave step_of_one.outcome.entered enters_slot)))
         | inr does_not_enter ↦
             -- the enclave does not run on the hart after the step, and the rest of the run is low by induction
             let still_off = entry_law enclave hart hart before.state not_on_hart does_not_enter in
-            let rest_low = low-run remaining after second_step.state (invariant_law hart before.state invariant)
+            let rest_low = low-run remaining after step_of_other.state (invariant_law hart before.state invariant)
             (invariant_law hart other other_invariant) alike_after.state still_off in
             let first_move : AreLowMoves enclave (hart ∷ []) before.state other =
             one_more_move enclave hart [] before.state other invariant equiv not_on_hart
-            (no_moves enclave first_step.state second_step.state alike_after.state) in
+            (no_moves enclave step_of_one.state step_of_other.state alike_after.state) in
             -- the run ends after this step in both machines, or continues in both
             let alike_in_both =
-            next_cases (LowUnlessEntered before other) after (with_state after second_step.state) (run_from remaining after)
-            (run_from remaining (with_state after second_step.state))
-            (lowest_accessed watches first_step.outcome.step.touched) (remaining == 0) (is_among (hart_pc hart first_step.state) breaks)
+            next_cases (LowUnlessEntered before other) after (with_state after step_of_other.state) (run_from remaining after)
+            (run_from remaining (with_state after step_of_other.state))
+            (lowest_accessed watches step_of_one.outcome.step.touched) (remaining == 0) (is_among (hart_pc hart step_of_one.state) breaks)
             (λ stop not_entered. record { count = 1; steps = omega arith; ran = refl; low = first_move })
             (λ not_entered. let rest_run = rest_low not_entered in record {
               count = suc rest_run.count;
@@ -219,12 +219,12 @@ module _ (enclave hart : ℕ) (breaks watches : List ℕ) where
               low = one_more_move enclave hart (replicate rest_run.count hart) before.state other invariant equiv not_on_hart rest_run.low;
             }) in
             -- the outcomes of the step are equal, and the next instruction is at a breakpoint in both machines or in neither
-            let same_break = ap (λ (pc : ℕ). is_among pc breaks) (pc_alike first_step.state second_step.state alike_after.state still_off) in
-            subst (λ (outcome : Outcome). LowUnlessEntered before other (next_run remaining before first_step.outcome first_step.state)
-            (next_run remaining (with_state before other) outcome second_step.state)) alike_after.outcome
-            (subst (λ (at_break : Bool). LowUnlessEntered before other (next_run remaining before first_step.outcome first_step.state)
-            (next_of (with_state after second_step.state) (run_from remaining (with_state after second_step.state))
-            (lowest_accessed watches first_step.outcome.step.touched) (remaining == 0) at_break))
+            let same_break = ap (λ (pc : ℕ). is_among pc breaks) (pc_alike step_of_one.state step_of_other.state alike_after.state still_off) in
+            subst (λ (outcome : Outcome). LowUnlessEntered before other (next_run remaining before step_of_one.outcome step_of_one.state)
+            (next_run remaining (with_state before other) outcome step_of_other.state)) alike_after.outcome
+            (subst (λ (at_break : Bool). LowUnlessEntered before other (next_run remaining before step_of_one.outcome step_of_one.state)
+            (next_of (with_state after step_of_other.state) (run_from remaining (with_state after step_of_other.state))
+            (lowest_accessed watches step_of_one.outcome.step.touched) (remaining == 0) at_break))
             same_break alike_in_both) not_entered
       ]
 
@@ -349,16 +349,16 @@ module _ (enclave hart : ℕ) (one other : MonitoredMachine) (invariant : Invari
       let bytes = byte ∷ [] in
       elim (cases_Bool (is_inside one.shared.memory address 1)) [
         | inl in_ram ↦
-            let first_write = write-some one.shared.memory address bytes in_ram in
-            let second_write = write-some other.shared.memory address bytes (rw (← same_size) in_ram) in
-            rw (first_write, second_write) (λ running.
+            let write_to_one = write-some one.shared.memory address bytes in_ram in
+            let write_to_other = write-some other.shared.memory address bytes (rw (← same_size) in_ram) in
+            rw (write_to_one, write_to_other) (λ running.
             same_write
             (λ (byte_address : ℕ). not (has (window one.shared.table enclave) byte_address)) one.shared.memory other.shared.memory address bytes _ _
-            (window_equal running) first_write second_write)
+            (window_equal running) write_to_one write_to_other)
         | inr outside_ram ↦
-            let first_write = write-none one.shared.memory address bytes outside_ram in
-            let second_write = write-none other.shared.memory address bytes (rw (← same_size) outside_ram) in
-            rw (first_write, second_write) window_equal
+            let write_to_one = write-none one.shared.memory address bytes outside_ram in
+            let write_to_other = write-none other.shared.memory address bytes (rw (← same_size) outside_ram) in
+            rw (write_to_one, write_to_other) window_equal
       ]
 
   -- the claim of `low_kind`: the command is low in the two benches

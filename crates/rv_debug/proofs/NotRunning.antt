@@ -33,7 +33,7 @@ steps_on_no_hart enclave selected harts machine invariant on_no_hart not_entered
     (on_none_of enclave harts machine.state on_no_hart)) [
       | inl both_enter ↦ absurd (let contradiction : true ≡ false = sym both_enter.one_enters ∙ not_entered in cc)
       | inr neither_enters ↦ selection_on_no_hart _
-          (subst (RunsOnNoHart enclave) (sym neither_enters.first_is) (neither_enters.on_no_hart on_no_hart))
+          (subst (RunsOnNoHart enclave) (sym neither_enters.one_state_is) (neither_enters.on_no_hart on_no_hart))
     ] where
       -- the selection of a hart leaves the enclave on no hart
       selection_on_no_hart : (target : Target) → RunsOnNoHart enclave target → RunsOnNoHart enclave (with_selected selected target)

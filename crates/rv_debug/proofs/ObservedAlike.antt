@@ -73,14 +73,14 @@ run_texts : (enclave hart : ℕ) (one other : MonitoredMachine) (one_run other_r
     → Moved enclave hart (replicate one_run.ran.steps hart) (replicate other_run.ran.steps hart) one other nothing_ran nothing_ran
     → one_run.ran.stop ≡ other_run.ran.stop
     → run_text enclave hart one one_run ≡ run_text enclave hart other other_run
-run_texts enclave hart one other one_run other_run first_observed second_observed both_moved stop =
+run_texts enclave hart one other one_run other_run observed_of_one observed_of_other both_moved stop =
     let one_observed = observed_steps enclave hart (replicate one_run.ran.steps hart) one nothing_ran in
     let other_observed = observed_steps enclave hart (replicate other_run.ran.steps hart) other nothing_ran in
     let related : AreRelated enclave one_run.state other_run.state =
-    subst (λ (one_state : MonitoredMachine). AreRelated enclave one_state other_run.state) first_observed.state
-    (subst (AreRelated enclave _) second_observed.state both_moved.state) in
+    subst (λ (one_state : MonitoredMachine). AreRelated enclave one_state other_run.state) observed_of_one.state
+    (subst (AreRelated enclave _) observed_of_other.state both_moved.state) in
     let same_ran : runs_on enclave hart one_run.state ≡ false → one_observed ≡ other_observed =
-    λ not_on_hart. both_moved.ran (ap (runs_on enclave hart) first_observed.state ∙ not_on_hart) in
+    λ not_on_hart. both_moved.ran (ap (runs_on enclave hart) observed_of_one.state ∙ not_on_hart) in
     let hart_related = related.hart_states hart in
     elim (cases_Bool (runs_on enclave hart one_run.state)) [
       -- the enclave runs on the hart after the first run, and therefore after the second run: both texts are empty
@@ -91,7 +91,7 @@ run_texts enclave hart one other one_run other_run first_observed second_observe
       | inr not_on_hart ↦
           let not_on_other_hart : runs_on enclave hart other_run.state ≡ false = sym (ap (is_world_of enclave) hart_related.world) ∙ not_on_hart in
           let trap : one_run.ran.trap ≡ other_run.ran.trap =
-          sym first_observed.trap ∙ ap (λ (ran : HartRan). ran.trap) (same_ran not_on_hart) ∙ second_observed.trap in
+          sym observed_of_one.trap ∙ ap (λ (ran : HartRan). ran.trap) (same_ran not_on_hart) ∙ observed_of_other.trap in
           let steps : one_observed.steps ≡ other_observed.steps = ap (λ (ran : HartRan). ran.steps) (same_ran not_on_hart) in
           let text : HartState → ℕ → Option Trap → Stop → List ℕ = λ hart_state steps trap stop.
           ran_text hart_state.hart.pc hart_state.hart.mode (world_name hart_state.world)

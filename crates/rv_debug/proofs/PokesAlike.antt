@@ -39,10 +39,10 @@ pub hidden_writes : (hidden : ℕ → Bool) (memory other_memory : List ℕ) (ad
     → EqualOutside hidden memory other_memory → write memory address (byte ∷ []) ≡ Some memory_after
     → write other_memory other_address (other_byte ∷ []) ≡ Some other_after
     → hidden address ≡ true → hidden other_address ≡ true → EqualOutside hidden memory_after other_after
-hidden_writes hidden memory other_memory address other_address byte other_byte memory_after other_after equiv first_write second_write
+hidden_writes hidden memory other_memory address other_address byte other_byte memory_after other_after equiv write_to_one write_to_other
     is_hidden other_is_hidden =
     swapped (hidden_write hidden other_memory memory_after other_address other_byte other_after
-    (swapped (hidden_write hidden memory other_memory address byte memory_after equiv first_write is_hidden)) second_write other_is_hidden) where
+    (swapped (hidden_write hidden memory other_memory address byte memory_after equiv write_to_one is_hidden)) write_to_other other_is_hidden) where
       -- equality outside hidden bytes is symmetric
       swapped : {left right : List ℕ} → EqualOutside hidden left right → EqualOutside hidden right left
       swapped equiv = record { size = sym equiv.size; bytes = λ byte_index not_hidden. sym (equiv.bytes byte_index not_hidden) }
@@ -88,8 +88,8 @@ poke_succeeds state enclave address byte invariant in_region =
 -- a byte is written into the region of `enclave` in each of two equivalent machines
 module _ (enclave : ℕ) (one other : Selected) (address other_address byte other_byte : ℕ) (equiv : SelectedEquivExcept enclave one other)
     (memory_after other_after : List ℕ)
-    (first_write : write one.state.shared.memory address (byte ∷ []) ≡ Some memory_after)
-    (second_write : write other.state.shared.memory other_address (other_byte ∷ []) ≡ Some other_after)
+    (write_to_one : write one.state.shared.memory address (byte ∷ []) ≡ Some memory_after)
+    (write_to_other : write other.state.shared.memory other_address (other_byte ∷ []) ≡ Some other_after)
     (in_region : has (region one.state.shared.table enclave) address ≡ true)
     (other_in_region : has (region one.state.shared.table enclave) other_address ≡ true) where
   -- two pokes into the region leave equivalent machines
@@ -104,7 +104,7 @@ module _ (enclave : ℕ) (one other : Selected) (address other_address byte othe
           table = shared.table;
           memory = hidden_writes (is_private one.state.shared.table enclave) one.state.shared.memory other.state.shared.memory address other_address
               byte other_byte memory_after other_after
-              shared.memory first_write second_write in_region other_in_region;
+              shared.memory write_to_one write_to_other in_region other_in_region;
           contexts = shared.contexts;
           gone = λ not_live. let contradiction : true ≡ false = sym (live_if_in_region (slot_at one.state.shared.table enclave) address in_region)
               ∙ not_live in cc;
@@ -123,13 +123,13 @@ targets_alike : (enclave : ℕ) (one other : Target) (breaks watches : List ℕ)
 unfolding execute
 targets_alike enclave (Monitored one) (Monitored other) breaks watches address other_address byte other_byte invariant other_invariant equiv
     in_region other_in_region =
-    let first_write = poke_succeeds one.state enclave address byte invariant in_region in
-    let second_write = poke_succeeds other.state enclave other_address other_byte other_invariant other_in_region in
+    let write_to_one = poke_succeeds one.state enclave address byte invariant in_region in
+    let write_to_other = poke_succeeds other.state enclave other_address other_byte other_invariant other_in_region in
     let same_table = (let state = equiv.state in state.shared.table) in
-    let alike_after = machines_equiv enclave one other address other_address byte other_byte equiv _ _ first_write second_write in_region
+    let alike_after = machines_equiv enclave one other address other_address byte other_byte equiv _ _ write_to_one write_to_other in_region
     (ap (λ (slots : Slots). has (region slots enclave) other_address) same_table
     ∙ other_in_region) in
-    rw (first_write, second_write) (record {
+    rw (write_to_one, write_to_other) (record {
       reply = refl;
       entered = refl;
       state = record {

@@ -28,16 +28,16 @@ pub record BothEnter (enclave : ℕ) (one other : AfterSchedule) : Type 0 where
   pub one_enters : is_entered enclave one.did.entered ≡ true
   pub other_enters : is_entered enclave other.did.entered ≡ true
 
--- Neither schedule entered `enclave`. Both have equal summaries (`did`), and end in monitored machines (`first_end`, `second_end`) that are
+-- Neither schedule entered `enclave`. Both have equal summaries (`did`), and end in monitored machines (`end_of_one`, `end_of_other`) that are
 -- equivalent except for `enclave`. If the enclave ran on no hart of `start`, it runs on none at the end.
 pub record NeitherEnters (enclave : ℕ) (start : Selected) (one other : AfterSchedule) : Type 0 where
-  pub first_end : Selected
-  pub second_end : Selected
-  pub first_is : one.state ≡ Monitored first_end
-  pub second_is : other.state ≡ Monitored second_end
+  pub end_of_one : Selected
+  pub end_of_other : Selected
+  pub one_state_is : one.state ≡ Monitored end_of_one
+  pub other_state_is : other.state ≡ Monitored end_of_other
   pub did : one.did ≡ other.did
-  pub state : SelectedEquivExcept enclave first_end second_end
-  pub on_no_hart : RunsOnNoHart enclave (Monitored start) → RunsOnNoHart enclave (Monitored first_end)
+  pub state : SelectedEquivExcept enclave end_of_one end_of_other
+  pub on_no_hart : RunsOnNoHart enclave (Monitored start) → RunsOnNoHart enclave (Monitored end_of_one)
 
 -- either both schedules enter `enclave`, or neither enters it and both have equal results
 abbrev pub ScheduledStepsAlike : ℕ → Selected → AfterSchedule → AfterSchedule → Type 0
@@ -56,10 +56,10 @@ alike_from_earlier : (enclave : ℕ) (start later : Selected) (one other : After
     → ScheduledStepsAlike enclave later one other → ScheduledStepsAlike enclave start one other
 alike_from_earlier enclave start later one other stays_off (inl both_enter) = inl both_enter
 alike_from_earlier enclave start later one other stays_off (inr neither_enters) = inr (record {
-  first_end = neither_enters.first_end;
-  second_end = neither_enters.second_end;
-  first_is = neither_enters.first_is;
-  second_is = neither_enters.second_is;
+  end_of_one = neither_enters.end_of_one;
+  end_of_other = neither_enters.end_of_other;
+  one_state_is = neither_enters.one_state_is;
+  other_state_is = neither_enters.other_state_is;
   did = neither_enters.did;
   state = neither_enters.state;
   on_no_hart = λ on_no_hart. neither_enters.on_no_hart (stays_off on_no_hart);
@@ -98,40 +98,40 @@ pub scheduled_steps_alike : (enclave : ℕ) (harts : List ℕ) (one other : Sele
 unfolding scheduled_steps
 scheduled_steps_alike enclave [] one other summary invariant other_invariant equiv runs_on_none =
     inr (record {
-      first_end = one;
-      second_end = other;
-      first_is = refl;
-      second_is = refl;
+      end_of_one = one;
+      end_of_other = other;
+      one_state_is = refl;
+      other_state_is = refl;
       did = refl;
       state = equiv;
       on_no_hart = λ on_no_hart. on_no_hart;
     })
 scheduled_steps_alike enclave (hart ∷ harts) one other summary invariant other_invariant equiv runs_on_none =
-    let first_step = step_of hart one.state in
-    let second_step = step_of hart other.state in
+    let step_of_one = step_of hart one.state in
+    let step_of_other = step_of hart other.state in
     let alike_after = noninterference hart one.state invariant enclave other.state other_invariant equiv.state runs_on_none.0 in
-    elim (cases_Bool (enters enclave first_step.outcome.entered)) [
+    elim (cases_Bool (enters enclave step_of_one.outcome.entered)) [
       -- the step enters the enclave in both machines, so both schedules enter it
       | inl enters_slot ↦
-          let entered_is = entered_some enclave first_step.outcome.entered enters_slot in
+          let entered_is = entered_some enclave step_of_one.outcome.entered enters_slot in
           inl (record {
-            one_enters = schedule_enters enclave hart harts summary first_step.state first_step.outcome entered_is;
-            other_enters = schedule_enters enclave hart harts summary second_step.state second_step.outcome
+            one_enters = schedule_enters enclave hart harts summary step_of_one.state step_of_one.outcome entered_is;
+            other_enters = schedule_enters enclave hart harts summary step_of_other.state step_of_other.outcome
                 (ap (λ (outcome : Outcome). outcome.entered) (sym alike_after.outcome) ∙ entered_is);
           })
       -- the step enters the enclave in neither machine: the outcomes are equal, and the remaining schedules are alike by induction
       | inr does_not_enter ↦
-          let first_next : Selected = record { hart = hart; state = first_step.state } in
-          let second_next : Selected = record { hart = hart; state = second_step.state } in
-          let after = (next hart summary first_step.state first_step.outcome).did in
-          let stays_off : RunsOnNoHart enclave (Monitored one) → RunsOnNoHart enclave (Monitored first_next) =
+          let next_of_one : Selected = record { hart = hart; state = step_of_one.state } in
+          let next_of_other : Selected = record { hart = hart; state = step_of_other.state } in
+          let after = (next hart summary step_of_one.state step_of_one.outcome).did in
+          let stays_off : RunsOnNoHart enclave (Monitored one) → RunsOnNoHart enclave (Monitored next_of_one) =
           λ off_before other_hart. entry_law enclave hart other_hart one.state (off_before other_hart) does_not_enter in
-          let alike = scheduled_steps_alike enclave harts first_next second_next after (invariant_law hart one.state invariant)
+          let alike = scheduled_steps_alike enclave harts next_of_one next_of_other after (invariant_law hart one.state invariant)
           (invariant_law hart other.state other_invariant)
           (record { hart = refl; state = alike_after.state }) (runs_on_none_after enclave hart harts one.state does_not_enter runs_on_none.1) in
-          alike_from_earlier enclave one first_next _ _ stays_off
-          (subst (λ (outcome : Outcome). ScheduledStepsAlike enclave first_next
-          (scheduled_steps harts (next hart summary first_step.state first_step.outcome))
-          (scheduled_steps harts (next hart summary second_step.state outcome)))
+          alike_from_earlier enclave one next_of_one _ _ stays_off
+          (subst (λ (outcome : Outcome). ScheduledStepsAlike enclave next_of_one
+          (scheduled_steps harts (next hart summary step_of_one.state step_of_one.outcome))
+          (scheduled_steps harts (next hart summary step_of_other.state outcome)))
           alike_after.outcome alike)
     ]

@@ -27,10 +27,10 @@ equiv_if_not_entered : (enclave hart : ℕ) (breaks watches : List ℕ) (start :
 equiv_if_not_entered enclave hart breaks watches start one other neither_enters =
     subst (λ (target : Target). EquivUnlessEntered enclave (schedule_executed hart breaks watches (after_schedule target one.did))
     (schedule_executed hart breaks watches other))
-    (sym neither_enters.first_is)
+    (sym neither_enters.one_state_is)
     (subst (λ (target : Target).
-    EquivUnlessEntered enclave (schedule_executed hart breaks watches (after_schedule (Monitored neither_enters.first_end) one.did))
-    (schedule_executed hart breaks watches (after_schedule target other.did))) (sym neither_enters.second_is)
+    EquivUnlessEntered enclave (schedule_executed hart breaks watches (after_schedule (Monitored neither_enters.end_of_one) one.did))
+    (schedule_executed hart breaks watches (after_schedule target other.did))) (sym neither_enters.other_state_is)
     (record {
       entered = ap (λ (summary : Scheduled). is_entered enclave summary.entered) neither_enters.did;
       state = λ not_entered.

@@ -104,33 +104,33 @@ module _ (enclave hart : ℕ) (breaks watches : List ℕ) where
   unfolding run
   run-alike zero before other invariant other_invariant equiv not_on_hart = inr (record { ran = refl; state = equiv; not_on_hart = not_on_hart })
   run-alike (suc remaining) before other invariant other_invariant equiv not_on_hart =
-      let first_step = step_of hart before.state in
-      let second_step = step_of hart other in
-      let after = after_step before first_step.outcome first_step.state in
-      let watch_hit = lowest_accessed watches first_step.outcome.step.touched in
+      let step_of_one = step_of hart before.state in
+      let step_of_other = step_of hart other in
+      let after = after_step before step_of_one.outcome step_of_one.state in
+      let watch_hit = lowest_accessed watches step_of_one.outcome.step.touched in
       let alike_after = noninterference hart before.state invariant enclave other other_invariant equiv not_on_hart in
-      elim (cases_Bool (enters enclave first_step.outcome.entered)) [
+      elim (cases_Bool (enters enclave step_of_one.outcome.entered)) [
         | inl enters_slot ↦
-            let entered_is = entered_some enclave first_step.outcome.entered enters_slot in
+            let entered_is = entered_some enclave step_of_one.outcome.entered enters_slot in
             inl (record {
-              one_enters = run_enters remaining before first_step.outcome first_step.state entered_is;
-              other_enters = run_enters remaining (with_state before other) second_step.outcome second_step.state
+              one_enters = run_enters remaining before step_of_one.outcome step_of_one.state entered_is;
+              other_enters = run_enters remaining (with_state before other) step_of_other.outcome step_of_other.state
                   (ap (λ (outcome : Outcome). outcome.entered) (sym alike_after.outcome) ∙ entered_is);
             })
         | inr does_not_enter ↦
             -- the enclave does not run on the hart after the step, and the rest of the run is alike by induction
             let still_off = entry_law enclave hart hart before.state not_on_hart does_not_enter in
-            let rest_alike = run-alike remaining after second_step.state (invariant_law hart before.state invariant)
+            let rest_alike = run-alike remaining after step_of_other.state (invariant_law hart before.state invariant)
             (invariant_law hart other other_invariant) alike_after.state still_off in
             let alike_at_stop = λ (stop : Stop). inr (record { ran = refl; state = alike_after.state; not_on_hart = still_off }) in
-            let alike = next_cases (RunAlike enclave hart) after (with_state after second_step.state) _ _ watch_hit (remaining == 0)
-            (is_among (hart_pc hart first_step.state) breaks) alike_at_stop rest_alike in
+            let alike = next_cases (RunAlike enclave hart) after (with_state after step_of_other.state) _ _ watch_hit (remaining == 0)
+            (is_among (hart_pc hart step_of_one.state) breaks) alike_at_stop rest_alike in
             -- the outcomes of the step are equal, and the next instruction is at a breakpoint in both machines or in neither
             let hart_states = (let state = alike_after.state in state.hart_states hart) in
             let same_break = ap (λ (hart_state : HartState). is_among hart_state.hart.pc breaks) (hart_states.same still_off) in
-            subst (λ (outcome : Outcome). RunAlike enclave hart (next_run remaining before first_step.outcome first_step.state)
-            (next_run remaining (with_state before other) outcome second_step.state)) alike_after.outcome
-            (subst (λ (at_break : Bool). RunAlike enclave hart (next_run remaining before first_step.outcome first_step.state)
-            (next_of (with_state after second_step.state) (run_from remaining (with_state after second_step.state)) watch_hit
+            subst (λ (outcome : Outcome). RunAlike enclave hart (next_run remaining before step_of_one.outcome step_of_one.state)
+            (next_run remaining (with_state before other) outcome step_of_other.state)) alike_after.outcome
+            (subst (λ (at_break : Bool). RunAlike enclave hart (next_run remaining before step_of_one.outcome step_of_one.state)
+            (next_of (with_state after step_of_other.state) (run_from remaining (with_state after step_of_other.state)) watch_hit
             (remaining == 0) at_break)) same_break alike)
       ]

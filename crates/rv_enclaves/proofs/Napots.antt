@@ -21,10 +21,10 @@ is_within base size address = nat_le base address && nat_lt address (base + size
 
 -- two tests that imply each other are equal
 pub equal_if_equivalent : (test other : Bool) → (test ≡ true → other ≡ true) → (other ≡ true → test ≡ true) → test ≡ other
-equal_if_equivalent true true y_if_x x_if_y = refl
-equal_if_equivalent true false y_if_x x_if_y = sym (y_if_x refl)
-equal_if_equivalent false true y_if_x x_if_y = x_if_y refl
-equal_if_equivalent false false y_if_x x_if_y = refl
+equal_if_equivalent true true other_if_test test_if_other = refl
+equal_if_equivalent true false other_if_test test_if_other = sym (other_if_test refl)
+equal_if_equivalent false true other_if_test test_if_other = test_if_other refl
+equal_if_equivalent false false other_if_test test_if_other = refl
 
 -- a number whose binary digits end in a 0 and then `ones` ones has `ones` trailing ones
 pub trailing_ones-block : (half ones : ℕ) → ones < 32 → 2 * half * 2 ^ ones + (2 ^ ones - 1) + 1 < 2 ^ 32
@@ -32,7 +32,7 @@ pub trailing_ones-block : (half ones : ℕ) → ones < 32 → 2 * half * 2 ^ one
 trailing_ones-block half ones ones_below_32 fits =
     let number = 2 * half * 2 ^ ones + (2 ^ ones - 1) in
     let trailing = trailing_ones w32 number in
-    let trailing_facts = bit_at-trailing_ones w32 number fits in
+    let (_, bit_after_trailing_is_0, trailing_bits_are_1) = bit_at-trailing_ones w32 number fits in
     let power_positive = pow_pos ones in
     let no_shift : ones - ones ≡ 0 = omega arith in
     let bit_after_ones_is_0 : bit_at number ones ≡ 0 =
@@ -48,10 +48,9 @@ trailing_ones-block half ones ones_below_32 fits =
       | inr different ↦ elim different [
         | inl fewer ↦
             let bit_is_1 = lower_bits_are_1 trailing fewer in
-            let bit_is_0 = trailing_facts.1 in
-            absurd (omega (arith, bit_is_1, bit_is_0))
+            absurd (omega (arith, bit_is_1, bit_after_trailing_is_0))
         | inr more ↦
-            let bit_is_1 = trailing_facts.2 ones more in
+            let bit_is_1 = trailing_bits_are_1 ones more in
             absurd (omega (arith, bit_is_1, bit_after_ones_is_0))
       ]
     ]

@@ -158,12 +158,13 @@ length_measurement memory new = length-sha256 (measured_bytes memory new)
 entry_aligned : (new : CreateArgs) → is_entry new ≡ true → new.entry % 4 ≡ 0
 unfolding is_entry
 entry_aligned new entry_passes =
-    let test : (new.entry % 4 == 0) ≡ true = (and_parts (new.entry % 4 == 0) (has new.region new.entry) entry_passes).0 in grind (arith, nat_tests)
+    let (is_multiple_of_4, _in_region) = and_parts (new.entry % 4 == 0) (has new.region new.entry) entry_passes in grind (arith, nat_tests)
 
 -- an entry that passes the check of create is in the region
 entry_inside : (new : CreateArgs) → is_entry new ≡ true → has new.region new.entry ≡ true
 unfolding is_entry
-entry_inside new entry_passes = (and_parts (new.entry % 4 == 0) (has new.region new.entry) entry_passes).1
+entry_inside new entry_passes =
+    let (_, in_region) = and_parts (new.entry % 4 == 0) (has new.region new.entry) entry_passes in in_region
 
 -- the record of a create that passes every check fits into a free slot: it is valid, and apart from the other enclaves
 new_fits : (shared : Shared) (new : CreateArgs) (slot : ℕ) → is_valid_block shared.memory new.region ≡ true
