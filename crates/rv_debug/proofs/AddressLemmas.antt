@@ -14,22 +14,20 @@ use Rattle.rv_debug.proofs.Prelude.{remove, with_address, with_room_for, without
 -- a sorted list whose addresses are all above `high` is also a sorted list above each lower bound `low`
 pub sorted_above-weaker : (low high : ℕ) (addresses : List ℕ) → low ≤ high → IsSortedAbove high addresses → IsSortedAbove low addresses
 sorted_above-weaker low high [] low_at_most_high sorted_above = tt
-sorted_above-weaker low high (first ∷ rest) low_at_most_high sorted_above =
-    let high_below_first : high < first = sorted_above.0 in (omega arith, sorted_above.1)
+sorted_above-weaker low high (first ∷ rest) low_at_most_high (high_below_first, rest_sorted) = (omega (arith, high_below_first), rest_sorted)
 
 -- a list that is sorted above `low` is sorted
 sorted_above-is : (low : ℕ) (addresses : List ℕ) → IsSortedAbove low addresses → IsSorted addresses
 sorted_above-is low [] sorted_above = tt
-sorted_above-is low (first ∷ rest) sorted_above = sorted_above.1
+sorted_above-is low (first ∷ rest) (first_above, rest_sorted) = rest_sorted
 
 -- each address of a list that is sorted above `low` is above `low`
 sorted_above-at : (low : ℕ) (addresses : List ℕ) (index : ℕ) → IsSortedAbove low addresses → index < length addresses → low < get_or addresses index 0
 sorted_above-at low [] index sorted_above in_bounds = absurd (omega arith)
-sorted_above-at low (first ∷ rest) zero sorted_above in_bounds = sorted_above.0
-sorted_above-at low (first ∷ rest) (suc index) sorted_above in_bounds =
-    let first_above : low < first = sorted_above.0 in
-    let rest_above : first < get_or rest index 0 = sorted_above-at first rest index sorted_above.1 (omega arith) in
-    omega arith
+sorted_above-at low (first ∷ rest) zero (first_above, rest_sorted) in_bounds = first_above
+sorted_above-at low (first ∷ rest) (suc index) (first_above, rest_sorted) in_bounds =
+    let rest_above : first < get_or rest index 0 = sorted_above-at first rest index rest_sorted (omega arith) in
+    omega (arith, first_above)
 
 -- each address of a sorted list is above the addresses before it
 pub sorted-at : (addresses : List ℕ) → IsSorted addresses → (earlier later : ℕ) → earlier < later → later < length addresses
@@ -160,11 +158,11 @@ sorted_above-insert : (low address : ℕ) (addresses : List ℕ) (place : ℕ) �
     → HasPlace addresses address place → IsSortedAbove low (insert addresses place address)
 sorted_above-insert low address [] zero sorted_above is_above insertion = (is_above, tt)
 sorted_above-insert low address [] (suc place) sorted_above is_above insertion = absurd (no_insertion_past_end address place insertion)
-sorted_above-insert low address (first ∷ rest) zero sorted_above is_above insertion =
-    (is_above, (insertion.above 0 (omega arith) (omega arith), sorted_above.1))
-sorted_above-insert low address (first ∷ rest) (suc place) sorted_above is_above insertion = (
-  sorted_above.0,
-  sorted_above-insert first address rest place sorted_above.1 (insertion.below 0 (omega arith))
+sorted_above-insert low address (first ∷ rest) zero (first_above, rest_sorted) is_above insertion =
+    (is_above, (insertion.above 0 (omega arith) (omega arith), rest_sorted))
+sorted_above-insert low address (first ∷ rest) (suc place) (first_above, rest_sorted) is_above insertion = (
+  first_above,
+  sorted_above-insert first address rest place rest_sorted (insertion.below 0 (omega arith))
       (insertion_in_rest address first rest place insertion),
 )
 
@@ -227,13 +225,13 @@ removal_of_absent address addresses place insertion = sym (without-absent addres
 -- a filter leaves a list that is sorted above `low` sorted above `low`
 sorted_above-filter : (test : ℕ → Bool) (low : ℕ) (addresses : List ℕ) → IsSortedAbove low addresses → IsSortedAbove low (filter test addresses)
 sorted_above-filter test low [] sorted_above = tt
-sorted_above-filter test low (first ∷ rest) sorted_above = with_first (test first) (sorted_above-filter test first rest sorted_above.1) where
-  -- the filtered list is sorted above `low`, where `passes` states whether the first address passes the test
-  with_first : (passes : Bool) → IsSortedAbove first (filter test rest)
-      → IsSortedAbove low (cond passes (first ∷ filter test rest) (filter test rest))
-  with_first true rest_sorted = (sorted_above.0, rest_sorted)
-  with_first false rest_sorted =
-      let above_low : low < first = sorted_above.0 in sorted_above-weaker low first (filter test rest) (omega arith) rest_sorted
+sorted_above-filter test low (first ∷ rest) (first_above, rest_sorted) =
+    with_first (test first) (sorted_above-filter test first rest rest_sorted) where
+      -- the filtered list is sorted above `low`, where `passes` states whether the first address passes the test
+      with_first : (passes : Bool) → IsSortedAbove first (filter test rest)
+          → IsSortedAbove low (cond passes (first ∷ filter test rest) (filter test rest))
+      with_first true filtered_sorted = (first_above, filtered_sorted)
+      with_first false filtered_sorted = sorted_above-weaker low first (filter test rest) (omega (arith, first_above)) filtered_sorted
 
 -- a filtered sorted list is sorted
 pub sorted-filter : (test : ℕ → Bool) (addresses : List ℕ) → IsSorted addresses → IsSorted (filter test addresses)
@@ -266,19 +264,17 @@ find-none test (first ∷ rest) none_passes =
 find-above : (test : ℕ → Bool) (low : ℕ) (addresses : List ℕ) (found_address : ℕ) → IsSortedAbove low addresses
     → find test addresses ≡ Some found_address → low < found_address
 find-above test low [] found_address sorted_above found = cc
-find-above test low (first ∷ rest) found_address sorted_above found =
-    with_first (test first) found (find-above test first rest found_address sorted_above.1) where
+find-above test low (first ∷ rest) found_address (first_above, rest_sorted) found =
+    with_first (test first) found (find-above test first rest found_address rest_sorted) where
       -- the found address is above `low`, where `passes` states whether the first address passes the test
       with_first : (passes : Bool) → cond passes (Some first) (find test rest) ≡ Some found_address
           → (find test rest ≡ Some found_address → first < found_address) → low < found_address
       with_first true found_is rest_above =
           let first_is_found : first ≡ found_address = cc in
-          let first_above : low < first = sorted_above.0 in
-          omega arith
+          omega (arith, first_above)
       with_first false found_is rest_above =
-          let first_above : low < first = sorted_above.0 in
           let found_above_first : first < found_address = rest_above found_is in
-          omega arith
+          omega (arith, first_above)
 
 -- the lower of an address and of a higher found address is the address; `found` may be None
 lower-before : (address : ℕ) (found : Option ℕ) → ((found_address : ℕ) → found ≡ Some found_address → address < found_address)

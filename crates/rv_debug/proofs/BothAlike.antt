@@ -163,10 +163,10 @@ module _ (enclave : ℕ) where
       one_more_alike one other command (take ran commands) same_reply rest_alike
   done_more_alike one other command commands ran NotBlind same_reply rest_alike =
       one_more_alike one other command (take ran commands) same_reply rest_alike
-  done_more_alike one other command commands ran Entered same_reply rest_alike = (
-    suc rest_alike.0,
-    ap (λ (count : ℕ). suc count) rest_alike.1,
-    one_more_alike one other command (take rest_alike.0 commands) same_reply rest_alike.2,
+  done_more_alike one other command commands ran Entered same_reply (alike_count, ran_is, alike_commands) = (
+    suc alike_count,
+    ap (λ (count : ℕ). suc count) ran_is,
+    one_more_alike one other command (take alike_count commands) same_reply alike_commands,
   )
 
   -- a list whose first command enters the slot ends alike in both benches, with this command as its last

@@ -18,16 +18,16 @@ use Rattle.rv_debug.proofs.Prelude.{le-leb, leb-true, length-write, ltb-true, re
 hidden_write : (hidden : ℕ → Bool) (memory other_memory : List ℕ) (address byte : ℕ) (memory_after : List ℕ) → EqualOutside hidden memory other_memory
     → write memory address (byte ∷ []) ≡ Some memory_after → hidden address ≡ true → EqualOutside hidden memory_after other_memory
 hidden_write hidden memory other_memory address byte memory_after equiv poke_succeeds is_hidden =
-    let write_result = write-is memory address (byte ∷ []) memory_after poke_succeeds in
+    let (from_ram_base, to_ram_end, memory_after_is) = write-is memory address (byte ∷ []) memory_after poke_succeeds in
     let index = address - ram_base in
-    let within : index + 1 ≤ length memory = omega (arith, write_result.0, write_result.1) in
+    let within : index + 1 ≤ length memory = omega (arith, from_ram_base, to_ram_end) in
     record {
       size = length-write memory address (byte ∷ []) memory_after poke_succeeds ∙ equiv.size;
-      bytes = λ byte_index not_hidden. rw write_result.2 (elim (cases_lt byte_index index) [
+      bytes = λ byte_index not_hidden. rw memory_after_is (elim (cases_lt byte_index index) [
         | inl below_byte ↦ index-below memory index (byte ∷ []) byte_index within below_byte ∙ equiv.bytes byte_index not_hidden
         | inr not_below_byte ↦ elim (cases_lt byte_index (index + 1)) [
           | inl is_byte ↦
-              let byte_address : ram_base + byte_index ≡ address = omega (arith, write_result.0) in
+              let byte_address : ram_base + byte_index ≡ address = omega (arith, from_ram_base) in
               let contradiction : true ≡ false = sym is_hidden ∙ ap hidden (sym byte_address) ∙ not_hidden in cc
           | inr above_byte ↦ index-above memory index (byte ∷ []) byte_index within above_byte ∙ equiv.bytes byte_index not_hidden
         ]

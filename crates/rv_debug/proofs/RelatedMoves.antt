@@ -98,26 +98,29 @@ moved : (enclave shown_hart : ℕ) (moves : List Move) (one other : MonitoredMac
 moved enclave shown_hart [] one other one_ran other_ran invariant other_invariant related all_steps moves same_ran =
     record { state = related; ran = same_ran }
 -- a step of the enclave in the first machine
-moved enclave shown_hart (First hart ∷ rest_moves) one other one_ran other_ran invariant other_invariant related all_steps moves same_ran =
-    let next = (declassification_law enclave (First hart ∷ []) one other invariant other_invariant related (moves.0, tt)).state in
+moved enclave shown_hart (First hart ∷ rest_moves) one other one_ran other_ran
+    invariant other_invariant related all_steps (is_permitted, rest_permitted) same_ran =
+    let next = (declassification_law enclave (First hart ∷ []) one other invariant other_invariant related (is_permitted, tt)).state in
     let moved_rest =
     moved enclave shown_hart rest_moves (step_of hart one).state other (with_observed_step enclave shown_hart hart one one_ran) other_ran
-    (invariant_law hart one invariant) other_invariant next all_steps moves.1
-    (same_after_first enclave shown_hart hart one other one_ran other_ran related same_ran moves.0) in
+    (invariant_law hart one invariant) other_invariant next all_steps rest_permitted
+    (same_after_first enclave shown_hart hart one other one_ran other_ran related same_ran is_permitted) in
     record { state = moved_rest.state; ran = moved_rest.ran }
 -- a step of the enclave in the second machine
-moved enclave shown_hart (Second hart ∷ rest_moves) one other one_ran other_ran invariant other_invariant related all_steps moves same_ran =
-    let next = (declassification_law enclave (Second hart ∷ []) one other invariant other_invariant related (moves.0, tt)).state in
+moved enclave shown_hart (Second hart ∷ rest_moves) one other one_ran other_ran
+    invariant other_invariant related all_steps (is_permitted, rest_permitted) same_ran =
+    let next = (declassification_law enclave (Second hart ∷ []) one other invariant other_invariant related (is_permitted, tt)).state in
     let moved_rest =
     moved enclave shown_hart rest_moves one (step_of hart other).state one_ran (with_observed_step enclave shown_hart hart other other_ran) invariant
-    (invariant_law hart other other_invariant) next all_steps moves.1
-    (same_after_second enclave shown_hart hart one other one_ran other_ran related same_ran moves.0) in
+    (invariant_law hart other other_invariant) next all_steps rest_permitted
+    (same_after_second enclave shown_hart hart one other one_ran other_ran related same_ran is_permitted) in
     record { state = moved_rest.state; ran = moved_rest.ran }
 moved enclave shown_hart
     (Both (LineOf hart raised) ∷ rest_moves) one other one_ran other_ran invariant other_invariant related all_steps moves same_ran = cc
 -- a step of both machines is a low step, or an exit of the enclave from both
-moved enclave shown_hart (Both (StepOf hart) ∷ rest_moves) one other one_ran other_ran invariant other_invariant related all_steps moves same_ran =
-    let alike = declassification_law enclave (Both (StepOf hart) ∷ []) one other invariant other_invariant related (moves.0, tt) in
+moved enclave shown_hart (Both (StepOf hart) ∷ rest_moves) one other one_ran other_ran
+    invariant other_invariant related all_steps (is_permitted, rest_permitted) same_ran =
+    let alike = declassification_law enclave (Both (StepOf hart) ∷ []) one other invariant other_invariant related (is_permitted, tt) in
     let same_after : IsLowStep enclave hart one other ⊎ ExitsAlike enclave hart one other
     → SameUnlessOnHart enclave shown_hart (step_of hart one).state (with_observed_step enclave shown_hart hart one one_ran)
     (with_observed_step enclave shown_hart hart other other_ran) =
@@ -129,7 +132,8 @@ moved enclave shown_hart (Both (StepOf hart) ∷ rest_moves) one other one_ran o
     let moved_rest =
     moved enclave shown_hart rest_moves (step_of hart one).state (step_of hart other).state (with_observed_step enclave shown_hart hart one one_ran)
     (with_observed_step enclave shown_hart hart other other_ran)
-    (invariant_law hart one invariant) (invariant_law hart other other_invariant) alike.state all_steps moves.1 (same_after moves.0) in
+    (invariant_law hart one invariant) (invariant_law hart other other_invariant) alike.state all_steps rest_permitted
+    (same_after is_permitted) in
     record { state = moved_rest.state; ran = moved_rest.ran }
 
 -- steps of two commands that are moves leave related machines and equal observations
