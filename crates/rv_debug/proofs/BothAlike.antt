@@ -28,7 +28,7 @@ module _ (enclave : ℕ) where
       ⊎ ((is_blind enclave one command ≡ true) × (both_execute enclave one other command ≡ both_done one other command))
   unfolding both_execute
   executed_or_stopped one other command = elim (cases_Bool (is_blind enclave one command && is_blind enclave other command)) [
-    | inl both_blind ↦ inr ((and_parts _ _ both_blind).0, rw both_blind refl)
+    | inl both_blind ↦ let (blind, _) = and_parts _ _ both_blind in inr (blind, rw both_blind refl)
     | inr not_both ↦ inl (not_both, rw not_both refl)
   ]
 
@@ -206,11 +206,12 @@ module _ (enclave : ℕ) where
             (sym (run_with_first_command one other command commands (both_done one other command) All both_execute_is
             (reason_of_entries one other command false false one_does_not_enter other_does_not_enter)))
             (λ avoids_hart.
-            let alike = noninterference enclave one other command invariant other_invariant equiv blind avoids_hart.0 in
+            let (command_avoids_hart, rest_avoids_hart) = avoids_hart in
+            let alike = noninterference enclave one other command invariant other_invariant equiv blind command_avoids_hart in
             let passed = alike.passed one_does_not_enter in
             done_more_alike one other command commands rest_ran.ran rest_ran.why passed.reply
             (run_alike (execute one command).state (execute other command).state commands (command_keeps_invariant one command invariant)
-            (command_keeps_invariant other command other_invariant) passed.state.but (avoids_hart.1 one_does_not_enter)))
+            (command_keeps_invariant other command other_invariant) passed.state.but (rest_avoids_hart one_does_not_enter)))
       ]
     ]
   ]

@@ -121,20 +121,20 @@ low_schedule : (enclave : ℕ) (harts : List ℕ) (one other : Selected) (summar
     → AreLowMoves enclave harts one.state other.state
 unfolding scheduled_steps
 low_schedule enclave [] one other summary invariant other_invariant equiv runs_on_none not_entered = no_moves enclave one.state other.state equiv
-low_schedule enclave (hart ∷ harts) one other summary invariant other_invariant equiv runs_on_none not_entered =
+low_schedule enclave (hart ∷ harts) one other summary invariant other_invariant equiv (not_on_hart, on_none_of_rest) not_entered =
     let step_of_one = step_of hart one.state in
     let step_of_other = step_of hart other.state in
-    let alike_after = guest_step_equiv enclave hart one.state other.state invariant other_invariant equiv runs_on_none.0 in
+    let alike_after = guest_step_equiv enclave hart one.state other.state invariant other_invariant equiv not_on_hart in
     elim (cases_Bool (enters enclave step_of_one.outcome.entered)) [
       -- the step enters the enclave: the schedule then enters it too, against the premise
       | inl enters_slot ↦ absurd (both_ways _ not_entered
           (schedule_enters enclave hart harts summary step_of_one.state step_of_one.outcome
           (entered_some enclave step_of_one.outcome.entered enters_slot)))
       -- the step does not enter the enclave: the remaining steps are low moves by induction
-      | inr does_not_enter ↦ one_more_move enclave hart harts one.state other.state invariant equiv runs_on_none.0
+      | inr does_not_enter ↦ one_more_move enclave hart harts one.state other.state invariant equiv not_on_hart
           (low_schedule enclave harts (record { hart = hart; state = step_of_one.state }) (record { hart = hart; state = step_of_other.state }) _
           (invariant_law hart one.state invariant) (invariant_law hart other.state other_invariant) alike_after.state
-          (runs_on_none_after enclave hart harts one.state does_not_enter runs_on_none.1) not_entered)
+          (runs_on_none_after enclave hart harts one.state does_not_enter on_none_of_rest) not_entered)
     ]
 
 -- ---- runs
