@@ -150,34 +150,36 @@ lines_keep_legal bench (line ∷ lines) invariant legal =
 -- ---- the host's influence
 
 -- The law of commands about the host's influence holds for the rests of two scripts: lines have the effect of their commands.
-rests_same : (i j : ℕ) (first second : BenchState) (lines others : List (List ℕ)) → TargetInvariant first.target → TargetInvariant second.target
-    → IsLegalTarget first.target → IsLegalTarget second.target → RestsAreSame i j first second lines others
-rests_same i j first second lines others first_invariant second_invariant first_legal second_legal =
+rests_same : (slot other_slot : ℕ) (first second : BenchState) (lines others : List (List ℕ)) → TargetInvariant first.target
+    → TargetInvariant second.target
+    → IsLegalTarget first.target → IsLegalTarget second.target → RestsAreSame slot other_slot first second lines others
+rests_same slot other_slot first second lines others first_invariant second_invariant first_legal second_legal =
     -- the law for the two benches in which the scripts end
     let Law : BenchState → BenchState → Type 0 = λ first_end second_end.
     IfSome (machine_in first.target) (λ one. IfSome (machine_in second.target) (λ other.
-    (life : IsSameLife i j first second (commands_of lines) (commands_of others) one other)
-    → HasSameLife i j life.moves one other first_end.target second_end.target)) in
+    (life : IsSameLife slot other_slot first second (commands_of lines) (commands_of others) one other)
+    → HasSameLife slot other_slot life.moves one other first_end.target second_end.target)) in
     subst (λ (end : BenchState). Law end (state_after bench_line second others)) (sym (lines_are_commands first lines))
     (subst (Law (after_commands first (commands_of lines))) (sym (lines_are_commands second others))
-    (host_influence.same i j first second (commands_of lines) (commands_of others) first_invariant second_invariant first_legal second_legal))
+    (host_influence.same slot other_slot first second (commands_of lines)
+    (commands_of others) first_invariant second_invariant first_legal second_legal))
 
 -- proves the law of influence for scripts, for enclave i of the first script and enclave j of the second, by the law for commands
 pub script_influence : ScriptInfluenceLaw
-script_influence i j image image_too setup setup_too before before_too lines others =
-    by_starts (started image setup) (started image_too setup_too) (started_invariant image setup) (started_invariant image_too setup_too)
-    (started_legal image setup) (started_legal image_too setup_too) where
+script_influence slot other_slot image other_image setup other_setup before other_before lines others =
+    by_starts (started image setup) (started other_image other_setup) (started_invariant image setup) (started_invariant other_image other_setup)
+    (started_legal image setup) (started_legal other_image other_setup) where
       -- the law holds for the two starts a and b, which are benches or errors
       by_starts : (a b : Result BenchState BenchFault)
           → StartInvariant a → StartInvariant b → IfOk a (λ start. IsLegalTarget start.target) → IfOk b (λ start. IsLegalTarget start.target)
           → IfOk a (λ first. IfOk b (λ second.
-          RestsAreSame i j (state_after bench_line first before) (state_after bench_line second before_too) lines others))
+          RestsAreSame slot other_slot (state_after bench_line first before) (state_after bench_line second other_before) lines others))
       by_starts (Err fault) b first_invariant second_invariant first_legal second_legal = tt
       by_starts (Ok first) (Err fault) first_invariant second_invariant first_legal second_legal = tt
       by_starts (Ok first) (Ok second) first_invariant second_invariant first_legal second_legal =
-          rests_same i j (state_after bench_line first before) (state_after bench_line second before_too) lines others
-          (lines_keep_invariant first before first_invariant) (lines_keep_invariant second before_too second_invariant)
-          (lines_keep_legal first before first_invariant first_legal) (lines_keep_legal second before_too second_invariant second_legal)
+          rests_same slot other_slot (state_after bench_line first before) (state_after bench_line second other_before) lines others
+          (lines_keep_invariant first before first_invariant) (lines_keep_invariant second other_before second_invariant)
+          (lines_keep_legal first before first_invariant first_legal) (lines_keep_legal second other_before second_invariant second_legal)
 
 -- ---- events
 

@@ -204,7 +204,7 @@ module _ (enclave : ℕ) where
   secret_avoids_hart : (bench : BenchState) (secret another rest : List (List ℕ)) → TargetInvariant bench.target
       → AreSecret enclave bench secret another rest
       → EachLineAvoidsHart enclave bench secret × LinesAvoidHart enclave (state_after bench_line bench secret) rest
-  secret_avoids_hart bench secret another rest invariant are_secret = elim are_secret.by [
+  secret_avoids_hart bench secret another rest invariant are_secret = elim are_secret.hart_avoided [
     | inl is_scramblable ↦
         let not_running = scrambled_on_no_hart enclave bench.target invariant is_scramblable in
         let stays = pokes_leave_on_no_hart bench bench secret another invariant not_running are_secret.pokes in

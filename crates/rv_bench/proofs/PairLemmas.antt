@@ -62,28 +62,30 @@ same_state_after_entry slot pair (line ∷ lines) is_entered =
 -- ---- a script
 
 -- The text of a script whose first `lines` entered the slot is the replies to these lines: `others` have no replies, and there is no last line.
-pub entered_script : (slot : ℕ) (start now : Pair) (lines others : List (List ℕ)) (unread : List ℕ) → now ≡ state_after (pair_line slot) start lines
-    → now.entered ≡ true → lines_of unread ≡ lines ++ others → script_text slot start (lines_of unread) ≡ replies (pair_line slot) start lines
-entered_script slot start now lines others unread now_is now_entered unread_lines =
-    let mid = state_after (pair_line slot) start lines in
+pub entered_script : (slot : ℕ) (start pair_now : Pair) (lines others : List (List ℕ)) (unread : List ℕ)
+    → pair_now ≡ state_after (pair_line slot) start lines
+    → pair_now.entered ≡ true → lines_of unread ≡ lines ++ others → script_text slot start (lines_of unread) ≡ replies (pair_line slot) start lines
+entered_script slot start pair_now lines others unread pair_is pair_entered unread_lines =
+    let pair_between = state_after (pair_line slot) start lines in
     let first_replies = replies (pair_line slot) start lines in
-    let is_entered : mid.entered ≡ true = ap (λ (pair : Pair). pair.entered) (sym now_is) ∙ now_entered in
+    let is_entered : pair_between.entered ≡ true = ap (λ (pair : Pair). pair.entered) (sym pair_is) ∙ pair_entered in
     let replies_are : replies (pair_line slot) start (lines ++ others) ≡ first_replies =
     replies-append (pair_line slot) start lines others
-    ∙ (ap (λ text. first_replies ++ text) (no_replies_after_entry slot mid others is_entered) ∙ append-nil first_replies) in
+    ∙ (ap (λ text. first_replies ++ text) (no_replies_after_entry slot pair_between others is_entered) ∙ append-nil first_replies) in
     let no_last_text : last_text (state_after (pair_line slot) start (lines ++ others)) ≡ [] =
-    ap last_text (state_after-append (pair_line slot) start lines others ∙ same_state_after_entry slot mid others is_entered)
-    ∙ ap (λ entered. cond entered [] (end_text mid.ran)) is_entered in
+    ap last_text (state_after-append (pair_line slot) start lines others ∙ same_state_after_entry slot pair_between others is_entered)
+    ∙ ap (λ entered. cond entered [] (end_text pair_between.ran)) is_entered in
     ap (script_text slot start) unread_lines
     ∙ (ap (λ text. text ++ last_text (state_after (pair_line slot) start (lines ++ others))) replies_are
     ∙ (ap (λ text. first_replies ++ text) no_last_text ∙ append-nil first_replies))
 
 -- the written bytes after a line that entered the slot are the whole text of the script
-pub entered_all : (slot : ℕ) (start now : Pair) (unread left : List ℕ) (is_at_end : Bool) (lines : List (List ℕ)) (old new : List ℕ)
-    → ReadsLines unread left is_at_end lines → now ≡ state_after (pair_line slot) start lines → now.entered ≡ true
+pub entered_all : (slot : ℕ) (start pair_now : Pair) (unread left : List ℕ) (is_at_end : Bool) (lines : List (List ℕ)) (old new : List ℕ)
+    → ReadsLines unread left is_at_end lines → pair_now ≡ state_after (pair_line slot) start lines → pair_now.entered ≡ true
     → new ≡ old ++ replies (pair_line slot) start lines → new ≡ old ++ script_text slot start (lines_of unread)
-entered_all slot start now unread left is_at_end lines old new reads now_is now_entered wrote_replies =
-    wrote_replies ∙ ap (λ text. old ++ text) (sym (entered_script slot start now lines (lines_of left) unread now_is now_entered reads.all))
+entered_all slot start pair_now unread left is_at_end lines old new reads pair_is pair_entered wrote_replies =
+    wrote_replies ∙ ap (λ text. old ++ text)
+    (sym (entered_script slot start pair_now lines (lines_of left) unread pair_is pair_entered reads.all_lines))
 
 -- ---- the written bytes
 
@@ -93,12 +95,13 @@ prefix_more old new text more (unwritten, (prefix, wrote_prefix, text_is)) =
     (unwritten ++ more, (prefix, wrote_prefix, ap (λ start. start ++ more) text_is ∙ append_assoc prefix unwritten more))
 
 -- a prefix of a text, after another text that is written, is a prefix of both texts
-pub prefix_after : (old mid new text more : List ℕ) → mid ≡ old ++ text → WritesPrefix mid new more → WritesPrefix old new (text ++ more)
-prefix_after old mid new text more mid_is (unwritten, (prefix, wrote_prefix, more_is)) = (
+pub prefix_after : (old written_so_far new text more : List ℕ) → written_so_far ≡ old ++ text → WritesPrefix written_so_far new more
+    → WritesPrefix old new (text ++ more)
+prefix_after old written_so_far new text more written_so_far_is (unwritten, (prefix, wrote_prefix, more_is)) = (
   unwritten,
   (
     text ++ prefix,
-    wrote_prefix ∙ (ap (λ taken. taken ++ prefix) mid_is ∙ append_assoc old text prefix),
+    wrote_prefix ∙ (ap (λ taken. taken ++ prefix) written_so_far_is ∙ append_assoc old text prefix),
     ap (λ rest. text ++ rest) more_is ∙ sym (append_assoc text prefix unwritten),
   ),
 )
@@ -113,23 +116,25 @@ prefix_none old new (unwritten, ([], wrote_prefix, empty_is)) = wrote_prefix ∙
 prefix_none old new (unwritten, (byte ∷ prefix, wrote_prefix, empty_is)) = cc
 
 -- the last text, which reports the end, is written after the replies to all lines of the script
-module _ (slot : ℕ) (start now : Pair) (lines : List (List ℕ)) (old mid last : List ℕ) (now_is : now ≡ state_after (pair_line slot) start lines)
-    (wrote_replies : mid ≡ old ++ replies (pair_line slot) start lines) (last_reports : last ≡ last_text now) where
+module _ (slot : ℕ) (start pair_now : Pair) (lines : List (List ℕ)) (old written_so_far last : List ℕ) (pair_is : pair_now
+    ≡ state_after (pair_line slot) start lines)
+    (wrote_replies : written_so_far ≡ old ++ replies (pair_line slot) start lines) (last_reports : last ≡ last_text pair_now) where
   -- the last text is that of the pair after all lines
   last_is : last ≡ last_text (state_after (pair_line slot) start lines)
-  last_is = last_reports ∙ ap last_text now_is
+  last_is = last_reports ∙ ap last_text pair_is
 
   -- the replies to all lines and the last text are the output of the script
-  pub ended_all : mid ++ last ≡ old ++ script_text slot start lines
+  pub ended_all : written_so_far ++ last ≡ old ++ script_text slot start lines
   ended_all = ap₂ (λ (taken last : List ℕ). taken ++ last) wrote_replies last_is
       ∙ append_assoc old (replies (pair_line slot) start lines) (last_text (state_after (pair_line slot) start lines))
 
   -- a sink that fails in the last text has a prefix of the output of the script
-  pub ended_prefix : (new : List ℕ) → WritesPrefix mid new last → WritesPrefix old new (script_text slot start lines)
+  pub ended_prefix : (new : List ℕ) → WritesPrefix written_so_far new last → WritesPrefix old new (script_text slot start lines)
   ended_prefix new wrote_prefix =
-      prefix_after old mid new (replies (pair_line slot) start lines) _ wrote_replies (subst (WritesPrefix mid new) last_is wrote_prefix)
+      prefix_after old written_so_far new (replies (pair_line slot) start lines) _ wrote_replies
+      (subst (WritesPrefix written_so_far new) last_is wrote_prefix)
 
 -- the second script ends at the end of the input, which the source has reported
-pub at_input_end : {S : Type 0} {g : Ghosts S} {mid new : Lines S g} → FindsEnd Input mid new → IsAtEnd mid new
+pub at_input_end : {S : Type 0} {g : Ghosts S} {old new : Lines S g} → FindsEnd Input old new → IsAtEnd old new
 at_input_end (inl at_end) = at_end
 at_input_end (inr reads) = absurd (false≢true reads.ends)

@@ -52,14 +52,14 @@ whole_tail : (x : ℕ) (xs : List ℕ) → through_last_feed (x ∷ xs) ≡ x �
 whole_tail x xs = by_feed (nat_eq x line_feed || has_feed xs) where
   -- the same claim by cases on `feeds`, which states whether the text has a line feed
   by_feed : (feeds : Bool) → cond feeds (x ∷ through_last_feed xs) [] ≡ x ∷ xs → (feeds ≡ true) × (through_last_feed xs ≡ xs)
-  by_feed true whole = (refl, ap (drop 1) whole)
-  by_feed false whole = cc
+  by_feed true whole_lines = (refl, ap (drop 1) whole_lines)
+  by_feed false whole_lines = cc
 
 -- the text after the first line of a text of whole lines consists of whole lines
 after_line-whole : (xs : List ℕ) → through_last_feed xs ≡ xs → through_last_feed (after_line xs) ≡ after_line xs
-after_line-whole [] whole = refl
-after_line-whole (x ∷ xs) whole =
-    let tail_whole = (whole_tail x xs whole).1 in by_feed (nat_eq x line_feed) tail_whole (after_line-whole xs tail_whole) where
+after_line-whole [] whole_lines = refl
+after_line-whole (x ∷ xs) whole_lines =
+    let tail_whole = (whole_tail x xs whole_lines).1 in by_feed (nat_eq x line_feed) tail_whole (after_line-whole xs tail_whole) where
       -- the same claim by cases: x is the line feed of the first line, or the first line ends later
       by_feed : (is_feed : Bool) → through_last_feed xs ≡ xs → through_last_feed (after_line xs) ≡ after_line xs
           → through_last_feed (cond is_feed xs (after_line xs)) ≡ cond is_feed xs (after_line xs)
@@ -78,13 +78,13 @@ after_line-append (x ∷ xs) ys feeds = by_feed (nat_eq x line_feed) feeds (afte
 
 -- a text of whole lines that has more than n lines has a line feed
 has_feed_if_has_lines : (xs : List ℕ) (n : ℕ) → through_last_feed xs ≡ xs → n + 1 ≤ length (lines_of xs) → has_feed xs ≡ true
-has_feed_if_has_lines [] n whole enough_lines = absurd (omega (arith, enough_lines))
-has_feed_if_has_lines (x ∷ xs) n whole enough_lines = (whole_tail x xs whole).0
+has_feed_if_has_lines [] n whole_lines enough_lines = absurd (omega (arith, enough_lines))
+has_feed_if_has_lines (x ∷ xs) n whole_lines enough_lines = (whole_tail x xs whole_lines).0
 
 -- the text after the first n lines of a text of whole lines consists of whole lines, by induction over n
 after_lines-whole : (n : ℕ) (xs : List ℕ) → through_last_feed xs ≡ xs → through_last_feed (after_lines n xs) ≡ after_lines n xs
-after_lines-whole zero xs whole = whole
-after_lines-whole (suc n) xs whole = after_lines-whole n (after_line xs) (after_line-whole xs whole)
+after_lines-whole zero xs whole_lines = whole_lines
+after_lines-whole (suc n) xs whole_lines = after_lines-whole n (after_line xs) (after_line-whole xs whole_lines)
 
 -- without its first element, a list with more than n elements has at least n
 enough_after_first : (lines : List (List ℕ)) (n : ℕ) → suc n ≤ length lines → n ≤ length (drop 1 lines)
@@ -94,20 +94,21 @@ enough_after_first (line ∷ lines) n enough_lines = omega (arith, enough_lines)
 -- a text that is appended to a text of at least n whole lines is appended to the text after these n lines, by induction over n
 after_lines-append : (n : ℕ) (xs ys : List ℕ) → through_last_feed xs ≡ xs → n ≤ length (lines_of xs)
     → after_lines n (xs ++ ys) ≡ after_lines n xs ++ ys
-after_lines-append zero xs ys whole enough_lines = refl
-after_lines-append (suc n) xs ys whole enough_lines =
-    let feeds = has_feed_if_has_lines xs n whole (omega (arith, enough_lines)) in
+after_lines-append zero xs ys whole_lines enough_lines = refl
+after_lines-append (suc n) xs ys whole_lines enough_lines =
+    let feeds = has_feed_if_has_lines xs n whole_lines (omega (arith, enough_lines)) in
     let enough_left =
     subst (λ (lines : List (List ℕ)). n ≤ length lines) (sym (lines_of-after_lines 1 xs)) (enough_after_first (lines_of xs) n enough_lines) in
-    ap (after_lines n) (after_line-append xs ys feeds) ∙ after_lines-append n (after_line xs) ys (after_line-whole xs whole) enough_left
+    ap (after_lines n) (after_line-append xs ys feeds) ∙ after_lines-append n (after_line xs) ys (after_line-whole xs whole_lines) enough_left
 
 -- ---- an input
 
 -- an input begins with a prefix of whole lines that has a separator
-module _ (prefix : List ℕ) (whole : through_last_feed prefix ≡ prefix) (separated : has_separator prefix ≡ true) where
+module _ (prefix : List ℕ) (whole_lines : through_last_feed prefix ≡ prefix) (separated : has_separator prefix ≡ true) where
   -- the lines before the separator depend on the prefix only
   same_before : (rest : List ℕ) → before_separator (lines_of (prefix ++ rest)) ≡ before_separator (lines_of prefix)
-  same_before rest = ap before_separator (lines_of-append prefix rest whole) ∙ before-append is_separator (lines_of prefix) (lines_of rest) separated
+  same_before rest = ap before_separator (lines_of-append prefix rest whole_lines)
+      ∙ before-append is_separator (lines_of prefix) (lines_of rest) separated
 
   -- the bench that an input starts depends only on the lines through the separator
   pub bench_in-prefix : (setup : Setup) (rest : List ℕ) → bench_in setup (prefix ++ rest) ≡ bench_in setup prefix
@@ -117,11 +118,11 @@ module _ (prefix : List ℕ) (whole : through_last_feed prefix ≡ prefix) (sepa
   pub after_separator-prefix : (rest : List ℕ) → after_separator (prefix ++ rest) ≡ after_separator prefix ++ rest
   after_separator-prefix rest =
       ap (λ (lines : List (List ℕ)). after_lines (length lines + 1) (prefix ++ rest)) (same_before rest)
-      ∙ after_lines-append (length (before_separator (lines_of prefix)) + 1) prefix rest whole
+      ∙ after_lines-append (length (before_separator (lines_of prefix)) + 1) prefix rest whole_lines
       (before-shorter is_separator (lines_of prefix) separated)
 
   -- the lines of the script are the lines of the prefix after its separator, followed by the lines of the rest
   pub script_lines-prefix : (rest : List ℕ) → lines_of (after_separator (prefix ++ rest)) ≡ lines_of (after_separator prefix) ++ lines_of rest
   script_lines-prefix rest =
       ap lines_of (after_separator-prefix rest)
-      ∙ lines_of-append (after_separator prefix) rest (after_lines-whole (length (before_separator (lines_of prefix)) + 1) prefix whole)
+      ∙ lines_of-append (after_separator prefix) rest (after_lines-whole (length (before_separator (lines_of prefix)) + 1) prefix whole_lines)

@@ -72,7 +72,7 @@ keys_are_secret bench enclave = record {
     (inr (refl, comment_avoids_enclave _), tt),
   );
   passes = λ live. (enclaves_avoids_enclave _, λ live. (regs_avoids_enclave _, tt));
-  by = inl enclave.idle;
+  hart_avoided = inl enclave.idle;
 }
 
 -- the keys are secrets after any lines before them

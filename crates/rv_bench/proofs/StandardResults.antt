@@ -16,40 +16,42 @@ use Rattle.rv_bench.specs.ProgramOutput.{MeansGiven, ProgramOutput, RunsProgram,
 use Rattle.rv_bench.specs.Standard.{Gave, Passed, RunsOverStreams}
 
 -- The counts of a sink that was not called before are those of the log, and so are its bytes once it is flushed.
-pub record LogsSink {W : Type 0} (h : SinkGhosts W) (before after : W) (log : CallLog) : Type 0 where
+pub record LogsSink {W : Type 0} (sink_view : SinkGhosts W) (before after : W) (log : CallLog) : Type 0 where
   -- before the first call, the sink has taken no byte, and no call has failed, taken no byte, or flushed
-  pub none_taken : h.taken before ≡ []
-  pub none_failed : h.failures before ≡ 0
-  pub none_refused : h.refusals before ≡ 0
-  pub none_flushed : h.flushes before ≡ 0
+  pub none_taken : sink_view.taken before ≡ []
+  pub none_failed : sink_view.failures before ≡ 0
+  pub none_refused : sink_view.refusals before ≡ 0
+  pub none_flushed : sink_view.flushes before ≡ 0
   -- after the last call, the sink and the log agree
-  pub taken : h.is_flushed after ≡ true → h.taken after ≡ log.bytes
-  pub flushed : h.is_flushed after ≡ true → log.is_flushed ≡ true
-  pub failures : h.failures after + h.refusals after ≡ log.failures + log.empty_calls
-  pub flushes : h.flushes after ≡ log.flushes
+  pub taken : sink_view.is_flushed after ≡ true → sink_view.taken after ≡ log.bytes
+  pub flushed : sink_view.is_flushed after ≡ true → log.is_flushed ≡ true
+  pub failures : sink_view.failures after + sink_view.refusals after ≡ log.failures + log.empty_calls
+  pub flushes : sink_view.flushes after ≡ log.flushes
 
 -- the ghost values of a sink that buffers bytes for another sink; such a sink refuses no call
-abbrev buffered_ghosts : {W : Type 0} (h : SinkGhosts W) → SinkGhosts (BufferedSink W h)
-buffered_ghosts h = record {
-  taken = taken_of h;
-  is_flushed = is_flushed_of h;
-  flushes = λ buffered. h.flushes buffered.sink;
+abbrev buffered_ghosts : {W : Type 0} (sink_view : SinkGhosts W) → SinkGhosts (BufferedSink W sink_view)
+buffered_ghosts sink_view = record {
+  taken = taken_of sink_view;
+  is_flushed = is_flushed_of sink_view;
+  flushes = λ buffered. sink_view.flushes buffered.sink;
   refusals = λ buffered. 0;
-  failures = failures_of h;
+  failures = failures_of sink_view;
 }
 
 -- a sink that buffers bytes for another sink with a log has the counts of this log
-pub buffered_logs : {W : Type 0} (h : SinkGhosts W) (before after : BufferedSink W h) (log : CallLog)
-    → taken_of h before ≡ [] → failures_of h before ≡ 0 → h.flushes before.sink ≡ 0
-    → h.taken after.sink ≡ log.bytes → h.is_flushed after.sink ≡ log.is_flushed → failures_of h after ≡ log.failures + log.empty_calls
-    → h.flushes after.sink ≡ log.flushes → LogsSink (buffered_ghosts h) before after log
-buffered_logs h before after log none_taken none_failed none_flushed same_bytes same_flushed same_failures same_flushes = record {
+pub buffered_logs : {W : Type 0} (sink_view : SinkGhosts W) (before after : BufferedSink W sink_view) (log : CallLog)
+    → taken_of sink_view before ≡ [] → failures_of sink_view before ≡ 0 → sink_view.flushes before.sink ≡ 0
+    → sink_view.taken after.sink ≡ log.bytes → sink_view.is_flushed after.sink ≡ log.is_flushed
+    → failures_of sink_view after ≡ log.failures + log.empty_calls
+    → sink_view.flushes after.sink ≡ log.flushes → LogsSink (buffered_ghosts sink_view) before after log
+buffered_logs sink_view before after log none_taken none_failed none_flushed same_bytes same_flushed same_failures same_flushes = record {
   none_taken = none_taken;
   none_failed = none_failed;
   none_refused = refl;
   none_flushed = none_flushed;
-  taken = λ is_flushed. all_passed (h.taken after.sink) after.buffer (h.is_flushed after.sink) after.start after.end is_flushed ∙ same_bytes;
-  flushed = λ is_flushed. sym same_flushed ∙ flushed_too (h.is_flushed after.sink) _ is_flushed;
+  taken = λ is_flushed. all_passed (sink_view.taken after.sink) after.buffer (sink_view.is_flushed after.sink) after.start after.end is_flushed
+      ∙ same_bytes;
+  flushed = λ is_flushed. sym same_flushed ∙ flushed_too (sink_view.is_flushed after.sink) _ is_flushed;
   failures = omega (arith, same_failures);
   flushes = same_flushes;
 }
@@ -59,10 +61,10 @@ one_is_positive : (m n : ℕ) → 0 < m + n → (0 < m) ⊎ (0 < n)
 one_is_positive zero n sum_positive = inr (omega (arith, sum_positive))
 one_is_positive (suc m) n sum_positive = inl (omega arith)
 
-module _ {S W : Type 0} (g : SourceGhosts S) (h : SinkGhosts W) (source left : S) (before after : W) (writer : CallLog)
-    (logs : LogsSink h before after writer) where
+module _ {S W : Type 0} (source_view : SourceGhosts S) (sink_view : SinkGhosts W) (source left : S) (before after : W) (writer : CallLog)
+    (logs : LogsSink sink_view before after writer) where
   -- if the sink was written and flushed without an error, standard output got exactly this output of the program
-  passed : (output : ProgramOutput) (status : ℕ) → Writes g h source left before after output status → Passed writer output status
+  passed : (output : ProgramOutput) (status : ℕ) → Writes source_view sink_view source left before after output status → Passed writer output status
   passed output status writes = let worked = writes.sink.worked in record {
     bytes = sym (logs.taken writes.sink.flushed) ∙ (writes.written ∙ ap (λ taken. taken ++ output.text) logs.none_taken);
     failures = omega (arith, logs.failures, worked.0, worked.1, logs.none_failed, logs.none_refused);
@@ -73,36 +75,39 @@ module _ {S W : Type 0} (g : SourceGhosts S) (h : SinkGhosts W) (source left : S
   }
 
   -- standard output got the output for the arguments, or another output if memory ran out
-  outputs : (read : Result Job WordsFault) (input : List ℕ) (status : ℕ) → WritesOutput g h source left before after read input status
-      → Passed writer (program_output read input) status
-      ⊎ ((output : ProgramOutput) × StopsOutOfMemory read input output × Passed writer output status)
-  outputs read input status (inl writes) = inl (passed (program_output read input) status writes)
-  outputs read input status (inr (output, stops, writes)) = inr (output, stops, passed output status writes)
+  outputs : (meaning : Result Job WordsFault) (input : List ℕ) (status : ℕ)
+      → WritesOutput source_view sink_view source left before after meaning input status
+      → Passed writer (program_output meaning input) status
+      ⊎ ((output : ProgramOutput) × StopsOutOfMemory meaning input output × Passed writer output status)
+  outputs meaning input status (inl writes) = inl (passed (program_output meaning input) status writes)
+  outputs meaning input status (inr (output, stops, writes)) = inr (output, stops, passed output status writes)
 
   -- a failure of the sink is a failure of standard output, or a call that took no byte
-  sink_failed : SinkFailed h before after → (0 < writer.failures) ⊎ (0 < writer.empty_calls)
+  sink_failed : SinkFailed sink_view before after → (0 < writer.failures) ⊎ (0 < writer.empty_calls)
   sink_failed (inl failures_rose) = one_is_positive writer.failures writer.empty_calls (omega (arith, failures_rose, logs.failures))
   sink_failed (inr refusals_rose) = one_is_positive writer.failures writer.empty_calls (omega (arith, refusals_rose, logs.failures))
 
   -- for refused arguments, no byte of the input was read
-  read_nothing : (read : Result Job WordsFault) (Nothing : Type 0) → (left ≡ source → Nothing) → OnErr read (left ≡ source) → OnErr read Nothing
+  read_nothing : (meaning : Result Job WordsFault) (Nothing : Type 0) → (left ≡ source → Nothing) → OnErr meaning (left ≡ source)
+      → OnErr meaning Nothing
   read_nothing (Ok job) Nothing if_untouched untouched = tt
   read_nothing (Err fault) Nothing if_untouched untouched = if_untouched untouched
 
   -- the program over standard input and output has its specified result, whether its arguments are read or refused
   pub runs_over : (given : Result (List Text) WordsFault) (input : List ℕ) (reader : CallLog) (status : ℕ)
-      → (g.input left ≡ g.input source → Gave reader input → g.follows_input left)
-      → g.remaining source ≡ input → g.failures source ≡ 0 → g.failures left ≡ reader.failures
+      → (source_view.input left ≡ source_view.input source → Gave reader input → source_view.follows_input left)
+      → source_view.remaining source ≡ input → source_view.failures source ≡ 0 → source_view.failures left ≡ reader.failures
       → (left ≡ source → reader ≡ no_call input)
-      → RunsProgram g h source left before after (MeansGiven given) status → RunsOverStreams given input reader writer status
+      → RunsProgram source_view sink_view source left before after (MeansGiven given) status → RunsOverStreams given input reader writer status
   runs_over given input reader status follows_if_gave input_is none_failed same_failures no_call_if_untouched runs = record {
-    read = runs.read;
-    means = runs.means;
-    untouched = read_nothing runs.read (reader ≡ no_call input) no_call_if_untouched runs.untouched;
-    writes = λ gave. elim (runs.writes (follows_if_gave runs.same gave)) [
+    meaning = runs.meaning;
+    is_meaning = runs.is_meaning;
+    untouched = read_nothing runs.meaning (reader ≡ no_call input) no_call_if_untouched runs.untouched;
+    writes = λ gave. elim (runs.writes (follows_if_gave runs.same_input gave)) [
       | inl writes ↦
-          let writes_for_input = subst (λ input. WritesOutput g h source left before after runs.read input status) input_is writes in
-          inl (outputs runs.read input status writes_for_input)
+          let writes_for_input = subst
+          (λ input. WritesOutput source_view sink_view source left before after runs.meaning input status) input_is writes in
+          inl (outputs runs.meaning input status writes_for_input)
       | inr (inl source_failed, status_is) ↦
           let reader_failed : 0 < reader.failures = omega (arith, source_failed, none_failed, same_failures) in inr (inl reader_failed, status_is)
       | inr (inr failed, status_is) ↦ inr (inr (sink_failed failed), status_is)

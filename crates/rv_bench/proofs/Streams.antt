@@ -31,85 +31,94 @@ ok_and : {A E : Type 0} (result : Result A E) (P : A → Type 0) → IsOkAnd res
 ok_and (Ok x) P holds = (x, refl, holds)
 ok_and (Err e) P impossible = absurd impossible
 
--- The image was read from the lines `old` through the separator, which leaves the lines `mid`. The script is read from there, which leaves `new`.
-module _ {S W : Type 0} {g : SourceGhosts S} (h : SinkGhosts W) (setup : Setup) (image : List ℕ) (old mid new : Lines S g) (before after : W)
-    (reads : ReadsThroughSeparator old mid) (image_is : g.follows_input mid.source → image_in (unread old) ≡ Ok image)
-    (image_end : EndsWithSource old mid) (script_end : EndsWithSource mid new) where
+-- The image was read from the lines `old` through the separator, which leaves the lines `script_source`. The script is read from there, which leaves
+-- `new`.
+module _ {S W : Type 0} {source_view : SourceGhosts S} (sink_view : SinkGhosts W) (setup : Setup) (image : List ℕ)
+    (old script_source new : Lines S source_view) (before after : W)
+    (reads : ReadsThroughSeparator old script_source) (image_is : source_view.follows_input script_source.source → image_in (unread old) ≡ Ok image)
+    (image_end : EndsWithSource old script_source) (script_end : EndsWithSource script_source new) where
   -- the input starts the bench of the image, or has its error
-  bench_is : (bench : Result BenchState BenchFault) → started image setup ≡ bench → g.follows_input mid.source
+  bench_is : (bench : Result BenchState BenchFault) → started image setup ≡ bench → source_view.follows_input script_source.source
       → bench_in setup (unread old) ≡ bench
   bench_is bench starts follows = rw (image_is follows) starts
 
   -- the output for an input is the replies to the lines of its script
-  output_is : (state : BenchState) → started image setup ≡ Ok state → g.follows_input mid.source
-      → output setup (unread old) ≡ Ok (replies bench_line state (lines_of (unread mid)))
+  output_is : (state : BenchState) → started image setup ≡ Ok state → source_view.follows_input script_source.source
+      → output setup (unread old) ≡ Ok (replies bench_line state (lines_of (unread script_source)))
   output_is state starts follows =
       ap (λ bench. replies_of bench (lines_of (after_separator (unread old)))) (bench_is (Ok state) starts follows)
       ∙ ap (λ script. Ok (replies bench_line state (lines_of script))) (sym (reads.rest follows))
 
   -- the error of an input is the error of the start
-  fault_is : (fault : BenchFault) → started image setup ≡ Err fault → g.follows_input mid.source → output setup (unread old) ≡ Err fault
+  fault_is : (fault : BenchFault) → started image setup ≡ Err fault → source_view.follows_input script_source.source
+      → output setup (unread old) ≡ Err fault
   fault_is fault starts follows =
       ap (λ bench. replies_of bench (lines_of (after_separator (unread old)))) (bench_is (Err fault) starts follows)
 
   -- a failure of the source in the script is a failure of the source in the whole call
-  source_failed : SourceFailed g mid.source new.source → SourceFailed g old.source new.source
+  source_failed : SourceFailed source_view script_source.source new.source → SourceFailed source_view old.source new.source
   source_failed script_failed = let image_worked = reads.source in omega (arith, script_failed, image_worked)
 
   -- a property of the bench and of the text of its script holds of the bench and the script of the whole input
-  of_input : (P : List ℕ → BenchState → Type 0) (state : BenchState) → started image setup ≡ Ok state → g.follows_input mid.source
-      → P (unread mid) state → IsOkAnd (bench_in setup (unread old)) (P (after_separator (unread old)))
+  of_input : (P : List ℕ → BenchState → Type 0) (state : BenchState) → started image setup ≡ Ok state → source_view.follows_input script_source.source
+      → P (unread script_source) state → IsOkAnd (bench_in setup (unread old)) (P (after_separator (unread old)))
   of_input P state starts follows holds =
       subst (λ bench. IsOkAnd bench (P (after_separator (unread old)))) (sym (bench_is (Ok state) starts follows))
       (subst (λ script. P script state) (reads.rest follows) holds)
 
   -- the result of the script, or the error of the start, is the result of the whole run
-  pub streamed : (outcome : Outcome) → RunsBench h image setup mid new before after outcome → RunsStream h setup old new before after outcome
+  pub streamed : (outcome : Outcome) → RunsBench sink_view image setup script_source new before after outcome
+      → RunsStream sink_view setup old new before after outcome
   streamed (Ok done) runs =
       let (state, starts, run) = ok_and (started image setup) _ runs in (
         has_ram image setup state starts,
         record {
           at_end = run.at_end;
-          ended = (EndsWithSource-more old mid new image_end script_end).ended run.at_end;
+          ended = (EndsWithSource-more old script_source new image_end script_end).ended run.at_end;
           emptied = run.emptied;
           source = run.source ∙ reads.source;
           sink = run.sink;
           used_up = run.used_up;
-          written = λ follows. subst (λ output. IsOkAnd output (λ text. h.taken after ≡ h.taken before ++ text))
-              (sym (output_is state starts (script_end.before follows))) (run.written follows);
+          written = λ follows. subst (λ output. IsOkAnd output (λ text. sink_view.taken after ≡ sink_view.taken before ++ text))
+              (sym (output_is state starts (script_end.followed_before follows))) (run.written follows);
         },
       )
   streamed (Err Read) runs =
       let (state, starts, (fails, stops)) = ok_and (started image setup) _ runs in
       let Stops : List ℕ → BenchState → Type 0 = λ script bench.
-      StopsAtRead one_bench Input bench script (g.remaining new.source) (held new) (h.taken before) (h.taken after) in (
-        record { source = source_failed fails.source; sink = fails.sink; going = fails.going },
+      StopsAtRead one_bench Input bench script (source_view.remaining new.source) (held new) (sink_view.taken before) (sink_view.taken after) in (
+        record { source = source_failed fails.source; sink = fails.sink; not_at_end = fails.not_at_end },
         λ follows. inr (
-          separator_read old mid new reads script_end fails.going follows,
-          of_input Stops state starts (script_end.before follows) (stops follows),
+          separator_read old script_source new reads script_end fails.not_at_end follows,
+          of_input Stops state starts (script_end.followed_before follows) (stops follows),
         ),
       )
   streamed (Err Write) runs =
       let (state, starts, (fails, stops)) = ok_and (started image setup) _ runs in
       let Stops : List ℕ → BenchState → Type 0 = λ script bench.
-      StopsAtWrite one_bench Input bench script (unread new) (h.taken before) (h.taken after) in (
+      StopsAtWrite one_bench Input bench script (unread new) (sink_view.taken before) (sink_view.taken after) in (
         has_ram image setup state starts,
         record {
           source = fails.source ∙ reads.source;
           sink = fails.sink;
           emptied = fails.emptied;
-          prefix = λ follows. subst (λ output. IsOkAnd output (λ text. WritesPrefix (h.taken before) (h.taken after) text))
-              (sym (output_is state starts (script_end.before follows))) (fails.prefix follows);
+          prefix = λ follows. subst (λ output. IsOkAnd output (λ text. WritesPrefix (sink_view.taken before) (sink_view.taken after) text))
+              (sym (output_is state starts (script_end.followed_before follows))) (fails.prefix follows);
         },
-        λ follows. of_input Stops state starts (script_end.before follows) (stops follows),
+        λ follows. of_input Stops state starts (script_end.followed_before follows) (stops follows),
       )
   streamed (Err (Ram BadSize)) (bad_size, same_lines, unwritten) =
       let reads_new = subst (ReadsThroughSeparator old) (sym same_lines) reads in
-      (bad_size, reads_new, λ follows. fault_is (Ram BadSize) (no_ram image setup bad_size) (script_end.before follows), unwritten)
+      (bad_size, reads_new, λ follows. fault_is (Ram BadSize) (no_ram image setup bad_size) (script_end.followed_before follows), unwritten)
   streamed (Err (Ram (NoRamMemory refused))) (valid_size, bytes_are, same_lines, unwritten) =
       let reads_new = subst (ReadsThroughSeparator old) (sym same_lines) reads in
-      (valid_size, bytes_are, reads_new, λ follows. rw (image_is (script_end.before follows)) refl, unwritten)
+      (valid_size, bytes_are, reads_new, λ follows. rw (image_is (script_end.followed_before follows)) refl, unwritten)
   streamed (Err (Image fault)) (bad_image, same_lines, unwritten) =
-      let reads_new = subst (ReadsThroughSeparator old) (sym same_lines) reads in
-      (fault_has_ram image setup fault bad_image, reads_new, λ follows. fault_is (Image fault) bad_image (script_end.before follows), unwritten)
+      let reads_new = subst (ReadsThroughSeparator old) (sym same_lines) reads in (
+        fault_has_ram image setup fault bad_image,
+        reads_new,
+        λ follows. fault_is (Image fault) bad_image
+            (script_end.followed_before follows),
+        unwritten,
+      )
   streamed (Err _) runs = absurd (ok_and (started image setup) _ runs).2

@@ -74,29 +74,30 @@ not_numbered number bench invariant no_slot =
 
 -- ---- the image, and the first script
 
--- the image was read, and the separator after it, where `mid` has the unread text after the separator
-pub record ReadsImage {S : Type 0} {g : SourceGhosts S} (old mid : Lines S g) (image : List ℕ) : Type 0 where
-  pub through : ReadsThroughSeparator old mid
+-- the image was read, and the separator after it, where `scripts_source` has the unread text after the separator
+pub record ReadsImage {S : Type 0} {source_view : SourceGhosts S} (old scripts_source : Lines S source_view) (image : List ℕ) : Type 0 where
+  pub through : ReadsThroughSeparator old scripts_source
   -- the text before the separator describes this image
-  pub gives : g.follows_input mid.source → image_in (unread old) ≡ Ok image
-  pub ends : EndsWithSource old mid
+  pub gives : source_view.follows_input scripts_source.source → image_in (unread old) ≡ Ok image
+  pub ends : EndsWithSource old scripts_source
 
 -- the first script was run on the bench of the image, whose state it changed
-pub record RunsFirst {S W : Type 0} {g : SourceGhosts S} (h : SinkGhosts W) (bench : BenchState) (mid : Lines S g) (before : W) : Type 0 where
+pub record RunsFirst {S W : Type 0} {source_view : SourceGhosts S} (sink_view : SinkGhosts W) (bench : BenchState)
+    (scripts_source : Lines S source_view) (before : W) : Type 0 where
   -- the lines after the first script
-  pub next : Lines S g
+  pub second_source : Lines S source_view
   -- the sink after the replies to the first script
-  pub between : W
+  pub sink_between : W
   -- the bench after the first script
-  pub then : BenchState
-  pub runs : RunsLines h Separator bench mid next before between (Ok tt)
-  pub state : g.follows_input next.source → then ≡ after_first_script bench (unread mid)
-  pub ends : EndsWithSource mid next
+  pub bench_between : BenchState
+  pub runs : RunsLines sink_view Separator bench scripts_source second_source before sink_between (Ok tt)
+  pub state : source_view.follows_input second_source.source → bench_between ≡ after_first_script bench (unread scripts_source)
+  pub ends : EndsWithSource scripts_source second_source
 
-module _ {S W : Type 0} {g : SourceGhosts S} (h : SinkGhosts W) (setup : Setup) (slot : ℕ) (image : List ℕ) (old mid : Lines S g) (before : W)
-    (read : ReadsImage old mid image) where
+module _ {S W : Type 0} {source_view : SourceGhosts S} (sink_view : SinkGhosts W) (setup : Setup) (slot : ℕ) (image : List ℕ)
+    (old scripts_source : Lines S source_view) (before : W) (read : ReadsImage old scripts_source image) where
   -- the input starts the bench of the image, or has its error
-  bench_is : (bench : Result BenchState BenchFault) → started image (monitored_setup setup) ≡ bench → g.follows_input mid.source
+  bench_is : (bench : Result BenchState BenchFault) → started image (monitored_setup setup) ≡ bench → source_view.follows_input scripts_source.source
       → bench_in (monitored_setup setup) (unread old) ≡ bench
   bench_is bench starts follows = rw (read.gives follows) starts
 
@@ -105,19 +106,20 @@ module _ {S W : Type 0} {g : SourceGhosts S} (h : SinkGhosts W) (setup : Setup) 
   output_from bench = result_case bench (λ bench. Ok (scripts_text slot bench (after_separator (unread old)))) Err
 
   -- the error of the input is the error of the start
-  fault_is : (fault : BenchFault) → started image (monitored_setup setup) ≡ Err fault → g.follows_input mid.source
+  fault_is : (fault : BenchFault) → started image (monitored_setup setup) ≡ Err fault → source_view.follows_input scripts_source.source
       → twin_output setup slot (unread old) ≡ Err fault
   fault_is fault starts follows = ap output_from (bench_is (Err fault) starts follows)
 
   -- the output for the input is the text of both scripts
-  output_is : (bench : BenchState) → started image (monitored_setup setup) ≡ Ok bench → g.follows_input mid.source
-      → twin_output setup slot (unread old) ≡ Ok (scripts_text slot bench (unread mid))
+  output_is : (bench : BenchState) → started image (monitored_setup setup) ≡ Ok bench → source_view.follows_input scripts_source.source
+      → twin_output setup slot (unread old) ≡ Ok (scripts_text slot bench (unread scripts_source))
   output_is bench starts follows =
       ap output_from (bench_is (Ok bench) starts follows)
       ∙ ap (λ (scripts : List ℕ). Ok (scripts_text slot bench scripts)) (sym (read.through.rest follows))
 
   -- if no bench starts, the error of the start is the result of the twin run
-  pub not_started : (fault : BenchFault) → Starts image (monitored_setup setup) (Err fault) → RunsTwin h setup slot old mid before before (Err fault)
+  pub not_started : (fault : BenchFault) → Starts image (monitored_setup setup) (Err fault)
+      → RunsTwin sink_view setup slot old scripts_source before before (Err fault)
   not_started (Ram BadSize) bad_size =
       (bad_size, read.through, fault_is (Ram BadSize) (no_ram image (monitored_setup setup) bad_size), refl)
   not_started (Ram (NoRamMemory refused)) (valid_size, bytes_are) =
@@ -132,62 +134,66 @@ module _ {S W : Type 0} {g : SourceGhosts S} (h : SinkGhosts W) (setup : Setup) 
     has_size = has_ram image (monitored_setup setup) bench starts
 
     -- a property of the bench and of the text of both scripts holds of the bench that the whole input starts
-    of_input : (P : List ℕ → BenchState → Type 0) → g.follows_input mid.source → P (unread mid) bench
+    of_input : (P : List ℕ → BenchState → Type 0) → source_view.follows_input scripts_source.source → P (unread scripts_source) bench
         → IsOkAnd (bench_in (monitored_setup setup) (unread old)) (P (after_separator (unread old)))
     of_input P follows holds =
         subst (λ (start : Result BenchState BenchFault). IsOkAnd start (P (after_separator (unread old))))
         (sym (bench_is (Ok bench) starts follows))
         (subst (λ (scripts : List ℕ). P scripts bench) (read.through.rest follows) holds)
 
-    module _ (new : Lines S g) (after : W) (script_end : EndsWithSource mid new) where
+    module _ (new : Lines S source_view) (after : W) (script_end : EndsWithSource scripts_source new) where
       -- a failure of the source in the first script is the read error of the twin run
-      first_read : RunsLines h Separator bench mid new before after (Err Read) → RunsTwin h setup slot old new before after (Err Read)
+      first_read : RunsLines sink_view Separator bench scripts_source new before after (Err Read)
+          → RunsTwin sink_view setup slot old new before after (Err Read)
       first_read (fails, stops) =
-          let image_source = read.through.source in
-          let script_source = fails.source in
-          let source_failed : SourceFailed g old.source new.source = omega (arith, script_source, image_source) in (
-            record { source = source_failed; sink = fails.sink; going = fails.going },
+          let image_worked = read.through.source in
+          let script_failed = fails.source in
+          let source_failed : SourceFailed source_view old.source new.source = omega (arith, script_failed, image_worked) in (
+            record { source = source_failed; sink = fails.sink; not_at_end = fails.not_at_end },
             λ follows. inr (
-              separator_read old mid new read.through script_end fails.going follows,
-              of_input (StopsInScripts h setup slot old new before after) (script_end.before follows) (inl (stops follows)),
+              separator_read old scripts_source new read.through script_end fails.not_at_end follows,
+              of_input (StopsInScripts sink_view setup slot old new before after) (script_end.followed_before follows) (inl (stops follows)),
             ),
           )
 
       -- a failure of the sink in the first script is the write error of the twin run
-      first_write : RunsLines h Separator bench mid new before after (Err Write) → RunsTwin h setup slot old new before after (Err Write)
+      first_write : RunsLines sink_view Separator bench scripts_source new before after (Err Write)
+          → RunsTwin sink_view setup slot old new before after (Err Write)
       first_write (fails, stops) = (
         has_size,
         record {
           source = fails.source ∙ read.through.source;
           sink = fails.sink;
           emptied = fails.emptied;
-          prefix = λ follows. subst (λ output. IsOkAnd output (λ text. WritesPrefix (h.taken before) (h.taken after) text))
-              (sym (output_is bench starts (script_end.before follows)))
-              (prefix_more (h.taken before) (h.taken after) (first_text bench (unread mid)) _ (fails.prefix follows));
+          prefix = λ follows. subst (λ output. IsOkAnd output (λ text. WritesPrefix (sink_view.taken before) (sink_view.taken after) text))
+              (sym (output_is bench starts (script_end.followed_before follows)))
+              (prefix_more (sink_view.taken before) (sink_view.taken after) (first_text bench (unread scripts_source)) _ (fails.prefix follows));
         },
-        λ follows. of_input (StopsInScriptsAtWrite h setup slot old new before after) (script_end.before follows) (inl (stops follows)),
+        λ follows. of_input (StopsInScriptsAtWrite sink_view setup slot old new before after) (script_end.followed_before follows)
+            (inl (stops follows)),
       )
 
       -- an error in the first script is the error of the twin run
-      pub first_fails : (fault : BenchFault) → RunsLines h Separator bench mid new before after (Err fault)
-          → RunsTwin h setup slot old new before after (Err fault)
+      pub first_fails : (fault : BenchFault) → RunsLines sink_view Separator bench scripts_source new before after (Err fault)
+          → RunsTwin sink_view setup slot old new before after (Err fault)
       first_fails Read run = first_read run
       first_fails Write run = first_write run
       first_fails _ impossible = absurd impossible
 
     -- ---- after the first script, the slot is scrambled in the second bench
 
-    module _ (ran : RunsFirst h bench mid before) (new : Lines S g) (after : W) (second_end : EndsWithSource ran.next new) where
-      -- `next` has the unread lines after the first script
-      abbrev next : Lines S g
-      next = ran.next
+    module _ (ran : RunsFirst sink_view bench scripts_source before) (new : Lines S source_view) (after : W)
+        (second_end : EndsWithSource ran.second_source new) where
+      -- `second_source` has the unread lines after the first script
+      abbrev second_source : Lines S source_view
+      second_source = ran.second_source
 
-      -- `then` is the bench after the first script
-      abbrev then : BenchState
-      then = ran.then
+      -- `bench_between` is the bench after the first script
+      abbrev bench_between : BenchState
+      bench_between = ran.bench_between
 
       -- the first script was executed to its separator
-      abbrev first : RunsLines h Separator bench mid ran.next before ran.between (Ok tt)
+      abbrev first : RunsLines sink_view Separator bench scripts_source ran.second_source before ran.sink_between (Ok tt)
       first = ran.runs
 
       -- `pair_at` is the pair after the first script of a text
@@ -195,102 +201,112 @@ module _ {S W : Type 0} {g : SourceGhosts S} (h : SinkGhosts W) (setup : Setup) 
       pair_at scripts = make_pair slot (after_first_script bench scripts)
 
       -- the pair after the first script is the pair that the text of the first script leads to
-      pair_is : g.follows_input next.source → make_pair slot then ≡ pair_at (unread mid)
+      pair_is : source_view.follows_input second_source.source → make_pair slot bench_between ≡ pair_at (unread scripts_source)
       pair_is follows = ap (make_pair slot) (ran.state follows)
 
       -- the replies to the first script and the text of the second script are the text of both scripts
-      text_is : (text : List ℕ) → (follows : g.follows_input next.source) → second_text slot (make_pair slot then) (unread next) ≡ text
-          → first_text bench (unread mid) ++ text ≡ scripts_text slot bench (unread mid)
+      text_is : (text : List ℕ) → (follows : source_view.follows_input second_source.source)
+          → second_text slot (make_pair slot bench_between) (unread second_source) ≡ text
+          → first_text bench (unread scripts_source) ++ text ≡ scripts_text slot bench (unread scripts_source)
       text_is text follows second_is =
-          ap (λ (second : List ℕ). first_text bench (unread mid) ++ second)
-          (sym second_is ∙ (ap (λ (pair : Option Pair). second_text slot pair (unread next)) (pair_is follows)
-          ∙ ap (second_text slot (pair_at (unread mid))) (first.reads.rest follows)))
+          ap (λ (second : List ℕ). first_text bench (unread scripts_source) ++ second)
+          (sym second_is ∙ (ap (λ (pair : Option Pair). second_text slot pair (unread second_source)) (pair_is follows)
+          ∙ ap (second_text slot (pair_at (unread scripts_source))) (first.reads.rest follows)))
 
       -- the end of the lines after both scripts is the end that the source reported
-      both_end : EndsWithSource mid new
-      both_end = EndsWithSource-more mid next new ran.ends second_end
+      both_end : EndsWithSource scripts_source new
+      both_end = EndsWithSource-more scripts_source second_source new ran.ends second_end
 
       -- a property of the pair and of the text of the second script holds if both are taken from the text of both scripts
-      of_scripts : g.follows_input next.source → (P : Option Pair → List ℕ → Type 0) → P (make_pair slot then) (unread next)
-          → P (pair_at (unread mid)) (after_separator (unread mid))
+      of_scripts : source_view.follows_input second_source.source → (P : Option Pair → List ℕ → Type 0)
+          → P (make_pair slot bench_between) (unread second_source)
+          → P (pair_at (unread scripts_source)) (after_separator (unread scripts_source))
       of_scripts follows P holds =
-          subst (P (pair_at (unread mid))) (first.reads.rest follows) (subst (λ (pair : Option Pair). P pair (unread next)) (pair_is follows) holds)
+          subst (P (pair_at (unread scripts_source))) (first.reads.rest follows)
+          (subst (λ (pair : Option Pair). P pair (unread second_source)) (pair_is follows) holds)
 
       -- a property of the pair and of the text of the second script holds if both are taken from the whole input
-      second_of_input : g.follows_input next.source → (P : Option Pair → List ℕ → Type 0) → P (make_pair slot then) (unread next)
+      second_of_input : source_view.follows_input second_source.source → (P : Option Pair → List ℕ → Type 0)
+          → P (make_pair slot bench_between) (unread second_source)
           → IsOkAnd (bench_in (monitored_setup setup) (unread old))
           (λ bench. P (make_pair slot (after_first_script bench (after_separator (unread old)))) (after_separator (after_separator (unread old))))
       second_of_input follows P holds =
-          of_input (λ scripts bench. P (make_pair slot (after_first_script bench scripts)) (after_separator scripts)) (ran.ends.before follows)
+          of_input (λ scripts bench. P (make_pair slot (after_first_script bench scripts)) (after_separator scripts))
+          (ran.ends.followed_before follows)
           (of_scripts follows P holds)
 
       -- the result of the second script is the result of the twin run
-      pub second_part : (outcome : Outcome) → RunsSecond h slot (make_pair slot then) next new ran.between after outcome
-          → RunsTwin h setup slot old new before after outcome
+      pub second_part : (outcome : Outcome)
+          → RunsSecond sink_view slot (make_pair slot bench_between) second_source new ran.sink_between after outcome
+          → RunsTwin sink_view setup slot old new before after outcome
       second_part (Ok done) run = (
         has_size,
         record {
           source = run.source ∙ (first.reads.source ∙ read.through.source);
-          sink = SinkFlushed-after h first.sink run.sink;
+          sink = SinkFlushed-after sink_view first.sink run.sink;
           emptied = run.emptied;
           read = elim run.read [
             | inl ended ↦ inl (record {
               at_end = ended.at_end;
-              ended = (EndsWithSource-more old mid new read.ends both_end).ended ended.at_end;
+              ended = (EndsWithSource-more old scripts_source new read.ends both_end).ended ended.at_end;
               used_up = ended.used_up;
-              going = λ follows. second_of_input (second_end.before follows) (IsNeverEntered slot) (ended.going follows);
-              told = ended.told;
+              not_entered = λ follows. second_of_input (second_end.followed_before follows) (IsNeverEntered slot) (ended.not_entered follows);
+              reports_end = ended.reports_end;
             })
             | inr (is_over, told) ↦ inr (
-              λ follows. second_of_input (second_end.before follows) (λ pair script. IsOver slot pair script (unread new) new.is_at_end)
+              λ follows. second_of_input (second_end.followed_before follows) (λ pair script. IsOver slot pair script (unread new) new.is_at_end)
                   (is_over follows),
               told,
             )
           ];
-          written = λ follows. subst (λ output. IsOkAnd output (λ text. h.taken after ≡ h.taken before ++ text))
-              (sym (output_is bench starts (both_end.before follows)))
+          written = λ follows. subst (λ output. IsOkAnd output (λ text. sink_view.taken after ≡ sink_view.taken before ++ text))
+              (sym (output_is bench starts (both_end.followed_before follows)))
               (run.written follows
-              ∙ (ap (λ (taken : List ℕ). taken ++ second_text slot (make_pair slot then) (unread next)) (first.written (second_end.before follows))
-              ∙ (append_assoc (h.taken before) (first_text bench (unread mid)) (second_text slot (make_pair slot then) (unread next))
-              ∙ ap (λ (text : List ℕ). h.taken before ++ text) (text_is _ (second_end.before follows) refl))));
+              ∙ (ap (λ (taken : List ℕ). taken ++ second_text slot (make_pair slot bench_between) (unread second_source))
+              (first.written (second_end.followed_before follows))
+              ∙ (append_assoc (sink_view.taken before) (first_text bench (unread scripts_source))
+              (second_text slot (make_pair slot bench_between) (unread second_source))
+              ∙ ap (λ (text : List ℕ). sink_view.taken before ++ text) (text_is _ (second_end.followed_before follows) refl))));
         },
       )
       second_part (Err Read) (fails, stops) =
           let first_sources = first.reads.source ∙ read.through.source in
-          let second_source = fails.source in
-          let source_failed : SourceFailed g old.source new.source = omega (arith, second_source, first_sources) in (
-            record { source = source_failed; sink = SinkWorked-more h first.sink fails.sink; going = fails.going },
+          let second_failed = fails.source in
+          let source_failed : SourceFailed source_view old.source new.source = omega (arith, second_failed, first_sources) in (
+            record { source = source_failed; sink = SinkWorked-more sink_view first.sink fails.sink; not_at_end = fails.not_at_end },
             λ follows. inr (
-              separator_read old mid new read.through both_end fails.going follows,
-              of_input (StopsInScripts h setup slot old new before after) (both_end.before follows) (inr (
-                separator_read mid next new first.reads second_end fails.going follows,
-                of_scripts (second_end.before follows) Stops
-                    (read_after slot (make_pair slot then) _ _ _ _ _ _ (first.written (second_end.before follows)) (stops follows)),
+              separator_read old scripts_source new read.through both_end fails.not_at_end follows,
+              of_input (StopsInScripts sink_view setup slot old new before after) (both_end.followed_before follows) (inr (
+                separator_read scripts_source second_source new first.reads second_end fails.not_at_end follows,
+                of_scripts (second_end.followed_before follows) Stops
+                    (read_after slot (make_pair slot bench_between) _ _ _ _ _ _ (first.written (second_end.followed_before follows)) (stops follows)),
               )),
             ),
           ) where
             -- a read in the second script has failed, where the arguments are the pair and the unread text
             Stops : Option Pair → List ℕ → Type 0
             Stops pair script = IsSomeAnd pair
-                (λ pair. StopsAtRead (both_benches slot) Input pair script (g.remaining new.source) (held new)
-                (h.taken before ++ first_text bench (unread mid)) (h.taken after))
+                (λ pair. StopsAtRead (both_benches slot) Input pair script (source_view.remaining new.source) (held new)
+                (sink_view.taken before ++ first_text bench (unread scripts_source)) (sink_view.taken after))
       second_part (Err Write) (fails, stops) = (
         has_size,
         record {
           source = fails.source ∙ (first.reads.source ∙ read.through.source);
-          sink = SinkFailed-after h first.sink fails.sink;
+          sink = SinkFailed-after sink_view first.sink fails.sink;
           emptied = fails.emptied;
-          prefix = λ follows. subst (λ output. IsOkAnd output (λ text. WritesPrefix (h.taken before) (h.taken after) text))
-              (sym (output_is bench starts (both_end.before follows)))
-              (subst (WritesPrefix (h.taken before) (h.taken after)) (text_is _ (second_end.before follows) refl)
-              (prefix_after (h.taken before) (h.taken ran.between) (h.taken after) (first_text bench (unread mid)) _
-              (first.written (second_end.before follows)) (fails.prefix follows)));
+          prefix = λ follows. subst (λ output. IsOkAnd output (λ text. WritesPrefix (sink_view.taken before) (sink_view.taken after) text))
+              (sym (output_is bench starts (both_end.followed_before follows)))
+              (subst (WritesPrefix (sink_view.taken before) (sink_view.taken after)) (text_is _ (second_end.followed_before follows) refl)
+              (prefix_after (sink_view.taken before) (sink_view.taken ran.sink_between) (sink_view.taken after)
+              (first_text bench (unread scripts_source)) _
+              (first.written (second_end.followed_before follows)) (fails.prefix follows)));
         },
-        λ follows. of_input (StopsInScriptsAtWrite h setup slot old new before after) (both_end.before follows)
-            (inr (of_scripts (second_end.before follows) Stops
-            (write_after slot (make_pair slot then) _ _ _ _ _ (first.written (second_end.before follows)) (stops follows)))),
+        λ follows. of_input (StopsInScriptsAtWrite sink_view setup slot old new before after) (both_end.followed_before follows)
+            (inr (of_scripts (second_end.followed_before follows) Stops
+            (write_after slot (make_pair slot bench_between) _ _ _ _ _ (first.written (second_end.followed_before follows)) (stops follows)))),
       ) where
         -- a write in the second script has failed, where the arguments are the pair and the unread text
         Stops : Option Pair → List ℕ → Type 0
-        Stops pair script = StopsSecondAtWrite slot pair script (unread new) (h.taken before ++ first_text bench (unread mid)) (h.taken after)
+        Stops pair script = StopsSecondAtWrite slot pair script (unread new) (sink_view.taken before ++ first_text bench (unread scripts_source))
+            (sink_view.taken after)
       second_part (Err _) impossible = absurd impossible

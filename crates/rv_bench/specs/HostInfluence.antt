@@ -16,17 +16,18 @@ use Rattle.rv_bench.specs.Replies.{bench_line, state_after}
 
 -- Two benches execute the rest of a script each. If an enclave has the same life in both, its steps are the same.
 abbrev pub RestsAreSame : ℕ → ℕ → BenchState → BenchState → List (List ℕ) → List (List ℕ) → Type 0
-RestsAreSame i j first second lines others =
-    IfSome (machine_in first.target) (λ one. IfSome (machine_in second.target) (λ other.
-    (life : IsSameLife i j first second (commands_of lines) (commands_of others) one other)
-    → HasSameLife i j life.moves one other (state_after bench_line first lines).target (state_after bench_line second others).target))
+RestsAreSame slot other_slot first second lines others =
+    IfSome (machine_in first.target) (λ machine. IfSome (machine_in second.target) (λ other_machine.
+    (life : IsSameLife slot other_slot first second (commands_of lines) (commands_of others) machine other_machine)
+    → HasSameLife slot other_slot life.moves machine other_machine (state_after bench_line first lines).target
+    (state_after bench_line second others).target))
 
 -- Two images start two benches. From any line of each script on, the law of commands holds. Nothing else is assumed of the benches.
 abbrev pub ScriptInfluenceLaw : Type 0
 ScriptInfluenceLaw =
-    (i j : ℕ) (image image_too : List ℕ) (setup setup_too : Setup) (before before_too lines others : List (List ℕ))
-    → IfOk (started image setup) (λ first. IfOk (started image_too setup_too) (λ second.
-    RestsAreSame i j (state_after bench_line first before) (state_after bench_line second before_too) lines others))
+    (slot other_slot : ℕ) (image other_image : List ℕ) (setup other_setup : Setup) (before other_before lines others : List (List ℕ))
+    → IfOk (started image setup) (λ first. IfOk (started other_image other_setup) (λ second.
+    RestsAreSame slot other_slot (state_after bench_line first before) (state_after bench_line second other_before) lines others))
 
 -- ---- events
 

@@ -16,9 +16,9 @@ FailsInMemory job input fault = FailsBy job input fault
 
 -- The text and the status are the output of the program for its arguments and the input. Or memory was refused, and they report this.
 pub record RunsInMemory (given : List Text) (input text : List ℕ) (status : ℕ) : Type 0 where
-  pub read : Result Job WordsFault
-  pub means : Means given read
+  pub meaning : Result Job WordsFault
+  pub is_meaning : Means given meaning
   pub output : ProgramOutput
-  pub is : (output ≡ program_output read input) ⊎ StopsOutOfMemory read input output
+  pub output_is : (output ≡ program_output meaning input) ⊎ StopsOutOfMemory meaning input output
   pub text_is : text ≡ output.text
   pub status_is : status ≡ output.status

@@ -75,7 +75,7 @@ EachLineAvoidsHart enclave bench (line ∷ lines) = LineAvoidsHart enclave bench
 pub record AreSecret (enclave : ℕ) (bench : BenchState) (secret another rest : List (List ℕ)) : Type 0 where
   pub pokes : DifferInPokes enclave bench bench secret another
   pub passes : LinesAvoidEnclave enclave (state_after bench_line bench secret) rest
-  pub by : (can_scramble enclave bench ≡ true)
+  pub hart_avoided : (can_scramble enclave bench ≡ true)
       ⊎ (EachLineAvoidsHart enclave bench secret × LinesAvoidHart enclave (state_after bench_line bench secret) rest)
 
 -- Two inputs differ only in lines in the middle of the script, which poke a secret.

@@ -26,16 +26,16 @@ exit_status (Err fault) = 1
 
 -- ---- the effect of the program
 
-module _ {W : Type 0} (h : SinkGhosts W) where
+module _ {W : Type 0} (sink_view : SinkGhosts W) where
   -- A text was written after what the sink had taken, and the sink was flushed.
   pub record WritesAll (before after : W) (text : List ℕ) : Type 0 where
-    pub sink : SinkFlushed h before after
-    pub written : h.taken after ≡ h.taken before ++ text
+    pub sink : SinkFlushed sink_view before after
+    pub written : sink_view.taken after ≡ sink_view.taken before ++ text
 
   -- The sink failed, and took a prefix of the text.
   pub record WritesOnlyPrefix (before after : W) (text : List ℕ) : Type 0 where
-    pub sink : SinkFailed h before after
-    pub prefix : WritesPrefix (h.taken before) (h.taken after) text
+    pub sink : SinkFailed sink_view before after
+    pub prefix : WritesPrefix (sink_view.taken before) (sink_view.taken after) text
 
   -- a text was written, or a prefix of it if the sink failed; the status is the same
   abbrev pub TriesToWrite : W → W → List ℕ → Type 0
@@ -54,20 +54,20 @@ module _ {W : Type 0} (h : SinkGhosts W) where
   Refuses before after (words.Help text) status =
       (WritesAll before after (string_bytes text) × (status ≡ 0)) ⊎ (WritesOnlyPrefix before after (string_bytes text) × (status ≡ 1))
 
-module _ {S W : Type 0} (g : SourceGhosts S) (h : SinkGhosts W) (source left : S) (before after : W) where
+module _ {S W : Type 0} (source_view : SourceGhosts S) (sink_view : SinkGhosts W) (source left : S) (before after : W) where
   -- The program executed the job, which left the source so, and reported its outcome.
   pub record DoesAndReports (job : Job) (status : ℕ) : Type 0 where
     pub outcome : Outcome
-    pub mid : W
-    pub does : DoesJob g h source left before mid job outcome
-    pub told : ReportsOutcome h outcome mid after
+    pub job_sink : W
+    pub does : DoesJob source_view sink_view source left before job_sink job outcome
+    pub reports : ReportsOutcome sink_view outcome job_sink after
     pub status_is : status ≡ exit_status outcome
 
   -- The arguments name no job, for a reason that they have, or an allocation failed. The program reports it, and reads nothing.
   pub record RefusesArguments (given : List Text) (status : ℕ) : Type 0 where
     pub fault : WordsFault
     pub reason : IsFaultOf (refusals_of given) fault
-    pub refuses : Refuses h before after fault status
+    pub refuses : Refuses sink_view before after fault status
     pub untouched : left ≡ source
 
   -- The arguments name a job, which the program executed, or they name none.
@@ -77,4 +77,4 @@ module _ {S W : Type 0} (g : SourceGhosts S) (h : SinkGhosts W) (source left : S
   -- The program performs the job of arguments that may be unreadable. If they are, the program reports why, and reads nothing.
   abbrev pub PerformsGiven : Result (List Text) WordsFault → ℕ → Type 0
   PerformsGiven (Ok given) status = Performs given status
-  PerformsGiven (Err fault) status = Refuses h before after fault status × (left ≡ source)
+  PerformsGiven (Err fault) status = Refuses sink_view before after fault status × (left ≡ source)

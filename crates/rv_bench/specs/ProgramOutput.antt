@@ -62,17 +62,19 @@ IsOutOfMemory job input _ = ⊥
 abbrev pub FailsBy : Job → List ℕ → BenchFault → Type 0
 FailsBy job input fault = (job_output job input ≡ Err fault) ⊎ IsOutOfMemory job input fault
 
-module _ {S W : Type 0} (g : SourceGhosts S) (h : SinkGhosts W) (source left : S) (before after : W) (job : Job) where
+module _ {S W : Type 0} (source_view : SourceGhosts S) (sink_view : SinkGhosts W) (source left : S) (before after : W) (job : Job) where
   -- The outcome of a job by its output for the input. An error is a failure of a device, or nothing was written.
   abbrev pub MeetsOutput : Outcome → Type 0
   MeetsOutput (Ok _) =
-      SinkFlushed h before after
-      × (g.follows_input left → IsOkAnd (job_output job (g.remaining source)) (λ text. h.taken after ≡ h.taken before ++ text))
-  MeetsOutput (Err Read) = SourceFailed g source left
+      SinkFlushed sink_view before after
+      × (source_view.follows_input left
+      → IsOkAnd (job_output job (source_view.remaining source)) (λ text. sink_view.taken after ≡ sink_view.taken before ++ text))
+  MeetsOutput (Err Read) = SourceFailed source_view source left
   MeetsOutput (Err Write) =
-      SinkFailed h before after
-      × (g.follows_input left → IsOkAnd (job_output job (g.remaining source)) (λ text. WritesPrefix (h.taken before) (h.taken after) text))
-  MeetsOutput (Err fault) = (after ≡ before) × (g.follows_input left → FailsBy job (g.remaining source) fault)
+      SinkFailed sink_view before after
+      × (source_view.follows_input left
+      → IsOkAnd (job_output job (source_view.remaining source)) (λ text. WritesPrefix (sink_view.taken before) (sink_view.taken after) text))
+  MeetsOutput (Err fault) = (after ≡ before) × (source_view.follows_input left → FailsBy job (source_view.remaining source) fault)
 
 -- ---- the program
 
@@ -107,8 +109,8 @@ Means given (Err fault) = IsFaultOf (refusals_of given) fault
 
 -- arguments that may be unreadable mean a job, or have a reason that they mean none
 abbrev pub MeansGiven : Result (List Text) WordsFault → Result Job WordsFault → Type 0
-MeansGiven (Ok given) read = Means given read
-MeansGiven (Err fault) read = read ≡ Err fault
+MeansGiven (Ok given) meaning = Means given meaning
+MeansGiven (Err fault) meaning = meaning ≡ Err fault
 
 -- `given_by` has the bytes of each argument
 abbrev pub given_by : {A Z : Type 0} → Result (Vec (String A) Z) WordsFault → Result (List Text) WordsFault
@@ -119,28 +121,28 @@ abbrev pub StopsOutOfMemory : Result Job WordsFault → List ℕ → ProgramOutp
 StopsOutOfMemory (Ok job) input output = (fault : BenchFault) × IsOutOfMemory job input fault × (output ≡ output_of (Err fault))
 StopsOutOfMemory (Err fault) input output = ⊥
 
-module _ {S W : Type 0} (g : SourceGhosts S) (h : SinkGhosts W) (source left : S) (before after : W) where
+module _ {S W : Type 0} (source_view : SourceGhosts S) (sink_view : SinkGhosts W) (source left : S) (before after : W) where
   -- Exactly this output was written, and the sink was flushed once, after it.
   pub record Writes (output : ProgramOutput) (status : ℕ) : Type 0 where
-    pub sink : SinkFlushed h before after
-    pub written : h.taken after ≡ h.taken before ++ output.text
+    pub sink : SinkFlushed sink_view before after
+    pub written : sink_view.taken after ≡ sink_view.taken before ++ output.text
     pub status_is : status ≡ output.status
 
   -- the output of the program was written, or, since memory was refused, a line that reports this
   abbrev pub WritesOutput : Result Job WordsFault → List ℕ → ℕ → Type 0
-  WritesOutput read input status =
-      Writes (program_output read input) status
-      ⊎ ((output : ProgramOutput) × StopsOutOfMemory read input output × Writes output status)
+  WritesOutput meaning input status =
+      Writes (program_output meaning input) status
+      ⊎ ((output : ProgramOutput) × StopsOutOfMemory meaning input output × Writes output status)
 
   -- a device failed, and the exit status reports an error
   abbrev pub StopsAtDevice : Result Job WordsFault → ℕ → Type 0
-  StopsAtDevice read status = (SourceFailed g source left ⊎ SinkFailed h before after) × (status ≡ failed_status read)
+  StopsAtDevice meaning status = (SourceFailed source_view source left ⊎ SinkFailed sink_view before after) × (status ≡ failed_status meaning)
 
   -- The program wrote its output for its arguments and the assumed input, which stays the same, or a device failed. If the arguments name no
   -- job, it read nothing.
   pub record RunsProgram (IsMeaning : Result Job WordsFault → Type 0) (status : ℕ) : Type 0 where
-    pub same : g.input left ≡ g.input source
-    pub read : Result Job WordsFault
-    pub means : IsMeaning read
-    pub untouched : OnErr read (left ≡ source)
-    pub writes : g.follows_input left → WritesOutput read (g.remaining source) status ⊎ StopsAtDevice read status
+    pub same_input : source_view.input left ≡ source_view.input source
+    pub meaning : Result Job WordsFault
+    pub is_meaning : IsMeaning meaning
+    pub untouched : OnErr meaning (left ≡ source)
+    pub writes : source_view.follows_input left → WritesOutput meaning (source_view.remaining source) status ⊎ StopsAtDevice meaning status

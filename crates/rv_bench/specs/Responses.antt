@@ -16,59 +16,62 @@ use Rattle.rv_bench.specs.Run.{FailsIn}
 
 -- a line has this response, and so has every line that begins with the same significant bytes
 abbrev pub RespondsToLine : {A : Type 0} → Responding A → A → List ℕ → Replied A → Type 0
-RespondsToLine by now line responded =
-    (by.respond now line ≡ responded)
-    × ((other : List ℕ) → take significant_bytes other ≡ take significant_bytes line → by.respond now other ≡ by.respond now line)
+RespondsToLine responder state_now line responded =
+    (responder.respond state_now line ≡ responded)
+    × ((other : List ℕ) → take significant_bytes other ≡ take significant_bytes line
+    → responder.respond state_now other ≡ responder.respond state_now line)
 
-module _ {A : Type 0} (by : Responding A) (end : ScriptEnd) (start : A) (unread old : List ℕ) where
+module _ {A : Type 0} (responder : Responding A) (end : ScriptEnd) (start : A) (unread old : List ℕ) where
   -- The lines of the script that were taken have their replies.
-  pub record RespondsToLines (now : A) (left : List ℕ) (is_at_end : Bool) (new : List ℕ) : Type 0 where
+  pub record RespondsToLines (state_now : A) (left : List ℕ) (is_at_end : Bool) (new : List ℕ) : Type 0 where
     pub lines : List (List ℕ)
     pub taken : TakesScript end unread left is_at_end lines
-    pub state : now ≡ state_after by.respond start lines
-    pub written : new ≡ old ++ replies by.respond start lines
+    pub state : state_now ≡ state_after responder.respond start lines
+    pub written : new ≡ old ++ replies responder.respond start lines
 
   -- After these lines the responder is not over. One more line was taken, which has this reply.
-  pub record RespondsToNext (mid : List ℕ) (after : A) (rest : List ℕ) (ends : Bool) (reply : List ℕ) : Type 0 where
-    pub now : A
+  pub record RespondsToNext (written_so_far : List ℕ) (after : A) (rest : List ℕ) (ends : Bool) (reply : List ℕ) : Type 0 where
+    pub state_now : A
     pub left : List ℕ
     pub shown : List ℕ
-    pub so_far : RespondsToLines now left false mid
-    pub going : by.is_over now ≡ false
+    pub so_far : RespondsToLines state_now left false written_so_far
+    pub not_over : responder.is_over state_now ≡ false
     pub takes : TakesLine left rest ends shown
-    pub inside : ends_script end shown ≡ false
-    pub responds : RespondsToLine by now shown (record { state = after; reply = reply })
+    pub in_script : ends_script end shown ≡ false
+    pub responds : RespondsToLine responder state_now shown (record { state = after; reply = reply })
 
-module _ {S W : Type 0} {g : SourceGhosts S} (h : SinkGhosts W) {A : Type 0} (by : Responding A) (end : ScriptEnd) (start now : A)
-    (old new : Lines S g) (before after : W) where
+module _ {S W : Type 0} {source_view : SourceGhosts S} (sink_view : SinkGhosts W) {A : Type 0} (responder : Responding A) (end : ScriptEnd)
+    (start state_now : A)
+    (old new : Lines S source_view) (before after : W) where
   -- All lines of the script have their responses, and the responder is not over.
   pub record RespondsToEnd : Type 0 where
-    pub last : Lines S g
+    pub last : Lines S source_view
     pub found : FindsEnd end last new
-    pub going : by.is_over now ≡ false
-    pub responded : g.follows_input new.source
-        → RespondsToLines by end start (unread old) (h.taken before) now (unread last) last.is_at_end (h.taken after)
+    pub not_over : responder.is_over state_now ≡ false
+    pub responded : source_view.follows_input new.source
+        → RespondsToLines responder end start (unread old) (sink_view.taken before) state_now (unread last) last.is_at_end (sink_view.taken after)
 
   -- After the last line that was read, the responder is over.
   pub record RespondsUntilOver : Type 0 where
-    pub was : A
+    pub state_before : A
     pub shown : List ℕ
-    pub mid : List ℕ
+    pub taken_before : List ℕ
     pub reply : List ℕ
-    pub is : by.respond was shown ≡ record { state = now; reply = reply }
-    pub going : by.is_over was ≡ false
-    pub over : by.is_over now ≡ true
-    pub told : h.taken after ≡ mid ++ reply
-    pub next : g.follows_input new.source → RespondsToNext by end start (unread old) (h.taken before) mid now (unread new) new.is_at_end reply
+    pub response_is : responder.respond state_before shown ≡ record { state = state_now; reply = reply }
+    pub not_over : responder.is_over state_before ≡ false
+    pub is_over : responder.is_over state_now ≡ true
+    pub wrote_reply : sink_view.taken after ≡ taken_before ++ reply
+    pub next : source_view.follows_input new.source
+        → RespondsToNext responder end start (unread old) (sink_view.taken before) taken_before state_now (unread new) new.is_at_end reply
 
   -- All lines that were read have their responses.
   pub record RespondsToAll : Type 0 where
-    pub source : SourceWorked g old.source new.source
-    pub sink : SinkWorked h before after
+    pub source : SourceWorked source_view old.source new.source
+    pub sink : SinkWorked sink_view before after
     pub emptied : held new ≡ []
     pub stopped : RespondsToEnd ⊎ RespondsUntilOver
 
   -- the meaning of each result of responding to a script
   abbrev pub RespondsToScript : Outcome → Type 0
   RespondsToScript (Ok _) = RespondsToAll
-  RespondsToScript (Err fault) = FailsIn h by end start old new before after fault
+  RespondsToScript (Err fault) = FailsIn sink_view responder end start old new before after fault

@@ -21,19 +21,19 @@ use Rattle.rv_streams.specs.Unread.{held, unread, HasEnded}
 use Rattle.rv_bench.specs.Loaded.{started}
 use Rattle.rv_bench.specs.Replies.{Responding, bench_line, one_bench, replies, state_after}
 
-module _ {A : Type 0} (by : Responding A) where
+module _ {A : Type 0} (responder : Responding A) where
   -- The source failed. A text of whole lines of the script has its replies, and the responder is not over after it. At most `kept_bytes`
   -- bytes of the line that was begun are held, so that a later call continues from there.
   pub record StopsAtRead (end : ScriptEnd) (start : A) (unread left kept old new : List ℕ) : Type 0 where
     pub text : List ℕ
     pub begun : List ℕ
     pub split : unread ≡ text ++ (begun ++ left)
-    pub whole : through_last_feed text ≡ text
+    pub whole_lines : through_last_feed text ≡ text
     pub unfinished : has_feed begun ≡ false
     pub prefix : kept ≡ take kept_bytes begun
-    pub inside : script_lines end (lines_of text) ≡ lines_of text
-    pub going : by.is_over (state_after by.respond start (lines_of text)) ≡ false
-    pub written : new ≡ old ++ replies by.respond start (lines_of text)
+    pub in_script : script_lines end (lines_of text) ≡ lines_of text
+    pub not_over : responder.is_over (state_after responder.respond start (lines_of text)) ≡ false
+    pub written : new ≡ old ++ replies responder.respond start (lines_of text)
 
   -- The sink failed, or took nothing. Some lines of the script have their responses, and the responder is not over after them. At most one more
   -- line was read: the next line of the script, of whose reply a prefix was written, or the line that ends the script. A later call continues
@@ -42,67 +42,70 @@ module _ {A : Type 0} (by : Responding A) where
     pub text : List ℕ
     pub responded : List (List ℕ)
     pub next : List (List ℕ)
-    pub one : length (lines_of text) ≤ length responded + 1
+    pub at_most_one : length (lines_of text) ≤ length responded + 1
     pub split : unread ≡ text ++ left
     pub are_lines : script_lines end (lines_of text) ≡ responded ++ next
-    pub all : lines_of unread ≡ lines_of text ++ lines_of left
-    pub going : by.is_over (state_after by.respond start responded) ≡ false
-    pub written : WritesPrefix (old ++ replies by.respond start responded) new (replies by.respond (state_after by.respond start responded) next)
+    pub all_lines : lines_of unread ≡ lines_of text ++ lines_of left
+    pub not_over : responder.is_over (state_after responder.respond start responded) ≡ false
+    pub written : WritesPrefix (old ++ replies responder.respond start responded) new
+        (replies responder.respond (state_after responder.respond start responded) next)
 
-module _ {S W : Type 0} {g : SourceGhosts S} (h : SinkGhosts W) where
+module _ {S W : Type 0} {source_view : SourceGhosts S} (sink_view : SinkGhosts W) where
   -- All was read, to the end that the source reported. Exactly the output was written, and the sink was flushed afterwards.
-  pub record RunsToEnd (output : Result (List ℕ) BenchFault) (old new : Lines S g) (before after : W) : Type 0 where
+  pub record RunsToEnd (output : Result (List ℕ) BenchFault) (old new : Lines S source_view) (before after : W) : Type 0 where
     pub at_end : new.is_at_end ≡ true
     pub ended : HasEnded old new
     pub emptied : held new ≡ []
-    pub source : SourceWorked g old.source new.source
-    pub sink : SinkFlushed h before after
-    pub used_up : g.follows_input new.source → unread new ≡ []
-    pub written : g.follows_input new.source → IsOkAnd output (λ text. h.taken after ≡ h.taken before ++ text)
+    pub source : SourceWorked source_view old.source new.source
+    pub sink : SinkFlushed sink_view before after
+    pub used_up : source_view.follows_input new.source → unread new ≡ []
+    pub written : source_view.follows_input new.source → IsOkAnd output (λ text. sink_view.taken after ≡ sink_view.taken before ++ text)
 
   -- All was read through the first separator, or to the end that the source reported. Exactly the output was written.
-  pub record RunsToSeparator (output : Result (List ℕ) BenchFault) (old new : Lines S g) (before after : W) : Type 0 where
+  pub record RunsToSeparator (output : Result (List ℕ) BenchFault) (old new : Lines S source_view) (before after : W) : Type 0 where
     pub reads : ReadsThroughSeparator old new
-    pub sink : SinkWorked h before after
-    pub written : g.follows_input new.source → IsOkAnd output (λ text. h.taken after ≡ h.taken before ++ text)
+    pub sink : SinkWorked sink_view before after
+    pub written : source_view.follows_input new.source → IsOkAnd output (λ text. sink_view.taken after ≡ sink_view.taken before ++ text)
 
   -- the script was run, up to its end
-  abbrev pub RunsScript : ScriptEnd → Result (List ℕ) BenchFault → Lines S g → Lines S g → W → W → Type 0
+  abbrev pub RunsScript : ScriptEnd → Result (List ℕ) BenchFault → Lines S source_view → Lines S source_view → W → W → Type 0
   RunsScript Input = RunsToEnd
   RunsScript Separator = RunsToSeparator
 
   -- The source failed, and the sink did not.
-  pub record FailsToRead (old new : Lines S g) (before after : W) : Type 0 where
-    pub source : SourceFailed g old.source new.source
-    pub sink : SinkWorked h before after
-    pub going : new.is_at_end ≡ false
+  pub record FailsToRead (old new : Lines S source_view) (before after : W) : Type 0 where
+    pub source : SourceFailed source_view old.source new.source
+    pub sink : SinkWorked sink_view before after
+    pub not_at_end : new.is_at_end ≡ false
 
   -- The sink failed, and the source did not: a prefix of the output is written.
-  pub record FailsToWrite (output : Result (List ℕ) BenchFault) (old new : Lines S g) (before after : W) : Type 0 where
-    pub source : SourceWorked g old.source new.source
-    pub sink : SinkFailed h before after
+  pub record FailsToWrite (output : Result (List ℕ) BenchFault) (old new : Lines S source_view) (before after : W) : Type 0 where
+    pub source : SourceWorked source_view old.source new.source
+    pub sink : SinkFailed sink_view before after
     pub emptied : held new ≡ []
-    pub prefix : g.follows_input new.source → IsOkAnd output (λ text. WritesPrefix (h.taken before) (h.taken after) text)
+    pub prefix : source_view.follows_input new.source → IsOkAnd output (λ text. WritesPrefix (sink_view.taken before) (sink_view.taken after) text)
 
   -- the meaning of each failure of a run over the lines of a script, from the state before it
-  abbrev pub FailsIn : {A : Type 0} → Responding A → ScriptEnd → A → Lines S g → Lines S g → W → W → BenchFault → Type 0
-  FailsIn by end start old new before after Read =
+  abbrev pub FailsIn : {A : Type 0} → Responding A → ScriptEnd → A → Lines S source_view → Lines S source_view → W → W → BenchFault → Type 0
+  FailsIn responder end start old new before after Read =
       FailsToRead old new before after
-      × (g.follows_input new.source → StopsAtRead by end start (unread old) (g.remaining new.source) (held new) (h.taken before) (h.taken after))
-  FailsIn by end start old new before after Write =
-      FailsToWrite (Ok (replies by.respond start (script_lines end (lines_of (unread old))))) old new before after
-      × (g.follows_input new.source → StopsAtWrite by end start (unread old) (unread new) (h.taken before) (h.taken after))
-  FailsIn by end start old new before after _ = ⊥
+      × (source_view.follows_input new.source
+      → StopsAtRead responder end start (unread old) (source_view.remaining new.source) (held new) (sink_view.taken before) (sink_view.taken after))
+  FailsIn responder end start old new before after Write =
+      FailsToWrite (Ok (replies responder.respond start (script_lines end (lines_of (unread old))))) old new before after
+      × (source_view.follows_input new.source
+      → StopsAtWrite responder end start (unread old) (unread new) (sink_view.taken before) (sink_view.taken after))
+  FailsIn responder end start old new before after _ = ⊥
 
   -- the meaning of each result of a run of one bench over the lines of a script, from the state of the bench before it
-  abbrev pub RunsLines : ScriptEnd → BenchState → Lines S g → Lines S g → W → W → Outcome → Type 0
+  abbrev pub RunsLines : ScriptEnd → BenchState → Lines S source_view → Lines S source_view → W → W → Outcome → Type 0
   RunsLines end bench old new before after (Ok _) =
       RunsScript end (Ok (replies bench_line bench (script_lines end (lines_of (unread old))))) old new before after
   RunsLines end bench old new before after (Err fault) = FailsIn one_bench end bench old new before after fault
 
   -- The meaning of each result of `run_bench`. If the setup or the image has an error, nothing is read or written. Otherwise the bench that the
   -- image starts runs the lines.
-  abbrev pub RunsBench : List ℕ → Setup → Lines S g → Lines S g → W → W → Outcome → Type 0
+  abbrev pub RunsBench : List ℕ → Setup → Lines S source_view → Lines S source_view → W → W → Outcome → Type 0
   RunsBench image setup old new before after (Err (Ram BadSize)) = (is_ram_size setup.ram ≡ false) × (new ≡ old) × (after ≡ before)
   RunsBench image setup old new before after (Err (Ram (NoRamMemory refused))) =
       (is_ram_size setup.ram ≡ true) × (refused.bytes ≡ setup.ram) × (new ≡ old) × (after ≡ before)

@@ -27,10 +27,10 @@ pub record Gave (reader : CallLog) (input : List ℕ) : Type 0 where
 -- and they are the line that reports this. Or a call of the reader failed, or the writer failed or took no byte of a non-empty part: then the
 -- status reports an error. If the arguments name no job, the reader was not called.
 pub record RunsOverStreams (given : Result (List Text) WordsFault) (input : List ℕ) (reader writer : CallLog) (status : ℕ) : Type 0 where
-  pub read : Result Job WordsFault
-  pub means : MeansGiven given read
-  pub untouched : OnErr read (reader ≡ no_call input)
+  pub meaning : Result Job WordsFault
+  pub is_meaning : MeansGiven given meaning
+  pub untouched : OnErr meaning (reader ≡ no_call input)
   pub writes : Gave reader input
-      → (Passed writer (program_output read input) status
-      ⊎ ((output : ProgramOutput) × StopsOutOfMemory read input output × Passed writer output status))
-      ⊎ (((0 < reader.failures) ⊎ ((0 < writer.failures) ⊎ (0 < writer.empty_calls))) × (status ≡ failed_status read))
+      → (Passed writer (program_output meaning input) status
+      ⊎ ((output : ProgramOutput) × StopsOutOfMemory meaning input output × Passed writer output status))
+      ⊎ (((0 < reader.failures) ⊎ ((0 < writer.failures) ⊎ (0 < writer.empty_calls))) × (status ≡ failed_status meaning))

@@ -19,38 +19,40 @@ use Rattle.rv_bench.specs.Output.{bench_in, output}
 use Rattle.rv_bench.specs.Replies.{one_bench}
 use Rattle.rv_bench.specs.Run.{RunsToEnd, FailsToRead, FailsToWrite, StopsAtRead, StopsAtWrite}
 
-module _ {S W : Type 0} {g : SourceGhosts S} (h : SinkGhosts W) (setup : Setup) (old new : Lines S g) (before after : W) where
+module _ {S W : Type 0} {source_view : SourceGhosts S} (sink_view : SinkGhosts W) (setup : Setup) (old new : Lines S source_view)
+    (before after : W) where
   -- the input has this error instead of an output
   abbrev pub IsFault : BenchFault → Type 0
-  IsFault fault = g.follows_input new.source → output setup (unread old) ≡ Err fault
+  IsFault fault = source_view.follows_input new.source → output setup (unread old) ≡ Err fault
 
   -- The source failed: in the image, and then nothing is written, or in the script, which follows a separator.
   abbrev pub StopsStreamAtRead : Type 0
   StopsStreamAtRead =
-      (ReadsInImage (unread old) (g.remaining new.source) (held new) × (after ≡ before))
+      (ReadsInImage (unread old) (source_view.remaining new.source) (held new) × (after ≡ before))
       ⊎ (IsTrue (has_separator (unread old)) × IsOkAnd (bench_in setup (unread old)) (λ state.
-      StopsAtRead one_bench Input state (after_separator (unread old)) (g.remaining new.source) (held new) (h.taken before) (h.taken after)))
+      StopsAtRead one_bench Input state (after_separator (unread old)) (source_view.remaining new.source) (held new) (sink_view.taken before)
+      (sink_view.taken after)))
 
   -- The sink failed in the script.
   abbrev pub StopsStreamAtWrite : Type 0
   StopsStreamAtWrite =
       IsOkAnd (bench_in setup (unread old)) (λ state.
-      StopsAtWrite one_bench Input state (after_separator (unread old)) (unread new) (h.taken before) (h.taken after))
+      StopsAtWrite one_bench Input state (after_separator (unread old)) (unread new) (sink_view.taken before) (sink_view.taken after))
 
   -- The meaning of each result of `run_stream`. The text of the image, the size of the RAM and the image are checked in this order, before a
   -- byte is written.
   abbrev pub RunsStream : Outcome → Type 0
-  RunsStream (Ok _) = (is_ram_size setup.ram ≡ true) × RunsToEnd h (output setup (unread old)) old new before after
-  RunsStream (Err Read) = FailsToRead h old new before after × (g.follows_input new.source → StopsStreamAtRead)
+  RunsStream (Ok _) = (is_ram_size setup.ram ≡ true) × RunsToEnd sink_view (output setup (unread old)) old new before after
+  RunsStream (Err Read) = FailsToRead sink_view old new before after × (source_view.follows_input new.source → StopsStreamAtRead)
   RunsStream (Err Write) =
-      (is_ram_size setup.ram ≡ true) × FailsToWrite h (output setup (unread old)) old new before after
-      × (g.follows_input new.source → StopsStreamAtWrite)
+      (is_ram_size setup.ram ≡ true) × FailsToWrite sink_view (output setup (unread old)) old new before after
+      × (source_view.follows_input new.source → StopsStreamAtWrite)
   RunsStream (Err Hex) = FindsFault Hex old new × IsFault Hex × (after ≡ before)
   RunsStream (Err TooLong) = FindsFault TooLong old new × IsFault TooLong × (after ≡ before)
   RunsStream (Err NoMemory) = RunsOutOfMemory old new × (after ≡ before)
   RunsStream (Err (Ram BadSize)) = (is_ram_size setup.ram ≡ false) × ReadsThroughSeparator old new × IsFault (Ram BadSize) × (after ≡ before)
   RunsStream (Err (Ram (NoRamMemory refused))) =
       (is_ram_size setup.ram ≡ true) × (refused.bytes ≡ setup.ram) × ReadsThroughSeparator old new
-      × (g.follows_input new.source → IsOk (image_in (unread old))) × (after ≡ before)
+      × (source_view.follows_input new.source → IsOk (image_in (unread old))) × (after ≡ before)
   RunsStream (Err (Image fault)) = (is_ram_size setup.ram ≡ true) × ReadsThroughSeparator old new × IsFault (Image fault) × (after ≡ before)
   RunsStream (Err _) = ⊥

@@ -64,7 +64,7 @@ pub record EntersSlot (slot : ℕ) (pair : Pair) (unread left : List ℕ) (is_at
   pub lines : List (List ℕ)
   pub line : List ℕ
   pub reads : ReadsLines unread left is_at_end (lines ++ line ∷ [])
-  pub going : (state_after (pair_line slot) pair lines).entered ≡ false
+  pub not_entered : (state_after (pair_line slot) pair lines).entered ≡ false
   pub entered : (state_after (pair_line slot) pair (lines ++ line ∷ [])).entered ≡ true
 
 -- the run was over before the end: no slot was scrambled, or the slot was entered
@@ -79,7 +79,7 @@ IsNeverEntered slot pair input = IsSomeAnd pair (λ pair. (state_after (pair_lin
 -- The sink failed in the line that reports the end of the input, and no line entered the slot.
 pub record StopsInEnd (slot : ℕ) (pair : Pair) (unread left old new : List ℕ) : Type 0 where
   pub used_up : left ≡ []
-  pub going : (state_after (pair_line slot) pair (lines_of unread)).entered ≡ false
+  pub not_entered : (state_after (pair_line slot) pair (lines_of unread)).entered ≡ false
   pub written : WritesPrefix (old ++ replies (pair_line slot) pair (lines_of unread)) new
       (end_text (state_after (pair_line slot) pair (lines_of unread)).ran)
 
@@ -95,65 +95,69 @@ EndsIn last written = (prefix : List ℕ) × (written ≡ prefix ++ last)
 
 -- the last line reports the end, if the run was over before the end
 abbrev pub ReportsEnd : {W : Type 0} → SinkGhosts W → W → Type 0
-ReportsEnd h after = EndsIn no_slot_text (h.taken after) ⊎ ((ran : ℕ) × EndsIn (entered_text ran) (h.taken after))
+ReportsEnd sink_view after = EndsIn no_slot_text (sink_view.taken after) ⊎ ((ran : ℕ) × EndsIn (entered_text ran) (sink_view.taken after))
 
-module _ {S W : Type 0} {g : SourceGhosts S} (h : SinkGhosts W) where
+module _ {S W : Type 0} {source_view : SourceGhosts S} (sink_view : SinkGhosts W) where
   -- The run reached the end of the input, which the source reported, and no line entered the slot. The last line reports it.
-  pub record GoesToEnd (NeverEntered : Type 0) (old new : Lines S g) (after : W) : Type 0 where
+  pub record GoesToEnd (NeverEntered : Type 0) (old new : Lines S source_view) (after : W) : Type 0 where
     pub at_end : new.is_at_end ≡ true
     pub ended : HasEnded old new
-    pub used_up : g.follows_input new.source → unread new ≡ []
-    pub going : g.follows_input new.source → NeverEntered
-    pub told : (ran : ℕ) × EndsIn (end_text ran) (h.taken after)
+    pub used_up : source_view.follows_input new.source → unread new ≡ []
+    pub not_entered : source_view.follows_input new.source → NeverEntered
+    pub reports_end : (ran : ℕ) × EndsIn (end_text ran) (sink_view.taken after)
 
   -- The text was written, and the sink flushed afterwards. The input was read to its end, or as far as the run continued.
-  pub record TellsTwin (output : Result (List ℕ) BenchFault) (NeverEntered Over : Type 0) (old new : Lines S g) (before after : W) : Type 0 where
-    pub source : SourceWorked g old.source new.source
-    pub sink : SinkFlushed h before after
+  pub record TellsTwin (output : Result (List ℕ) BenchFault) (NeverEntered Over : Type 0) (old new : Lines S source_view)
+      (before after : W) : Type 0 where
+    pub source : SourceWorked source_view old.source new.source
+    pub sink : SinkFlushed sink_view before after
     pub emptied : held new ≡ []
-    pub read : GoesToEnd NeverEntered old new after ⊎ ((g.follows_input new.source → Over) × ReportsEnd h after)
-    pub written : g.follows_input new.source → IsOkAnd output (λ text. h.taken after ≡ h.taken before ++ text)
+    pub read : GoesToEnd NeverEntered old new after ⊎ ((source_view.follows_input new.source → Over) × ReportsEnd sink_view after)
+    pub written : source_view.follows_input new.source → IsOkAnd output (λ text. sink_view.taken after ≡ sink_view.taken before ++ text)
 
   -- The meaning of each result of the second part, for the pair after the scramble.
-  abbrev pub RunsSecond : ℕ → Option Pair → Lines S g → Lines S g → W → W → Outcome → Type 0
+  abbrev pub RunsSecond : ℕ → Option Pair → Lines S source_view → Lines S source_view → W → W → Outcome → Type 0
   RunsSecond slot pair old new before after (Ok _) =
       TellsTwin (Ok (second_text slot pair (unread old))) (IsNeverEntered slot pair (unread old))
       (IsOver slot pair (unread old) (unread new) new.is_at_end) old new before after
   RunsSecond slot pair old new before after (Err Read) =
-      FailsToRead h old new before after
-      × (g.follows_input new.source → IsSomeAnd pair (λ pair.
-      StopsAtRead (both_benches slot) Input pair (unread old) (g.remaining new.source) (held new) (h.taken before) (h.taken after)))
+      FailsToRead sink_view old new before after
+      × (source_view.follows_input new.source → IsSomeAnd pair (λ pair.
+      StopsAtRead (both_benches slot) Input pair (unread old) (source_view.remaining new.source) (held new) (sink_view.taken before)
+      (sink_view.taken after)))
   RunsSecond slot pair old new before after (Err Write) =
-      FailsToWrite h (Ok (second_text slot pair (unread old))) old new before after
-      × (g.follows_input new.source → StopsSecondAtWrite slot pair (unread old) (unread new) (h.taken before) (h.taken after))
+      FailsToWrite sink_view (Ok (second_text slot pair (unread old))) old new before after
+      × (source_view.follows_input new.source
+      → StopsSecondAtWrite slot pair (unread old) (unread new) (sink_view.taken before) (sink_view.taken after))
   RunsSecond slot pair old new before after (Err _) = ⊥
 
-module _ {S W : Type 0} {g : SourceGhosts S} (h : SinkGhosts W) (setup : Setup) (slot : ℕ) (old new : Lines S g) (before after : W) where
+module _ {S W : Type 0} {source_view : SourceGhosts S} (sink_view : SinkGhosts W) (setup : Setup) (slot : ℕ) (old new : Lines S source_view)
+    (before after : W) where
   -- the input has this error instead of a text
   abbrev pub HasFault : BenchFault → Type 0
-  HasFault fault = g.follows_input new.source → twin_output setup slot (unread old) ≡ Err fault
+  HasFault fault = source_view.follows_input new.source → twin_output setup slot (unread old) ≡ Err fault
 
   -- the source failed in the first script, or in the second, which follows a separator
   abbrev pub StopsInScripts : List ℕ → BenchState → Type 0
   StopsInScripts scripts bench =
-      StopsAtRead one_bench Separator bench scripts (g.remaining new.source) (held new) (h.taken before) (h.taken after)
+      StopsAtRead one_bench Separator bench scripts (source_view.remaining new.source) (held new) (sink_view.taken before) (sink_view.taken after)
       ⊎ (IsTrue (has_separator scripts) × IsSomeAnd (make_pair slot (after_first_script bench scripts)) (λ pair.
-      StopsAtRead (both_benches slot) Input pair (after_separator scripts) (g.remaining new.source) (held new)
-      (h.taken before ++ first_text bench scripts) (h.taken after)))
+      StopsAtRead (both_benches slot) Input pair (after_separator scripts) (source_view.remaining new.source) (held new)
+      (sink_view.taken before ++ first_text bench scripts) (sink_view.taken after)))
 
   -- The source failed: in the image, and then nothing is written, or in a script, which follows a separator.
   abbrev pub StopsTwinAtRead : Type 0
   StopsTwinAtRead =
-      (ReadsInImage (unread old) (g.remaining new.source) (held new) × (after ≡ before))
+      (ReadsInImage (unread old) (source_view.remaining new.source) (held new) × (after ≡ before))
       ⊎ (IsTrue (has_separator (unread old))
       × IsOkAnd (bench_in (monitored_setup setup) (unread old)) (StopsInScripts (after_separator (unread old))))
 
   -- the sink failed in the first script, or after it
   abbrev pub StopsInScriptsAtWrite : List ℕ → BenchState → Type 0
   StopsInScriptsAtWrite scripts bench =
-      StopsAtWrite one_bench Separator bench scripts (unread new) (h.taken before) (h.taken after)
+      StopsAtWrite one_bench Separator bench scripts (unread new) (sink_view.taken before) (sink_view.taken after)
       ⊎ StopsSecondAtWrite slot (make_pair slot (after_first_script bench scripts)) (after_separator scripts) (unread new)
-      (h.taken before ++ first_text bench scripts) (h.taken after)
+      (sink_view.taken before ++ first_text bench scripts) (sink_view.taken after)
 
   -- the sink failed in a script of an input that starts a bench
   abbrev pub StopsTwinAtWrite : Type 0
@@ -177,17 +181,17 @@ module _ {S W : Type 0} {g : SourceGhosts S} (h : SinkGhosts W) (setup : Setup) 
   -- is written.
   abbrev pub RunsTwin : Outcome → Type 0
   RunsTwin (Ok _) =
-      (is_ram_size setup.ram ≡ true) × TellsTwin h (twin_output setup slot (unread old)) IsTwinNeverEntered IsTwinOver old new before after
-  RunsTwin (Err Read) = FailsToRead h old new before after × (g.follows_input new.source → StopsTwinAtRead)
+      (is_ram_size setup.ram ≡ true) × TellsTwin sink_view (twin_output setup slot (unread old)) IsTwinNeverEntered IsTwinOver old new before after
+  RunsTwin (Err Read) = FailsToRead sink_view old new before after × (source_view.follows_input new.source → StopsTwinAtRead)
   RunsTwin (Err Write) =
-      (is_ram_size setup.ram ≡ true) × FailsToWrite h (twin_output setup slot (unread old)) old new before after
-      × (g.follows_input new.source → StopsTwinAtWrite)
+      (is_ram_size setup.ram ≡ true) × FailsToWrite sink_view (twin_output setup slot (unread old)) old new before after
+      × (source_view.follows_input new.source → StopsTwinAtWrite)
   RunsTwin (Err Hex) = FindsFault Hex old new × HasFault Hex × (after ≡ before)
   RunsTwin (Err TooLong) = FindsFault TooLong old new × HasFault TooLong × (after ≡ before)
   RunsTwin (Err NoMemory) = RunsOutOfMemory old new × (after ≡ before)
   RunsTwin (Err (Ram BadSize)) = (is_ram_size setup.ram ≡ false) × ReadsThroughSeparator old new × HasFault (Ram BadSize) × (after ≡ before)
   RunsTwin (Err (Ram (NoRamMemory refused))) =
       (is_ram_size setup.ram ≡ true) × (refused.bytes ≡ setup.ram) × ReadsThroughSeparator old new
-      × (g.follows_input new.source → IsOk (image_in (unread old))) × (after ≡ before)
+      × (source_view.follows_input new.source → IsOk (image_in (unread old))) × (after ≡ before)
   RunsTwin (Err (Image fault)) = (is_ram_size setup.ram ≡ true) × ReadsThroughSeparator old new × HasFault (Image fault) × (after ≡ before)
   RunsTwin (Err _) = ⊥

@@ -13,26 +13,26 @@ use Rattle.rv_streams.specs.Separator.{has_separator}
 use Rattle.rv_streams.specs.Unread.{unread, HasEnded, EndsWithSource}
 
 -- lines that do not change end with their source
-pub EndsWithSource-none : {S : Type 0} {g : Ghosts S} (lines : Lines S g) → EndsWithSource lines lines
+pub EndsWithSource-none : {S : Type 0} {source_view : Ghosts S} (lines : Lines S source_view) → EndsWithSource lines lines
 EndsWithSource-none lines = record {
-  stays = λ at_end. (at_end, refl);
-  going = λ _. refl;
+  stays_at_end = λ at_end. (at_end, refl);
+  no_new_end = λ _. refl;
   ended = λ at_end. inl at_end;
-  same = refl;
-  before = λ follows. follows;
+  same_input = refl;
+  followed_before = λ follows. follows;
 }
 
 -- if the lines end in a call, the source has returned its end in this call
-pub EndsWithSource-ends : {S : Type 0} {g : Ghosts S} (old new : Lines S g) → old.is_at_end ≡ false → new.is_at_end ≡ true
-    → g.ends new.source ≡ g.ends old.source + 1 → g.input new.source ≡ g.input old.source
-    → (g.follows_input new.source → g.follows_input old.source) → EndsWithSource old new
-EndsWithSource-ends {S} {g} old new not_at_end at_end one_more_end same_input follows_before =
-    let ends_rose : HasRisen (g.ends old.source) (g.ends new.source) = omega (arith, one_more_end) in record {
-      stays = λ was_at_end. cc;
-      going = λ still_not_at_end. cc;
+pub EndsWithSource-ends : {S : Type 0} {source_view : Ghosts S} (old new : Lines S source_view) → old.is_at_end ≡ false → new.is_at_end ≡ true
+    → source_view.ends new.source ≡ source_view.ends old.source + 1 → source_view.input new.source ≡ source_view.input old.source
+    → (source_view.follows_input new.source → source_view.follows_input old.source) → EndsWithSource old new
+EndsWithSource-ends {S} {source_view} old new not_at_end at_end one_more_end same_input follows_before =
+    let ends_rose : HasRisen (source_view.ends old.source) (source_view.ends new.source) = omega (arith, one_more_end) in record {
+      stays_at_end = λ was_at_end. cc;
+      no_new_end = λ still_not_at_end. cc;
       ended = λ _. inr ends_rose;
-      same = same_input;
-      before = follows_before;
+      same_input = same_input;
+      followed_before = follows_before;
     }
 
 -- a call that does not fail leaves the count of failures unchanged
@@ -41,74 +41,80 @@ pub no_failure : {A E : Type 0} (old mid new : ℕ) (result : Result A E) (a : A
 no_failure old mid new result a new_is result_is mid_is = new_is ∙ (ap (λ result. counted_if (is_err result) mid) result_is ∙ mid_is)
 
 -- a sink that worked and then failed has failed
-pub SinkFailed-after : {W : Type 0} (h : SinkGhosts W) {old mid new : W} → SinkWorked h old mid → SinkFailed h mid new → SinkFailed h old new
-SinkFailed-after h worked (inl failures_rose) = let same_failures = worked.worked.0 in inl (omega (arith, failures_rose, same_failures))
-SinkFailed-after h worked (inr refusals_rose) = let same_refusals = worked.worked.1 in inr (omega (arith, refusals_rose, same_refusals))
+pub SinkFailed-after : {W : Type 0} (sink_view : SinkGhosts W) {old mid new : W} → SinkWorked sink_view old mid → SinkFailed sink_view mid new
+    → SinkFailed sink_view old new
+SinkFailed-after sink_view worked (inl failures_rose) = let same_failures = worked.worked.0 in inl (omega (arith, failures_rose, same_failures))
+SinkFailed-after sink_view worked (inr refusals_rose) = let same_refusals = worked.worked.1 in inr (omega (arith, refusals_rose, same_refusals))
 
 -- a sink that worked in two calls, one after the other, worked in both together
-pub SinkWorked-more : {W : Type 0} (h : SinkGhosts W) {old mid new : W} → SinkWorked h old mid → SinkWorked h mid new → SinkWorked h old new
-SinkWorked-more h first next = record {
+pub SinkWorked-more : {W : Type 0} (sink_view : SinkGhosts W) {old mid new : W} → SinkWorked sink_view old mid → SinkWorked sink_view mid new
+    → SinkWorked sink_view old new
+SinkWorked-more sink_view first next = record {
   worked = (next.worked.0 ∙ first.worked.0, next.worked.1 ∙ first.worked.1);
   unflushed = next.unflushed ∙ first.unflushed;
 }
 
 -- a sink that worked, and was flushed once after that, was flushed once in both calls together
-pub SinkFlushed-after : {W : Type 0} (h : SinkGhosts W) {old mid new : W} → SinkWorked h old mid → SinkFlushed h mid new → SinkFlushed h old new
-SinkFlushed-after h first flush = record {
+pub SinkFlushed-after : {W : Type 0} (sink_view : SinkGhosts W) {old mid new : W} → SinkWorked sink_view old mid → SinkFlushed sink_view mid new
+    → SinkFlushed sink_view old new
+SinkFlushed-after sink_view first flush = record {
   worked = (flush.worked.0 ∙ first.worked.0, flush.worked.1 ∙ first.worked.1);
   flushed = flush.flushed;
   once = flush.once ∙ ap (λ count. count + 1) first.unflushed;
 }
 
 -- if a call succeeds that writes a text and flushes the sink, the sink is flushed once after it
-pub flushed_once : {W A E : Type 0} (h : SinkGhosts W) {old new : W} (result : Result A E) {a : A} → result ≡ Ok a
-    → OnOk result (NoneFailed h old new) → OnOk result ((h.is_flushed new ≡ true) × (h.flushes new ≡ h.flushes old + 1)) → SinkFlushed h old new
-flushed_once h (Ok a) result_is worked flushed = record { worked = worked; flushed = flushed.0; once = flushed.1 }
-flushed_once h (Err e) result_is worked flushed = let impossible : Err e ≡ Ok _ = result_is in cc
+pub flushed_once : {W A E : Type 0} (sink_view : SinkGhosts W) {old new : W} (result : Result A E) {a : A} → result ≡ Ok a
+    → OnOk result (NoneFailed sink_view old new)
+    → OnOk result ((sink_view.is_flushed new ≡ true) × (sink_view.flushes new ≡ sink_view.flushes old + 1)) → SinkFlushed sink_view old new
+flushed_once sink_view (Ok a) result_is worked flushed = record { worked = worked; flushed = flushed.0; once = flushed.1 }
+flushed_once sink_view (Err e) result_is worked flushed = let impossible : Err e ≡ Ok _ = result_is in cc
 
 -- a flush that succeeded counts as one flush, without a failure
-pub SinkFlushed-flush : {W A E : Type 0} (h : SinkGhosts W) {old new : W} (result : Result A E) {a : A} → result ≡ Ok a
-    → h.failures new ≡ counted_if (is_err result) (h.failures old) → h.refusals new ≡ h.refusals old
-    → h.is_flushed new ≡ (h.is_flushed old || is_ok result) → h.flushes new ≡ counted_if (is_ok result) (h.flushes old) → SinkFlushed h old new
-SinkFlushed-flush h {old = old} (Ok a) result_is same_failures same_refusals is_flushed flushes_is =
-    record { worked = (same_failures, same_refusals); flushed = is_flushed ∙ or-true (h.is_flushed old); once = flushes_is }
-SinkFlushed-flush h (Err e) result_is same_failures same_refusals is_flushed flushes_is = let impossible : Err e ≡ Ok _ = result_is in cc
+pub SinkFlushed-flush : {W A E : Type 0} (sink_view : SinkGhosts W) {old new : W} (result : Result A E) {a : A} → result ≡ Ok a
+    → sink_view.failures new ≡ counted_if (is_err result) (sink_view.failures old) → sink_view.refusals new ≡ sink_view.refusals old
+    → sink_view.is_flushed new ≡ (sink_view.is_flushed old || is_ok result)
+    → sink_view.flushes new ≡ counted_if (is_ok result) (sink_view.flushes old) → SinkFlushed sink_view old new
+SinkFlushed-flush sink_view {old = old} (Ok a) result_is same_failures same_refusals is_flushed flushes_is =
+    record { worked = (same_failures, same_refusals); flushed = is_flushed ∙ or-true (sink_view.is_flushed old); once = flushes_is }
+SinkFlushed-flush sink_view (Err e) result_is same_failures same_refusals is_flushed flushes_is = let impossible : Err e ≡ Ok _ = result_is in cc
 
 -- the lines end with their source over two calls, one after the other
-pub EndsWithSource-more : {S : Type 0} {g : Ghosts S} (old mid new : Lines S g) → EndsWithSource old mid → EndsWithSource mid new
+pub EndsWithSource-more : {S : Type 0} {source_view : Ghosts S} (old mid new : Lines S source_view) → EndsWithSource old mid → EndsWithSource mid new
     → EndsWithSource old new
-EndsWithSource-more {S} {g} old mid new first second = record {
-  stays = λ at_end. let (mid_at_end, first_ends) = first.stays at_end in
-      let (new_at_end, second_ends) = second.stays mid_at_end in (new_at_end, second_ends ∙ first_ends);
-  going = λ not_at_end. no_new_end mid.is_at_end refl not_at_end;
+EndsWithSource-more {S} {source_view} old mid new first second = record {
+  stays_at_end = λ at_end. let (mid_at_end, first_ends) = first.stays_at_end at_end in
+      let (new_at_end, second_ends) = second.stays_at_end mid_at_end in (new_at_end, second_ends ∙ first_ends);
+  no_new_end = λ not_at_end. no_new_end mid.is_at_end refl not_at_end;
   ended = λ at_end. has_ended mid.is_at_end refl at_end;
-  same = second.same ∙ first.same;
-  before = λ follows. first.before (second.before follows);
+  same_input = second.same_input ∙ first.same_input;
+  followed_before = λ follows. first.followed_before (second.followed_before follows);
 } where
   -- if the lines are not at their end in `new`, the number of ends that the source returned is unchanged
-  no_new_end : (mid_ended : Bool) → mid.is_at_end ≡ mid_ended → new.is_at_end ≡ false → g.ends new.source ≡ g.ends old.source
-  no_new_end true mid_at_end not_at_end = let new_at_end = (second.stays mid_at_end).0 in cc
-  no_new_end false mid_not_at_end not_at_end = second.going not_at_end ∙ first.going mid_not_at_end
+  no_new_end : (mid_ended : Bool) → mid.is_at_end ≡ mid_ended → new.is_at_end ≡ false → source_view.ends new.source ≡ source_view.ends old.source
+  no_new_end true mid_at_end not_at_end = let new_at_end = (second.stays_at_end mid_at_end).0 in cc
+  no_new_end false mid_not_at_end not_at_end = second.no_new_end not_at_end ∙ first.no_new_end mid_not_at_end
 
   -- if the lines are at their end in `new`, the source returned its end, in the first call if `mid_ended`, and otherwise in the second
   has_ended : (mid_ended : Bool) → mid.is_at_end ≡ mid_ended → new.is_at_end ≡ true → HasEnded old new
   has_ended true mid_at_end at_end = elim (first.ended mid_at_end) [
     | inl old_at_end ↦ inl old_at_end
     | inr first_rose ↦
-        let same_ends = (second.stays mid_at_end).1 in
-        let ends_rose : HasRisen (g.ends old.source) (g.ends new.source) = omega (arith, first_rose, same_ends) in inr ends_rose
+        let same_ends = (second.stays_at_end mid_at_end).1 in
+        let ends_rose : HasRisen (source_view.ends old.source) (source_view.ends new.source) = omega (arith, first_rose, same_ends) in inr ends_rose
   ]
   has_ended false mid_not_at_end at_end = elim (second.ended at_end) [
     | inl mid_at_end ↦ cc
     | inr second_rose ↦
-        let same_ends = first.going mid_not_at_end in
-        let ends_rose : HasRisen (g.ends old.source) (g.ends new.source) = omega (arith, second_rose, same_ends) in inr ends_rose
+        let same_ends = first.no_new_end mid_not_at_end in
+        let ends_rose : HasRisen (source_view.ends old.source) (source_view.ends new.source) = omega (arith, second_rose, same_ends) in inr ends_rose
   ]
 
 -- if lines were read through the separator, and not to the end of the input, the input has a separator
-pub separator_read : {S : Type 0} {g : Ghosts S} (old mid new : Lines S g) → ReadsThroughSeparator old mid → EndsWithSource mid new
-    → new.is_at_end ≡ false → g.follows_input new.source → IsTrue (has_separator (unread old))
+pub separator_read : {S : Type 0} {source_view : Ghosts S} (old mid new : Lines S source_view) → ReadsThroughSeparator old mid
+    → EndsWithSource mid new
+    → new.is_at_end ≡ false → source_view.follows_input new.source → IsTrue (has_separator (unread old))
 separator_read old mid new reads ends not_at_end follows = elim reads.ended [
-  | inl mid_at_end ↦ absurd (false≢true (sym not_at_end ∙ (ends.stays mid_at_end).0))
-  | inr separated ↦ separated (ends.before follows)
+  | inl mid_at_end ↦ absurd (false≢true (sym not_at_end ∙ (ends.stays_at_end mid_at_end).0))
+  | inr separated ↦ separated (ends.followed_before follows)
 ]

@@ -133,7 +133,7 @@ EncodesImage-unmarked : (unread left rest : List ℕ) (ends : Bool) (image shown
     → is_separator takes.line ≡ false → ReadsUnmarked unread rest (so_far.lines ++ takes.line ∷ [])
 EncodesImage-unmarked unread left rest ends image shown so_far takes not_separator =
     let reads = ReadsLines-more unread left rest ends shown so_far.lines so_far.reads takes in record {
-      all = reads.all;
+      all_lines = reads.all_lines;
       rest = reads.rest;
       unmarked = before_separator-other so_far.lines [] takes.line so_far.unmarked not_separator;
     }
@@ -245,11 +245,11 @@ module _ {unread left rest : List ℕ} {ends : Bool} {image shown : List ℕ} wh
 -- the lines so far are lines of a script that ends with a separator
 pub EncodesImage-taken : {unread left : List ℕ} {is_at_end : Bool} {image : List ℕ} → (so_far : EncodesImage unread left is_at_end image)
     → TakesScript Separator unread left is_at_end so_far.lines
-EncodesImage-taken so_far = record { reads = so_far.reads; inside = so_far.unmarked }
+EncodesImage-taken so_far = record { reads = so_far.reads; in_script = so_far.unmarked }
 
 -- if no line of the image is left, the image is complete
 pub EncodesImage-whole : (unread left rest : List ℕ) (is_at_end : Bool) (image : List ℕ) → (so_far : EncodesImage unread left is_at_end image)
     → length image ≤ image_limit → ReadsScript Separator unread rest so_far.lines → image_in unread ≡ Ok image
 EncodesImage-whole unread left rest is_at_end image so_far within_limit whole =
     let bytes_within_limit : length (bytes_of_lines so_far.lines) ≤ image_limit = omega (arith, within_limit, ap length so_far.image_is) in
-    ap image_of whole.all ∙ (image_of-sound so_far.lines so_far.sound bytes_within_limit ∙ ap Ok (sym so_far.image_is))
+    ap image_of whole.all_lines ∙ (image_of-sound so_far.lines so_far.sound bytes_within_limit ∙ ap Ok (sym so_far.image_is))

@@ -98,7 +98,7 @@ TakesLine-feed unread left kept shown is_at_end reads shown_is =
       line = without_return text;
       split = split;
       is_line = is_line;
-      whole = λ _. whole;
+      whole_lines = λ _. whole;
       lines = ap lines_of split ∙ (lines_of-append line_text left whole ∙ ap (λ lines. lines ++ lines_of left) is_line);
       rest = sym (ap after_line reads.split ∙ after_line-feed text left reads.unfinished);
       prefix = shown_is ∙ (ap (λ kept. take significant_bytes (without_return kept)) reads.prefix ∙ cut-kept text);
@@ -121,7 +121,7 @@ TakesLine-end unread left kept shown reads none_left some_kept shown_is =
       line = text;
       split = split;
       is_line = is_line;
-      whole = λ not_at_end. cc;
+      whole_lines = λ not_at_end. cc;
       lines = ap lines_of (split ∙ append-nil text) ∙ is_line;
       rest = sym (ap after_line (split ∙ append-nil text) ∙ after_line-open text reads.unfinished);
       prefix = shown_is ∙ (ap (take significant_bytes) reads.prefix ∙ take-take significant_bytes kept_bytes text (omega arith));
@@ -133,8 +133,8 @@ ReadsLines-none unread is_at_end = record {
   text = [];
   split = refl;
   are_lines = refl;
-  whole = λ _. refl;
-  all = refl;
+  whole_lines = λ _. refl;
+  all_lines = refl;
   rest = refl;
 }
 
@@ -147,9 +147,9 @@ ReadsLines-more unread left rest ends shown lines reads takes =
     rw (add-one) (after_lines-more (length lines) unread ∙ ap after_line (sym reads.rest)) in record {
       text = reads.text ++ takes.text;
       split = reads.split ∙ (ap (λ text. reads.text ++ text) takes.split ∙ sym (append_assoc reads.text takes.text rest));
-      are_lines = lines_of-append reads.text takes.text (reads.whole refl)
+      are_lines = lines_of-append reads.text takes.text (reads.whole_lines refl)
           ∙ (ap (λ first. first ++ lines_of takes.text) reads.are_lines ∙ ap (λ last. lines ++ last) takes.is_line);
-      whole = λ not_at_end. through_last_feed-append reads.text takes.text (reads.whole refl) (takes.whole not_at_end);
-      all = reads.all ∙ (ap (λ others. lines ++ others) takes.lines ∙ sym (append_assoc lines (line ∷ []) (lines_of rest)));
+      whole_lines = λ not_at_end. through_last_feed-append reads.text takes.text (reads.whole_lines refl) (takes.whole_lines not_at_end);
+      all_lines = reads.all_lines ∙ (ap (λ others. lines ++ others) takes.lines ∙ sym (append_assoc lines (line ∷ []) (lines_of rest)));
       rest = takes.rest ∙ (sym rest_is ∙ ap (λ n. after_lines n unread) (sym (length-append lines (line ∷ []))));
     }

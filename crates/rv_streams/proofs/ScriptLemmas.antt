@@ -47,13 +47,13 @@ script_lines-is Separator lines = refl
 
 -- if no line ends the script, all lines are lines of the script
 pub script_lines-all : (end : ScriptEnd) (lines : List (List ℕ)) → list_all (is_script_line end) lines ≡ true → script_lines end lines ≡ lines
-script_lines-all end lines inside = script_lines-is end lines ∙ take_while-all (is_script_line end) lines inside
+script_lines-all end lines in_script = script_lines-is end lines ∙ take_while-all (is_script_line end) lines in_script
 
 -- the lines of the script are the lines before the line that ends it
 script_lines-stop : (end : ScriptEnd) (lines others : List (List ℕ)) (line : List ℕ) → list_all (is_script_line end) lines ≡ true
     → ends_script end line ≡ true → script_lines end (lines ++ line ∷ others) ≡ lines
-script_lines-stop end lines others line inside line_ends = script_lines-is end (lines ++ line ∷ others)
-    ∙ take_while-stop (is_script_line end) lines line others inside (ap not line_ends)
+script_lines-stop end lines others line in_script line_ends = script_lines-is end (lines ++ line ∷ others)
+    ∙ take_while-stop (is_script_line end) lines line others in_script (ap not line_ends)
 
 -- the lines of the script among xs are a prefix of the lines of the script among xs and ys
 pub script_lines-prefix : (end : ScriptEnd) (xs ys : List (List ℕ))
@@ -78,10 +78,10 @@ pub record ReadsScript (end : ScriptEnd) (unread left : List ℕ) (lines : List 
   pub closing : List (List ℕ)
   pub is_at_end : Bool
   pub reads : ReadsLines unread left is_at_end (lines ++ closing)
-  pub one : length closing ≤ 1
+  pub at_most_one : length closing ≤ 1
   -- the lines that were read, and all unread lines, have the same lines of the script
-  pub inside : script_lines end (lines ++ closing) ≡ lines
-  pub all : script_lines end (lines_of unread) ≡ lines
+  pub in_script : script_lines end (lines ++ closing) ≡ lines
+  pub all_lines : script_lines end (lines_of unread) ≡ lines
   pub rest : left ≡ after_lines (length lines + 1) unread
 
 -- the script is complete at the end of the input
@@ -89,17 +89,17 @@ ReadsScript-ended : (end : ScriptEnd) (unread left rest : List ℕ) (is_at_end :
     → TakesScript end unread left is_at_end lines → left ≡ [] → rest ≡ [] → ReadsScript end unread rest lines
 ReadsScript-ended end unread left rest is_at_end lines so_far none_left no_rest =
     let all_lines : lines_of unread ≡ lines =
-    so_far.reads.all ∙ (ap (λ text. lines ++ lines_of text) none_left ∙ append-nil lines) in
-    let all_inside = script_lines-all end lines so_far.inside in
+    so_far.reads.all_lines ∙ (ap (λ text. lines ++ lines_of text) none_left ∙ append-nil lines) in
+    let all_inside = script_lines-all end lines so_far.in_script in
     let none_after : after_lines (length lines + 1) unread ≡ [] =
     rw add-one (after_lines-more (length lines) unread) ∙ ap after_line (sym so_far.reads.rest ∙ none_left) in record {
       closing = [];
       is_at_end = is_at_end;
       reads = subst (λ lines. ReadsLines unread rest is_at_end lines) (sym (append-nil lines))
           (subst (λ text. ReadsLines unread text is_at_end lines) (none_left ∙ sym no_rest) so_far.reads);
-      one = lit≤ tt;
-      inside = ap (script_lines end) (append-nil lines) ∙ all_inside;
-      all = ap (script_lines end) all_lines ∙ all_inside;
+      at_most_one = lit≤ tt;
+      in_script = ap (script_lines end) (append-nil lines) ∙ all_inside;
+      all_lines = ap (script_lines end) all_lines ∙ all_inside;
       rest = no_rest ∙ sym none_after;
     }
 
@@ -107,7 +107,7 @@ ReadsScript-ended end unread left rest is_at_end lines so_far none_left no_rest 
 pub lines_of-taken : (unread left rest : List ℕ) (is_at_end ends : Bool) (shown : List ℕ) (lines : List (List ℕ))
     → ReadsLines unread left is_at_end lines → (takes : TakesLine left rest ends shown)
     → lines_of unread ≡ lines ++ takes.line ∷ lines_of rest
-lines_of-taken unread left rest is_at_end ends shown lines reads takes = reads.all ∙ ap (λ others. lines ++ others) takes.lines
+lines_of-taken unread left rest is_at_end ends shown lines reads takes = reads.all_lines ∙ ap (λ others. lines ++ others) takes.lines
 
 -- the script is complete after a line that ends it
 ReadsScript-through : (end : ScriptEnd) (unread left rest : List ℕ) (ends : Bool) (shown : List ℕ) (lines : List (List ℕ))
@@ -119,10 +119,10 @@ ReadsScript-through end unread left rest ends shown lines so_far takes shown_end
       closing = takes.line ∷ [];
       is_at_end = ends;
       reads = reads;
-      one = lit≤ tt;
-      inside = script_lines-stop end lines [] takes.line so_far.inside line_ends;
-      all = ap (script_lines end) (lines_of-taken unread left rest false ends shown lines so_far.reads takes)
-          ∙ script_lines-stop end lines (lines_of rest) takes.line so_far.inside line_ends;
+      at_most_one = lit≤ tt;
+      in_script = script_lines-stop end lines [] takes.line so_far.in_script line_ends;
+      all_lines = ap (script_lines end) (lines_of-taken unread left rest false ends shown lines so_far.reads takes)
+          ∙ script_lines-stop end lines (lines_of rest) takes.line so_far.in_script line_ends;
       rest = reads.rest ∙ ap (λ n. after_lines n unread) (length-append lines (takes.line ∷ []));
     }
 
@@ -137,7 +137,7 @@ module _ {S : Type 0} {g : Ghosts S} (old mid new : Lines S g) where
       ReadsScript-ended end (unread old) (unread mid) (unread new) mid.is_at_end lines so_far (at_end.none follows) (at_end.left follows)
   FindsEnd-whole end lines (inr reads) so_far follows =
       ReadsScript-through end (unread old) (unread mid) (unread new) new.is_at_end reads.shown lines
-      (subst (λ is_at_end. TakesScript end (unread old) (unread mid) is_at_end lines) reads.going so_far) (reads.takes follows) reads.ends
+      (subst (λ is_at_end. TakesScript end (unread old) (unread mid) is_at_end lines) reads.not_at_end so_far) (reads.takes follows) reads.ends
 
   -- if a line ended the script at a separator, the input has a separator
   has_separator-if_ended : (lines : List (List ℕ)) → ReadsScriptEnd Separator mid new
@@ -158,7 +158,7 @@ module _ {S : Type 0} {g : Ghosts S} (old mid new : Lines S g) where
     rest = λ follows.
         let (lines, so_far) = lines_taken follows in
         let whole = FindsEnd-whole Separator lines found_end so_far follows in
-        whole.rest ∙ ap (λ lines. after_lines (length lines + 1) (unread old)) (sym whole.all);
+        whole.rest ∙ ap (λ lines. after_lines (length lines + 1) (unread old)) (sym whole.all_lines);
     ended = elim found_end [
       | inl at_end ↦ inl at_end.at_end
       | inr reads ↦ inr (λ follows. let (lines, so_far) = lines_taken follows in has_separator-if_ended lines reads so_far follows)

@@ -21,40 +21,41 @@ AddsPart part old new (Err TooLong) = (4194304 < length old + length part) × (n
 AddsPart part old new (Err NoMemory) = (0 < length part) × (length old + length part ≤ 4194304) × (new ≡ old)
 AddsPart part old new (Err _) = ⊥
 
-module _ {S : Type 0} (g : SourceGhosts S) where
+module _ {S : Type 0} (source_view : SourceGhosts S) where
   -- The whole text of at most 4 MiB was read, until the source returned its end.
   pub record ReadsWholeText (old new : S) : Type 0 where
-    pub same : g.input new ≡ g.input old
-    pub source : SourceWorked g old new
-    pub ended : HasRisen (g.ends old) (g.ends new)
-    pub few : g.follows_input new → length (g.remaining old) ≤ 4194304
-    pub used_up : g.follows_input new → g.remaining new ≡ []
+    pub same_input : source_view.input new ≡ source_view.input old
+    pub source : SourceWorked source_view old new
+    pub ended : HasRisen (source_view.ends old) (source_view.ends new)
+    pub within_limit : source_view.follows_input new → length (source_view.remaining old) ≤ 4194304
+    pub used_up : source_view.follows_input new → source_view.remaining new ≡ []
 
   -- The source failed before it returned its end, after at most 4 MiB were read.
   pub record FailsInText (old new : S) : Type 0 where
-    pub same : g.input new ≡ g.input old
-    pub source : SourceFailed g old new
-    pub going : g.ends new ≡ g.ends old
-    pub reads : g.follows_input new → ReadsAtMost 4194304 (g.remaining old) (g.remaining new)
+    pub same_input : source_view.input new ≡ source_view.input old
+    pub source : SourceFailed source_view old new
+    pub no_new_end : source_view.ends new ≡ source_view.ends old
+    pub reads : source_view.follows_input new → ReadsAtMost 4194304 (source_view.remaining old) (source_view.remaining new)
 
   -- More than 4 MiB were read before the source returned its end, so the text is too long.
   pub record FindsTooMuch (old new : S) : Type 0 where
-    pub same : g.input new ≡ g.input old
-    pub source : SourceWorked g old new
-    pub going : g.ends new ≡ g.ends old
-    pub reads : g.follows_input new → ReadsMoreThan 4194304 (g.remaining old) (g.remaining new)
+    pub same_input : source_view.input new ≡ source_view.input old
+    pub source : SourceWorked source_view old new
+    pub no_new_end : source_view.ends new ≡ source_view.ends old
+    pub reads : source_view.follows_input new → ReadsMoreThan 4194304 (source_view.remaining old) (source_view.remaining new)
 
   -- Memory for the text was exhausted before the source returned its end, after at least one byte was read.
   pub record RunsOutOfMemoryForText (old new : S) : Type 0 where
-    pub same : g.input new ≡ g.input old
-    pub source : SourceWorked g old new
-    pub going : g.ends new ≡ g.ends old
-    pub some : g.follows_input new → length (g.remaining new) < length (g.remaining old)
-    pub reads : g.follows_input new → ReadsAtMost 4194304 (g.remaining old) (g.remaining new)
+    pub same_input : source_view.input new ≡ source_view.input old
+    pub source : SourceWorked source_view old new
+    pub no_new_end : source_view.ends new ≡ source_view.ends old
+    pub some_read : source_view.follows_input new → length (source_view.remaining new) < length (source_view.remaining old)
+    pub reads : source_view.follows_input new → ReadsAtMost 4194304 (source_view.remaining old) (source_view.remaining new)
 
   -- the meaning of each result of reading a text
   abbrev pub ReadsText : {Z : Type 0} → S → S → Result (Vec ℕ Z) BenchFault → Type 0
-  ReadsText old new (Ok text) = ReadsWholeText old new × (length text.items ≤ 4194304) × (g.follows_input new → text.items ≡ g.remaining old)
+  ReadsText old new (Ok text) = ReadsWholeText old new × (length text.items ≤ 4194304)
+      × (source_view.follows_input new → text.items ≡ source_view.remaining old)
   ReadsText old new (Err Read) = FailsInText old new
   ReadsText old new (Err TooLong) = FindsTooMuch old new
   ReadsText old new (Err NoMemory) = RunsOutOfMemoryForText old new
@@ -64,22 +65,25 @@ module _ {S : Type 0} (g : SourceGhosts S) where
 abbrev pub FailsAsm : List ℕ → AsmFault → Type 0
 FailsAsm text fault = (asm_output text ≡ Err (Asm fault)) ⊎ RunsOutOfMemory text fault
 
-module _ {S W : Type 0} (g : SourceGhosts S) (h : SinkGhosts W) (old new : S) (before after : W) where
+module _ {S W : Type 0} (source_view : SourceGhosts S) (sink_view : SinkGhosts W) (old new : S) (before after : W) where
   -- The meaning of each result of `run_asm`. Nothing is written before the whole text was read and assembled. If memory is exhausted at a line,
   -- the line has no error that has precedence.
   abbrev pub RunsAsm : Outcome → Type 0
   RunsAsm (Ok _) =
-      ReadsWholeText g old new × SinkFlushed h before after
-      × (g.follows_input new → IsOkAnd (asm_output (g.remaining old)) (λ text. h.taken after ≡ h.taken before ++ text))
-  RunsAsm (Err Read) = FailsInText g old new × (after ≡ before)
-  RunsAsm (Err TooLong) = FindsTooMuch g old new × (g.follows_input new → asm_output (g.remaining old) ≡ Err TooLong) × (after ≡ before)
-  RunsAsm (Err NoMemory) = RunsOutOfMemoryForText g old new × (after ≡ before)
+      ReadsWholeText source_view old new × SinkFlushed sink_view before after
+      × (source_view.follows_input new
+      → IsOkAnd (asm_output (source_view.remaining old)) (λ text. sink_view.taken after ≡ sink_view.taken before ++ text))
+  RunsAsm (Err Read) = FailsInText source_view old new × (after ≡ before)
+  RunsAsm (Err TooLong) = FindsTooMuch source_view old new
+      × (source_view.follows_input new → asm_output (source_view.remaining old) ≡ Err TooLong) × (after ≡ before)
+  RunsAsm (Err NoMemory) = RunsOutOfMemoryForText source_view old new × (after ≡ before)
   RunsAsm (Err (Asm fault)) =
-      ReadsWholeText g old new
-      × (g.follows_input new → (1 ≤ fault.line) × (fault.line ≤ length (lines_of (g.remaining old))))
-      × (g.follows_input new → FailsAsm (g.remaining old) fault)
+      ReadsWholeText source_view old new
+      × (source_view.follows_input new → (1 ≤ fault.line) × (fault.line ≤ length (lines_of (source_view.remaining old))))
+      × (source_view.follows_input new → FailsAsm (source_view.remaining old) fault)
       × (after ≡ before)
   RunsAsm (Err Write) =
-      ReadsWholeText g old new × SinkFailed h before after
-      × (g.follows_input new → IsOkAnd (asm_output (g.remaining old)) (λ text. WritesPrefix (h.taken before) (h.taken after) text))
+      ReadsWholeText source_view old new × SinkFailed sink_view before after
+      × (source_view.follows_input new
+      → IsOkAnd (asm_output (source_view.remaining old)) (λ text. WritesPrefix (sink_view.taken before) (sink_view.taken after) text))
   RunsAsm (Err _) = ⊥

@@ -54,7 +54,7 @@ pub record ReadsInImage (unread left kept : List ℕ) : Type 0 where
 
 -- The lines were read, up to the remaining bytes, and none is `--`.
 pub record ReadsUnmarked (unread left : List ℕ) (lines : List (List ℕ)) : Type 0 where
-  pub all : lines_of unread ≡ lines ++ lines_of left
+  pub all_lines : lines_of unread ≡ lines ++ lines_of left
   pub rest : left ≡ after_lines (length lines) unread
   pub unmarked : before_separator lines ≡ lines
 

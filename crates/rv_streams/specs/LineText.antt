@@ -20,7 +20,7 @@ pub record TakesLine (unread left : List ℕ) (is_at_end : Bool) (shown : List �
   pub line : List ℕ
   pub split : unread ≡ text ++ left
   pub is_line : lines_of text ≡ line ∷ []
-  pub whole : is_at_end ≡ false → through_last_feed text ≡ text
+  pub whole_lines : is_at_end ≡ false → through_last_feed text ≡ text
   pub lines : lines_of unread ≡ line ∷ lines_of left
   pub rest : left ≡ after_line unread
   pub prefix : shown ≡ take significant_bytes line
@@ -30,8 +30,8 @@ pub record ReadsLines (unread left : List ℕ) (is_at_end : Bool) (lines : List 
   pub text : List ℕ
   pub split : unread ≡ text ++ left
   pub are_lines : lines_of text ≡ lines
-  pub whole : is_at_end ≡ false → through_last_feed text ≡ text
-  pub all : lines_of unread ≡ lines ++ lines_of left
+  pub whole_lines : is_at_end ≡ false → through_last_feed text ≡ text
+  pub all_lines : lines_of unread ≡ lines ++ lines_of left
   pub rest : left ≡ after_lines (length lines) unread
 
 -- `left_from` has the bytes from the end of a text on, including the line feed that was read

@@ -13,7 +13,7 @@ module _ {S : Type 0} {g : Ghosts S} where
   -- The source failed in a line of the image, and the prefix of this line is kept.
   pub record FailsInImage (old new : Lines S g) : Type 0 where
     pub source : SourceFailed g old.source new.source
-    pub going : new.is_at_end ≡ false
+    pub not_at_end : new.is_at_end ≡ false
     pub reads : g.follows_input new.source → ReadsInImage (unread old) (g.remaining new.source) (held new)
 
   -- The text of the image has this error, at the last line that was read.

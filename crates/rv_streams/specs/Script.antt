@@ -27,7 +27,7 @@ is_script_line end line = not (ends_script end line)
 -- The lines of the script were taken, and no others.
 pub record TakesScript (end : ScriptEnd) (unread left : List ℕ) (is_at_end : Bool) (lines : List (List ℕ)) : Type 0 where
   pub reads : ReadsLines unread left is_at_end lines
-  pub inside : list_all (is_script_line end) lines ≡ true
+  pub in_script : list_all (is_script_line end) lines ≡ true
 
 module _ {S : Type 0} {g : Ghosts S} where
   -- The source has returned its end, and no line is left.
@@ -39,7 +39,7 @@ module _ {S : Type 0} {g : Ghosts S} where
   -- A line was read that ends the script.
   pub record ReadsScriptEnd (end : ScriptEnd) (old new : Lines S g) : Type 0 where
     pub shown : List ℕ
-    pub going : old.is_at_end ≡ false
+    pub not_at_end : old.is_at_end ≡ false
     pub takes : g.follows_input new.source → TakesLine (unread old) (unread new) new.is_at_end shown
     pub ends : ends_script end shown ≡ true
 

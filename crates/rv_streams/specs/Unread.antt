@@ -25,17 +25,17 @@ module _ {S : Type 0} {g : Ghosts S} where
   -- The lines end only when the source returns its end. The source returns no end before that, and none after it. Its assumed
   -- input stays the same, and if it follows that input in the new state, it does in the old one.
   pub record EndsWithSource (old new : Lines S g) : Type 0 where
-    pub stays : old.is_at_end ≡ true → (new.is_at_end ≡ true) × (g.ends new.source ≡ g.ends old.source)
-    pub going : new.is_at_end ≡ false → g.ends new.source ≡ g.ends old.source
+    pub stays_at_end : old.is_at_end ≡ true → (new.is_at_end ≡ true) × (g.ends new.source ≡ g.ends old.source)
+    pub no_new_end : new.is_at_end ≡ false → g.ends new.source ≡ g.ends old.source
     pub ended : new.is_at_end ≡ true → HasEnded old new
-    pub same : g.input new.source ≡ g.input old.source
-    pub before : g.follows_input new.source → g.follows_input old.source
+    pub same_input : g.input new.source ≡ g.input old.source
+    pub followed_before : g.follows_input new.source → g.follows_input old.source
 
   -- A call that reads the next line, of any text or of a script: it returns a line or none, or the source fails.
   pub record ReadsLine {L E : Type 0} (old new : Lines S g) (result : Result (Option L) E) (items : L → List ℕ) : Type 0 where
     pub line : g.follows_input new.source
         → IfOk result (λ found. IfSome found (λ line. TakesLine (unread old) (unread new) new.is_at_end (items line)))
-    pub going : IfOk result (λ found. OnSome found (old.is_at_end ≡ false))
+    pub not_at_end : IfOk result (λ found. OnSome found (old.is_at_end ≡ false))
     pub end : EndsWithSource old new
     pub failures : g.failures new.source ≡ counted_if (is_err result) (g.failures old.source)
     pub err : OnErr result ((old.is_at_end ≡ false) × (new.is_at_end ≡ false))

@@ -24,9 +24,9 @@ line_step g c =
     ok_mapped _ c.next_line_before.result c.map_err.result _ c.map_err.ensures.cases c.in_ok-line.was ∙ ap Ok c.in-Some.is in record {
       so_far = c.loop-told.invariant.so_far;
       shown = c.in-Some.line.items;
-      not_at_end = IfOk-at_ok _ found c.next_line_before.ensures.read.going;
+      not_at_end = IfOk-at_ok _ found c.next_line_before.ensures.read.not_at_end;
       takes = λ follows. IfOk-at_ok _ found (c.next_line_before.ensures.read.line follows);
-      inside = IfOk-at_ok _ found c.next_line_before.ensures.inside;
+      in_script = IfOk-at_ok _ found c.next_line_before.ensures.inside;
       responds = RespondsToLine-same c.loop-told.invariant.same_responder c.as_slice.ensures.value c.respond_to_line.ensures.respond;
       ends = c.next_line_before.ensures.read.end;
       source = no_failure _ _ _ _ _ c.next_line_before.ensures.read.failures found refl;

@@ -42,9 +42,9 @@ returns-clause-outcome g c =
     (image_read g (goal.at.returns-clause-outcome g c).After-as_slice)
     _ c.in_ok-benches.ensures
     (record {
-      next = c.run_first.new.lines;
-      between = c.run_first.new.sink;
-      then = _;
+      second_source = c.run_first.new.lines;
+      sink_between = c.run_first.new.sink;
+      bench_between = _;
       runs = one_bench-runs g.W.Sink first c.run_first.ensures.end refl (record { worked = (refl, refl); unflushed = refl });
       state = one_bench-state g.W.Sink first c.run_first.ensures.end;
       ends = c.run_first.ensures.end;

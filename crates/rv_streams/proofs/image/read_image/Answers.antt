@@ -21,8 +21,8 @@ line_taken : (g : given.Over) (c : After-as_slice g) → is_separator c.as_slice
     (unread c.next_line.new.self) c.next_line.new.self.is_at_end c.loop-image.image.items c.as_slice.result.now
 line_taken g c not_separator follows =
     let found = ok_mapped _ c.next_line.result c.map_err.result _ c.map_err.ensures.cases c.in_ok-line.was ∙ ap Ok c.in-Some.is in
-    let encodes = c.loop-image.invariant.image (c.next_line.ensures.read.end.before follows) in record {
-      so_far = EncodesImage-going _ _ _ _ encodes (IfOk-at_ok _ found c.next_line.ensures.read.going);
+    let encodes = c.loop-image.invariant.image (c.next_line.ensures.read.end.followed_before follows) in record {
+      so_far = EncodesImage-going _ _ _ _ encodes (IfOk-at_ok _ found c.next_line.ensures.read.not_at_end);
       takes = subst (TakesLine _ _ _) (sym c.as_slice.ensures.value) (IfOk-at_ok _ found (c.next_line.ensures.read.line follows));
       not_separator = not_separator;
       within_limit = omega arith;
@@ -36,9 +36,9 @@ returns-in_err-line-clause-outcome g c =
     let (not_at_end, new_not_at_end) = IfErr-at_err _ read_err.1 c.next_line.ensures.read.err in
     rw fault_is (record {
       source = search rules;
-      going = new_not_at_end;
+      not_at_end = new_not_at_end;
       reads = λ follows.
-          let encodes = c.loop-image.invariant.image (c.next_line.ensures.read.end.before follows) in
+          let encodes = c.loop-image.invariant.image (c.next_line.ensures.read.end.followed_before follows) in
           EncodesImage-read _ _ _ _ _ (EncodesImage-going _ _ _ _ encodes not_at_end) (omega arith)
           (IfErr-at_err _ read_err.1 (c.next_line.ensures.read.kept follows));
     })
@@ -90,12 +90,12 @@ returns-then-is_dashes-clause-outcome g c =
     image_read Global c.args.lines.now c.next_line.new.self (search rules) (search rules) c.loop-image.lines c.loop-image.image
     (inr (record {
       shown = c.in-Some.line.items;
-      going = IfOk-at_ok _ found c.next_line.ensures.read.going;
+      not_at_end = IfOk-at_ok _ found c.next_line.ensures.read.not_at_end;
       takes = λ follows. IfOk-at_ok _ found (c.next_line.ensures.read.line follows);
       ends = ap is_separator (sym c.as_slice.ensures.value) ∙ (ap is_dashes (sym c.in-Some-only_word.ensures)
           ∙ (sym c.is_dashes.ensures ∙ c.if-is_dashes.true));
     }))
-    c.loop-image.invariant.within_limit (λ follows. c.loop-image.invariant.image (c.next_line.ensures.read.end.before follows))
+    c.loop-image.invariant.within_limit (λ follows. c.loop-image.invariant.image (c.next_line.ensures.read.end.followed_before follows))
 
 -- at the end of the input, the result is the image (clause `outcome`)
 pub returns-clause-outcome : goal.returns-clause-outcome
@@ -107,4 +107,4 @@ returns-clause-outcome g c =
       none = λ follows. (IfOk-at_ok _ no_line (c.next_line.ensures.nothing follows)).0;
       left = λ follows. (IfOk-at_ok _ no_line (c.next_line.ensures.nothing follows)).1;
     }))
-    c.loop-image.invariant.within_limit (λ follows. c.loop-image.invariant.image (c.next_line.ensures.read.end.before follows))
+    c.loop-image.invariant.within_limit (λ follows. c.loop-image.invariant.image (c.next_line.ensures.read.end.followed_before follows))

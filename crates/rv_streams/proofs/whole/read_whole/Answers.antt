@@ -15,16 +15,16 @@ part_refused : {S : Type 0} (Z : Type 0) (g : Ghosts S) (old new : S) (text part
     → (g.follows_input new → g.remaining old ≡ (text ++ part) ++ g.remaining new)
     → AddsPart part text added (Err fault) → ReadsText g {Z = Z} old new (Err fault)
 part_refused Z g old new text part added TooLong same_input source_worked same_ends bytes_are (exceeds_limit, unchanged) = record {
-  same = same_input;
+  same_input = same_input;
   source = source_worked;
-  going = same_ends;
+  no_new_end = same_ends;
   reads = λ follows. (text ++ part, bytes_are follows, omega (arith, exceeds_limit, length-append text part));
 }
 part_refused Z g old new text part added NoMemory same_input source_worked same_ends bytes_are (has_bytes, within_limit, unchanged) = record {
-  same = same_input;
+  same_input = same_input;
   source = source_worked;
-  going = same_ends;
-  some = λ follows.
+  no_new_end = same_ends;
+  some_read = λ follows.
       let all_bytes = text ++ part in
       omega (arith, has_bytes, ap length (bytes_are follows), length-append all_bytes (g.remaining new), length-append text part);
   reads = λ follows. (text ++ part, bytes_are follows, omega (arith, within_limit, length-append text part));

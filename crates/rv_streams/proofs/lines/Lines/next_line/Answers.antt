@@ -15,7 +15,7 @@ returns-in-LineFeed-clause-read g c = record {
       let reads = rw c.in-LineFeed.is at (c.in_ok-read_text.ensures.bytes follows) in
       let shown_is = c.take_prefix.ensures.taken ∙ (rw c.as_slice.ensures.value at c.shown_len-count.ensures) in
       rw c.take_prefix.ensures.rest (TakesLine-feed _ _ _ _ _ reads shown_is);
-  going = search rules;
+  not_at_end = search rules;
   end = search rules;
   failures = search rules;
   err = search rules;
@@ -33,7 +33,7 @@ returns-else-is_empty-clause-read g c = record {
       TakesLine-end _ _ _ _ (rw c.in-End.is at (c.in_ok-read_text.ensures.bytes follows)) end
       (length_positive _ _ c.is_empty.ensures c.if-is_empty.false) c.take_prefix-in-End.ensures.taken
       );
-  going = search rules;
+  not_at_end = search rules;
   end = EndsWithSource-ends _ _ c.if-self.false refl (rw c.in-End.is at c.in_ok-read_text.ensures.ends) c.read_text.ensures.same
       c.read_text.ensures.before;
   failures = search rules;
@@ -47,7 +47,7 @@ returns-else-is_empty-clause-read g c = record {
 pub returns-then-is_empty-clause-read : goal.returns-then-is_empty-clause-read
 returns-then-is_empty-clause-read g c = record {
   line = search rules;
-  going = search rules;
+  not_at_end = search rules;
   end = EndsWithSource-ends _ _ c.if-self.false refl (rw c.in-End.is at c.in_ok-read_text.ensures.ends) c.read_text.ensures.same
       c.read_text.ensures.before;
   failures = search rules;
