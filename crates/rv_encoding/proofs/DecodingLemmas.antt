@@ -66,11 +66,11 @@ no_row_matches word (x ∷ xs) not_found (suc place) row row_is matches =
 -- ---- decoding and encoding
 
 -- the word of an instruction is the sum of the match of its row and of its fields at their positions
-pub word_of_parts : (i : Instr) (match fields : ℕ) → match ≡ (row_of_instr i).match → fields ≡ fields_at (row_of_instr i).fields
-    → word_of i ≡ match + fields
+pub word_of_parts : (instr : Instr) (match fields : ℕ) → match ≡ (row_of_instr instr).match → fields ≡ fields_at (row_of_instr instr).fields
+    → word_of instr ≡ match + fields
 unfolding word_of
-word_of_parts i match fields match_is fields_are =
-    sym (ap (λ n. n + fields) match_is ∙ ap (λ n. (row_of_instr i).match + n) fields_are)
+word_of_parts instr match fields match_is fields_are =
+    sym (ap (λ fixed_bits. fixed_bits + fields) match_is ∙ ap (λ field_bits. (row_of_instr instr).match + field_bits) fields_are)
 
 -- if the search finds no sample, the word matches no row of the listing
 no_listed_row_matches : (word : ℕ) → find (fits_row word) samples ≡ None → (place : ℕ) (row : Listed) → slice_get listing place ≡ Some row
@@ -83,14 +83,15 @@ no_listed_row_matches word not_found place row row_is =
 encodes_none : (word : ℕ) (result : Option Instr) → word < 2 ^ 32 → IfSome result (Encodes word) → find (fits_row word) samples ≡ None
     → result ≡ None
 encodes_none word None is_32_bits encodes_result not_found = refl
-encodes_none word (Some i) is_32_bits encodes_result not_found =
-    let word_of_i_is_32_bits : word_of i < 2 ^ 32 = omega (arith, encodes_result.1) in
-    let word_matches = subst (λ (w : ℕ). MatchesRow w i) encodes_result.1 (masked_word_of i encodes_result.0 word_of_i_is_32_bits) in
-    absurd (no_listed_row_matches word not_found (is_listed i).0 (listed_of i) (is_listed i).1 word_matches)
+encodes_none word (Some instr) is_32_bits encodes_result not_found =
+    let word_of_instr_is_32_bits : word_of instr < 2 ^ 32 = omega (arith, encodes_result.1) in
+    let word_matches = subst (λ (word : ℕ). MatchesRow word instr) encodes_result.1
+    (masked_word_of instr encodes_result.0 word_of_instr_is_32_bits) in
+    absurd (no_listed_row_matches word not_found (is_listed instr).0 (listed_of instr) (is_listed instr).1 word_matches)
 
 -- if `result` is an instruction that the word encodes, or None, and each instruction that the word encodes is `result`, it is `decoded word`
 pub decoded_is : (word : ℕ) (result : Option Instr) → word < 2 ^ 32 → IfSome result (Encodes word)
-    → ((i : Instr) → Encodes word i → result ≡ Some i) → result ≡ decoded word
+    → ((instr : Instr) → Encodes word instr → result ≡ Some instr) → result ≡ decoded word
 unfolding decoded
 decoded_is word result is_32_bits encodes_result is_result = result_of_search (find (fits_row word) samples) refl
   where
@@ -102,16 +103,17 @@ decoded_is word result is_32_bits encodes_result is_result = result_of_search (f
     result_of_search None found_is = encodes_none word result is_32_bits encodes_result found_is
 
 -- a word encodes at most one instruction
-pub encodes_only_one : (word : ℕ) (i other : Instr) → Encodes word i → Encodes word other → other ≡ i
-encodes_only_one word i other encodes_i encodes_other =
-    let reads_i = only_read word i encodes_i in
+pub encodes_only_one : (word : ℕ) (instr other : Instr) → Encodes word instr → Encodes word other → other ≡ instr
+encodes_only_one word instr other encodes_instr encodes_other =
+    let reads_instr = only_read word instr encodes_instr in
     let reads_other = only_read word other encodes_other in
     cc
 
 -- a word decodes to the instruction that it encodes
-pub decodes_to_encoded : (word : ℕ) (i : Instr) → word < 2 ^ 32 → Encodes word i → decoded word ≡ Some i
-decodes_to_encoded word i is_32_bits encodes_i =
-    sym (decoded_is word (Some i) is_32_bits encodes_i (λ other encodes_other. ap Some (sym (encodes_only_one word i other encodes_i encodes_other))))
+pub decodes_to_encoded : (word : ℕ) (instr : Instr) → word < 2 ^ 32 → Encodes word instr → decoded word ≡ Some instr
+decodes_to_encoded word instr is_32_bits encodes_instr =
+    sym (decoded_is word (Some instr) is_32_bits encodes_instr
+    (λ other encodes_other. ap Some (sym (encodes_only_one word instr other encodes_instr encodes_other))))
 
 -- if nothing is decoded, the word matches no row of the listing
 pub none_listed : (word : ℕ) → decoded word ≡ None → All (λ row. and_by_bits word row.mask ≢ row.match) listing

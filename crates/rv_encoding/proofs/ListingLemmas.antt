@@ -21,7 +21,7 @@ unfolding listing
 listing_of_samples = refl
 
 -- each instruction has a row in the listing, with its name, mask and match; the number is the position of the row, from 0
-pub is_listed : (i : Instr) → IsListed i
+pub is_listed : (instr : Instr) → IsListed instr
 unfolding listing
 is_listed (Lui rd imm) = (0, refl)
 is_listed (Auipc rd imm) = (1, refl)

@@ -29,33 +29,33 @@ sfence_vma_mask = 0xFE007FFF
 -- the mask 0x0000707F selects opcode and funct3 of a word; the mask is split at bit 12
 under_funct3_mask : (word : ℕ) → bit_and word funct3_mask ≡ word % 2 ^ 7 + word / 2 ^ 12 % 2 ^ 3 * 2 ^ 12
 under_funct3_mask word =
-    ap (λ n. bit_and n funct3_mask) (sym (div-add-mod' word (2 ^ 12)))
+    ap (λ bits. bit_and bits funct3_mask) (sym (div-add-mod' word (2 ^ 12)))
     ∙ and_block 12 (word / 2 ^ 12) 0b111 (word % 2 ^ 12) 0b1111111 (omega arith) (omega arith)
-    ∙ ap (λ n. n * 2 ^ 12 + bit_and (word % 2 ^ 12) 0b1111111) (and_mask (word / 2 ^ 12) 3)
-    ∙ ap (λ n. word / 2 ^ 12 % 2 ^ 3 * 2 ^ 12 + n) (and_mask (word % 2 ^ 12) 7)
+    ∙ ap (λ high_bits. high_bits * 2 ^ 12 + bit_and (word % 2 ^ 12) 0b1111111) (and_mask (word / 2 ^ 12) 3)
+    ∙ ap (λ low_bits. word / 2 ^ 12 % 2 ^ 3 * 2 ^ 12 + low_bits) (and_mask (word % 2 ^ 12) 7)
     ∙ omega arith
 
 -- a mask with bits 31:25 set selects these bits of a word, and its lower part `low` selects bits 24:0
 under_top_mask : (word low : ℕ) → word < 2 ^ 32 → low < 2 ^ 25
     → bit_and word (0b1111111 * 2 ^ 25 + low) ≡ word / 2 ^ 25 * 2 ^ 25 + bit_and (word % 2 ^ 25) low
 under_top_mask word low is_32_bits low_is_25_bits =
-    ap (λ n. bit_and n (0b1111111 * 2 ^ 25 + low)) (sym (div-add-mod' word (2 ^ 25)))
+    ap (λ bits. bit_and bits (0b1111111 * 2 ^ 25 + low)) (sym (div-add-mod' word (2 ^ 25)))
     ∙ and_block 25 (word / 2 ^ 25) 0b1111111 (word % 2 ^ 25) low (omega arith) low_is_25_bits
-    ∙ ap (λ n. n * 2 ^ 25 + bit_and (word % 2 ^ 25) low) (and_mask (word / 2 ^ 25) 7)
+    ∙ ap (λ high_bits. high_bits * 2 ^ 25 + bit_and (word % 2 ^ 25) low) (and_mask (word / 2 ^ 25) 7)
     ∙ omega arith
 
 -- the mask 0xFE00707F selects opcode, funct3 and funct7 of a word
 under_funct7_mask : (word : ℕ) → word < 2 ^ 32 → bit_and word funct7_mask ≡ word / 2 ^ 25 * 2 ^ 25 + (word % 2 ^ 7 + word / 2 ^ 12 % 2 ^ 3 * 2 ^ 12)
 under_funct7_mask word is_32_bits =
     under_top_mask word funct3_mask is_32_bits (omega arith)
-    ∙ ap (λ n. word / 2 ^ 25 * 2 ^ 25 + n) (under_funct3_mask (word % 2 ^ 25))
+    ∙ ap (λ low_bits. word / 2 ^ 25 * 2 ^ 25 + low_bits) (under_funct3_mask (word % 2 ^ 25))
     ∙ omega arith
 
 -- the mask 0xFE007FFF selects the bits that sfence.vma fixes: funct7 and bits 14:0
 under_sfence_vma_mask : (word : ℕ) → word < 2 ^ 32 → bit_and word sfence_vma_mask ≡ word / 2 ^ 25 * 2 ^ 25 + word % 2 ^ 15
 under_sfence_vma_mask word is_32_bits =
     under_top_mask word 0x00007FFF is_32_bits (omega arith)
-    ∙ ap (λ n. word / 2 ^ 25 * 2 ^ 25 + n) (and_mask (word % 2 ^ 25) 15)
+    ∙ ap (λ low_bits. word / 2 ^ 25 * 2 ^ 25 + low_bits) (and_mask (word % 2 ^ 25) 15)
     ∙ omega arith
 
 -- the mask with all bits set selects the whole word
@@ -66,8 +66,8 @@ under_full_mask word is_32_bits = and_mask word 32 ∙ omega arith
 
 -- If a word equals the match of the row of an instruction under the row's mask, applied by `&`, it encodes the instruction with the fields of the
 -- word. The lemma for the mask gives the fixed bits of the word as a sum. The rest is arithmetic over the fields.
-encodes_by_and : (i : Instr) (word : ℕ) → word < 2 ^ 32 → bit_and word (row_of_instr i).mask ≡ (row_of_instr i).match
-    → Encodes word (with_fields_of word i)
+encodes_by_and : (instr : Instr) (word : ℕ) → word < 2 ^ 32 → bit_and word (row_of_instr instr).mask ≡ (row_of_instr instr).match
+    → Encodes word (with_fields_of word instr)
 unfolding word_of
 encodes_by_and (Lui rd imm) word is_32_bits matches_row =
     let fixed_bits = sym (and_mask word 7) ∙ matches_row in (grind arith, omega (arith, fixed_bits))
@@ -114,7 +114,8 @@ encodes_by_and (SfenceVma rs1 rs2) word is_32_bits matches_row =
 -- ---- the word of an instruction equals the match under the mask
 
 -- the word of an instruction equals the match of its row under the mask of the row, applied by `&`; by the lemma for the mask, then by arithmetic
-word_matches_row : (i : Instr) → IsInstr i → word_of i < 2 ^ 32 → bit_and (word_of i) (row_of_instr i).mask ≡ (row_of_instr i).match
+word_matches_row : (instr : Instr) → IsInstr instr → word_of instr < 2 ^ 32
+    → bit_and (word_of instr) (row_of_instr instr).mask ≡ (row_of_instr instr).match
 unfolding word_of
 word_matches_row (Lui rd imm) valid is_32_bits = and_mask (word_of (Lui rd imm)) 7 ∙ omega arith
 word_matches_row (Auipc rd imm) valid is_32_bits = and_mask (word_of (Auipc rd imm)) 7 ∙ omega arith
@@ -157,18 +158,19 @@ word_matches_row (SfenceVma rs1 rs2) valid is_32_bits =
 -- ---- the same for the mask bit by bit
 
 -- the mask of each row has 32 bits
-mask_is_32_bits : (i : Instr) → (row_of_instr i).mask < 2 ^ 32
-mask_is_32_bits i = grind arith
+mask_is_32_bits : (instr : Instr) → (row_of_instr instr).mask < 2 ^ 32
+mask_is_32_bits instr = grind arith
 
 -- masking by `&` is masking bit by bit
-and_is_by_bits : (i : Instr) (word : ℕ) → word < 2 ^ 32 → bit_and word (row_of_instr i).mask ≡ and_by_bits word (row_of_instr i).mask
-and_is_by_bits i word is_32_bits = bit_and_is word (row_of_instr i).mask is_32_bits (mask_is_32_bits i)
+and_is_by_bits : (instr : Instr) (word : ℕ) → word < 2 ^ 32 → bit_and word (row_of_instr instr).mask ≡ and_by_bits word (row_of_instr instr).mask
+and_is_by_bits instr word is_32_bits = bit_and_is word (row_of_instr instr).mask is_32_bits (mask_is_32_bits instr)
 
 -- if a word equals the match of the row of an instruction under the row's mask, it encodes the instruction with the fields of the word
-pub encodes_by_mask : (i : Instr) (word : ℕ) → word < 2 ^ 32 → and_by_bits word (row_of_instr i).mask ≡ (row_of_instr i).match
-    → Encodes word (with_fields_of word i)
-encodes_by_mask i word is_32_bits matches_row = encodes_by_and i word is_32_bits (and_is_by_bits i word is_32_bits ∙ matches_row)
+pub encodes_by_mask : (instr : Instr) (word : ℕ) → word < 2 ^ 32 → and_by_bits word (row_of_instr instr).mask ≡ (row_of_instr instr).match
+    → Encodes word (with_fields_of word instr)
+encodes_by_mask instr word is_32_bits matches_row = encodes_by_and instr word is_32_bits (and_is_by_bits instr word is_32_bits ∙ matches_row)
 
 -- the word of an instruction equals the match of its row under the mask of the row
-pub masked_word_of : (i : Instr) → IsInstr i → word_of i < 2 ^ 32 → and_by_bits (word_of i) (row_of_instr i).mask ≡ (row_of_instr i).match
-masked_word_of i valid is_32_bits = sym (and_is_by_bits i (word_of i) is_32_bits) ∙ word_matches_row i valid is_32_bits
+pub masked_word_of : (instr : Instr) → IsInstr instr → word_of instr < 2 ^ 32
+    → and_by_bits (word_of instr) (row_of_instr instr).mask ≡ (row_of_instr instr).match
+masked_word_of instr valid is_32_bits = sym (and_is_by_bits instr (word_of instr) is_32_bits) ∙ word_matches_row instr valid is_32_bits

@@ -91,7 +91,7 @@ read_sfence_vma word rs1 rs2 has_funct7 funct3_and_rd_are_0 rs1_is rs2_is = grin
 -- The word of an instruction is read back as the instruction. `valid` states that each field is in its range. By arithmetic
 -- (`omega`), the opcode, the codes and the fields of the word are those of the instruction. The lemma above for the group of the instruction then
 -- applies.
-pub read_word_of : (i : Instr) → IsInstr i → read (word_of i) ≡ Some i
+pub read_word_of : (instr : Instr) → IsInstr instr → read (word_of instr) ≡ Some instr
 unfolding word_of
 read_word_of (Lui rd imm) valid = grind arith
 read_word_of (Auipc rd imm) valid = grind arith
@@ -119,7 +119,7 @@ read_word_of (OpImm kind rd rs1 imm) valid =
     let word : ℕ = word_of (OpImm kind rd rs1 imm) in
     let funct3_is_3_bits : op_imm_funct3 kind < 8 = op_imm_funct3-lt kind in
     let funct3_is : funct3_in (word_of (OpImm kind rd rs1 imm)) ≡ op_imm_funct3 kind = omega arith in
-    let is_no_shift = ap (λ n. shift_kind n (funct7_in word)) funct3_is ∙ no_shift kind (funct7_in word) in
+    let is_no_shift = ap (λ funct3. shift_kind funct3 (funct7_in word)) funct3_is ∙ no_shift kind (funct7_in word) in
     let has_kind = ap op_imm_kind funct3_is ∙ op_imm_kind_found kind in
     read_op_imm_is word kind rd rs1 imm (omega arith) is_no_shift has_kind (omega arith) (omega arith) (omega arith)
 read_word_of (ShiftImm kind rd rs1 shamt) valid =
@@ -127,14 +127,15 @@ read_word_of (ShiftImm kind rd rs1 shamt) valid =
     let functs_fit : ((shift_functs kind).funct3 < 8) × ((shift_functs kind).funct7 < 128) = shift_functs-lt kind in
     let funct3_is : funct3_in (word_of (ShiftImm kind rd rs1 shamt)) ≡ (shift_functs kind).funct3 = omega arith in
     let funct7_is : funct7_in (word_of (ShiftImm kind rd rs1 shamt)) ≡ (shift_functs kind).funct7 = omega arith in
-    let has_kind = ap (λ n. shift_kind n (funct7_in word)) funct3_is ∙ ap (shift_kind (shift_functs kind).funct3) funct7_is ∙ shift_kind_found kind in
+    let has_kind = ap (λ funct3. shift_kind funct3 (funct7_in word)) funct3_is ∙ ap (shift_kind (shift_functs kind).funct3) funct7_is
+    ∙ shift_kind_found kind in
     read_shift_imm_is word kind rd rs1 shamt (omega arith) has_kind (omega arith) (omega arith) (omega arith)
 read_word_of (Op kind rd rs1 rs2) valid =
     let word : ℕ = word_of (Op kind rd rs1 rs2) in
     let functs_fit : ((op_functs kind).funct3 < 8) × ((op_functs kind).funct7 < 128) = op_functs-lt kind in
     let funct3_is : funct3_in (word_of (Op kind rd rs1 rs2)) ≡ (op_functs kind).funct3 = omega arith in
     let funct7_is : funct7_in (word_of (Op kind rd rs1 rs2)) ≡ (op_functs kind).funct7 = omega arith in
-    let has_kind = ap (λ n. op_kind n (funct7_in word)) funct3_is ∙ ap (op_kind (op_functs kind).funct3) funct7_is ∙ op_kind_found kind in
+    let has_kind = ap (λ funct3. op_kind funct3 (funct7_in word)) funct3_is ∙ ap (op_kind (op_functs kind).funct3) funct7_is ∙ op_kind_found kind in
     read_op_is word kind rd rs1 rs2 (omega arith) has_kind (omega arith) (omega arith) (omega arith)
 read_word_of (Fence fm pred succ rd rs1) valid =
     let word : ℕ = word_of (Fence fm pred succ rd rs1) in
@@ -164,43 +165,43 @@ read_word_of (SfenceVma rs1 rs2) valid =
 -- ---- the instruction that a word encodes is the one that the function for its opcode reads
 
 -- a word that encodes an instruction is read as this instruction
-pub only_read : (word : ℕ) (i : Instr) → Encodes word i → read word ≡ Some i
-only_read word i encodes = ap read (sym encodes.1) ∙ read_word_of i encodes.0
+pub only_read : (word : ℕ) (instr : Instr) → Encodes word instr → read word ≡ Some instr
+only_read word instr encodes = ap read (sym encodes.1) ∙ read_word_of instr encodes.0
 
 -- if a word with the opcode JALR encodes an instruction, `read_jalr` reads this instruction from it
-pub only_jalr : (word : ℕ) (i : Instr) → opcode_in word ≡ jalr_opcode → Encodes word i → read_jalr word ≡ Some i
-only_jalr word i has_opcode encodes = let read_is = only_read word i encodes in rw has_opcode at read_is
+pub only_jalr : (word : ℕ) (instr : Instr) → opcode_in word ≡ jalr_opcode → Encodes word instr → read_jalr word ≡ Some instr
+only_jalr word instr has_opcode encodes = let read_is = only_read word instr encodes in rw has_opcode at read_is
 
 -- if a word with the opcode BRANCH encodes an instruction, `read_branch` reads this instruction from it
-pub only_branch : (word : ℕ) (i : Instr) → opcode_in word ≡ branch_opcode → Encodes word i → read_branch word ≡ Some i
-only_branch word i has_opcode encodes = let read_is = only_read word i encodes in rw has_opcode at read_is
+pub only_branch : (word : ℕ) (instr : Instr) → opcode_in word ≡ branch_opcode → Encodes word instr → read_branch word ≡ Some instr
+only_branch word instr has_opcode encodes = let read_is = only_read word instr encodes in rw has_opcode at read_is
 
 -- if a word with the opcode LOAD encodes an instruction, `read_load` reads this instruction from it
-pub only_load : (word : ℕ) (i : Instr) → opcode_in word ≡ load_opcode → Encodes word i → read_load word ≡ Some i
-only_load word i has_opcode encodes = let read_is = only_read word i encodes in rw has_opcode at read_is
+pub only_load : (word : ℕ) (instr : Instr) → opcode_in word ≡ load_opcode → Encodes word instr → read_load word ≡ Some instr
+only_load word instr has_opcode encodes = let read_is = only_read word instr encodes in rw has_opcode at read_is
 
 -- if a word with the opcode STORE encodes an instruction, `read_store` reads this instruction from it
-pub only_store : (word : ℕ) (i : Instr) → opcode_in word ≡ store_opcode → Encodes word i → read_store word ≡ Some i
-only_store word i has_opcode encodes = let read_is = only_read word i encodes in rw has_opcode at read_is
+pub only_store : (word : ℕ) (instr : Instr) → opcode_in word ≡ store_opcode → Encodes word instr → read_store word ≡ Some instr
+only_store word instr has_opcode encodes = let read_is = only_read word instr encodes in rw has_opcode at read_is
 
 -- if a word with the opcode OP-IMM encodes an instruction, `read_op_imm` reads this instruction from it
-pub only_op_imm : (word : ℕ) (i : Instr) → opcode_in word ≡ op_imm_opcode → Encodes word i → read_op_imm word ≡ Some i
-only_op_imm word i has_opcode encodes = let read_is = only_read word i encodes in rw has_opcode at read_is
+pub only_op_imm : (word : ℕ) (instr : Instr) → opcode_in word ≡ op_imm_opcode → Encodes word instr → read_op_imm word ≡ Some instr
+only_op_imm word instr has_opcode encodes = let read_is = only_read word instr encodes in rw has_opcode at read_is
 
 -- if a word with the opcode OP encodes an instruction, `read_op` reads this instruction from it
-pub only_op : (word : ℕ) (i : Instr) → opcode_in word ≡ op_opcode → Encodes word i → read_op word ≡ Some i
-only_op word i has_opcode encodes = let read_is = only_read word i encodes in rw has_opcode at read_is
+pub only_op : (word : ℕ) (instr : Instr) → opcode_in word ≡ op_opcode → Encodes word instr → read_op word ≡ Some instr
+only_op word instr has_opcode encodes = let read_is = only_read word instr encodes in rw has_opcode at read_is
 
 -- if a word with the opcode MISC-MEM encodes an instruction, `read_fence` reads this instruction from it
-pub only_fence : (word : ℕ) (i : Instr) → opcode_in word ≡ misc_mem_opcode → Encodes word i → read_fence word ≡ Some i
-only_fence word i has_opcode encodes = let read_is = only_read word i encodes in rw has_opcode at read_is
+pub only_fence : (word : ℕ) (instr : Instr) → opcode_in word ≡ misc_mem_opcode → Encodes word instr → read_fence word ≡ Some instr
+only_fence word instr has_opcode encodes = let read_is = only_read word instr encodes in rw has_opcode at read_is
 
 -- if a word with the opcode SYSTEM encodes an instruction, `read_system` reads this instruction from it
-pub only_system : (word : ℕ) (i : Instr) → opcode_in word ≡ system_opcode → Encodes word i → read_system word ≡ Some i
-only_system word i has_opcode encodes = let read_is = only_read word i encodes in rw has_opcode at read_is
+pub only_system : (word : ℕ) (instr : Instr) → opcode_in word ≡ system_opcode → Encodes word instr → read_system word ≡ Some instr
+only_system word instr has_opcode encodes = let read_is = only_read word instr encodes in rw has_opcode at read_is
 
 -- if a word with the opcode SYSTEM and without the funct3 of a CSR instruction encodes an instruction, `read_whole` reads this instruction
-pub only_whole : (word : ℕ) (i : Instr) → opcode_in word ≡ system_opcode → csr_kind (funct3_in word) ≡ None → csr_imm_kind (funct3_in word) ≡ None
-    → Encodes word i → read_whole word ≡ Some i
-only_whole word i has_opcode has_no_register_kind has_no_immediate_kind encodes =
-    let read_is = only_system word i has_opcode encodes in grind arith
+pub only_whole : (word : ℕ) (instr : Instr) → opcode_in word ≡ system_opcode → csr_kind (funct3_in word) ≡ None → csr_imm_kind (funct3_in word) ≡ None
+    → Encodes word instr → read_whole word ≡ Some instr
+only_whole word instr has_opcode has_no_register_kind has_no_immediate_kind encodes =
+    let read_is = only_system word instr has_opcode encodes in grind arith

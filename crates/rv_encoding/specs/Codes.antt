@@ -66,7 +66,9 @@ system_opcode = 0b1110011
 
 -- `Functs` has funct7, in bits 31:25, and funct3, in bits 14:12
 pub record Functs : Type 0 where
+  -- bits 31:25 of the word
   pub funct7 : ℕ
+  -- bits 14:12 of the word
   pub funct3 : ℕ
 
 -- `functs` is the pair of funct7 (bits 31:25) and funct3 (bits 14:12)

@@ -38,7 +38,8 @@ with_fields_of word (Store kind rs1 rs2 offset) = Store kind (taken rs1_at word)
 with_fields_of word (OpImm kind rd rs1 imm) = OpImm kind (taken rd_at word) (taken rs1_at word) (taken i_immediate_at word)
 with_fields_of word (ShiftImm kind rd rs1 shamt) = ShiftImm kind (taken rd_at word) (taken rs1_at word) (taken shamt_at word)
 with_fields_of word (Op kind rd rs1 rs2) = Op kind (taken rd_at word) (taken rs1_at word) (taken rs2_at word)
-with_fields_of word (Fence fm pred succ rd rs1) = Fence (taken fm_at word) (taken pred_at word) (taken succ_at word) (taken rd_at word) (taken rs1_at word)
+with_fields_of word (Fence fm pred succ rd rs1) =
+    Fence (taken fm_at word) (taken pred_at word) (taken succ_at word) (taken rd_at word) (taken rs1_at word)
 with_fields_of word (Csr kind rd rs1 csr) = Csr kind (taken rd_at word) (taken rs1_at word) (taken csr_at word)
 with_fields_of word (CsrImm kind rd uimm csr) = CsrImm kind (taken rd_at word) (taken uimm_at word) (taken csr_at word)
 with_fields_of word Ecall = Ecall

@@ -10,8 +10,11 @@ use Rattle.rv_encoding.specs.declared.instr.Instr.TheVariants.{Csr, CsrImm, Ecal
 
 -- a row of the listing has the mnemonic, the mask of the fixed bits, and the value of these bits
 pub record Listed : Type 0 where
+  -- the mnemonic
   pub name : List ℕ
+  -- the mask of the fixed bits
   pub mask : ℕ
+  -- the value of the fixed bits
   pub match : ℕ
 
 -- `listed` is the row with this mnemonic, mask and value

@@ -4,9 +4,13 @@ use Rattle.rv_word.specs.BitFields.{bits}
 
 -- A range of bits of a field, and the range of the word's bits that holds them. Each range is given by its highest and its lowest bit.
 pub record Run : Type 0 where
+  -- the highest bit in the field
   pub field_hi : ℕ
+  -- the lowest bit in the field
   pub field_lo : ℕ
+  -- the highest bit in the word
   pub hi : ℕ
+  -- the lowest bit in the word
   pub lo : ℕ
 
 -- `bits_at` has bits hi to lo of a field, in the word from bit `from` upwards

@@ -15,8 +15,11 @@ use Rattle.rv_encoding.specs.declared.instr.Instr.TheVariants.{Csr, CsrImm, Ecal
 -- A row of the listings, and the fields of one of its words. Every word of the row equals the match under the mask. This word is the match with
 -- each of the fields at its positions.
 pub record InstrRow : Type 0 where
+  -- the mask of the fixed bits
   pub mask : ℕ
+  -- the value of the fixed bits
   pub match : ℕ
+  -- the value of each field, with its positions
   pub fields : List (Places × ℕ)
 
 -- `fields_at` has the fields, each at its positions

@@ -10,9 +10,11 @@ use Rattle.memchr.specs.Find.{IsFirstByte}
 pub position-first_byte : (test : ℕ → Bool) (text : List ℕ) (result : Option ℕ) → IsFirstByte test text result
     → unwrap_or result (length text) ≡ position_or_len test text
 position-first_byte test text None no_byte_passes =
-    sym (position_or_len_is test text (length text) 0 (omega arith) (λ k is_below. false_from_ne_true _ (no_byte_passes k (omega arith) is_below))
+    sym (position_or_len_is test text (length text) 0 (omega arith)
+    (λ earlier is_below. false_from_ne_true _ (no_byte_passes earlier (omega arith) is_below))
     (λ is_below. absurd (omega arith)))
 position-first_byte test text (Some index) is_first =
     let index_in_bounds = is_first.0.high in
-    sym (position_or_len_is test text index 0 (omega arith) (λ k is_below. false_from_ne_true _ (is_first.0.before k (omega arith) is_below))
+    sym (position_or_len_is test text index 0 (omega arith)
+    (λ earlier is_below. false_from_ne_true _ (is_first.0.before earlier (omega arith) is_below))
     (λ _. is_first.1))

@@ -17,16 +17,16 @@ pub digit_char-lt : (digit : ℕ) → digit < 16 → digit_char digit < 128
 digit_char-lt digit digit_below_16 = grind (arith, nat_tests)
 
 -- a number written with `places` digits has a text of `places` bytes
-pub length-hex_digits : (places n : ℕ) → length (hex_digits places n) ≡ places
+pub length-hex_digits : (places number : ℕ) → length (hex_digits places number) ≡ places
 unfolding hex_digits
-length-hex_digits zero n = refl
-length-hex_digits (suc places) n =
-    omega (arith, length-append (hex_digits places (n / 16)) (digit_char (n % 16) ∷ []), length-hex_digits places (n / 16))
+length-hex_digits zero number = refl
+length-hex_digits (suc places) number =
+    omega (arith, length-append (hex_digits places (number / 16)) (digit_char (number % 16) ∷ []), length-hex_digits places (number / 16))
 
 -- a number written with no digits has the empty text
-pub hex_digits-start : (n : ℕ) → [] ≡ hex_digits 0 n
+pub hex_digits-start : (number : ℕ) → [] ≡ hex_digits 0 number
 unfolding hex_digits
-hex_digits-start n = refl
+hex_digits-start number = refl
 
 -- `leading` is the number of the first `written` of the `places` hexadecimal digits of a value: each digit that is not yet written has 4 bits
 abbrev leading : ℕ → ℕ → ℕ → ℕ
@@ -37,14 +37,14 @@ leading-shorter : (value places written : ℕ) → written < places → leading 
 leading-shorter value places written digits_left =
     let exponent : 4 * (places - (written + 1)) + 4 ≡ 4 * (places - written) = omega arith in
     div-div-eq-div-mul value (2 ^ (4 * (places - (written + 1)))) 16
-    ∙ ap (λ k. value / k) (sym (pow-add 2 (4 * (places - (written + 1))) 4) ∙ ap (λ k. 2 ^ k) exponent)
+    ∙ ap (λ power. value / power) (sym (pow-add 2 (4 * (places - (written + 1))) 4) ∙ ap (λ bits. 2 ^ bits) exponent)
 
--- the digits of n / 16, followed by the last digit of n, which is its low 4 bits, are the digits of n
-hex_digits-last : (written n quotient : ℕ) → quotient ≡ n / 16
-    → hex_digits written quotient ++ digit_char (bit_and n 15) ∷ [] ≡ hex_digits (written + 1) n
+-- the digits of `number / 16`, followed by the last digit of the number, which is its low 4 bits, are the digits of the number
+hex_digits-last : (written number quotient : ℕ) → quotient ≡ number / 16
+    → hex_digits written quotient ++ digit_char (bit_and number 15) ∷ [] ≡ hex_digits (written + 1) number
 unfolding hex_digits
-hex_digits-last written n quotient quotient_is =
-    let last_digit : bit_and n 15 ≡ n % 16 = and_mask n 4 in
+hex_digits-last written number quotient quotient_is =
+    let last_digit : bit_and number 15 ≡ number % 16 = and_mask number 4 in
     rw (quotient_is, last_digit, add-one written)
 
 -- if the first `written` digits of a value are written and the next digit is appended, then the first `written + 1` digits are written
@@ -68,21 +68,21 @@ SomeIff-at_some (Some found) P v x some_iff result_is =
     (some_iff.0, sym same ∙ some_iff.1)
 
 -- each byte of a number in hexadecimal is a hexadecimal digit (by induction over the digits)
-pub AllDigits-hex_digits : (places n : ℕ) → AllDigits 16 (hex_digits places n)
+pub AllDigits-hex_digits : (places number : ℕ) → AllDigits 16 (hex_digits places number)
 unfolding hex_digits
-AllDigits-hex_digits zero n = tt
-AllDigits-hex_digits (suc places) n =
-    let digit_value_is : digit_value (digit_char (n % 16)) ≡ n % 16 = digit_value-digit_char (n % 16) (omega arith) in
-    digits_push 16 (hex_digits places (n / 16)) (digit_char (n % 16))
-    (AllDigits-hex_digits places (n / 16)) (rw digit_value_is (omega arith))
+AllDigits-hex_digits zero number = tt
+AllDigits-hex_digits (suc places) number =
+    let digit_value_is : digit_value (digit_char (number % 16)) ≡ number % 16 = digit_value-digit_char (number % 16) (omega arith) in
+    digits_push 16 (hex_digits places (number / 16)) (digit_char (number % 16))
+    (AllDigits-hex_digits places (number / 16)) (rw digit_value_is (omega arith))
 
 -- a number in hexadecimal is read back as this number, if it fits in the digits (by induction over the digits)
-pub digits_value-hex_digits : (places n : ℕ) → n < 16 ^ places → digits_value 16 (hex_digits places n) ≡ n
+pub digits_value-hex_digits : (places number : ℕ) → number < 16 ^ places → digits_value 16 (hex_digits places number) ≡ number
 unfolding hex_digits
-digits_value-hex_digits zero n n_fits = omega arith
-digits_value-hex_digits (suc places) n n_fits =
-    let quotient_fits : n / 16 < 16 ^ places = omega (arith, pow-suc 16 places) in
-    let quotient_read : digits_value 16 (hex_digits places (n / 16)) ≡ n / 16 =
-    digits_value-hex_digits places (n / 16) quotient_fits in
-    let digit_read : digit_value (digit_char (n % 16)) ≡ n % 16 = digit_value-digit_char (n % 16) (omega arith) in
-    digits_value_push 16 (hex_digits places (n / 16)) (digit_char (n % 16)) ∙ rw (quotient_read, digit_read) (omega arith)
+digits_value-hex_digits zero number number_fits = omega arith
+digits_value-hex_digits (suc places) number number_fits =
+    let quotient_fits : number / 16 < 16 ^ places = omega (arith, pow-suc 16 places) in
+    let quotient_read : digits_value 16 (hex_digits places (number / 16)) ≡ number / 16 =
+    digits_value-hex_digits places (number / 16) quotient_fits in
+    let digit_read : digit_value (digit_char (number % 16)) ≡ number % 16 = digit_value-digit_char (number % 16) (omega arith) in
+    digits_value_push 16 (hex_digits places (number / 16)) (digit_char (number % 16)) ∙ rw (quotient_read, digit_read) (omega arith)

@@ -11,27 +11,27 @@ use Rattle.rv_text.proofs.LineLemmas.{lines_of-append, lines_of-line, lines_of-l
 
 -- the byte is a line feed
 abbrev is_feed : ℕ → Bool
-is_feed b = b == line_feed
+is_feed byte = byte == line_feed
 
--- the first n + 1 elements of a list are its first element and the first n of the others
-take-one_more : (n x : ℕ) (xs : List ℕ) → take (1 + n) (x ∷ xs) ≡ x ∷ take n xs
-take-one_more n x xs = let count_is : 1 + n ≡ suc n = omega arith in rw count_is refl
+-- the first `count + 1` elements of a list are its first element and the first `count` of the others
+take-one_more : (count byte : ℕ) (text : List ℕ) → take (1 + count) (byte ∷ text) ≡ byte ∷ take count text
+take-one_more count byte text = let count_is : 1 + count ≡ suc count = omega arith in rw count_is refl
 
--- no byte before the first line feed of `x ∷ xs` is a line feed, if this holds for `xs`; `x_is_feed` states whether x is one
-no_feed-cons : (x_is_feed : Bool) (n x : ℕ) (xs : List ℕ) → is_feed x ≡ x_is_feed → has_feed (take n xs) ≡ false
-    → has_feed (take (cond (not x_is_feed) (1 + n) 0) (x ∷ xs)) ≡ false
-no_feed-cons true n x xs test_is no_feed_in_rest = refl
-no_feed-cons false n x xs test_is no_feed_in_rest =
-    ap has_feed (take-one_more n x xs) ∙ ap (λ b. b || has_feed (take n xs)) test_is ∙ no_feed_in_rest
+-- no byte before the first line feed of `byte ∷ text` is a line feed, if this holds for `text`; `byte_is_feed` states whether `byte` is one
+no_feed-cons : (byte_is_feed : Bool) (count byte : ℕ) (text : List ℕ) → is_feed byte ≡ byte_is_feed → has_feed (take count text) ≡ false
+    → has_feed (take (cond (not byte_is_feed) (1 + count) 0) (byte ∷ text)) ≡ false
+no_feed-cons true count byte text test_is no_feed_in_rest = refl
+no_feed-cons false count byte text test_is no_feed_in_rest =
+    ap has_feed (take-one_more count byte text) ∙ ap (λ byte. byte || has_feed (take count text)) test_is ∙ no_feed_in_rest
 
 -- the bytes of a text before its first line feed have no line feed (by induction over the text)
-pub no_feed : (xs : List ℕ) → has_feed (before_first is_feed xs) ≡ false
+pub no_feed : (text : List ℕ) → has_feed (before_first is_feed text) ≡ false
 no_feed [] = refl
-no_feed (x ∷ xs) = no_feed-cons (is_feed x) (prefix_len (λ y. not (is_feed y)) xs) x xs refl (no_feed xs)
+no_feed (byte ∷ text) = no_feed-cons (is_feed byte) (prefix_len (λ other. not (is_feed other)) text) byte text refl (no_feed text)
 
 -- a byte that passes the test for a line feed has the code of the line feed
-code_of_line_feed : (n : ℕ) → is_feed n ≡ true → n ≡ line_feed
-code_of_line_feed n is_line_feed = grind (arith, nat_tests)
+code_of_line_feed : (count : ℕ) → is_feed count ≡ true → count ≡ line_feed
+code_of_line_feed count is_line_feed = grind (arith, nat_tests)
 
 -- a text that ends with a line feed consists of whole lines
 whole_line : (prefix : List ℕ) → through_last_feed (prefix ++ line_feed ∷ []) ≡ prefix ++ line_feed ∷ []
@@ -64,7 +64,7 @@ all_taken text no_feed_found =
 -- a text without a line feed is one line
 pub lines-whole : (text : List ℕ) → 0 < length text → position_or_len is_feed text ≡ length text → lines_of text ≡ text ∷ []
 lines-whole [] not_empty no_feed_found = absurd (omega arith)
-lines-whole (x ∷ xs) not_empty no_feed_found = lines_of-last x xs (all_taken (x ∷ xs) no_feed_found)
+lines-whole (byte ∷ text) not_empty no_feed_found = lines_of-last byte text (all_taken (byte ∷ text) no_feed_found)
 
 -- a line whose last byte is not a carriage return is not changed by the removal of carriage returns
 pub no_return-other : (line prefix : List ℕ) (last : ℕ) → line ≡ prefix ++ last ∷ [] → last ≢ carriage_return → line ≡ without_return line

@@ -18,7 +18,7 @@ pub words-whole : (text : List ℕ) → position_or_len is_blank text ≡ length
 unfolding words_of
 words-whole text no_blank_found =
     ap (filter is_filled) (slice_split_none is_blank text
-    (λ k default is_below. fails_before_first is_blank text k default (omega (arith, no_blank_found, is_below))))
+    (λ index default is_below. fails_before_first is_blank text index default (omega (arith, no_blank_found, is_below))))
 
 -- the words of a text with a blank are the word before it, if it has a byte, and the words of the rest
 pub words-cut : (text : List ℕ) → position_or_len is_blank text < length text
@@ -30,7 +30,7 @@ words-cut text blank_in_text =
 -- a text is empty if the test of its length holds
 empty_by_test : (text : List ℕ) (is_empty : Bool) → is_empty ≡ (length text == 0) → is_empty ≡ true → text ≡ []
 empty_by_test [] is_empty is_empty_is test_holds = refl
-empty_by_test (x ∷ xs) is_empty is_empty_is test_holds = grind (arith, nat_tests)
+empty_by_test (byte ∷ others) is_empty is_empty_is test_holds = grind (arith, nat_tests)
 
 -- a text has no word if it has the same words as its rest, and the rest is empty
 pub words-none : (text rest : List ℕ) (is_empty : Bool) → words_of text ≡ words_of rest → is_empty ≡ (length rest == 0)
@@ -39,8 +39,8 @@ unfolding words_of
 words-none text rest is_empty same_words is_empty_is test_holds =
     same_words ∙ ap words_of (empty_by_test rest is_empty is_empty_is test_holds)
 
--- if a list begins with n words, these are its first n words
-pub words-full : (n : ℕ) (words others all_words : List (List ℕ)) → all_words ≡ words ++ others → length words ≡ n
-    → words ≡ take n all_words
-words-full n words others all_words all_words_are count_is =
-    rw all_words_are (sym (take-append-le n words others (omega (arith, count_is)) ∙ take_all n words (omega (arith, count_is))))
+-- if a list begins with `count` words, these are its first `count` words
+pub words-full : (count : ℕ) (words others all_words : List (List ℕ)) → all_words ≡ words ++ others → length words ≡ count
+    → words ≡ take count all_words
+words-full count words others all_words all_words_are count_is =
+    rw all_words_are (sym (take-append-le count words others (omega (arith, count_is)) ∙ take_all count words (omega (arith, count_is))))

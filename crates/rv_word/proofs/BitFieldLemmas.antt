@@ -16,7 +16,7 @@ use Rattle.rv_word.specs.BitFields.{bits, sign_extended, signed_field}
 mask_is : (hi lo : ℕ) → lo ≤ hi → hi ≤ 31 → (2 ^ 32 - 1) / 2 ^ (31 - (hi - lo)) ≡ 2 ^ (hi + 1 - lo) - 1
 mask_is hi lo lo_at_most_hi hi_in_word =
     let width_is : 32 - (31 - (hi - lo)) ≡ hi + 1 - lo = omega arith
-    in ones_shr 32 (31 - (hi - lo)) (omega arith) ∙ ap (λ k. 2 ^ k - 1) width_is
+    in ones_shr 32 (31 - (hi - lo)) (omega arith) ∙ ap (λ exponent. 2 ^ exponent - 1) width_is
 
 -- a right shift by lo and a mask give bits hi down to lo of a word
 pub bits_by_mask : (word hi lo : ℕ) → lo ≤ hi → hi ≤ 31 → bit_and (word / 2 ^ lo) ((2 ^ 32 - 1) / 2 ^ (31 - (hi - lo))) ≡ bits word hi lo
@@ -30,21 +30,21 @@ bits-lt word hi lo = mod_below (word / 2 ^ lo) (2 ^ (hi + 1 - lo)) (pow_pos (hi 
 -- ---- sign extension
 
 -- two powers of 2 whose exponents sum to 32 have the product 2 ^ 32
-pow-product : (width k : ℕ) → width + k ≡ 32 → 2 ^ width * 2 ^ k ≡ 2 ^ 32
-pow-product width k sum_is_32 = sym (pow-add 2 width k) ∙ ap (λ e. 2 ^ e) sum_is_32
+pow-product : (width shift : ℕ) → width + shift ≡ 32 → 2 ^ width * 2 ^ shift ≡ 2 ^ 32
+pow-product width shift sum_is_32 = sym (pow-add 2 width shift) ∙ ap (λ exponent. 2 ^ exponent) sum_is_32
 
--- after a left shift by k bits in a word, only the low 32 - k bits are left: the k bits above them are shifted out
-shl_low : (number width k : ℕ) → width + k ≡ 32 → number * 2 ^ k % 2 ^ 32 ≡ number % 2 ^ width * 2 ^ k
-shl_low number width k sum_is_32 =
-    let powers_product : 2 ^ width * 2 ^ k ≡ 2 ^ 32 = pow-product width k sum_is_32 in
-    let high_part : number / 2 ^ width * (2 ^ width * 2 ^ k) ≡ number / 2 ^ width * 2 ^ 32 =
+-- after a left shift by `shift` bits in a word, only the low `32 - shift` bits are left: the bits above them are shifted out
+shl_low : (number width shift : ℕ) → width + shift ≡ 32 → number * 2 ^ shift % 2 ^ 32 ≡ number % 2 ^ width * 2 ^ shift
+shl_low number width shift sum_is_32 =
+    let powers_product : 2 ^ width * 2 ^ shift ≡ 2 ^ 32 = pow-product width shift sum_is_32 in
+    let high_part : number / 2 ^ width * (2 ^ width * 2 ^ shift) ≡ number / 2 ^ width * 2 ^ 32 =
     ap (λ x. number / 2 ^ width * x) powers_product in
-    let number_splits : number * 2 ^ k ≡ number / 2 ^ width * 2 ^ 32 + number % 2 ^ width * 2 ^ k =
-    ap (λ n. n * 2 ^ k) (sym (div-add-mod' number (2 ^ width))) ∙ omega (arith, high_part) in
-    let low_part_fits : number % 2 ^ width * 2 ^ k < 2 ^ 32 =
-    subst (λ (x : ℕ). number % 2 ^ width * 2 ^ k < x) (ap (λ e. 2 ^ e) sum_is_32)
-    (shl_below (number % 2 ^ width) width k (mod_below number (2 ^ width) (pow_pos width))) in
-    ap (λ n. n % 2 ^ 32) number_splits ∙ mod-mul-add (number / 2 ^ width) (2 ^ 32) (number % 2 ^ width * 2 ^ k) low_part_fits
+    let number_splits : number * 2 ^ shift ≡ number / 2 ^ width * 2 ^ 32 + number % 2 ^ width * 2 ^ shift =
+    ap (λ n. n * 2 ^ shift) (sym (div-add-mod' number (2 ^ width))) ∙ omega (arith, high_part) in
+    let low_part_fits : number % 2 ^ width * 2 ^ shift < 2 ^ 32 =
+    subst (λ (x : ℕ). number % 2 ^ width * 2 ^ shift < x) (ap (λ exponent. 2 ^ exponent) sum_is_32)
+    (shl_below (number % 2 ^ width) width shift (mod_below number (2 ^ width) (pow_pos width))) in
+    ap (λ n. n % 2 ^ 32) number_splits ∙ mod-mul-add (number / 2 ^ width) (2 ^ 32) (number % 2 ^ width * 2 ^ shift) low_part_fits
 
 -- a field whose highest bit is 0 is unchanged by a left shift and an arithmetic right shift; `factor` is 2 to the power of the shift
 shl_shr_positive : (low half factor : ℕ) → 0 < factor → half * factor ≡ 2 ^ 31 → low < half
@@ -75,7 +75,7 @@ shl_shr_negative low half factor factor_positive half_scaled highest_bit_set low
 pow-double : (width : ℕ) → 1 ≤ width → 2 ^ width ≡ 2 * 2 ^ (width - 1)
 pow-double width width_positive =
     let width_is : width ≡ 1 + (width - 1) = omega arith in
-    ap (λ e. 2 ^ e) width_is ∙ pow-add 2 1 (width - 1)
+    ap (λ exponent. 2 ^ exponent) width_is ∙ pow-add 2 1 (width - 1)
 
 -- a left shift by 32 - width and an arithmetic right shift back are the sign extension of the low `width` bits, by the highest of these bits
 pub sign_extended_by_shifts : (value width : ℕ) → 1 ≤ width → width ≤ 32
@@ -87,7 +87,7 @@ sign_extended_by_shifts value width width_positive width_in_word =
     let sum_is_32 : width + (32 - width) ≡ 32 = omega arith in
     let factor_positive : 0 < factor = pow_pos (32 - width) in
     let sum_is_31 : width - 1 + (32 - width) ≡ 31 = omega arith in
-    let half_scaled : half * factor ≡ 2 ^ 31 = sym (pow-add 2 (width - 1) (32 - width)) ∙ ap (λ e. 2 ^ e) sum_is_31 in
+    let half_scaled : half * factor ≡ 2 ^ 31 = sym (pow-add 2 (width - 1) (32 - width)) ∙ ap (λ exponent. 2 ^ exponent) sum_is_31 in
     let low_fits : low < 2 ^ width = mod_below value (2 ^ width) (pow_pos width) in
     rw (shl_low value width (32 - width) sum_is_32)
     (elim (cases_lt low half) [

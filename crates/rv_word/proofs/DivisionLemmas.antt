@@ -78,7 +78,9 @@ remainder-equation dividend divisor word divisor_fits word_is divisor_not_zero =
 
 -- q and r are the quotient and the remainder of the natural numbers n and k
 record IsNatDivision (n k q r : ℕ) : Type 0 where
+  -- q is the quotient
   quotient_is : n / k ≡ q
+  -- r is the remainder
   remainder_is : n % k ≡ r
 
 -- if q * k + r is n, and r is below k, then q and r are the quotient and the remainder of n and k
@@ -90,7 +92,9 @@ nat_division-unique n k q r equation remainder_below = record {
 
 -- q and r are the quotient and the remainder that std has for the integers a and d
 record IsIntDivision (a d q r : ℤ) : Type 0 where
+  -- q is the quotient of std
   quotient_is : q ≡ int_div a d
+  -- r is the remainder of std
   remainder_is : r ≡ int_rem a d
 
 -- If q and r solve the equation of a division of a by d, they are the quotient and the remainder of std. There is a clause for each choice of signs.

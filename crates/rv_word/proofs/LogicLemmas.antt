@@ -11,90 +11,100 @@ use Rattle.rv_word.specs.Logic.{bit_list, word_of_bits, digit, bitwise, by_bits,
 half-lt : (count number : ℕ) → number < 2 ^ suc count → number / 2 < 2 ^ count
 half-lt count number number_fits = omega (arith, pow-suc 2 count)
 
--- the operation g on numbers computes f on each pair of bits, from the lowest bit up
-record GoesByBits (f : Bool → Bool → Bool) (g : ℕ → ℕ → ℕ) : Type 0 where
+-- the operation `on_numbers` computes `on_bits` on each pair of bits, from the lowest bit up
+record GoesByBits (on_bits : Bool → Bool → Bool) (on_numbers : ℕ → ℕ → ℕ) : Type 0 where
   -- the result for two numbers without a bit that is 1
-  of_zeros : g 0 0 ≡ 0
-  -- the lowest bit of the result is f of the lowest bits, and the others are those of the halves
-  of_halves : (a b : ℕ) → g a b ≡ digit (f (a % 2 == 1) (b % 2 == 1)) + 2 * g (a / 2) (b / 2)
+  of_zeros : on_numbers 0 0 ≡ 0
+  -- the lowest bit of the result is `on_bits` of the lowest bits, and the others are those of the halves
+  of_halves : (left right : ℕ) → on_numbers left right ≡ digit (on_bits (left % 2 == 1) (right % 2 == 1)) + 2 * on_numbers (left / 2) (right / 2)
 
--- an operation that goes by bits gives, for two numbers of `count` bits, the number of the bits that f gives (by induction over the count)
-number_of-bitwise : (f : Bool → Bool → Bool) (g : ℕ → ℕ → ℕ) → GoesByBits f g → (count a b : ℕ) → a < 2 ^ count → b < 2 ^ count
-    → word_of_bits (bitwise f (bit_list count a) (bit_list count b)) ≡ g a b
-number_of-bitwise f g goes_by_bits zero a b a_fits b_fits =
-    let a_is : a ≡ 0 = omega arith in
-    let b_is : b ≡ 0 = omega arith in
-    rw (a_is, b_is) (sym goes_by_bits.of_zeros)
-number_of-bitwise f g goes_by_bits (suc count) a b a_fits b_fits =
-    let of_halves = number_of-bitwise f g goes_by_bits count (a / 2) (b / 2) (half-lt count a a_fits) (half-lt count b b_fits) in
-    ap (λ n. digit (f (a % 2 == 1) (b % 2 == 1)) + 2 * n) of_halves
-    ∙ sym (goes_by_bits.of_halves a b)
+-- an operation that goes by bits gives, for two numbers of `count` bits, the number of the bits that `on_bits` gives (by induction over the count)
+number_of-bitwise : (on_bits : Bool → Bool → Bool) (on_numbers : ℕ → ℕ → ℕ) → GoesByBits on_bits on_numbers → (count left right : ℕ)
+    → left < 2 ^ count → right < 2 ^ count
+    → word_of_bits (bitwise on_bits (bit_list count left) (bit_list count right)) ≡ on_numbers left right
+number_of-bitwise on_bits on_numbers goes_by_bits zero left right left_fits right_fits =
+    let left_is : left ≡ 0 = omega arith in
+    let right_is : right ≡ 0 = omega arith in
+    rw (left_is, right_is) (sym goes_by_bits.of_zeros)
+number_of-bitwise on_bits on_numbers goes_by_bits (suc count) left right left_fits right_fits =
+    let of_halves = number_of-bitwise on_bits on_numbers goes_by_bits count (left / 2) (right / 2) (half-lt count left left_fits)
+    (half-lt count right right_fits) in
+    ap (λ half_result. digit (on_bits (left % 2 == 1) (right % 2 == 1)) + 2 * half_result) of_halves
+    ∙ sym (goes_by_bits.of_halves left right)
 
--- ---- the four operations on single bits r and s
+-- ---- the four operations on single bits
 
 -- a claim about two bits holds if it holds in each of the four cases
-bit_cases : (P : ℕ → ℕ → Type 0) → P 0 0 → P 0 1 → P 1 0 → P 1 1 → (r s : ℕ) → r < 2 → s < 2 → P r s
-bit_cases P at_00 at_01 at_10 at_11 zero zero r_is_bit s_is_bit = at_00
-bit_cases P at_00 at_01 at_10 at_11 zero (suc zero) r_is_bit s_is_bit = at_01
-bit_cases P at_00 at_01 at_10 at_11 (suc zero) zero r_is_bit s_is_bit = at_10
-bit_cases P at_00 at_01 at_10 at_11 (suc zero) (suc zero) r_is_bit s_is_bit = at_11
-bit_cases P at_00 at_01 at_10 at_11 (suc (suc r)) s r_is_bit s_is_bit = absurd (omega arith)
-bit_cases P at_00 at_01 at_10 at_11 r (suc (suc s)) r_is_bit s_is_bit = absurd (omega arith)
+bit_cases : (P : ℕ → ℕ → Type 0) → P 0 0 → P 0 1 → P 1 0 → P 1 1 → (left_bit right_bit : ℕ) → left_bit < 2 → right_bit < 2 → P left_bit right_bit
+bit_cases P at_00 at_01 at_10 at_11 zero zero left_is_bit right_is_bit = at_00
+bit_cases P at_00 at_01 at_10 at_11 zero (suc zero) left_is_bit right_is_bit = at_01
+bit_cases P at_00 at_01 at_10 at_11 (suc zero) zero left_is_bit right_is_bit = at_10
+bit_cases P at_00 at_01 at_10 at_11 (suc zero) (suc zero) left_is_bit right_is_bit = at_11
+bit_cases P at_00 at_01 at_10 at_11 (suc (suc left_bit)) right_bit left_is_bit right_is_bit = absurd (omega arith)
+bit_cases P at_00 at_01 at_10 at_11 left_bit (suc (suc right_bit)) left_is_bit right_is_bit = absurd (omega arith)
 
 -- `&` of two single bits is 1 if both are 1
-bit_and-bits : (r s : ℕ) → r < 2 → s < 2 → bit_and r s ≡ digit (r == 1 && s == 1)
-bit_and-bits = bit_cases (λ r s. bit_and r s ≡ digit (r == 1 && s == 1)) refl refl refl refl
+bit_and-bits : (left_bit right_bit : ℕ) → left_bit < 2 → right_bit < 2 → bit_and left_bit right_bit ≡ digit (left_bit == 1 && right_bit == 1)
+bit_and-bits = bit_cases (λ left_bit right_bit. bit_and left_bit right_bit ≡ digit (left_bit == 1 && right_bit == 1)) refl refl refl refl
 
 -- `|` of two single bits is 1 if one of them is 1
-bit_or-bits : (r s : ℕ) → r < 2 → s < 2 → bit_or r s ≡ digit (r == 1 || s == 1)
-bit_or-bits = bit_cases (λ r s. bit_or r s ≡ digit (r == 1 || s == 1)) refl refl refl refl
+bit_or-bits : (left_bit right_bit : ℕ) → left_bit < 2 → right_bit < 2 → bit_or left_bit right_bit ≡ digit (left_bit == 1 || right_bit == 1)
+bit_or-bits = bit_cases (λ left_bit right_bit. bit_or left_bit right_bit ≡ digit (left_bit == 1 || right_bit == 1)) refl refl refl refl
 
 -- `^` of two single bits is 1 if exactly one of them is 1
-bit_xor-bits : (r s : ℕ) → r < 2 → s < 2 → bit_xor r s ≡ digit (exclusive_or (r == 1) (s == 1))
-bit_xor-bits = bit_cases (λ r s. bit_xor r s ≡ digit (exclusive_or (r == 1) (s == 1))) refl refl refl refl
+bit_xor-bits : (left_bit right_bit : ℕ) → left_bit < 2 → right_bit < 2
+    → bit_xor left_bit right_bit ≡ digit (exclusive_or (left_bit == 1) (right_bit == 1))
+bit_xor-bits = bit_cases (λ left_bit right_bit. bit_xor left_bit right_bit
+    ≡ digit (exclusive_or (left_bit == 1) (right_bit == 1))) refl refl refl refl
 
--- a bit r is the sum of two bits: "r and not s", and "s and r"
-and_not-bits : (r s : ℕ) → r < 2 → s < 2 → digit (r == 1 && not (s == 1)) + bit_and s r ≡ r
-and_not-bits = bit_cases (λ r s. digit (r == 1 && not (s == 1)) + bit_and s r ≡ r) refl refl refl refl
+-- the left bit is the sum of two bits: "left and not right", and "right and left"
+and_not-bits : (left_bit right_bit : ℕ) → left_bit < 2 → right_bit < 2
+    → digit (left_bit == 1 && not (right_bit == 1)) + bit_and right_bit left_bit ≡ left_bit
+and_not-bits = bit_cases (λ left_bit right_bit. digit (left_bit == 1 && not (right_bit == 1)) + bit_and right_bit left_bit
+    ≡ left_bit) refl refl refl refl
 
 -- ---- the four operations on numbers, by their lowest bits and their halves
 
 -- a number is twice its half, plus its lowest bit
-halved : (n : ℕ) → n ≡ n / 2 * 2 ^ 1 + n % 2
-halved n = sym (div-add-mod' n 2)
+halved : (number : ℕ) → number ≡ number / 2 * 2 ^ 1 + number % 2
+halved number = sym (div-add-mod' number 2)
 
 -- an operation on two numbers has the same result if each is written as twice its half, plus its lowest bit
-split_lowest : (g : ℕ → ℕ → ℕ) (a b : ℕ) → g a b ≡ g (a / 2 * 2 ^ 1 + a % 2) (b / 2 * 2 ^ 1 + b % 2)
-split_lowest g a b = ap (λ n. g n b) (halved a) ∙ ap (g (a / 2 * 2 ^ 1 + a % 2)) (halved b)
+split_lowest : (on_numbers : ℕ → ℕ → ℕ) (left right : ℕ)
+    → on_numbers left right ≡ on_numbers (left / 2 * 2 ^ 1 + left % 2) (right / 2 * 2 ^ 1 + right % 2)
+split_lowest on_numbers left right =
+    ap (λ number. on_numbers number right) (halved left) ∙ ap (on_numbers (left / 2 * 2 ^ 1 + left % 2)) (halved right)
 
 -- `&` of two numbers is `&` of their lowest bits, plus twice `&` of their halves
-bit_and-halves : (a b : ℕ) → bit_and a b ≡ digit (a % 2 == 1 && b % 2 == 1) + 2 * bit_and (a / 2) (b / 2)
-bit_and-halves a b =
-    let of_blocks = and_block 1 (a / 2) (b / 2) (a % 2) (b % 2) (omega arith) (omega arith) in
-    let of_lowest_bits = bit_and-bits (a % 2) (b % 2) (omega arith) (omega arith) in
-    split_lowest bit_and a b ∙ of_blocks ∙ omega (arith, of_lowest_bits)
+bit_and-halves : (left right : ℕ) → bit_and left right ≡ digit (left % 2 == 1 && right % 2 == 1) + 2 * bit_and (left / 2) (right / 2)
+bit_and-halves left right =
+    let of_blocks = and_block 1 (left / 2) (right / 2) (left % 2) (right % 2) (omega arith) (omega arith) in
+    let of_lowest_bits = bit_and-bits (left % 2) (right % 2) (omega arith) (omega arith) in
+    split_lowest bit_and left right ∙ of_blocks ∙ omega (arith, of_lowest_bits)
 
 -- `|` of two numbers is `|` of their lowest bits, plus twice `|` of their halves
-bit_or-halves : (a b : ℕ) → bit_or a b ≡ digit (a % 2 == 1 || b % 2 == 1) + 2 * bit_or (a / 2) (b / 2)
-bit_or-halves a b =
-    let of_blocks = or_block 1 (a / 2) (b / 2) (a % 2) (b % 2) (omega arith) (omega arith) in
-    let of_lowest_bits = bit_or-bits (a % 2) (b % 2) (omega arith) (omega arith) in
-    split_lowest bit_or a b ∙ of_blocks ∙ omega (arith, of_lowest_bits)
+bit_or-halves : (left right : ℕ) → bit_or left right ≡ digit (left % 2 == 1 || right % 2 == 1) + 2 * bit_or (left / 2) (right / 2)
+bit_or-halves left right =
+    let of_blocks = or_block 1 (left / 2) (right / 2) (left % 2) (right % 2) (omega arith) (omega arith) in
+    let of_lowest_bits = bit_or-bits (left % 2) (right % 2) (omega arith) (omega arith) in
+    split_lowest bit_or left right ∙ of_blocks ∙ omega (arith, of_lowest_bits)
 
 -- `^` of two numbers is `^` of their lowest bits, plus twice `^` of their halves
-bit_xor-halves : (a b : ℕ) → bit_xor a b ≡ digit (exclusive_or (a % 2 == 1) (b % 2 == 1)) + 2 * bit_xor (a / 2) (b / 2)
-bit_xor-halves a b =
-    let of_blocks = xor_block 1 (a / 2) (b / 2) (a % 2) (b % 2) (omega arith) (omega arith) in
-    let of_lowest_bits = bit_xor-bits (a % 2) (b % 2) (omega arith) (omega arith) in
-    split_lowest bit_xor a b ∙ of_blocks ∙ omega (arith, of_lowest_bits)
+bit_xor-halves : (left right : ℕ) → bit_xor left right ≡ digit (exclusive_or (left % 2 == 1) (right % 2 == 1)) + 2 * bit_xor (left / 2) (right / 2)
+bit_xor-halves left right =
+    let of_blocks = xor_block 1 (left / 2) (right / 2) (left % 2) (right % 2) (omega arith) (omega arith) in
+    let of_lowest_bits = bit_xor-bits (left % 2) (right % 2) (omega arith) (omega arith) in
+    split_lowest bit_xor left right ∙ of_blocks ∙ omega (arith, of_lowest_bits)
 
--- a minus `&` of both numbers has the bits that a has and b does not have: those of the lowest bits, plus twice those of the halves
-and_not-halves : (a b : ℕ) → a - bit_and b a ≡ digit (a % 2 == 1 && not (b % 2 == 1)) + 2 * (a / 2 - bit_and (b / 2) (a / 2))
-and_not-halves a b =
-    let split_and = split_lowest bit_and b a in
-    let of_blocks = and_block 1 (b / 2) (a / 2) (b % 2) (a % 2) (omega arith) (omega arith) in
-    let of_lowest_bits = and_not-bits (a % 2) (b % 2) (omega arith) (omega arith) in
-    omega (arith, split_and, of_blocks, of_lowest_bits, and_le_r (b / 2) (a / 2), and_le_r b a)
+-- The left number minus `&` of both has the bits that the left number has and the right one does not have. These are those of the lowest bits,
+-- plus twice those of the halves.
+and_not-halves : (left right : ℕ)
+    → left - bit_and right left ≡ digit (left % 2 == 1 && not (right % 2 == 1)) + 2 * (left / 2 - bit_and (right / 2) (left / 2))
+and_not-halves left right =
+    let split_and = split_lowest bit_and right left in
+    let of_blocks = and_block 1 (right / 2) (left / 2) (right % 2) (left % 2) (omega arith) (omega arith) in
+    let of_lowest_bits = and_not-bits (left % 2) (right % 2) (omega arith) (omega arith) in
+    omega (arith, split_and, of_blocks, of_lowest_bits, and_le_r (right / 2) (left / 2), and_le_r right left)
 
 -- ---- the four operations on words
 
@@ -122,5 +132,5 @@ unfolding by_bits
 bit_and_not_is left right left_fits right_fits =
     and_comm left (2 ^ 32 - 1 - right)
     ∙ omega (arith, and-not 32 right left right_fits left_fits)
-    ∙ sym (number_of-bitwise (λ x y. x && not y) (λ a b. a - bit_and b a) (record { of_zeros = refl; of_halves = and_not-halves }) 32
+    ∙ sym (number_of-bitwise (λ x y. x && not y) (λ left right. left - bit_and right left) (record { of_zeros = refl; of_halves = and_not-halves }) 32
     left right left_fits right_fits)

@@ -31,29 +31,31 @@ high_word-unique (negsuc n) high high_is_word solves = grind (arith, ints)
 -- ---- the products of words fit in 64 bits
 
 -- the magnitude of the signed value of a word is below 2 ^ 32
-pub signed-magnitude : (n : ℕ) → n < 2 ^ 32 → unsigned_abs (signed n) ≤ 2 ^ 32 - 1
-signed-magnitude n n_is_word = grind (arith, ints)
+pub signed-magnitude : (word : ℕ) → word < 2 ^ 32 → unsigned_abs (signed word) ≤ 2 ^ 32 - 1
+signed-magnitude word word_fits = grind (arith, ints)
 
 -- the magnitude of the signed value of a word is at most 2 ^ 31
-signed-magnitude_i32 : (n : ℕ) → n < 2 ^ 32 → unsigned_abs (signed n) ≤ 2 ^ 31
-signed-magnitude_i32 n n_is_word = grind (arith, ints)
+signed-magnitude_i32 : (word : ℕ) → word < 2 ^ 32 → unsigned_abs (signed word) ≤ 2 ^ 31
+signed-magnitude_i32 word word_fits = grind (arith, ints)
 
--- the signed value z of a word does not change when it is written in 64 bits and read back
-pub signed-in_64_bits : (z : ℤ) (n : ℕ) → n < 2 ^ 32 → z ≡ signed n → to_z w64 (of_z w64 z) ≡ signed n
-signed-in_64_bits z n n_is_word z_is =
-    let magnitude_is : unsigned_abs (signed n) ≤ 2 ^ 31 = signed-magnitude_i32 n n_is_word in
-    to_z-of_z w64 z (subst (λ z. FitsSigned w64 z) (sym z_is) (grind arith)) ∙ z_is
+-- the signed value of a word does not change when it is written in 64 bits and read back
+pub signed-in_64_bits : (value : ℤ) (word : ℕ) → word < 2 ^ 32 → value ≡ signed word → to_z w64 (of_z w64 value) ≡ signed word
+signed-in_64_bits value word word_fits value_is =
+    let magnitude_is : unsigned_abs (signed word) ≤ 2 ^ 31 = signed-magnitude_i32 word word_fits in
+    to_z-of_z w64 value (subst (λ value. FitsSigned w64 value) (sym value_is) (grind arith)) ∙ value_is
 
--- the product of the signed value of a word and a number q of magnitude below 2 ^ 32 fits in 64 bits
-pub product-fits_64_bits : (x y : ℤ) (n : ℕ) (q : ℤ) → n < 2 ^ 32 → x ≡ signed n → y ≡ q → unsigned_abs q ≤ 2 ^ 32 - 1
-    → FitsSigned w64 (x *ℤ y)
-product-fits_64_bits x y n q n_is_word x_is y_is q_is_small =
-    subst (λ z. FitsSigned w64 z) (sym (ap (λ a. a *ℤ y) x_is ∙ ap (λ b. signed n *ℤ b) y_is))
-    (fits_signed_mul w64 (signed n) q (2 ^ 31) (2 ^ 32 - 1) (signed-magnitude_i32 n n_is_word) q_is_small (omega arith))
+-- the product of the signed value of a word and a factor of magnitude below 2 ^ 32 fits in 64 bits
+pub product-fits_64_bits : (left right : ℤ) (word : ℕ) (factor : ℤ) → word < 2 ^ 32 → left ≡ signed word → right ≡ factor
+    → unsigned_abs factor ≤ 2 ^ 32 - 1
+    → FitsSigned w64 (left *ℤ right)
+product-fits_64_bits left right word factor word_fits left_is right_is factor_is_small =
+    subst (λ value. FitsSigned w64 value) (sym (ap (λ left. left *ℤ right) left_is ∙ ap (λ right. signed word *ℤ right) right_is))
+    (fits_signed_mul w64 (signed word) factor (2 ^ 31) (2 ^ 32 - 1) (signed-magnitude_i32 word word_fits) factor_is_small (omega arith))
 
--- the product of a signed word and a number q of magnitude below 2 ^ 32 does not change when it is written in 64 bits and read back
-pub product-in_64_bits : (x y : ℤ) (n : ℕ) (q : ℤ) → n < 2 ^ 32 → x ≡ signed n → y ≡ q → unsigned_abs q ≤ 2 ^ 32 - 1
-    → to_z w64 (of_z w64 (x *ℤ y)) ≡ signed n *ℤ q
-product-in_64_bits x y n q n_is_word x_is y_is q_is_small =
-    to_z-of_z w64 (x *ℤ y) (product-fits_64_bits x y n q n_is_word x_is y_is q_is_small)
-    ∙ (ap (λ a. a *ℤ y) x_is ∙ ap (λ b. signed n *ℤ b) y_is)
+-- the product of a signed word and a factor of magnitude below 2 ^ 32 does not change when it is written in 64 bits and read back
+pub product-in_64_bits : (left right : ℤ) (word : ℕ) (factor : ℤ) → word < 2 ^ 32 → left ≡ signed word → right ≡ factor
+    → unsigned_abs factor ≤ 2 ^ 32 - 1
+    → to_z w64 (of_z w64 (left *ℤ right)) ≡ signed word *ℤ factor
+product-in_64_bits left right word factor word_fits left_is right_is factor_is_small =
+    to_z-of_z w64 (left *ℤ right) (product-fits_64_bits left right word factor word_fits left_is right_is factor_is_small)
+    ∙ (ap (λ left. left *ℤ right) left_is ∙ ap (λ right. signed word *ℤ right) right_is)

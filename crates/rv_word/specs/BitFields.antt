@@ -2,13 +2,13 @@
 use Rattle.std.specs.Prelude.{ℕ, ◌+◌, ◌-◌, ◌*◌, ◌/◌, ◌%◌, ◌^◌, ◌==◌, Bool, ℤ, pos, ◌-ℤ◌, nat_lt, if◌then◌else◌}
 use Rattle.rv_word.specs.Logic.{digit}
 
--- `is_set` states whether bit k of a word is 1
+-- `is_set` states whether the bit at a position of a word is 1
 abbrev pub is_set : ℕ → ℕ → Bool
-is_set word k = word / 2 ^ k % 2 == 1
+is_set word position = word / 2 ^ position % 2 == 1
 
--- `flag` is the word with only bit k set, or 0
+-- `flag` is the word with only the bit at a position set, or 0
 abbrev pub flag : ℕ → Bool → ℕ
-flag k set = digit set * 2 ^ k
+flag position set = digit set * 2 ^ position
 
 -- `bits` has bits hi down to lo of a word, as a number
 abbrev pub bits : ℕ → ℕ → ℕ → ℕ

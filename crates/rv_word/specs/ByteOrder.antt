@@ -5,6 +5,6 @@ use Rattle.std.specs.Prelude.{ℕ, ◌+◌, ◌*◌, ◌/◌, ◌%◌, ◌^◌, 
 abbrev pub word_of_bytes : List ℕ → ℕ
 word_of_bytes bytes = slice_index bytes 0 + slice_index bytes 1 * 2 ^ 8 + slice_index bytes 2 * 2 ^ 16 + slice_index bytes 3 * 2 ^ 24
 
--- `byte_of` is byte k of a word
+-- `byte_of` is the byte of a word at an index, from 0 for the lowest byte
 abbrev pub byte_of : ℕ → ℕ → ℕ
-byte_of word k = word / 2 ^ (8 * k) % 2 ^ 8
+byte_of word index = word / 2 ^ (8 * index) % 2 ^ 8

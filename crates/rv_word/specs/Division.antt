@@ -6,9 +6,13 @@ use Rattle.rv_word.specs.Word.{signed, low_word}
 -- Signed division: dividend = quotient * divisor + remainder. The absolute value of the remainder is smaller than that of the divisor, and its
 -- sign is that of the dividend. The quotient is thus rounded towards zero.
 pub record IsDivision (dividend divisor quotient remainder : ℤ) : Type 0 where
+  -- the dividend is the product of quotient and divisor, plus the remainder
   pub whole : (quotient *ℤ divisor) +ℤ remainder ≡ dividend
+  -- the remainder is smaller than the divisor, by absolute value
   pub smaller : unsigned_abs remainder < unsigned_abs divisor
+  -- the remainder of a dividend of at least 0 is at least 0
   pub not_negative : pos 0 ≤ℤ dividend → pos 0 ≤ℤ remainder
+  -- the remainder of a dividend of at most 0 is at most 0
   pub not_positive : dividend ≤ℤ pos 0 → remainder ≤ℤ pos 0
 
 -- the word is the quotient of a division, modulo 2 ^ 32
