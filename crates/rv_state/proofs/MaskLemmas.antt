@@ -36,7 +36,7 @@ common_bits-again (suc count) word mask =
     let bit = (word % 2 == 1) && (mask % 2 == 1) in
     let rest = common_bits count (word / 2) (mask / 2) in
     rw (low_bit_of bit rest, upper_bits_of bit rest, and-again (word % 2 == 1) (mask % 2 == 1))
-    (ap (λ n. digit bit + 2 * n) (common_bits-again count (word / 2) (mask / 2)))
+    (ap (λ number. digit bit + 2 * number) (common_bits-again count (word / 2) (mask / 2)))
 
 -- masking a masked word again changes nothing
 pub masked_again : (word mask : ℕ) → and_by_bits (and_by_bits word mask) mask ≡ and_by_bits word mask
@@ -44,14 +44,14 @@ unfolding by_bits
 masked_again word mask = common_bits-again 32 word mask
 
 -- a number below 2, read as a bit and back as a number, is the number itself
-digit-below_2 : (n : ℕ) → n < 2 → digit (n == 1) ≡ n
+digit-below_2 : (number : ℕ) → number < 2 → digit (number == 1) ≡ number
 digit-below_2 zero is_below_2 = refl
 digit-below_2 (suc zero) is_below_2 = refl
-digit-below_2 (suc (suc n)) is_below_2 = absurd (omega arith)
+digit-below_2 (suc (suc number)) is_below_2 = absurd (omega arith)
 
 -- the lowest bit of a number, as 0 or 1, is its remainder by 2
-pub digit_is_remainder : (n : ℕ) → digit (n % 2 == 1) ≡ n % 2
-digit_is_remainder n = digit-below_2 (n % 2) (omega arith)
+pub digit_is_remainder : (number : ℕ) → digit (number % 2 == 1) ≡ number % 2
+digit_is_remainder number = digit-below_2 (number % 2) (omega arith)
 
 -- ---- a word under a mask, as the sum of the bits in the mask
 
@@ -75,20 +75,20 @@ bitwise-in_mask [] (mask_bit ∷ mask_bits) = refl
 bitwise-in_mask (bit ∷ bits) [] = refl
 bitwise-in_mask (bit ∷ bits) (mask_bit ∷ mask_bits) = rw (and-comm bit mask_bit, bitwise-in_mask bits mask_bits) refl
 
--- `count` bits of a word, from bit k upwards
+-- `count` bits of a word, from bit `position` upwards
 abbrev pub bits_from : ℕ → ℕ → ℕ → List Bool
-bits_from zero k word = []
-bits_from (suc count) k word = is_set word k ∷ bits_from count (suc k) word
+bits_from zero position word = []
+bits_from (suc count) position word = is_set word position ∷ bits_from count (suc position) word
 
--- half of a word shifted right by k is the word shifted right by k + 1
-halved : (word k : ℕ) → word / 2 ^ k / 2 ≡ word / 2 ^ suc k
-halved word k = div-div-eq-div-mul word (2 ^ k) 2 ∙ sym (ap (λ n. word / n) (pow-suc 2 k))
+-- half of a word shifted right by `position` is the word shifted right by `position` + 1
+halved : (word position : ℕ) → word / 2 ^ position / 2 ≡ word / 2 ^ suc position
+halved word position = div-div-eq-div-mul word (2 ^ position) 2 ∙ sym (ap (λ number. word / number) (pow-suc 2 position))
 
--- the bits of a word shifted right by k are its bits from k up
-pub bit_list-from : (count k word : ℕ) → bit_list count (word / 2 ^ k) ≡ bits_from count k word
-bit_list-from zero k word = refl
-bit_list-from (suc count) k word =
-    rw (halved word k) (ap (λ bits. is_set word k ∷ bits) (bit_list-from count (suc k) word))
+-- the bits of a word shifted right by `position` are its bits from `position` up
+pub bit_list-from : (count position word : ℕ) → bit_list count (word / 2 ^ position) ≡ bits_from count position word
+bit_list-from zero position word = refl
+bit_list-from (suc count) position word =
+    rw (halved word position) (ap (λ bits. is_set word position ∷ bits) (bit_list-from count (suc position) word))
 
 -- a word under a mask is the number whose bits are those of the word that are in the mask
 pub masked_word_is : (word mask : ℕ) → and_by_bits word mask ≡ word_of_bits (bits_in_mask (bit_list 32 mask) (bits_from 32 0 word))
@@ -126,7 +126,7 @@ inhibit_mask = 0x5
 -- if `keep` is masking with the mask, then keeping the kept bits again changes nothing
 kept_again : (keep : ℕ → ℕ) (mask : ℕ) → ((word : ℕ) → and_by_bits word mask ≡ keep word) → (word : ℕ) → keep (keep word) ≡ keep word
 kept_again keep mask keep_is_mask word =
-    let masked_twice = sym (keep_is_mask (keep word)) ∙ ap (λ n. and_by_bits n mask) (sym (keep_is_mask word)) in
+    let masked_twice = sym (keep_is_mask (keep word)) ∙ ap (λ number. and_by_bits number mask) (sym (keep_is_mask word)) in
     masked_twice ∙ masked_again word mask ∙ keep_is_mask word
 
 -- mie keeps the bits of its mask

@@ -57,7 +57,7 @@ mpp-number zero is_below_4 = refl
 mpp-number (suc zero) is_below_4 = refl
 mpp-number (suc (suc zero)) is_below_4 = refl
 mpp-number (suc (suc (suc zero))) is_below_4 = refl
-mpp-number (suc (suc (suc (suc n)))) is_below_4 = absurd (omega arith)
+mpp-number (suc (suc (suc (suc beyond)))) is_below_4 = absurd (omega arith)
 
 -- MPP (bits 12:11) is bit 11 plus twice bit 12
 mpp-digits : (word : ℕ) → bits word 12 11 ≡ digit (is_set word 11) + 2 * digit (is_set word 12)
@@ -68,12 +68,12 @@ mstatus-kept-by : (word : ℕ) (is_two : Bool) → (bits word 12 11 == 2) ≡ is
     → mstatus_word (mstatus_of word) ≡ and_by_bits word (if is_two then mstatus_bits_without_mpp else mstatus_bits)
 mstatus-kept-by word true mpp_test =
     let stored_mpp : mode_number (mode_of_mpp (bits word 12 11)) ≡ 0 =
-    mpp-number (bits word 12 11) (omega arith) ∙ ap (λ (b : Bool). if b then 0 else bits word 12 11) mpp_test
+    mpp-number (bits word 12 11) (omega arith) ∙ ap (λ (is_two : Bool). if is_two then 0 else bits word 12 11) mpp_test
     in
     omega (arith, stored_mpp, masked_word_is word mstatus_bits_without_mpp)
 mstatus-kept-by word false mpp_test =
     let stored_mpp : mode_number (mode_of_mpp (bits word 12 11)) ≡ bits word 12 11 =
-    mpp-number (bits word 12 11) (omega arith) ∙ ap (λ (b : Bool). if b then 0 else bits word 12 11) mpp_test
+    mpp-number (bits word 12 11) (omega arith) ∙ ap (λ (is_two : Bool). if is_two then 0 else bits word 12 11) mpp_test
     in
     omega (arith, stored_mpp, mpp-digits word, masked_word_is word mstatus_bits)
 
@@ -92,40 +92,40 @@ high-half : (counter word : ℕ) → word < 2 ^ 32 → bits (with_high_half coun
 high-half counter word is_32_bits = omega arith
 
 -- after a write each register reads as the kept bits of the written word; many hold by computation
-reading-written : (name : CsrName) (word : ℕ) (c : CsrState) → word < 2 ^ 32 → reading name (written name word c) ≡ kept name word c
+reading-written : (name : CsrName) (word : ℕ) (csrs : CsrState) → word < 2 ^ 32 → reading name (written name word csrs) ≡ kept name word csrs
 unfolding csr_of
-reading-written Sstatus word c is_32_bits = sstatus-kept c.mstatus word
-reading-written Stvec word c is_32_bits = vector-is word is_32_bits
-reading-written Sscratch word c is_32_bits = refl
-reading-written Sepc word c is_32_bits = aligned-is word is_32_bits
-reading-written Scause word c is_32_bits = refl
-reading-written Stval word c is_32_bits = refl
-reading-written Satp word c is_32_bits = refl
-reading-written NameMstatus word c is_32_bits = mstatus-kept word
-reading-written Misa word c is_32_bits = refl
-reading-written Mie word c is_32_bits = sym (enabled_is word)
-reading-written Mtvec word c is_32_bits = vector-is word is_32_bits
-reading-written Mscratch word c is_32_bits = refl
-reading-written Mepc word c is_32_bits = aligned-is word is_32_bits
-reading-written Mcause word c is_32_bits = refl
-reading-written Mtval word c is_32_bits = refl
-reading-written Mip word c is_32_bits = ap (λ n. n + flag 7 c.timer) (software_again word ∙ sym (software_is word))
-reading-written (Pmpcfg k) word c is_32_bits = refl
-reading-written (Pmpaddr i) word c is_32_bits = refl
-reading-written Mcycle word c is_32_bits = low-half c.mcycle word is_32_bits
-reading-written Minstret word c is_32_bits = low-half c.minstret word is_32_bits
-reading-written Mcycleh word c is_32_bits = high-half c.mcycle word is_32_bits
-reading-written Minstreth word c is_32_bits = high-half c.minstret word is_32_bits
-reading-written Mcountinhibit word c is_32_bits = sym (inhibited_is word)
-reading-written Zero word c is_32_bits = refl
+reading-written Sstatus word csrs is_32_bits = sstatus-kept csrs.mstatus word
+reading-written Stvec word csrs is_32_bits = vector-is word is_32_bits
+reading-written Sscratch word csrs is_32_bits = refl
+reading-written Sepc word csrs is_32_bits = aligned-is word is_32_bits
+reading-written Scause word csrs is_32_bits = refl
+reading-written Stval word csrs is_32_bits = refl
+reading-written Satp word csrs is_32_bits = refl
+reading-written NameMstatus word csrs is_32_bits = mstatus-kept word
+reading-written Misa word csrs is_32_bits = refl
+reading-written Mie word csrs is_32_bits = sym (enabled_is word)
+reading-written Mtvec word csrs is_32_bits = vector-is word is_32_bits
+reading-written Mscratch word csrs is_32_bits = refl
+reading-written Mepc word csrs is_32_bits = aligned-is word is_32_bits
+reading-written Mcause word csrs is_32_bits = refl
+reading-written Mtval word csrs is_32_bits = refl
+reading-written Mip word csrs is_32_bits = ap (λ software_bits. software_bits + flag 7 csrs.timer) (software_again word ∙ sym (software_is word))
+reading-written (Pmpcfg register) word csrs is_32_bits = refl
+reading-written (Pmpaddr entry) word csrs is_32_bits = refl
+reading-written Mcycle word csrs is_32_bits = low-half csrs.mcycle word is_32_bits
+reading-written Minstret word csrs is_32_bits = low-half csrs.minstret word is_32_bits
+reading-written Mcycleh word csrs is_32_bits = high-half csrs.mcycle word is_32_bits
+reading-written Minstreth word csrs is_32_bits = high-half csrs.minstret word is_32_bits
+reading-written Mcountinhibit word csrs is_32_bits = sym (inhibited_is word)
+reading-written Zero word csrs is_32_bits = refl
 
 -- If TVM does not trap an access before a write to this register, it does not after the write. Only accesses to satp can be trapped, and a write
 -- to satp changes nothing.
-trapped-after : (name : CsrName) (word : ℕ) (mode : Mode) (c : CsrState) → is_trapped name mode c ≡ false
-    → is_trapped name mode (written name word c) ≡ false
+trapped-after : (name : CsrName) (word : ℕ) (mode : Mode) (csrs : CsrState) → is_trapped name mode csrs ≡ false
+    → is_trapped name mode (written name word csrs) ≡ false
 unfolding csr_of
-trapped-after Satp word mode c not_trapped = not_trapped
-trapped-after _ word mode c not_trapped = refl
+trapped-after Satp word mode csrs not_trapped = not_trapped
+trapped-after _ word mode csrs not_trapped = refl
 
 -- a write that is Ok is read back; `register` is the register of the number, if there is one
 register-reads-back : (register : Option CsrName) (before after : CsrState) (number word : ℕ) (mode : Mode) → word < 2 ^ 32

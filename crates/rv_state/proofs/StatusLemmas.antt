@@ -47,27 +47,27 @@ mode-digits M = refl
 
 -- the 32 bits of mstatus, the lowest first, eight in a line
 abbrev bits_of : Mstatus → List Bool
-bits_of s =
-    false ∷ s.sie ∷ false ∷ s.mie ∷ false ∷ s.spie ∷ false ∷ s.mpie
-    ∷ s.spp ∷ false ∷ false ∷ has_lower_bit s.mpp ∷ has_upper_bit s.mpp ∷ false ∷ false ∷ false
-    ∷ false ∷ s.mprv ∷ false ∷ s.mxr ∷ s.tvm ∷ s.tw ∷ s.tsr ∷ false
+bits_of status =
+    false ∷ status.sie ∷ false ∷ status.mie ∷ false ∷ status.spie ∷ false ∷ status.mpie
+    ∷ status.spp ∷ false ∷ false ∷ has_lower_bit status.mpp ∷ has_upper_bit status.mpp ∷ false ∷ false ∷ false
+    ∷ false ∷ status.mprv ∷ false ∷ status.mxr ∷ status.tvm ∷ status.tw ∷ status.tsr ∷ false
     ∷ false ∷ false ∷ false ∷ false ∷ false ∷ false ∷ false ∷ false ∷ []
 
 -- the word of mstatus is the number of its bits
-mstatus_of_bits : (s : Mstatus) → mstatus_word s ≡ word_of_bits (bits_of s)
-mstatus_of_bits s = omega (arith, mode-digits s.mpp)
+mstatus_of_bits : (status : Mstatus) → mstatus_word status ≡ word_of_bits (bits_of status)
+mstatus_of_bits status = omega (arith, mode-digits status.mpp)
 
 -- mstatus has no bit outside those that it implements
-pub mstatus_masked : (s : Mstatus) → and_by_bits (mstatus_word s) mstatus_bits ≡ mstatus_word s
-mstatus_masked s =
-    ap (λ word. and_by_bits word mstatus_bits) (mstatus_of_bits s)
-    ∙ number_in_mask (bits_of s) mstatus_bits refl
-    ∙ sym (mstatus_of_bits s)
+pub mstatus_masked : (status : Mstatus) → and_by_bits (mstatus_word status) mstatus_bits ≡ mstatus_word status
+mstatus_masked status =
+    ap (λ word. and_by_bits word mstatus_bits) (mstatus_of_bits status)
+    ∙ number_in_mask (bits_of status) mstatus_bits refl
+    ∙ sym (mstatus_of_bits status)
 
 -- sstatus is mstatus under the mask of the bits that sstatus shows
-pub sstatus_is_masked : (s : Mstatus) → sstatus_word s ≡ and_by_bits (mstatus_word s) sstatus_bits
-sstatus_is_masked s =
-    let under_mask : and_by_bits (mstatus_word s) sstatus_bits ≡ word_of_bits (bits_in_mask (bit_list 32 sstatus_bits) (bits_of s)) =
-    ap (λ word. and_by_bits word sstatus_bits) (mstatus_of_bits s) ∙ number_in_mask (bits_of s) sstatus_bits refl
+pub sstatus_is_masked : (status : Mstatus) → sstatus_word status ≡ and_by_bits (mstatus_word status) sstatus_bits
+sstatus_is_masked status =
+    let under_mask : and_by_bits (mstatus_word status) sstatus_bits ≡ word_of_bits (bits_in_mask (bit_list 32 sstatus_bits) (bits_of status)) =
+    ap (λ word. and_by_bits word sstatus_bits) (mstatus_of_bits status) ∙ number_in_mask (bits_of status) sstatus_bits refl
     in
     omega (arith, under_mask)

@@ -19,27 +19,27 @@ aligned_twice : (address : ℕ) → aligned_to_4 (aligned_to_4 address) ≡ alig
 aligned_twice address = omega arith
 
 -- stvec and sepc have legal values after the registers of mode S are restored from any saved context
-pub with_s_context_stored : (c : CsrState) (s : SContext) → HasLegalVectors (with_s_context c s)
-with_s_context_stored c s = record { stvec = vector_twice s.stvec; sepc = aligned_twice s.sepc }
+pub with_s_context_stored : (csrs : CsrState) (context : SContext) → HasLegalVectors (with_s_context csrs context)
+with_s_context_stored csrs context = record { stvec = vector_twice context.stvec; sepc = aligned_twice context.sepc }
 
 -- after a write to any register stvec and sepc have legal values, if they had before; only a write to stvec or sepc changes them
-written-leaves-legal : (name : CsrName) (c : CsrState) (word : ℕ) → HasLegalVectors c → HasLegalVectors (written name word c)
+written-leaves-legal : (name : CsrName) (csrs : CsrState) (word : ℕ) → HasLegalVectors csrs → HasLegalVectors (written name word csrs)
 unfolding csr_of
-written-leaves-legal Stvec c word legal_before = record { stvec = vector_twice word; sepc = legal_before.sepc }
-written-leaves-legal Sepc c word legal_before = record { stvec = legal_before.stvec; sepc = aligned_twice word }
-written-leaves-legal _ c word legal_before = record { stvec = legal_before.stvec; sepc = legal_before.sepc }
+written-leaves-legal Stvec csrs word legal_before = record { stvec = vector_twice word; sepc = legal_before.sepc }
+written-leaves-legal Sepc csrs word legal_before = record { stvec = legal_before.stvec; sepc = aligned_twice word }
+written-leaves-legal _ csrs word legal_before = record { stvec = legal_before.stvec; sepc = legal_before.sepc }
 
 -- a checked write that is Ok leaves legal values; `register` is the register of the number, if there is one
-register-leaves-legal : (register : Option CsrName) (c : CsrState) (number word : ℕ) (mode : Mode) (after : CsrState)
-    → on_register register (checked_write c number word mode) ≡ Ok after → HasLegalVectors c → HasLegalVectors after
-register-leaves-legal None c number word mode after write_is legal_before = cc
-register-leaves-legal (Some name) c number word mode after write_is legal_before =
-    let passed = passed-checks c number word mode name after write_is in
-    subst HasLegalVectors passed.written_is (written-leaves-legal name c word legal_before)
+register-leaves-legal : (register : Option CsrName) (csrs : CsrState) (number word : ℕ) (mode : Mode) (after : CsrState)
+    → on_register register (checked_write csrs number word mode) ≡ Ok after → HasLegalVectors csrs → HasLegalVectors after
+register-leaves-legal None csrs number word mode after write_is legal_before = cc
+register-leaves-legal (Some name) csrs number word mode after write_is legal_before =
+    let passed = passed-checks csrs number word mode name after write_is in
+    subst HasLegalVectors passed.written_is (written-leaves-legal name csrs word legal_before)
 
 -- after a CSR write that is Ok stvec and sepc have legal values, if they had before
-pub write_stored : (c : CsrState) (number word : ℕ) (mode : Mode) (after : CsrState) → write_result c number word mode ≡ Ok after
-    → HasLegalVectors c → HasLegalVectors after
+pub write_stored : (csrs : CsrState) (number word : ℕ) (mode : Mode) (after : CsrState) → write_result csrs number word mode ≡ Ok after
+    → HasLegalVectors csrs → HasLegalVectors after
 unfolding write_result
-write_stored c number word mode after write_is legal_before =
-    register-leaves-legal (csr_numbered number) c number word mode after write_is legal_before
+write_stored csrs number word mode after write_is legal_before =
+    register-leaves-legal (csr_numbered number) csrs number word mode after write_is legal_before

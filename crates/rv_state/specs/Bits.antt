@@ -5,7 +5,7 @@ use Rattle.rv_word.specs.BitFields.{is_set, flag}
 
 -- `kept_bits` has the bits of a word at these positions, with every other bit 0
 unfoldable pub kept_bits : List ℕ → ℕ → ℕ
-kept_bits places word = sum_by (λ k. flag k (is_set word k)) places
+kept_bits positions word = sum_by (λ position. flag position (is_set word position)) positions
 
 -- an address with its bits 1:0 cleared, which is a multiple of 4
 abbrev pub aligned_to_4 : ℕ → ℕ

@@ -24,12 +24,12 @@ incremented counter is_held = if is_held then counter else (counter + 1) % 2 ^ 6
 -- The registers after a step. mcycle counts each step, and minstret each retired instruction. A counter is held if its bit of mcountinhibit was
 -- set before the step, or if the step wrote one of its halves.
 abbrev pub ticked : CsrState → Bool → ℕ → Option ℕ → CsrState
-ticked c retired inhibit written = record c {
-  mcycle = incremented c.mcycle (is_set inhibit 0 || wrote written 0xB00 0xB80);
-  minstret = incremented c.minstret (not retired || is_set inhibit 2 || wrote written 0xB02 0xB82);
+ticked csrs retired inhibit written = record csrs {
+  mcycle = incremented csrs.mcycle (is_set inhibit 0 || wrote written 0xB00 0xB80);
+  minstret = incremented csrs.minstret (not retired || is_set inhibit 2 || wrote written 0xB02 0xB82);
 }
 
 -- the registers after `count` steps that each retired an instruction and wrote no register
 abbrev pub counted : ℕ → CsrState → CsrState
-counted zero c = c
-counted (suc count) c = ticked (counted count c) true c.mcountinhibit None
+counted zero csrs = csrs
+counted (suc count) csrs = ticked (counted count csrs) true csrs.mcountinhibit None

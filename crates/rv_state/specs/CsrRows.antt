@@ -7,8 +7,11 @@ use Rattle.rv_state.specs.declared.csr_name.CsrName.TheVariants.{Zero}
 
 -- a row: the numbers that it covers, and for each of them the name of the register and the register itself
 pub record CsrRow : Type 0 where
+  -- whether the row covers a number
   pub is_of : ℕ → Bool
+  -- the name of the register with a number
   pub name : ℕ → List ℕ
+  -- the register with a number
   pub register : ℕ → CsrName
 
 -- the row of a single register: its number, its name in assembly, and its register

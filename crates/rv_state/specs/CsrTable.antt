@@ -126,54 +126,68 @@ inhibited_of word = kept_bits (0 ∷ 2 ∷ []) word
 
 -- the word that a register reads, and the state after a word is written to it
 pub record Csr : Type 0 where
+  -- the word that the register reads in a state
   pub reads : CsrState → ℕ
+  -- the state after a word is written to the register
   pub leaves : ℕ → CsrState → CsrState
 
 -- a register that always reads the same value and ignores writes
 abbrev pub constant : ℕ → Csr
-constant value = record { reads = λ _. value; leaves = λ _ c. c }
+constant value = record { reads = λ _. value; leaves = λ _ csrs. csrs }
 
 -- how each register is read, and what a write leaves in the state
 unfoldable pub csr_of : CsrName → Csr
-csr_of Sstatus = record { reads = λ c. sstatus_word c.mstatus; leaves = λ word c. record c { mstatus = with_sstatus c.mstatus word } }
-csr_of Stvec = record { reads = λ c. c.stvec; leaves = λ word c. record c { stvec = vector_of word } }
-csr_of Sscratch = record { reads = λ c. c.sscratch; leaves = λ word c. record c { sscratch = word } }
-csr_of Sepc = record { reads = λ c. c.sepc; leaves = λ word c. record c { sepc = aligned_to_4 word } }
-csr_of Scause = record { reads = λ c. c.scause; leaves = λ word c. record c { scause = word } }
-csr_of Stval = record { reads = λ c. c.stval; leaves = λ word c. record c { stval = word } }
+csr_of Sstatus = record { reads = λ csrs. sstatus_word csrs.mstatus; leaves = λ word csrs. record csrs { mstatus = with_sstatus csrs.mstatus word } }
+csr_of Stvec = record { reads = λ csrs. csrs.stvec; leaves = λ word csrs. record csrs { stvec = vector_of word } }
+csr_of Sscratch = record { reads = λ csrs. csrs.sscratch; leaves = λ word csrs. record csrs { sscratch = word } }
+csr_of Sepc = record { reads = λ csrs. csrs.sepc; leaves = λ word csrs. record csrs { sepc = aligned_to_4 word } }
+csr_of Scause = record { reads = λ csrs. csrs.scause; leaves = λ word csrs. record csrs { scause = word } }
+csr_of Stval = record { reads = λ csrs. csrs.stval; leaves = λ word csrs. record csrs { stval = word } }
 csr_of Satp = constant 0
-csr_of Mstatus = record { reads = λ c. mstatus_word c.mstatus; leaves = λ word c. record c { mstatus = mstatus_of word } }
+csr_of Mstatus = record { reads = λ csrs. mstatus_word csrs.mstatus; leaves = λ word csrs. record csrs { mstatus = mstatus_of word } }
 csr_of Misa = constant misa_word
-csr_of Mie = record { reads = λ c. c.mie; leaves = λ word c. record c { mie = enabled_of word } }
-csr_of Mtvec = record { reads = λ c. c.mtvec; leaves = λ word c. record c { mtvec = vector_of word } }
-csr_of Mscratch = record { reads = λ c. c.mscratch; leaves = λ word c. record c { mscratch = word } }
-csr_of Mepc = record { reads = λ c. c.mepc; leaves = λ word c. record c { mepc = aligned_to_4 word } }
-csr_of Mcause = record { reads = λ c. c.mcause; leaves = λ word c. record c { mcause = word } }
-csr_of Mtval = record { reads = λ c. c.mtval; leaves = λ word c. record c { mtval = word } }
-csr_of Mip = record { reads = λ c. mip_word c; leaves = λ word c. record c { software_pending = software_pending_of word } }
-csr_of (Pmpcfg k) = record { reads = λ c. cfg_word c.pmp k; leaves = λ word c. record c { pmp = with_cfg_word c.pmp k word } }
-csr_of (Pmpaddr i) = record { reads = λ c. addr_of c.pmp i; leaves = λ word c. record c { pmp = with_addr c.pmp i word } }
-csr_of Mcycle = record { reads = λ c. bits c.mcycle 31 0; leaves = λ word c. record c { mcycle = with_low_half c.mcycle word } }
-csr_of Minstret = record { reads = λ c. bits c.minstret 31 0; leaves = λ word c. record c { minstret = with_low_half c.minstret word } }
-csr_of Mcycleh = record { reads = λ c. bits c.mcycle 63 32; leaves = λ word c. record c { mcycle = with_high_half c.mcycle word } }
-csr_of Minstreth = record { reads = λ c. bits c.minstret 63 32; leaves = λ word c. record c { minstret = with_high_half c.minstret word } }
-csr_of Mcountinhibit = record { reads = λ c. c.mcountinhibit; leaves = λ word c. record c { mcountinhibit = inhibited_of word } }
+csr_of Mie = record { reads = λ csrs. csrs.mie; leaves = λ word csrs. record csrs { mie = enabled_of word } }
+csr_of Mtvec = record { reads = λ csrs. csrs.mtvec; leaves = λ word csrs. record csrs { mtvec = vector_of word } }
+csr_of Mscratch = record { reads = λ csrs. csrs.mscratch; leaves = λ word csrs. record csrs { mscratch = word } }
+csr_of Mepc = record { reads = λ csrs. csrs.mepc; leaves = λ word csrs. record csrs { mepc = aligned_to_4 word } }
+csr_of Mcause = record { reads = λ csrs. csrs.mcause; leaves = λ word csrs. record csrs { mcause = word } }
+csr_of Mtval = record { reads = λ csrs. csrs.mtval; leaves = λ word csrs. record csrs { mtval = word } }
+csr_of Mip = record { reads = λ csrs. mip_word csrs; leaves = λ word csrs. record csrs { software_pending = software_pending_of word } }
+csr_of (Pmpcfg register) = record {
+  reads = λ csrs. cfg_word csrs.pmp register;
+  leaves = λ word csrs. record csrs { pmp = with_cfg_word csrs.pmp register word };
+}
+csr_of (Pmpaddr entry) = record {
+  reads = λ csrs. addr_of csrs.pmp entry;
+  leaves = λ word csrs. record csrs { pmp = with_addr csrs.pmp entry word };
+}
+csr_of Mcycle = record { reads = λ csrs. bits csrs.mcycle 31 0; leaves = λ word csrs. record csrs { mcycle = with_low_half csrs.mcycle word } }
+csr_of Minstret = record {
+  reads = λ csrs. bits csrs.minstret 31 0;
+  leaves = λ word csrs. record csrs { minstret = with_low_half csrs.minstret word };
+}
+csr_of Mcycleh = record { reads = λ csrs. bits csrs.mcycle 63 32; leaves = λ word csrs. record csrs { mcycle = with_high_half csrs.mcycle word } }
+csr_of Minstreth = record {
+  reads = λ csrs. bits csrs.minstret 63 32;
+  leaves = λ word csrs. record csrs { minstret = with_high_half csrs.minstret word };
+}
+csr_of Mcountinhibit = record { reads = λ csrs. csrs.mcountinhibit; leaves = λ word csrs. record csrs { mcountinhibit = inhibited_of word } }
 csr_of Zero = constant 0
 
 -- the word that a read of the register returns
 abbrev pub reading : CsrName → CsrState → ℕ
-reading name c = (csr_of name).reads c
+reading name csrs = (csr_of name).reads csrs
 
 -- the state after a write of a word to the register
 abbrev pub written : CsrName → ℕ → CsrState → CsrState
-written name word c = (csr_of name).leaves word c
+written name word csrs = (csr_of name).leaves word csrs
 
 -- ---- accesses, with their checks in order
 
 -- whether an access is refused because of TVM: satp in mode S while TVM is set (section 3.1.6.5)
 abbrev pub is_trapped : CsrName → Mode → CsrState → Bool
-is_trapped Satp S c = c.mstatus.tvm
-is_trapped _ _ c = false
+is_trapped Satp S csrs = csrs.mstatus.tvm
+is_trapped _ _ csrs = false
 
 -- an access to the register of a number; a number without a register is a fault
 abbrev pub on_register : {A : Type 0} → Option CsrName → (CsrName → Result A CsrFault) → Result A CsrFault
@@ -182,15 +196,15 @@ on_register (Some name) access = access name
 
 -- `read_result` is the result of a read of the register with this number in this mode
 unfoldable pub read_result : CsrState → ℕ → Mode → Result ℕ CsrFault
-read_result c number mode =
+read_result csrs number mode =
     on_register (csr_numbered number) (λ name.
     if nat_lt (mode_number mode) (least_mode number) then Err faults.Privilege
-    else (if is_trapped name mode c then Err faults.Trapped else Ok (reading name c)))
+    else (if is_trapped name mode csrs then Err faults.Trapped else Ok (reading name csrs)))
 
 -- `write_result` is the result of a write to the register with this number in this mode: the new registers, or a fault
 unfoldable pub write_result : CsrState → ℕ → ℕ → Mode → Result CsrState CsrFault
-write_result c number word mode =
+write_result csrs number word mode =
     on_register (csr_numbered number) (λ name.
     if nat_lt (mode_number mode) (least_mode number) then Err faults.Privilege
     else (if is_read_only number then Err faults.ReadOnly
-    else (if is_trapped name mode c then Err faults.Trapped else Ok (written name word c))))
+    else (if is_trapped name mode csrs then Err faults.Trapped else Ok (written name word csrs))))

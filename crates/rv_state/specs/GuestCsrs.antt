@@ -7,12 +7,12 @@ use Rattle.rv_state.specs.CsrState.{CsrState}
 
 -- the registers with mcycle, minstret, mepc, mcause, mtval, MPIE and MPP set to 0
 abbrev pub guest_csrs : CsrState → CsrState
-guest_csrs c = record c { mstatus = record c.mstatus { mpie = false; mpp = U }; mepc = 0; mcause = 0; mtval = 0; mcycle = 0; minstret = 0 }
+guest_csrs csrs = record csrs { mstatus = record csrs.mstatus { mpie = false; mpp = U }; mepc = 0; mcause = 0; mtval = 0; mcycle = 0; minstret = 0 }
 
 -- The registers of mode M other than those above, and the PMP entries, are also set to 0. The timer line and the remaining fields of mstatus stay,
 -- since they decide whether an interrupt or an instruction traps.
 abbrev pub below_m_csrs : CsrState → CsrState
-below_m_csrs c = record (guest_csrs c) {
+below_m_csrs csrs = record (guest_csrs csrs) {
   mie = 0;
   mtvec = 0;
   mcountinhibit = 0;

@@ -17,7 +17,7 @@ software_pending_of word = kept_bits (1 ∷ 5 ∷ 9 ∷ []) word
 
 -- the word that mip reads: the bits that software wrote, and MTIP, which is the timer line
 abbrev pub mip_word : CsrState → ℕ
-mip_word c = software_pending_of c.software_pending + flag 7 c.timer
+mip_word csrs = software_pending_of csrs.software_pending + flag 7 csrs.timer
 
 -- the order in which pending interrupts are taken
 abbrev pub interrupt_order : List Interrupt
@@ -36,4 +36,4 @@ is_machine _ = false
 
 -- the interrupt that is taken before an instruction in this mode; in mode M there is none unless MIE is set
 abbrev pub pending : CsrState → Mode → Option Interrupt
-pending c mode = if is_machine mode && not c.mstatus.mie then None else first_interrupt (mip_word c) c.mie
+pending csrs mode = if is_machine mode && not csrs.mstatus.mie then None else first_interrupt (mip_word csrs) csrs.mie

@@ -22,35 +22,35 @@ mstatus_mask word = if bits word 12 11 == 2 then 0x007A01AA else 0x007A19AA
 
 -- the word that each register reads after a write of `word`
 abbrev pub kept : CsrName → ℕ → CsrState → ℕ
-kept Sstatus word c = and_by_bits word 0x00080122
-kept Stvec word c = and_by_bits word 0xFFFFFFFD
-kept Sscratch word c = word
-kept Sepc word c = and_by_bits word 0xFFFFFFFC
-kept Scause word c = word
-kept Stval word c = word
-kept Satp word c = 0
-kept Mstatus word c = and_by_bits word (mstatus_mask word)
-kept Misa word c = 0x40141100
-kept Mie word c = and_by_bits word 0x00000AAA
-kept Mtvec word c = and_by_bits word 0xFFFFFFFD
-kept Mscratch word c = word
-kept Mepc word c = and_by_bits word 0xFFFFFFFC
-kept Mcause word c = word
-kept Mtval word c = word
-kept Mip word c = and_by_bits word 0x00000222 + flag 7 c.timer
-kept (Pmpcfg k) word c = cfg_word (with_cfg_word c.pmp k word) k
-kept (Pmpaddr i) word c = addr_of (with_addr c.pmp i word) i
-kept Mcycle word c = word
-kept Minstret word c = word
-kept Mcycleh word c = word
-kept Minstreth word c = word
-kept Mcountinhibit word c = and_by_bits word 0x00000005
-kept Zero word c = 0
+kept Sstatus word csrs = and_by_bits word 0x00080122
+kept Stvec word csrs = and_by_bits word 0xFFFFFFFD
+kept Sscratch word csrs = word
+kept Sepc word csrs = and_by_bits word 0xFFFFFFFC
+kept Scause word csrs = word
+kept Stval word csrs = word
+kept Satp word csrs = 0
+kept Mstatus word csrs = and_by_bits word (mstatus_mask word)
+kept Misa word csrs = 0x40141100
+kept Mie word csrs = and_by_bits word 0x00000AAA
+kept Mtvec word csrs = and_by_bits word 0xFFFFFFFD
+kept Mscratch word csrs = word
+kept Mepc word csrs = and_by_bits word 0xFFFFFFFC
+kept Mcause word csrs = word
+kept Mtval word csrs = word
+kept Mip word csrs = and_by_bits word 0x00000222 + flag 7 csrs.timer
+kept (Pmpcfg register) word csrs = cfg_word (with_cfg_word csrs.pmp register word) register
+kept (Pmpaddr entry) word csrs = addr_of (with_addr csrs.pmp entry word) entry
+kept Mcycle word csrs = word
+kept Minstret word csrs = word
+kept Mcycleh word csrs = word
+kept Minstreth word csrs = word
+kept Mcountinhibit word csrs = and_by_bits word 0x00000005
+kept Zero word csrs = 0
 
 -- the word that the register of a number reads after a write; 0 if there is none
 abbrev pub kept_at : Option CsrName → ℕ → CsrState → ℕ
-kept_at None word c = 0
-kept_at (Some name) word c = kept name word c
+kept_at None word csrs = 0
+kept_at (Some name) word csrs = kept name word csrs
 
 -- the register reads this value after the write, in the same mode
 unfoldable pub ReadsBack : CsrState → CsrState → ℕ → ℕ → Mode → Type 0

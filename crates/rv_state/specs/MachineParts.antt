@@ -6,8 +6,8 @@ use Rattle.rv_state.specs.CsrState.{CsrState}
 -- the registers with the other parts set to 0: the registers of mode S, the fields of mstatus that sstatus shows, and the counters. The
 -- registers of mode M, the PMP entries and the timer line remain.
 unfoldable pub machine_parts : CsrState → CsrState
-machine_parts c = record c {
-  mstatus = record c.mstatus { sie = false; spie = false; spp = false; mxr = false };
+machine_parts csrs = record csrs {
+  mstatus = record csrs.mstatus { sie = false; spie = false; spp = false; mxr = false };
   mcycle = 0;
   minstret = 0;
   stvec = 0;

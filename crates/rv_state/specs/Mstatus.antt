@@ -57,9 +57,10 @@ tsr_bit = 22
 
 -- the word that mstatus reads
 abbrev pub mstatus_word : Mstatus → ℕ
-mstatus_word s =
-    flag sie_bit s.sie + flag mie_bit s.mie + flag spie_bit s.spie + flag mpie_bit s.mpie + flag spp_bit s.spp
-    + mode_number s.mpp * 2 ^ mpp_bit + flag mprv_bit s.mprv + flag mxr_bit s.mxr + flag tvm_bit s.tvm + flag tw_bit s.tw + flag tsr_bit s.tsr
+mstatus_word status =
+    flag sie_bit status.sie + flag mie_bit status.mie + flag spie_bit status.spie + flag mpie_bit status.mpie + flag spp_bit status.spp
+    + mode_number status.mpp * 2 ^ mpp_bit + flag mprv_bit status.mprv + flag mxr_bit status.mxr + flag tvm_bit status.tvm + flag tw_bit status.tw
+    + flag tsr_bit status.tsr
 
 -- the mode after a write to MPP; 2 is no mode, and 0 is stored instead
 abbrev pub mode_of_mpp : ℕ → Mode
@@ -101,9 +102,9 @@ mstatus_at_reset = record {
 
 -- the word that sstatus reads: four of the fields
 abbrev pub sstatus_word : Mstatus → ℕ
-sstatus_word s = flag sie_bit s.sie + flag spie_bit s.spie + flag spp_bit s.spp + flag mxr_bit s.mxr
+sstatus_word status = flag sie_bit status.sie + flag spie_bit status.spie + flag spp_bit status.spp + flag mxr_bit status.mxr
 
 -- the fields after a write to sstatus: it changes those four only
 abbrev pub with_sstatus : Mstatus → ℕ → Mstatus
-with_sstatus s word =
-    record s { sie = is_set word sie_bit; spie = is_set word spie_bit; spp = is_set word spp_bit; mxr = is_set word mxr_bit }
+with_sstatus status word =
+    record status { sie = is_set word sie_bit; spie = is_set word spie_bit; spp = is_set word spp_bit; mxr = is_set word mxr_bit }

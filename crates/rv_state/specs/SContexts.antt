@@ -8,34 +8,36 @@ use Rattle.rv_state.specs.declared.s_context.SContext.{SContext}
 
 -- the registers of mode S that a context switch saves
 abbrev pub s_context : CsrState → SContext
-s_context c = record {
-  stvec = c.stvec;
-  sscratch = c.sscratch;
-  sepc = c.sepc;
-  scause = c.scause;
-  stval = c.stval;
-  sie = c.mstatus.sie;
-  spie = c.mstatus.spie;
-  spp = c.mstatus.spp;
-  mxr = c.mstatus.mxr;
+s_context csrs = record {
+  stvec = csrs.stvec;
+  sscratch = csrs.sscratch;
+  sepc = csrs.sepc;
+  scause = csrs.scause;
+  stval = csrs.stval;
+  sie = csrs.mstatus.sie;
+  spie = csrs.mstatus.spie;
+  spp = csrs.mstatus.spp;
+  mxr = csrs.mstatus.mxr;
 }
 
 -- the state with the registers of mode S restored, as writes store them
 abbrev pub with_s_context : CsrState → SContext → CsrState
-with_s_context c s = record c {
-  stvec = vector_of s.stvec;
-  sscratch = s.sscratch;
-  sepc = aligned_to_4 s.sepc;
-  scause = s.scause;
-  stval = s.stval;
-  mstatus = record c.mstatus { sie = s.sie; spie = s.spie; spp = s.spp; mxr = s.mxr };
+with_s_context csrs context = record csrs {
+  stvec = vector_of context.stvec;
+  sscratch = context.sscratch;
+  sepc = aligned_to_4 context.sepc;
+  scause = context.scause;
+  stval = context.stval;
+  mstatus = record csrs.mstatus { sie = context.sie; spie = context.spie; spp = context.spp; mxr = context.mxr };
 }
 
 -- stvec and sepc have legal values, those that a write would store
-pub record HasLegalVectors (c : CsrState) : Type 0 where
-  pub stvec : vector_of c.stvec ≡ c.stvec
-  pub sepc : aligned_to_4 c.sepc ≡ c.sepc
+pub record HasLegalVectors (csrs : CsrState) : Type 0 where
+  -- a write of stvec to itself changes nothing
+  pub stvec : vector_of csrs.stvec ≡ csrs.stvec
+  -- a write of sepc to itself changes nothing
+  pub sepc : aligned_to_4 csrs.sepc ≡ csrs.sepc
 
 -- setting the current values changes nothing
 abbrev pub KeepsOwn : CsrState → Type 0
-KeepsOwn c = with_s_context c (s_context c) ≡ c
+KeepsOwn csrs = with_s_context csrs (s_context csrs) ≡ csrs

@@ -14,8 +14,8 @@ use Rattle.rv_state.specs.declared.cause.Cause.TheVariants as causes
 -- the registers after a trap from a mode at pc. Every trap is taken in mode M. MPIE gets the value of MIE, MIE becomes 0, and MPP gets the mode
 -- (section 3.1.6.1). Then mepc gets pc, mcause the cause, and mtval the value of the trap (3.1.14 to 3.1.16).
 abbrev pub after_trap : CsrState → Mode → ℕ → Cause → ℕ → CsrState
-after_trap c mode pc cause tval = record c {
-  mstatus = record c.mstatus { mpie = c.mstatus.mie; mie = false; mpp = mode };
+after_trap csrs mode pc cause tval = record csrs {
+  mstatus = record csrs.mstatus { mpie = csrs.mstatus.mie; mie = false; mpp = mode };
   mepc = aligned_to_4 pc;
   mcause = cause_code cause;
   mtval = tval;
@@ -29,12 +29,12 @@ trap_target mtvec (causes.Interrupt interrupt) =
 
 -- the registers after mret, which continues in the mode of MPP at mepc; MPRV becomes 0 if that mode is below M
 abbrev pub after_mret : CsrState → CsrState
-after_mret c = record c {
-  mstatus = record c.mstatus {
-    mie = c.mstatus.mpie;
+after_mret csrs = record csrs {
+  mstatus = record csrs.mstatus {
+    mie = csrs.mstatus.mpie;
     mpie = true;
     mpp = U;
-    mprv = c.mstatus.mprv && is_machine c.mstatus.mpp;
+    mprv = csrs.mstatus.mprv && is_machine csrs.mstatus.mpp;
   };
 }
 
@@ -44,6 +44,6 @@ mode_of_spp spp = if spp then S else U
 
 -- the registers after sret, which continues in the mode of SPP at sepc
 abbrev pub after_sret : CsrState → CsrState
-after_sret c = record c {
-  mstatus = record c.mstatus { sie = c.mstatus.spie; spie = true; spp = false; mprv = false };
+after_sret csrs = record csrs {
+  mstatus = record csrs.mstatus { sie = csrs.mstatus.spie; spie = true; spp = false; mprv = false };
 }

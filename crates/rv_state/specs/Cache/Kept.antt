@@ -7,8 +7,11 @@ use Rattle.rv_state.specs.Interrupts.{software_pending_of}
 
 -- `CountersState` has both counters, and mcountinhibit
 pub record CountersState : Type 0 where
+  -- the counter of steps
   pub mcycle : ℕ
+  -- the counter of retired instructions
   pub minstret : ℕ
+  -- the value of mcountinhibit
   pub inhibit : ℕ
 
 -- the value of a counter: the stored value if the counter is inhibited (`is_held`), otherwise the stored value plus the count, modulo 2 ^ 64
@@ -22,14 +25,16 @@ later is_held counter (suc steps) = incremented (later is_held counter steps) is
 
 -- `counted_on` has both counters after `steps` steps that each retired and wrote no counter
 abbrev pub counted_on : ℕ → CountersState → CountersState
-counted_on steps c = record c {
-  mcycle = later (is_set c.inhibit 0) c.mcycle steps;
-  minstret = later (is_set c.inhibit 2) c.minstret steps;
+counted_on steps counters = record counters {
+  mcycle = later (is_set counters.inhibit 0) counters.mcycle steps;
+  minstret = later (is_set counters.inhibit 2) counters.minstret steps;
 }
 
 -- the bits of mip that software writes, and the timer line
 pub record RaisedState : Type 0 where
+  -- the bits of mip that software writes
   pub software : ℕ
+  -- the timer line
   pub timer : Bool
 
 -- `raised_in` has the pending software interrupts and the timer line of one word
