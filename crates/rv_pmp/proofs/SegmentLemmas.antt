@@ -18,27 +18,32 @@ use Rattle.rv_pmp.proofs.ByteMatchLemmas.{bool_same, byte_match_alike}
 
 -- `begin` is the start of a segment, which follows from the list of the ends of segments
 abbrev begin : List ℕ → ℕ → ℕ
-begin ends k = if k == 0 then 0 else slice_index ends (k - 1)
+begin ends index = if index == 0 then 0 else slice_index ends (index - 1)
 
 -- a segment after the first begins where the one before it ends
-begin_after : (ends : List ℕ) (k : ℕ) → 0 < k → begin ends k ≡ slice_index ends (k - 1)
-begin_after ends k k_positive = cond-false (k == 0) 0 (slice_index ends (k - 1)) (ne_eqb k 0 (λ is_zero. omega (arith, k_positive)))
+begin_after : (ends : List ℕ) (index : ℕ) → 0 < index → begin ends index ≡ slice_index ends (index - 1)
+begin_after ends index index_positive = cond-false (index == 0) 0 (slice_index ends (index - 1))
+    (ne_eqb index 0 (λ is_zero. omega (arith, index_positive)))
 
--- a new end of the segment `at` changes no start of the segments up to it
-begin_kept : (ends : List ℕ) (at end k : ℕ) → k ≤ at → begin (slice_set ends at end) k ≡ begin ends k
-begin_kept ends at end k k_up_to_at = elim (cases_eq k 0) [
+-- a new end of the segment `changed` changes no start of the segments up to it
+begin_kept : (ends : List ℕ) (changed end index : ℕ) → index ≤ changed → begin (slice_set ends changed end) index ≡ begin ends index
+begin_kept ends changed end index index_up_to_changed = elim (cases_eq index 0) [
   | inl is_first ↦ rw is_first refl
   | inr not_first ↦
-      let k_positive : 0 < k = omega arith in
-      begin_after (slice_set ends at end) k k_positive ∙ get_or-set_other ends at (k - 1) end 0 (λ is_before_at. omega (arith, k_positive))
-      ∙ sym (begin_after ends k k_positive)
+      let index_positive : 0 < index = omega arith in
+      begin_after (slice_set ends changed end) index index_positive
+      ∙ get_or-set_other ends changed (index - 1) end 0 (λ is_before_changed. omega (arith, index_positive))
+      ∙ sym (begin_after ends index index_positive)
 ]
 
 -- the segments are in order up to `end`, and each has the matching entry of its bytes
-pub record Reaches (covering : ℕ → ℕ → Bool) (s : Segments) (end : ℕ) : Type 0 where
-  pub reach : reach_of s ≡ end
-  pub order : AreInOrder s
-  pub matched : AreMatched covering s
+pub record Reaches (covering : ℕ → ℕ → Bool) (segments : Segments) (end : ℕ) : Type 0 where
+  -- the last segment ends at `end`
+  pub reach : reach_of segments ≡ end
+  -- no segment is empty
+  pub order : AreInOrder segments
+  -- each byte of a segment has the matching entry of the segment
+  pub matched : AreMatched covering segments
 
 -- the segments are extended to `end`: all new bytes have the same matching entry, and the last segment grows or one is added
 module _ (covering : ℕ → ℕ → Bool) (old : Segments) (start end : ℕ) (new_match : Option ℕ) (order : AreInOrder old)
@@ -64,27 +69,29 @@ module _ (covering : ℕ → ℕ → Bool) (old : Segments) (start end : ℕ) (n
       let last : ℕ = count - 1 in
       let is_end : slice_index longer.ends last ≡ end = get_or-set_same old.ends last end 0 (omega arith) in
       let was_end : slice_index old.ends last ≡ start = sym (start_is_reach ∙ begin_after old.ends count has_segments) in
-      let starts_kept : (k : ℕ) → k < count → start_of longer k ≡ start_of old k = λ k k_used. begin_kept old.ends last end k (omega arith) in
-      let other_ends_kept : (k : ℕ) → k ≢ last
-      → slice_index longer.ends k ≡ slice_index old.ends k = λ k not_last. get_or-set_other old.ends last k end 0 not_last in
+      let starts_kept : (index : ℕ) → index < count
+      → start_of longer index ≡ start_of old index = λ index index_used. begin_kept old.ends last end index (omega arith) in
+      let other_ends_kept : (index : ℕ) → index ≢ last
+      → slice_index longer.ends index ≡ slice_index old.ends index = λ index not_last. get_or-set_other old.ends last index end 0 not_last in
       record {
         reach = begin_after longer.ends count has_segments ∙ is_end;
         order = record {
           at_most = order.at_most;
-          ascending = λ k k_used. elim (cases_eq k last) [
+          ascending = λ index index_used. elim (cases_eq index last) [
             | inl is_last ↦
                 rw is_last (omega (arith, starts_kept last (omega arith), is_end, not_empty, order.ascending last (omega arith), was_end))
-            | inr not_last ↦ omega (arith, starts_kept k k_used, other_ends_kept k not_last, order.ascending k k_used)
+            | inr not_last ↦ omega (arith, starts_kept index index_used, other_ends_kept index not_last, order.ascending index index_used)
           ];
         };
-        matched = λ k byte k_used from_start before_end. elim (cases_eq k last) [
+        matched = λ index byte index_used from_start before_end. elim (cases_eq index last) [
           | inl is_last ↦ elim (cases_lt byte start) [
-            | inl in_old_part ↦ matched k byte k_used (omega (arith, starts_kept k k_used)) (rw is_last (omega (arith, was_end)))
+            | inl in_old_part ↦ matched index byte index_used (omega (arith, starts_kept index index_used)) (rw is_last (omega (arith, was_end)))
             | inr in_new_part ↦
                 let before_new_end = rw is_last at before_end in
                 same_match byte (omega arith) (omega (arith, is_end)) ∙ rw is_last (sym last_has_match)
           ]
-          | inr not_last ↦ matched k byte k_used (omega (arith, starts_kept k k_used)) (omega (arith, before_end, other_ends_kept k not_last))
+          | inr not_last ↦ matched index byte index_used (omega (arith, starts_kept index index_used))
+              (omega (arith, before_end, other_ends_kept index not_last))
         ];
       }
 
@@ -95,28 +102,30 @@ module _ (covering : ℕ → ℕ → Bool) (old : Segments) (start end : ℕ) (n
       let is_end : slice_index with_one_more.ends count ≡ end = get_or-set_same old.ends count end 0 ends_fit in
       let is_new_match : slice_index_or with_one_more.byte_matches count None ≡ new_match = get_or-set_same old.byte_matches count new_match None
       matches_fit in
-      let starts_kept : (k : ℕ) → k ≤ count → start_of with_one_more k ≡ start_of old k = λ k k_used. begin_kept old.ends count end k k_used in
-      let other_ends_kept : (k : ℕ) → k ≢ count
-      → slice_index with_one_more.ends k ≡ slice_index old.ends k = λ k not_new. get_or-set_other old.ends count k end 0 not_new in
+      let starts_kept : (index : ℕ) → index ≤ count
+      → start_of with_one_more index ≡ start_of old index = λ index index_used. begin_kept old.ends count end index index_used in
+      let other_ends_kept : (index : ℕ) → index ≢ count
+      → slice_index with_one_more.ends index ≡ slice_index old.ends index = λ index not_new. get_or-set_other old.ends count index end 0 not_new in
       let count_is : count + 1 - 1 ≡ count = omega arith in
       record {
         reach = begin_after with_one_more.ends (count + 1) (omega arith) ∙ ap (slice_index with_one_more.ends) count_is ∙ is_end;
         order = record {
           at_most = omega arith;
-          ascending = λ k k_used. elim (cases_eq k count) [
+          ascending = λ index index_used. elim (cases_eq index count) [
             | inl is_new ↦ rw is_new (omega (arith, starts_kept count (omega arith), is_end, not_empty, start_is_reach))
-            | inr not_new ↦ omega (arith, starts_kept k (omega arith), other_ends_kept k not_new, order.ascending k (omega arith))
+            | inr not_new ↦ omega (arith, starts_kept index (omega arith), other_ends_kept index not_new, order.ascending index (omega arith))
           ];
         };
-        matched = λ k byte k_used from_start before_end. elim (cases_eq k count) [
+        matched = λ index byte index_used from_start before_end. elim (cases_eq index count) [
           | inl is_new ↦
               let from_new_start = rw is_new at from_start in
               let before_new_end = rw is_new at before_end in
               same_match byte (omega (arith, from_new_start, starts_kept count (omega arith), start_is_reach)) (omega (arith, before_new_end, is_end))
               ∙ rw is_new (sym is_new_match)
           | inr not_new ↦
-              matched k byte (omega arith) (omega (arith, starts_kept k (omega arith))) (omega (arith, before_end, other_ends_kept k not_new))
-              ∙ sym (get_or-set_other old.byte_matches count k new_match None not_new)
+              matched index byte (omega arith) (omega (arith, starts_kept index (omega arith)))
+              (omega (arith, before_end, other_ends_kept index not_new))
+              ∙ sym (get_or-set_other old.byte_matches count index new_match None not_new)
         ];
       }
 
@@ -125,8 +134,8 @@ module _ (covering : ℕ → ℕ → Bool) (old : Segments) (start end : ℕ) (n
 -- bounds that are permuted are bounds of the same ranges
 pub bounds_in_order : (ranges : EntryRanges) (xs ys : List ℕ) → IsPermutation xs ys → AreBounds ranges xs → AreBounds ranges ys
 bounds_in_order ranges xs ys is_permutation are_bounds = record {
-  from = λ i in_range not_empty. Contains-permutation xs ys _ is_permutation (are_bounds.from i in_range not_empty);
-  to = λ i in_range not_empty. Contains-permutation xs ys _ is_permutation (are_bounds.to i in_range not_empty);
+  from = λ entry in_range not_empty. Contains-permutation xs ys _ is_permutation (are_bounds.from entry in_range not_empty);
+  to = λ entry in_range not_empty. Contains-permutation xs ys _ is_permutation (are_bounds.to entry in_range not_empty);
   last = Contains-permutation xs ys _ is_permutation are_bounds.last;
 }
 
@@ -158,29 +167,30 @@ both_or_neither from to start end byte from_start before_end from_apart to_apart
       | inr not_below_end ↦ and_from _ _ (le-leb from byte (omega arith)) (lt-ltb byte to (omega arith))
     ])
 
--- The first k bounds are at most `start`, and the others are at least `end`. All bytes from `start` to `end` have the same matching entry.
-module _ (ranges : EntryRanges) (bounds : List ℕ) (start end k : ℕ) (are_bounds : AreBounds ranges bounds)
-    (bounds_before : (m : ℕ) → m < k → slice_index bounds m ≤ start) (bounds_after : (m : ℕ) → k ≤ m → m < length bounds
-    → end ≤ slice_index bounds m) where
+-- The first `split` bounds are at most `start`, and the others are at least `end`. All bytes from `start` to `end` have the same matching entry.
+module _ (ranges : EntryRanges) (bounds : List ℕ) (start end split : ℕ) (are_bounds : AreBounds ranges bounds)
+    (bounds_before : (index : ℕ) → index < split → slice_index bounds index ≤ start) (bounds_after : (index : ℕ) → split ≤ index
+    → index < length bounds
+    → end ≤ slice_index bounds index) where
   -- no bound is between `start` and `end`
   no_bound_between : (x : ℕ) → Contains bounds x → (x ≤ start) ⊎ (end ≤ x)
   no_bound_between x is_bound =
-      let m = is_bound.0 in
-      let bound_is : slice_index bounds m ≡ x = sym (get_or_default_zero bounds m x is_bound.1) ∙ is_bound.2 in
-      elim (cases_lt m k) [
-        | inl is_before ↦ inl (omega (arith, bound_is, bounds_before m is_before))
-        | inr is_after ↦ inr (omega (arith, bound_is, bounds_after m (omega arith) is_bound.1))
+      let index = is_bound.0 in
+      let bound_is : slice_index bounds index ≡ x = sym (get_or_default_zero bounds index x is_bound.1) ∙ is_bound.2 in
+      elim (cases_lt index split) [
+        | inl is_before ↦ inl (omega (arith, bound_is, bounds_before index is_before))
+        | inr is_after ↦ inr (omega (arith, bound_is, bounds_after index (omega arith) is_bound.1))
       ]
 
   -- all bytes between two neighbouring bounds have the same matching entry
   pub same_match_between : (byte : ℕ) → start ≤ byte → byte < end → byte_match (is_within ranges) byte ≡ byte_match (is_within ranges) start
-  same_match_between byte from_start before_end = byte_match_alike (is_within ranges) (is_within ranges) byte start (λ i in_range.
-      both_or_neither (slice_index ranges.from i) (slice_index ranges.to i) start end byte from_start before_end
-      (λ not_empty. no_bound_between (slice_index ranges.from i) (are_bounds.from i in_range not_empty))
-      (λ not_empty. no_bound_between (slice_index ranges.to i) (are_bounds.to i in_range not_empty)))
+  same_match_between byte from_start before_end = byte_match_alike (is_within ranges) (is_within ranges) byte start (λ entry in_range.
+      both_or_neither (slice_index ranges.from entry) (slice_index ranges.to entry) start end byte from_start before_end
+      (λ not_empty. no_bound_between (slice_index ranges.from entry) (are_bounds.from entry in_range not_empty))
+      (λ not_empty. no_bound_between (slice_index ranges.to entry) (are_bounds.to entry in_range not_empty)))
 
-  -- if all bounds are among the first k, `start` is at least 2^35, which is one of the bounds
-  pub start_past_bounds : length bounds ≤ k → 2 ^ 35 ≤ start
+  -- if all bounds are among the first `split`, `start` is at least 2^35, which is one of the bounds
+  pub start_past_bounds : length bounds ≤ split → 2 ^ 35 ≤ start
   start_past_bounds none_after = elim (no_bound_between (2 ^ 35) are_bounds.last) [
     | inl is_past ↦ is_past
     | inr end_not_past ↦
@@ -191,50 +201,62 @@ module _ (ranges : EntryRanges) (bounds : List ℕ) (start end k : ℕ) (are_bou
 
 -- ---- the segment that has a byte
 
-module _ (s : Segments) (order : AreInOrder s) where
+module _ (segments : Segments) (order : AreInOrder segments) where
   -- an end of a segment is at most the end of a later one (by induction over the index of the later one)
-  ends_rise : (i j : ℕ) → i ≤ j → j < s.count → slice_index s.ends i ≤ slice_index s.ends j
-  ends_rise i zero i_up_to_j j_used = let same_index : i ≡ 0 = omega (arith, i_up_to_j) in rw same_index (omega arith)
-  ends_rise i (suc j) i_up_to_j j_used = elim (cases_eq i (suc j)) [
+  ends_rise : (lower upper : ℕ) → lower ≤ upper → upper < segments.count → slice_index segments.ends lower ≤ slice_index segments.ends upper
+  ends_rise lower zero lower_up_to_upper upper_used = let same_index : lower ≡ 0 = omega (arith, lower_up_to_upper) in rw same_index (omega arith)
+  ends_rise lower (suc upper) lower_up_to_upper upper_used = elim (cases_eq lower (suc upper)) [
     | inl same_index ↦ rw same_index (omega arith)
-    | inr i_before_j ↦
-        let one_before : suc j - 1 ≡ j = omega arith in
-        let start_is : start_of s (suc j) ≡ slice_index s.ends j = begin_after s.ends (suc j) (omega arith) ∙ ap (slice_index s.ends) one_before in
-        omega (arith, ends_rise i j (omega arith) (omega arith), order.ascending (suc j) j_used, start_is)
+    | inr lower_before_upper ↦
+        let one_before : suc upper - 1 ≡ upper = omega arith in
+        let start_is : start_of segments (suc upper)
+        ≡ slice_index segments.ends upper = begin_after segments.ends (suc upper) (omega arith) ∙ ap (slice_index segments.ends) one_before in
+        omega (arith, ends_rise lower upper (omega arith) (omega arith), order.ascending (suc upper) upper_used, start_is)
   ]
 
   -- the list of the ends of the segments is in ascending order
-  pub used_ends_rise : s.count ≤ length s.ends → IsNonDecreasingBy (λ end. end) (take s.count s.ends)
-  used_ends_rise ends_fit = IsNonDecreasingBy-from_default (λ end. end) (take s.count s.ends) 0 (λ i j i_up_to_j j_used.
-      let j_below_count : j < s.count = omega (arith, j_used, length-take-le s.count s.ends ends_fit) in
-      rw (get_or-take s.count s.ends i 0 (omega (arith, i_up_to_j, j_below_count)), get_or-take s.count s.ends j 0 j_below_count)
-      (ends_rise i j i_up_to_j j_below_count))
+  pub used_ends_rise : segments.count ≤ length segments.ends → IsNonDecreasingBy (λ end. end) (take segments.count segments.ends)
+  used_ends_rise ends_fit = IsNonDecreasingBy-from_default (λ end. end) (take segments.count segments.ends) 0
+      (λ lower upper lower_up_to_upper upper_used.
+      let upper_below_count : upper < segments.count = omega (arith, upper_used, length-take-le segments.count segments.ends ends_fit) in
+      rw (
+        get_or-take segments.count segments.ends lower 0
+            (omega (arith, lower_up_to_upper, upper_below_count)),
+        get_or-take segments.count segments.ends upper 0 upper_below_count,
+      )
+      (ends_rise lower upper lower_up_to_upper upper_below_count))
 
 -- the segment with this index has the byte
-pub record IsSegment (s : Segments) (byte segment : ℕ) : Type 0 where
-  pub used : segment < s.count
-  pub from : start_of s segment ≤ byte
-  pub to : byte < slice_index s.ends segment
+pub record IsSegment (segments : Segments) (byte segment : ℕ) : Type 0 where
+  -- the index is that of a segment
+  pub used : segment < segments.count
+  -- the segment starts at the byte or below
+  pub from : start_of segments segment ≤ byte
+  -- the segment ends above the byte
+  pub to : byte < slice_index segments.ends segment
 
 -- the first segment whose end is past a byte has the byte, if the last segment's end is past it
-pub at_segment : (s : Segments) (byte segment : ℕ) → s.count ≤ length s.ends → byte < reach_of s → segment ≤ length (take s.count s.ends)
-    → IsPartitionPoint (λ end. leb end byte ≡ true) (λ end. leb end byte ≡ false) (take s.count s.ends) segment → IsSegment s byte segment
-at_segment s byte segment ends_fit byte_below_reach segment_bound is_point =
-    let taken_length = length-take-le s.count s.ends ends_fit in
+pub at_segment : (segments : Segments) (byte segment : ℕ) → segments.count ≤ length segments.ends → byte < reach_of segments
+    → segment ≤ length (take segments.count segments.ends)
+    → IsPartitionPoint (λ end. leb end byte ≡ true) (λ end. leb end byte ≡ false) (take segments.count segments.ends) segment
+    → IsSegment segments byte segment
+at_segment segments byte segment ends_fit byte_below_reach segment_bound is_point =
+    let taken_length = length-take-le segments.count segments.ends ends_fit in
     -- all ends before the segment are at most the byte, and its own end is past the byte
-    let ends_before : (k : ℕ) → k < segment → slice_index s.ends k ≤ byte
-    = λ k k_before. leb-true _ _ (rw (get_or-take s.count s.ends k 0 (omega (arith, k_before, segment_bound, taken_length))) at
-    (is_point.0 k 0 (omega arith) k_before)) in
-    let starts_before : start_of s segment ≤ byte = elim (cases_eq segment 0) [
+    let ends_before : (index : ℕ) → index < segment → slice_index segments.ends index ≤ byte
+    = λ index index_before. leb-true _ _
+    (rw (get_or-take segments.count segments.ends index 0 (omega (arith, index_before, segment_bound, taken_length))) at
+    (is_point.0 index 0 (omega arith) index_before)) in
+    let starts_before : start_of segments segment ≤ byte = elim (cases_eq segment 0) [
       | inl is_first ↦ rw is_first (omega arith)
       | inr not_first ↦ let positive : 0 < segment = omega arith in
-          omega (arith, begin_after s.ends segment positive, ends_before (segment - 1) (omega (arith, positive)))
+          omega (arith, begin_after segments.ends segment positive, ends_before (segment - 1) (omega (arith, positive)))
     ] in
-    let is_used : segment < s.count = elim (cases_lt segment s.count) [
+    let is_used : segment < segments.count = elim (cases_lt segment segments.count) [
       | inl is_below ↦ is_below
-      | inr not_below ↦ let is_count : segment ≡ s.count = omega (arith, not_below, segment_bound, taken_length) in
+      | inr not_below ↦ let is_count : segment ≡ segments.count = omega (arith, not_below, segment_bound, taken_length) in
           absurd (omega (arith, byte_below_reach, rw is_count at starts_before))
     ] in
-    let ends_after : leb (slice_index s.ends segment) byte ≡ false =
-    rw (get_or-take s.count s.ends segment 0 is_used) at (is_point.1 segment 0 (omega arith) (omega (arith, is_used, taken_length))) in
+    let ends_after : leb (slice_index segments.ends segment) byte ≡ false =
+    rw (get_or-take segments.count segments.ends segment 0 is_used) at (is_point.1 segment 0 (omega arith) (omega (arith, is_used, taken_length))) in
     record { used = is_used; from = starts_before; to = leb-false _ _ ends_after }

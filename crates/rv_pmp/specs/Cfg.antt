@@ -10,10 +10,15 @@ use Rattle.rv_pmp.specs.declared.address_matching.AddressMatching.TheVariants.{O
 
 -- the fields of a cfg byte are L, A of two bits, X, W and R
 pub record Cfg : Type 0 where
+  -- L: the entry is locked
   pub l : Bool
+  -- A: the address matching, from 0 to 3
   pub a : ℕ
+  -- X: fetches are permitted
   pub x : Bool
+  -- W: stores are permitted
   pub w : Bool
+  -- R: loads are permitted
   pub r : Bool
 
 -- the fields of a cfg byte are L in bit 7, A in bits 4:3, and X, W and R in bits 2 to 0

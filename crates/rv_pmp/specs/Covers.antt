@@ -30,14 +30,14 @@ matches Tor before addr byte = nat_le (granularity * before) byte && nat_lt byte
 matches Na4 before addr byte = byte / granularity == addr
 matches Napot before addr byte = is_in_block (napot_size addr) (granularity * addr) byte
 
--- Whether entry i covers the byte at an address.
+-- Whether the entry covers the byte at an address.
 unfoldable pub covers : Entries → ℕ → ℕ → Bool
-covers entries i byte = matches (matching_of (cfg_of entries i)) (addr_before entries i) (addr_of entries i) byte
+covers entries entry byte = matches (matching_of (cfg_of entries entry)) (addr_before entries entry) (addr_of entries entry) byte
 
--- entry i covers the bytes from the first address up to the second, and no others
+-- the entry covers the bytes from the first address up to the second, and no others
 abbrev pub CoversRange : Entries → ℕ → ℕ → ℕ → Type 0
-CoversRange entries i from to = (byte : ℕ) → IsTrue (covers entries i byte) ↔ ((from ≤ byte) × (byte < to))
+CoversRange entries entry from to = (byte : ℕ) → IsTrue (covers entries entry byte) ↔ ((from ≤ byte) × (byte < to))
 
--- entry i covers no byte
+-- the entry covers no byte
 abbrev pub CoversNothing : Entries → ℕ → Type 0
-CoversNothing entries i = (byte : ℕ) → covers entries i byte ≡ false
+CoversNothing entries entry = (byte : ℕ) → covers entries entry byte ≡ false

@@ -5,38 +5,38 @@ use Rattle.rv_word.specs.ByteOrder.{word_of_bytes, byte_of}
 use Rattle.rv_pmp.specs.Cfg.{is_tor, is_locked, stored_cfg}
 use Rattle.rv_pmp.specs.Entries.{Entries, cfg_of}
 
--- whether writes of the cfg byte of entry i are ignored
+-- whether writes of the cfg byte of an entry are ignored
 abbrev pub is_cfg_locked : Entries → ℕ → Bool
-is_cfg_locked entries i = is_locked (cfg_of entries i)
+is_cfg_locked entries entry = is_locked (cfg_of entries entry)
 
 -- the L bit of no entry is set
 abbrev pub HasNoLock : Entries → Type 0
-HasNoLock entries = (i : ℕ) → i < 16 → is_cfg_locked entries i ≡ false
+HasNoLock entries = (entry : ℕ) → entry < 16 → is_cfg_locked entries entry ≡ false
 
--- whether entry i is a locked TOR entry, even if it covers no byte
+-- whether an entry is a locked TOR entry, even if it covers no byte
 abbrev pub is_locked_tor : Entries → ℕ → Bool
-is_locked_tor entries i = is_locked (cfg_of entries i) && is_tor (cfg_of entries i)
+is_locked_tor entries entry = is_locked (cfg_of entries entry) && is_tor (cfg_of entries entry)
 
--- Whether a write to the pmpaddr of entry i is ignored: the entry is locked, or there is a next one and that is a locked TOR entry.
+-- Whether a write to the pmpaddr of an entry is ignored: the entry is locked, or there is a next one and that is a locked TOR entry.
 abbrev pub is_addr_locked : Entries → ℕ → Bool
-is_addr_locked entries i = is_cfg_locked entries i || (nat_lt i 15 && is_locked_tor entries (i + 1))
+is_addr_locked entries entry = is_cfg_locked entries entry || (nat_lt entry 15 && is_locked_tor entries (entry + 1))
 
 -- the entries after a write of a cfg byte
 abbrev pub with_cfg : Entries → ℕ → ℕ → Entries
-with_cfg entries i cfg =
-    if is_cfg_locked entries i then entries
-    else record { cfgs = slice_set entries.cfgs i (stored_cfg cfg); addrs = entries.addrs }
+with_cfg entries entry cfg =
+    if is_cfg_locked entries entry then entries
+    else record { cfgs = slice_set entries.cfgs entry (stored_cfg cfg); addrs = entries.addrs }
 
 -- the entries after a write of a pmpaddr
 abbrev pub with_addr : Entries → ℕ → ℕ → Entries
-with_addr entries i addr =
-    if is_addr_locked entries i then entries
-    else record { cfgs = entries.cfgs; addrs = slice_set entries.addrs i addr }
+with_addr entries entry addr =
+    if is_addr_locked entries entry then entries
+    else record { cfgs = entries.cfgs; addrs = slice_set entries.addrs entry addr }
 
--- `with_entry` has the entries with entry i as given, its cfg byte in its stored form
+-- `with_entry` has the entries with one entry as given, its cfg byte in its stored form
 abbrev pub with_entry : Entries → ℕ → ℕ → ℕ → Entries
-with_entry entries i cfg addr =
-    record { cfgs = slice_set entries.cfgs i (stored_cfg cfg); addrs = slice_set entries.addrs i addr }
+with_entry entries entry cfg addr =
+    record { cfgs = slice_set entries.cfgs entry (stored_cfg cfg); addrs = slice_set entries.addrs entry addr }
 
 -- `with_entries` has the entries with all sixteen as given, their cfg bytes in their stored forms
 abbrev pub with_entries : List ℕ → List ℕ → Entries
@@ -48,11 +48,11 @@ cfg_word entries register =
     word_of_bytes (cfg_of entries (4 * register) ∷ cfg_of entries (4 * register + 1) ∷ cfg_of entries (4 * register + 2)
     ∷ cfg_of entries (4 * register + 3) ∷ [])
 
--- the cfg byte of entry i after a write of a word to a pmpcfg register: byte k of the word is for entry 4 * register + k
+-- the cfg byte of an entry after a write of a word to a pmpcfg register: byte k of the word is for entry 4 * register + k
 abbrev pub cfg_after : Entries → ℕ → ℕ → ℕ → ℕ
-cfg_after entries register word i =
-    if i / 4 == register && not (is_cfg_locked entries i) then stored_cfg (byte_of word (i % 4))
-    else cfg_of entries i
+cfg_after entries register word entry =
+    if entry / 4 == register && not (is_cfg_locked entries entry) then stored_cfg (byte_of word (entry % 4))
+    else cfg_of entries entry
 
 -- The entries after that write. The lock of each entry before the write decides whether its byte is written.
 abbrev pub with_cfg_word : Entries → ℕ → ℕ → Entries

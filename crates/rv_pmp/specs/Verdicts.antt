@@ -17,14 +17,14 @@ bytes_from address count = range_with_len address count
 
 -- The matching entry: the lowest that covers some byte of the access, or none.
 unfoldable pub matching_entry : Entries → List ℕ → Option ℕ
-matching_entry entries bytes = find (λ i. list_any (covers entries i) bytes) (range_with_len 0 16)
+matching_entry entries bytes = find (λ entry. list_any (covers entries entry) bytes) (range_with_len 0 16)
 
--- the verdict if entry i is the matching entry, which covers all bytes or not
+-- the verdict if this entry is the matching entry, and covers all bytes or not
 abbrev pub match_verdict : Entries → Mode → Access → ℕ → Bool → Verdict
-match_verdict entries mode access i covers_all =
+match_verdict entries mode access entry covers_all =
     if covers_all
-    then (if grants mode access (cfg_of entries i) then Allowed i else Denied i)
-    else DeniedPartial i
+    then (if grants mode access (cfg_of entries entry) then Allowed entry else Denied entry)
+    else DeniedPartial entry
 
 -- the verdict if no entry matches
 abbrev pub no_match_verdict : Mode → Verdict
@@ -35,7 +35,7 @@ no_match_verdict U = DeniedFree
 -- the verdict by the matching entry, which must match all bytes, or by the mode if no entry matches
 abbrev pub verdict_by : Entries → Mode → Access → List ℕ → Option ℕ → Verdict
 verdict_by entries mode access bytes None = no_match_verdict mode
-verdict_by entries mode access bytes (Some i) = match_verdict entries mode access i (list_all (covers entries i) bytes)
+verdict_by entries mode access bytes (Some entry) = match_verdict entries mode access entry (list_all (covers entries entry) bytes)
 
 -- The verdict on an access to these bytes.
 unfoldable pub verdict : Entries → Mode → Access → List ℕ → Verdict
@@ -43,8 +43,8 @@ verdict entries mode access bytes = verdict_by entries mode access bytes (matchi
 
 -- whether an access with this verdict is permitted
 abbrev pub permits : Verdict → Bool
-permits (Allowed i) = true
+permits (Allowed entry) = true
 permits AllowedFree = true
-permits (Denied i) = false
-permits (DeniedPartial i) = false
+permits (Denied entry) = false
+permits (DeniedPartial entry) = false
 permits DeniedFree = false

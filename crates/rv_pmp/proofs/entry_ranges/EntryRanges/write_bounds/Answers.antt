@@ -20,5 +20,5 @@ loop-number-preserved c =
 pub returns-clause-all : goal.returns-clause-all
 returns-clause-all c =
     let loop = c.loop-number in
-    all_bounds_written c.args.self.now loop.bounds loop.count loop.number (omega (arith, loop.invariant.long, loop.invariant.count_fits))
+    all_bounds_written c.args.self.now loop.bounds loop.count loop.number (omega (arith, loop.invariant.has_33_places, loop.invariant.count_fits))
     (omega (arith, c.loop-number-test.false)) loop.invariant
