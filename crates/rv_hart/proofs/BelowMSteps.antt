@@ -48,7 +48,7 @@ seen (Err trap) = Err trap
 -- the results that one test selects in two harts are seen alike if the harts are equal without the registers of mode M
 picked-alike : (holds : Bool) (first second : Hart) (trap : Trap) → below_m_hart first ≡ below_m_hart second
     → seen (if holds then Ok first else Err trap) ≡ seen (if holds then Ok second else Err trap)
-picked-alike true first second trap same_below_m = ap (λ (h : Hart). let r : Result Hart Trap = Ok h in r) same_below_m
+picked-alike true first second trap same_below_m = ap (λ (hart : Hart). let result : Result Hart Trap = Ok hart in result) same_below_m
 picked-alike false first second trap same_below_m = refl
 
 -- an instruction of a hart below mode M
@@ -84,7 +84,7 @@ module _ (hart : Hart) (below_m : is_machine hart.mode ≡ false) where
   module _ (kind : CsrKind) (rd source operand csr word : ℕ) where
     -- the word that a CSR instruction reads is the same in both harts
     old_same : old_word stripped kind rd csr ≡ old_word hart kind rd csr
-    old_same = ap (λ (r : Result ℕ CsrFault). if is_read kind rd then r else Ok 0) (read_same hart.csrs csr hart.mode below_m)
+    old_same = ap (λ (read : Result ℕ CsrFault). if is_read kind rd then read else Ok 0) (read_same hart.csrs csr hart.mode below_m)
 
     -- the registers after a CSR instruction are the same in both harts, as S and U see them, whether it writes or not
     new_if : (writes : Bool) (written : ℕ) → visible_csrs (if writes then write_result stripped.csrs csr written stripped.mode else Ok stripped.csrs)
@@ -98,7 +98,7 @@ module _ (hart : Hart) (below_m : is_machine hart.mode ≡ false) where
         ≡ seen (unless_illegal word (unless_fault result (λ csrs. Ok (with_result (record hart { csrs = csrs }) rd old))))
     same-after-write old (Ok first) (Ok second) same_csrs =
         let below_m_csrs_is : below_m_csrs first ≡ below_m_csrs second = cc in
-        ap (λ (c : CsrState). let r : Result Hart Trap = Ok (with_result (record hart { csrs = c }) rd old) in r) below_m_csrs_is
+        ap (λ (csrs : CsrState). let result : Result Hart Trap = Ok (with_result (record hart { csrs = csrs }) rd old) in result) below_m_csrs_is
     same-after-write old (Err first) (Err second) same_csrs = refl
     same-after-write old (Ok first) (Err second) same_csrs = cc
     same-after-write old (Err first) (Ok second) same_csrs = cc
@@ -151,9 +151,9 @@ module _ (hart : Hart) (below_m : is_machine hart.mode ≡ false) where
 
 -- ---- the step
 
--- `mparts` has the registers of `seen_csrs`, but those of mode M from `m_csrs`
-abbrev mparts : CsrState → CsrState → CsrState
-mparts seen_csrs m_csrs = record seen_csrs {
+-- `merged_csrs` has the registers of `seen_csrs`, but those of mode M from `m_csrs`
+abbrev merged_csrs : CsrState → CsrState → CsrState
+merged_csrs seen_csrs m_csrs = record seen_csrs {
   mstatus = record seen_csrs.mstatus { mpie = m_csrs.mstatus.mpie; mpp = m_csrs.mstatus.mpp };
   mie = m_csrs.mie;
   mtvec = m_csrs.mtvec;
@@ -168,12 +168,12 @@ mparts seen_csrs m_csrs = record seen_csrs {
   minstret = m_csrs.minstret;
 }
 
--- `with_mparts` is the hart with the registers of mode M from `m_csrs`
-abbrev with_mparts : Hart → CsrState → Hart
-with_mparts hart m_csrs = record hart { csrs = mparts hart.csrs m_csrs }
+-- `with_m_csrs` is the hart with the registers of mode M from `m_csrs`
+abbrev with_m_csrs : Hart → CsrState → Hart
+with_m_csrs hart m_csrs = record hart { csrs = merged_csrs hart.csrs m_csrs }
 
 -- the access that an instruction requests does not depend on the registers of mode M
-same_request : (instr : Instr) (hart : Hart) (m_csrs : CsrState) → request instr (with_mparts hart m_csrs) ≡ request instr hart
+same_request : (instr : Instr) (hart : Hart) (m_csrs : CsrState) → request instr (with_m_csrs hart m_csrs) ≡ request instr hart
 unfolding request
 same_request (Load kind rd rs1 offset) hart m_csrs = refl
 same_request (Store kind rs1 rs2 offset) hart m_csrs = refl
@@ -181,7 +181,7 @@ same_request _ hart m_csrs = refl
 
 -- if `given` finds a value in a result, the result is Ok with this value
 ok-if-given : {A : Type 0} (result : Result A AccessFault) (value : A) → Some value ≡ given result → result ≡ Ok value
-ok-if-given (Ok found) value given_is = let value_is : value ≡ found = cc in ap (λ x. Ok x) (sym value_is)
+ok-if-given (Ok found) value given_is = let value_is : value ≡ found = cc in ap (λ found_value. Ok found_value) (sym value_is)
 ok-if-given (Err fault) value given_is = cc
 
 -- two steps end alike, as S and U see them, if the results of their instructions are seen alike
@@ -202,7 +202,7 @@ ends-alike hart other_hart memory touched written (Err other_trap) (Ok after) se
 module _ (state : Machine) (m_csrs : CsrState) (below_m : is_machine state.hart.mode ≡ false) (mprv_is_0 : state.hart.csrs.mstatus.mprv ≡ false) where
   -- `other` is the machine with other registers of mode M
   abbrev other : Machine
-  other = record state { hart = with_mparts state.hart m_csrs }
+  other = record state { hart = with_m_csrs state.hart m_csrs }
 
   -- both machines have the same pending interrupt, and permit the same accesses
   module _ (access : SameAccess state other) where
@@ -308,19 +308,22 @@ module _ (state : Machine) (m_csrs : CsrState) (below_m : is_machine state.hart.
 pub depends_below_m : (machine : Machine) → DependsBelowM machine (step machine)
 depends_below_m machine other below_m mprv_is_0 same_below_m same_memory same_access =
     let with_hart : Hart → Machine = λ hart. record { hart = hart; memory = machine.memory } in
-    let hart_is : with_mparts machine.hart other.hart.csrs ≡ other.hart = ap (λ (h : Hart). with_mparts h other.hart.csrs) same_below_m in
-    let other_is : record machine { hart = with_mparts machine.hart other.hart.csrs } ≡ other =
-    ap with_hart hart_is ∙ ap (λ (m : List ℕ). let s : Machine = record { hart = other.hart; memory = m } in s) same_memory in
-    subst (λ (s : Machine). SameBelowM (step machine) (step s)) other_is
+    let hart_is : with_m_csrs machine.hart other.hart.csrs ≡ other.hart = ap (λ (hart : Hart). with_m_csrs hart other.hart.csrs) same_below_m in
+    let other_is : record machine { hart = with_m_csrs machine.hart other.hart.csrs } ≡ other =
+    ap with_hart hart_is ∙ ap (λ (memory : List ℕ). let state : Machine = record { hart = other.hart; memory = memory } in state) same_memory in
+    subst (λ (state : Machine). SameBelowM (step machine) (step state)) other_is
     (both_step machine other.hart.csrs below_m mprv_is_0 (subst (SameAccess machine) (sym other_is) same_access))
 
 -- ---- the registers that a trap writes
 
 -- the outcomes and the memories are equal, and so are the harts, except for the counters and the registers that a trap to mode M writes
-pub record SameToGuests (one other : Stepped) : Type 0 where
-  pub outcome : one.outcome ≡ other.outcome
-  pub memory : one.state.memory ≡ other.state.memory
-  pub hart : guest_hart one.state.hart ≡ guest_hart other.state.hart
+pub record SameToGuests (first second : Stepped) : Type 0 where
+  -- the outcomes are equal
+  pub outcome : first.outcome ≡ second.outcome
+  -- the memories are equal
+  pub memory : first.state.memory ≡ second.state.memory
+  -- the harts are equal in the guest view
+  pub hart : guest_hart first.state.hart ≡ guest_hart second.state.hart
 
 -- `guest_machine` is the machine with its hart in the guest view
 abbrev pub guest_machine : Machine → Machine
@@ -349,7 +352,7 @@ same-guest-view : (before after other : Machine) (trap : Option Trap) → is_mac
     → (trap ≡ None → below_m_hart after.hart ≡ below_m_hart other.hart) → guest_hart after.hart ≡ guest_hart other.hart
 unfolding machine_parts
 same-guest-view before after other None below_m mprv_is_0 _ _ stays other_stays same_below_m =
-    ap (with_parts (guest_hart after.hart)) stays.0 ∙ ap (λ (h : Hart). with_parts h before.hart.csrs) (same_below_m refl)
+    ap (with_parts (guest_hart after.hart)) stays.0 ∙ ap (λ (hart : Hart). with_parts hart before.hart.csrs) (same_below_m refl)
     ∙ sym (ap (with_parts (guest_hart other.hart)) other_stays.0)
 same-guest-view before after other (Some trap) below_m mprv_is_0 keeps other_keeps _ _ same_below_m = let after_is = keeps.0 in let other_is =
     other_keeps.0 in rw (after_is, other_is) refl
@@ -367,8 +370,8 @@ guest_step machine below_m mprv_is_0 =
       hart = same-guest-view machine (step machine).state (step other).state (step machine).outcome.trap below_m mprv_is_0 (trap_keeps machine)
           (subst (λ (trap : Option Trap). IfSome trap (λ trap. ((step other).state.hart
           ≡ step_counted (trapped other.hart trap) false machine.hart.csrs.mcountinhibit None) × ((step other).state.memory ≡ machine.memory)))
-          (sym (ap (λ (o : StepOutcome). o.trap) same_step.outcome)) (trap_keeps other)) (keeps_machine_parts machine below_m mprv_is_0)
-          (subst (λ (o : Option Trap). IfNone o (StaysBelow other.hart (step other).state.hart))
-          (sym (ap (λ (o : StepOutcome). o.trap) same_step.outcome)) (keeps_machine_parts other below_m mprv_is_0))
+          (sym (ap (λ (outcome : StepOutcome). outcome.trap) same_step.outcome)) (trap_keeps other)) (keeps_machine_parts machine below_m mprv_is_0)
+          (subst (λ (trap : Option Trap). IfNone trap (StaysBelow other.hart (step other).state.hart))
+          (sym (ap (λ (outcome : StepOutcome). outcome.trap) same_step.outcome)) (keeps_machine_parts other below_m mprv_is_0))
           same_step.hart;
     }

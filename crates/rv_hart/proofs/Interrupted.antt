@@ -47,7 +47,7 @@ branch-uninterrupted hart false target = refl
 branch-uninterrupted hart true target = selected-uninterrupted (target % 4 == 0) (record hart { pc = target }) (misaligned target) refl
 
 -- a CSR instruction ends in no interrupt
-csr-uninterrupted : (word : ℕ) (r : Result Hart CsrFault) → is_uninterrupted (unless_illegal word r) ≡ true
+csr-uninterrupted : (word : ℕ) (change : Result Hart CsrFault) → is_uninterrupted (unless_illegal word change) ≡ true
 csr-uninterrupted word (Ok hart) = refl
 csr-uninterrupted word (Err fault) = refl
 
@@ -83,7 +83,8 @@ not-both P trap interrupt trap_is_exception cause_is = let false_is_true : false
 not-by-interrupt : {P : Type 0} (taken trap : Trap) (interrupt : Interrupt) → is_exception taken.cause ≡ true → Some taken ≡ Some trap
     → trap.cause ≡ causes.Interrupt interrupt → P
 not-by-interrupt {P} taken trap interrupt trap_is_exception same_trap cause_is =
-    let is_trap : taken ≡ trap = cc in not-both P trap interrupt (ap (λ (t : Trap). is_exception t.cause) (sym is_trap) ∙ trap_is_exception) cause_is
+    let is_trap : taken ≡ trap = cc in not-both P trap interrupt (ap (λ (trap : Trap). is_exception trap.cause) (sym is_trap)
+    ∙ trap_is_exception) cause_is
 
 -- the end of an instruction takes no interrupt, if its result is no trap by an interrupt
 ends-uninterrupted : (state : Machine) (memory : List ℕ) (touched : Touched) (written : Option ℕ) (finish : Result Hart Trap)
@@ -99,7 +100,7 @@ taken-is-pending : (found : Option Interrupt) (pending_interrupt interrupt : Int
     → trap.cause ≡ causes.Interrupt interrupt → found ≡ Some pending_interrupt → found ≡ Some interrupt
 taken-is-pending found pending_interrupt interrupt trap taken cause_is same_trap by_interrupt is_pending =
     let is_trap : taken ≡ trap = cc in
-    let same_cause : causes.Interrupt pending_interrupt ≡ causes.Interrupt interrupt = sym cause_is ∙ ap (λ (t : Trap). t.cause) is_trap
+    let same_cause : causes.Interrupt pending_interrupt ≡ causes.Interrupt interrupt = sym cause_is ∙ ap (λ (trap : Trap). trap.cause) is_trap
     ∙ by_interrupt in
     let same_interrupt : pending_interrupt ≡ interrupt = cc in
     is_pending ∙ ap (λ (interrupt : Interrupt). Some interrupt) same_interrupt

@@ -29,17 +29,23 @@ use Rattle.rv_hart.specs.declared.trap.Trap.{Trap}
 
 -- no interrupt is taken, and the fetch at the pc has the result `given`
 pub record Fetches (state : Machine) (given : Result ℕ AccessFault) : Type 0 where
+  -- no interrupt is pending
   pub pending : pending state.hart.csrs state.hart.mode ≡ None
+  -- the fetch has this result
   pub fetched : fetched state.memory state.hart.csrs.pmp state.hart.mode state.hart.pc ≡ given
 
 -- the fetched word decodes to the instruction `given`, or to none
 pub record Decodes (state : Machine) (word : ℕ) (given : Option Instr) : Type 0 where
+  -- the word is fetched
   pub fetch : Fetches state (Ok word)
+  -- the word decodes to this instruction, or to none
   pub decoded : decoded word ≡ given
 
 -- the decoded instruction requests this access
 pub record Requests (state : Machine) (word : ℕ) (instr : Instr) (access : Request) : Type 0 where
+  -- the fetched word decodes to the instruction
   pub decode : Decodes state word (Some instr)
+  -- the instruction requests the access
   pub request : request instr state.hart ≡ access
 
 -- the load of the step has the result `given`
@@ -52,21 +58,29 @@ Stores state address width value given = stored state.memory state.hart.csrs.pmp
 
 -- the claim P holds after each way in which a step can go: an interrupt, a refused access, an illegal word, or an instruction
 pub record StepWays (state : Machine) (P : Stepped → Type 0) : Type 0 where
+  -- a pending interrupt is taken
   pub interrupt : (interrupt : Interrupt) → pending state.hart.csrs state.hart.mode ≡ Some interrupt
       → P (over state.memory (trap_end state.hart nothing (interrupted interrupt)))
+  -- the fetch is refused
   pub fetch_refused : (fault : AccessFault) → Fetches state (Err fault)
       → P (over state.memory (trap_end state.hart nothing (access_fault InstructionAccessFault state.hart.pc)))
+  -- the fetched word encodes no instruction
   pub illegal : (word : ℕ) → Decodes state word None → P (over state.memory (trap_end state.hart (fetch_of state.hart) (illegal word)))
+  -- the instruction requests no access
   pub no_access : (word : ℕ) (instr : Instr) → Requests state word instr Nothing
       → P (over state.memory (from_execute state.hart (fetch_of state.hart) word instr 0))
+  -- the load of the instruction succeeds
   pub load : (word : ℕ) (instr : Instr) (address : ℕ) (width : Width) (number : ℕ) → Requests state word instr (Load address width)
       → Loads state address width (Ok number) → P (over state.memory (from_execute state.hart (load_of state.hart address width) word instr number))
+  -- the load of the instruction is refused
   pub load_refused : (word : ℕ) (instr : Instr) (address : ℕ) (width : Width) (fault : AccessFault) → Requests state word instr (Load address width)
       → Loads state address width (Err fault)
       → P (over state.memory (trap_end state.hart (fetch_of state.hart) (access_fault LoadAccessFault address)))
+  -- the store of the instruction succeeds
   pub store : (word : ℕ) (instr : Instr) (address : ℕ) (width : Width) (value : ℕ) (memory : List ℕ)
       → Requests state word instr (Store address width value)
       → Stores state address width value (Ok memory) → P (over memory (from_execute state.hart (store_of state.hart address width) word instr 0))
+  -- the store of the instruction is refused
   pub store_refused : (word : ℕ) (instr : Instr) (address : ℕ) (width : Width) (value : ℕ) (fault : AccessFault)
       → Requests state word instr (Store address width value) → Stores state address width value (Err fault)
       → P (over state.memory (trap_end state.hart (fetch_of state.hart) (access_fault StoreAccessFault address)))
@@ -137,13 +151,17 @@ requested_step state word instr access requested =
 -- The four cases of a step. It ends in a trap, or an instruction retires that made no access, loaded, or stored. In each case the PMP entries
 -- permit every access of the step.
 pub record Cases (state : Machine) (P : Stepped → Type 0) : Type 0 where
+  -- the step ends in a trap and stores nothing
   pub trap : (touched : Touched) (trap : Trap) → MayTouchAll state touched → touched.stored ≡ None
       → P (over state.memory (trap_end state.hart touched trap))
+  -- an instruction without an access retires
   pub no_access : (instr : Instr) (word : ℕ) (after : Hart) → MayTouchAll state (fetch_of state.hart) → executed state.hart word 0 instr ≡ Ok after
       → P (over state.memory (retired_end state.hart (fetch_of state.hart) (written_csr instr) after))
+  -- an instruction that loaded retires
   pub load : (instr : Instr) (word address : ℕ) (width : Width) (number : ℕ) (after : Hart) → MayTouchAll state (load_of state.hart address width)
       → Loads state address width (Ok number) → executed state.hart word number instr ≡ Ok after
       → P (over state.memory (retired_end state.hart (load_of state.hart address width) (written_csr instr) after))
+  -- an instruction that stored retires
   pub store : (instr : Instr) (word address : ℕ) (width : Width) (value : ℕ) (memory : List ℕ) (after : Hart)
       → MayTouchAll state (store_of state.hart address width)
       → Stores state address width value (Ok memory) → executed state.hart word 0 instr ≡ Ok after

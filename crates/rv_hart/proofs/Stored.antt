@@ -120,7 +120,8 @@ pub keeps_stored : (state : Machine) → KeepsLegal state (step state)
 keeps_stored state = by_hart state (KeepsLegal state) (λ touched trap below_m state_legal. tt)
     (λ memory touched instr word loaded after executed_is below_m state_legal.
     let after_legal =
-    by_changes state.hart (λ h. HasLegalVectors h.csrs) (changes_stored state.hart below_m state_legal.csrs) instr word loaded after executed_is in
+    by_changes state.hart (λ hart. HasLegalVectors hart.csrs)
+    (changes_stored state.hart below_m state_legal.csrs) instr word loaded after executed_is in
     let after_aligned = subst (λ (finish : Result Hart Trap). IfOk finish Aligned) executed_is
     (executed_aligned state.hart state_legal.pc below_m state_legal.csrs.sepc instr word loaded) in
     record { pc = after_aligned; csrs = record { stvec = after_legal.stvec; sepc = after_legal.sepc } })

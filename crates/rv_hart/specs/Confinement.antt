@@ -10,29 +10,38 @@ use Rattle.rv_hart.specs.Step.{step}
 
 -- two memories have the same bytes in a span, if there is one
 abbrev pub SameIn : List ℕ → List ℕ → Option Span → Type 0
-SameIn m n None = Unit {0}
-SameIn m n (Some span) = read m span.addr (bytes_in span.len) ≡ read n span.addr (bytes_in span.len)
+SameIn memory other_memory None = Unit {0}
+SameIn memory other_memory (Some span) = read memory span.addr (bytes_in span.len) ≡ read other_memory span.addr (bytes_in span.len)
 
 -- two memories have the same size, and the same bytes where a step reads
-pub record EqualOn (m n : List ℕ) (touched : Touched) : Type 0 where
-  pub size : length m ≡ length n
-  pub fetched : SameIn m n touched.fetched
-  pub loaded : SameIn m n touched.loaded
+pub record EqualOn (memory other_memory : List ℕ) (touched : Touched) : Type 0 where
+  -- the memories have the same size
+  pub size : length memory ≡ length other_memory
+  -- the memories have the same bytes where the step fetches
+  pub fetched : SameIn memory other_memory touched.fetched
+  -- the memories have the same bytes where the step loads
+  pub loaded : SameIn memory other_memory touched.loaded
 
 -- a store of these bytes in a span turns one memory into another; without a span, the memories are equal
 abbrev pub Stores : List ℕ → List ℕ → List ℕ → Option Span → Type 0
 Stores bytes old new None = new ≡ old
 Stores bytes old new (Some span) = (length bytes ≡ bytes_in span.len) × (write old span.addr bytes ≡ Some new)
 
--- two steps from memories m and n end in the same hart, have the same outcome, and store the same bytes
-pub record EndAlike (m n bytes : List ℕ) (one other : Stepped) : Type 0 where
-  pub hart : other.state.hart ≡ one.state.hart
-  pub outcome : other.outcome ≡ one.outcome
-  pub here : Stores bytes m one.state.memory one.outcome.touched.stored
-  pub there : Stores bytes n other.state.memory one.outcome.touched.stored
+-- two steps from two memories end in the same hart, have the same outcome, and store the same bytes
+pub record EndAlike (memory other_memory bytes : List ℕ) (first second : Stepped) : Type 0 where
+  -- the steps end in the same hart
+  pub hart : second.state.hart ≡ first.state.hart
+  -- the steps have the same outcome
+  pub outcome : second.outcome ≡ first.outcome
+  -- the first step stores these bytes, or nothing
+  pub here : Stores bytes memory first.state.memory first.outcome.touched.stored
+  -- the second step stores these bytes, or nothing
+  pub there : Stores bytes other_memory second.state.memory first.outcome.touched.stored
 
 -- a step ends alike, and stores the same bytes, from each memory that has the same bytes where the step reads
 pub record IsConfined (state : Machine) (after : Stepped) : Type 0 where
+  -- the bytes that the step stores, if any
   pub bytes : List ℕ
+  -- over each memory with the same bytes where the step reads, the step ends alike
   pub alike : (memory : List ℕ) → EqualOn state.memory memory after.outcome.touched
       → EndAlike state.memory memory bytes after (step (record state { memory = memory }))

@@ -24,23 +24,31 @@ given (Ok value) = Some value
 given (Err fault) = None
 
 -- in both machines, the same interrupt is pending, and the PMP entries permit the same accesses with the same values
-pub record SameAccess (one other : Machine) : Type 0 where
-  pub pending : pending one.hart.csrs one.hart.mode ≡ pending other.hart.csrs other.hart.mode
-  pub fetched : given (fetched one.memory one.hart.csrs.pmp one.hart.mode one.hart.pc)
-      ≡ given (fetched other.memory other.hart.csrs.pmp other.hart.mode other.hart.pc)
-  pub loaded : (address : ℕ) (width : Width) → given (loaded one.memory one.hart.csrs.pmp (data_mode one.hart) address width)
-      ≡ given (loaded other.memory other.hart.csrs.pmp (data_mode other.hart) address width)
-  pub stored : (address : ℕ) (width : Width) (value : ℕ) → given (stored one.memory one.hart.csrs.pmp (data_mode one.hart) address width value)
-      ≡ given (stored other.memory other.hart.csrs.pmp (data_mode other.hart) address width value)
+pub record SameAccess (first second : Machine) : Type 0 where
+  -- the same interrupt is pending
+  pub pending : pending first.hart.csrs first.hart.mode ≡ pending second.hart.csrs second.hart.mode
+  -- the fetch at the pc is permitted in both machines with the same word, or in neither
+  pub fetched : given (fetched first.memory first.hart.csrs.pmp first.hart.mode first.hart.pc)
+      ≡ given (fetched second.memory second.hart.csrs.pmp second.hart.mode second.hart.pc)
+  -- each load is permitted in both machines with the same number, or in neither
+  pub loaded : (address : ℕ) (width : Width) → given (loaded first.memory first.hart.csrs.pmp (data_mode first.hart) address width)
+      ≡ given (loaded second.memory second.hart.csrs.pmp (data_mode second.hart) address width)
+  -- each store is permitted in both machines with the same memory, or in neither
+  pub stored : (address : ℕ) (width : Width) (value : ℕ) → given (stored first.memory first.hart.csrs.pmp (data_mode first.hart) address width value)
+      ≡ given (stored second.memory second.hart.csrs.pmp (data_mode second.hart) address width value)
 
 -- the outcomes and the memories are equal; without a trap, so are the harts, except for the registers of mode M
-pub record SameBelowM (one other : Stepped) : Type 0 where
-  pub outcome : one.outcome ≡ other.outcome
-  pub memory : one.state.memory ≡ other.state.memory
-  pub hart : one.outcome.trap ≡ None → below_m_hart one.state.hart ≡ below_m_hart other.state.hart
+pub record SameBelowM (first second : Stepped) : Type 0 where
+  -- the outcomes are equal
+  pub outcome : first.outcome ≡ second.outcome
+  -- the memories are equal
+  pub memory : first.state.memory ≡ second.state.memory
+  -- without a trap, the harts are equal except for the registers of mode M
+  pub hart : first.outcome.trap ≡ None → below_m_hart first.state.hart ≡ below_m_hart second.state.hart
 
 -- Below mode M, with MPRV 0, a step depends on no register of mode M. It depends on the PMP entries only by what they permit.
 abbrev pub DependsBelowM : Machine → Stepped → Type 0
 DependsBelowM before after =
-    (other : Machine) → is_machine before.hart.mode ≡ false → before.hart.csrs.mstatus.mprv ≡ false → below_m_hart before.hart ≡ below_m_hart other.hart
+    (other : Machine) → is_machine before.hart.mode ≡ false → before.hart.csrs.mstatus.mprv ≡ false
+    → below_m_hart before.hart ≡ below_m_hart other.hart
     → before.memory ≡ other.memory → SameAccess before other → SameBelowM after (step other)

@@ -6,7 +6,11 @@ use Rattle.rv_state.specs.CsrState.{CsrState}
 
 -- a hart has the integer registers, the control and status registers, the pc, and the mode
 pub record Hart : Type 0 where
+  -- the 32 integer registers
   pub regs : List ℕ
+  -- the control and status registers
   pub csrs : CsrState
+  -- the address of the next instruction
   pub pc : ℕ
+  -- the privilege mode
   pub mode : Mode

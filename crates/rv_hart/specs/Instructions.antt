@@ -28,7 +28,7 @@ address_of hart rs1 offset = sum_of (register hart.regs rs1) (sign_extended offs
 
 -- `made_even` is a number with bit 0 cleared
 abbrev pub made_even : ℕ → ℕ
-made_even n = n / 2 * 2
+made_even number = number / 2 * 2
 
 -- ---- permission to execute an instruction
 

@@ -5,17 +5,23 @@ use Rattle.rv_hart.specs.declared.trap.StepOutcome.{StepOutcome}
 
 -- a machine has a hart and its memory
 pub record Machine : Type 0 where
+  -- the state of the hart
   pub hart : Hart
+  -- the bytes of RAM
   pub memory : List ℕ
 
 -- `Ended` has the hart after a step, and the outcome of the step
 pub record Ended : Type 0 where
+  -- the hart after the step
   pub hart : Hart
+  -- the trap of the step, if any, and its accesses
   pub outcome : StepOutcome
 
 -- `Stepped` has the hart and the memory after a step, and the outcome of the step
 pub record Stepped : Type 0 where
+  -- the machine after the step
   pub state : Machine
+  -- the trap of the step, if any, and its accesses
   pub outcome : StepOutcome
 
 -- `machine_of` is the machine of a hart and a memory

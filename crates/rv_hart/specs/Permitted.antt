@@ -22,8 +22,11 @@ MayTouch state mode access (Some span) =
 
 -- PMP permits each access of the step: the fetch in the mode of the hart, loads and stores in the mode for data
 pub record MayTouchAll (state : Machine) (touched : Touched) : Type 0 where
+  -- the fetch is permitted in the mode of the hart
   pub fetched : MayTouch state state.hart.mode Fetch touched.fetched
+  -- a load is permitted in the mode for data
   pub loaded : MayTouch state (data_mode state.hart) Read touched.loaded
+  -- a store is permitted in the mode for data
   pub stored : MayTouch state (data_mode state.hart) Write touched.stored
 
 -- a step makes only such accesses

@@ -63,7 +63,9 @@ TakesPending before after =
 
 -- pc is a multiple of 4, and stvec and sepc have legal values
 pub record IsLegalHart (hart : Hart) : Type 0 where
+  -- the pc is a multiple of 4
   pub pc : aligned_to_4 hart.pc ≡ hart.pc
+  -- stvec and sepc have legal values
   pub csrs : HasLegalVectors hart.csrs
 
 -- below mode M, a step that ends in no trap keeps pc a multiple of 4, and stvec and sepc legal
@@ -73,13 +75,23 @@ KeepsLegal before after =
 
 -- a step has all properties of this file and of the other laws, for the state before it and its result
 pub record ObeysHartLaws (before : Machine) (after : Stepped) : Type 0 where
+  -- x0 reads 0
   pub x0 : register after.state.hart.regs 0 ≡ 0
+  -- the pc is a multiple of 4
   pub aligned : after.state.hart.pc % 4 ≡ 0
+  -- a trap changes only the state that every trap changes
   pub trap_keeps : TrapKeeps before after
+  -- MPRV stays 0 below mode M
   pub mprv : KeepsMprvClear before after
+  -- below mode M, a step without a trap keeps the parts of mode M
   pub machine_parts : KeepsMachineParts before after
+  -- memory changes only in the bytes that the step stored
   pub memory : ChangesStored before after
+  -- PMP permits each access of the step
   pub permitted : TouchesPermitted before after
+  -- the step depends only on the bytes that it fetched and loaded
   pub confined : IsConfined before after
+  -- an interrupt that the step takes was pending
   pub interrupt : TakesPending before after
+  -- below mode M, the step depends on no register of mode M
   pub below_m : DependsBelowM before after

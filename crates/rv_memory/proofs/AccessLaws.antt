@@ -39,28 +39,28 @@ judged-ok true found verdict result_of result access_is =
     let ok = ok-permitted (permits verdict) verdict (result_of found) result access_is in (refl, ok.0, ok.1)
 judged-ok false found verdict result_of result access_is = cc
 
--- a fetch from the memory m that succeeds is in RAM and permitted
-pub fetch_done : (m : List ℕ) (entries : Entries) (mode : Mode) (address word : ℕ) → fetched m entries mode address ≡ Ok word
-    → (is_inside m address (bytes_in Word) ≡ true) × (permits (verdict_on entries mode Fetch address Word) ≡ true)
+-- a fetch from a memory that succeeds is in RAM and permitted
+pub fetch_done : (memory : List ℕ) (entries : Entries) (mode : Mode) (address word : ℕ) → fetched memory entries mode address ≡ Ok word
+    → (is_inside memory address (bytes_in Word) ≡ true) × (permits (verdict_on entries mode Fetch address Word) ≡ true)
 unfolding read
-fetch_done m entries mode address word fetch_is = let ok = judged-ok _ _ _ number_of_bytes word fetch_is in (ok.0, ok.1)
+fetch_done memory entries mode address word fetch_is = let ok = judged-ok _ _ _ number_of_bytes word fetch_is in (ok.0, ok.1)
 
--- a load from the memory m that succeeds is in RAM and permitted
-pub load_done : (m : List ℕ) (entries : Entries) (mode : Mode) (address : ℕ) (width : Width) (number : ℕ)
-    → loaded m entries mode address width ≡ Ok number
-    → (is_inside m address (bytes_in width) ≡ true) × (permits (verdict_on entries mode Read address width) ≡ true)
+-- a load from a memory that succeeds is in RAM and permitted
+pub load_done : (memory : List ℕ) (entries : Entries) (mode : Mode) (address : ℕ) (width : Width) (number : ℕ)
+    → loaded memory entries mode address width ≡ Ok number
+    → (is_inside memory address (bytes_in width) ≡ true) × (permits (verdict_on entries mode Read address width) ≡ true)
 unfolding read
-load_done m entries mode address width number load_is =
+load_done memory entries mode address width number load_is =
     let ok = judged-ok _ _ _ number_of_bytes number load_is in (ok.0, ok.1)
 
--- a store to the memory m that succeeds is in RAM and permitted, and writes the bytes of its value
-pub store_done : (m : List ℕ) (entries : Entries) (mode : Mode) (address : ℕ) (width : Width) (value : ℕ) (after : List ℕ)
-    → stored m entries mode address width value ≡ Ok after
-    → (is_inside m address (bytes_in width) ≡ true) × (permits (verdict_on entries mode Write address width) ≡ true)
-    × (write_bytes m (address - ram_base) (bytes_of (bytes_in width) value) ≡ after)
+-- a store to a memory that succeeds is in RAM and permitted, and writes the bytes of its value
+pub store_done : (memory : List ℕ) (entries : Entries) (mode : Mode) (address : ℕ) (width : Width) (value : ℕ) (after : List ℕ)
+    → stored memory entries mode address width value ≡ Ok after
+    → (is_inside memory address (bytes_in width) ≡ true) × (permits (verdict_on entries mode Write address width) ≡ true)
+    × (write_bytes memory (address - ram_base) (bytes_of (bytes_in width) value) ≡ after)
 unfolding write
-store_done m entries mode address width value after store_is =
-    let ok = judged-ok _ _ _ (λ (memory : List ℕ). memory) after store_is in
+store_done memory entries mode address width value after store_is =
+    let ok = judged-ok _ _ _ (λ (after : List ℕ). after) after store_is in
     (rw length-bytes_of at ok.0, ok.1, ok.2)
 
 -- ---- an access that is in RAM and permitted succeeds
@@ -73,24 +73,24 @@ number-judged (Some bytes) verdict number number_is is_permitted =
     let number_of_bytes_is : number_of_bytes bytes ≡ number = cc in
     rw (is_permitted, number_of_bytes_is) refl
 
--- a fetch that is in RAM (the memory m) and permitted returns the word there
-pub fetch_permitted : (m : List ℕ) (entries : Entries) (mode : Mode) (address word : ℕ) → number_at m address (bytes_in Word) ≡ Some word
-    → permits (verdict_on entries mode Fetch address Word) ≡ true → fetched m entries mode address ≡ Ok word
-fetch_permitted m entries mode address word number_is is_permitted =
-    number-judged (read m address (bytes_in Word)) (verdict_on entries mode Fetch address Word) word number_is is_permitted
+-- a fetch that is in RAM and permitted returns the word there
+pub fetch_permitted : (memory : List ℕ) (entries : Entries) (mode : Mode) (address word : ℕ) → number_at memory address (bytes_in Word) ≡ Some word
+    → permits (verdict_on entries mode Fetch address Word) ≡ true → fetched memory entries mode address ≡ Ok word
+fetch_permitted memory entries mode address word number_is is_permitted =
+    number-judged (read memory address (bytes_in Word)) (verdict_on entries mode Fetch address Word) word number_is is_permitted
 
--- a load that is in RAM (the memory m) and permitted returns the number there
-pub load_permitted : (m : List ℕ) (entries : Entries) (mode : Mode) (address : ℕ) (width : Width) (number : ℕ)
-    → number_at m address (bytes_in width) ≡ Some number → permits (verdict_on entries mode Read address width) ≡ true
-    → loaded m entries mode address width ≡ Ok number
-load_permitted m entries mode address width number number_is is_permitted =
-    number-judged (read m address (bytes_in width)) (verdict_on entries mode Read address width) number number_is is_permitted
+-- a load that is in RAM and permitted returns the number there
+pub load_permitted : (memory : List ℕ) (entries : Entries) (mode : Mode) (address : ℕ) (width : Width) (number : ℕ)
+    → number_at memory address (bytes_in width) ≡ Some number → permits (verdict_on entries mode Read address width) ≡ true
+    → loaded memory entries mode address width ≡ Ok number
+load_permitted memory entries mode address width number number_is is_permitted =
+    number-judged (read memory address (bytes_in width)) (verdict_on entries mode Read address width) number number_is is_permitted
 
 -- a store that is in RAM and permitted leaves the written memory
-pub store_permitted : (m : List ℕ) (entries : Entries) (mode : Mode) (address : ℕ) (width : Width) (value : ℕ) (after : List ℕ)
-    → write m address (bytes_of (bytes_in width) value) ≡ Some after → permits (verdict_on entries mode Write address width) ≡ true
-    → stored m entries mode address width value ≡ Ok after
-store_permitted m entries mode address width value after write_is is_permitted = rw (write_is, is_permitted) refl
+pub store_permitted : (memory : List ℕ) (entries : Entries) (mode : Mode) (address : ℕ) (width : Width) (value : ℕ) (after : List ℕ)
+    → write memory address (bytes_of (bytes_in width) value) ≡ Some after → permits (verdict_on entries mode Write address width) ≡ true
+    → stored memory entries mode address width value ≡ Ok after
+store_permitted memory entries mode address width value after write_is is_permitted = rw (write_is, is_permitted) refl
 
 -- ---- an access that one memory refuses or accepts has the same outcome in every other memory of the same size
 
@@ -108,44 +108,51 @@ judged-refused true found other verdict result_of fault access_is =
     refused-for-every-value (permits verdict) verdict (result_of found) (result_of other) fault access_is
 judged-refused false found other verdict result_of fault access_is = cc
 
--- a fetch that fails in the memory m fails with the same fault in each memory n of the same size
-pub fetch_refused_too : (m n : List ℕ) (entries : Entries) (mode : Mode) (address : ℕ) (fault : AccessFault) → length m ≡ length n
-    → fetched m entries mode address ≡ Err fault → fetched n entries mode address ≡ Err fault
+-- a fetch that fails in a memory fails with the same fault in each memory of the same size
+pub fetch_refused_too : (memory other_memory : List ℕ) (entries : Entries) (mode : Mode) (address : ℕ) (fault : AccessFault)
+    → length memory ≡ length other_memory
+    → fetched memory entries mode address ≡ Err fault → fetched other_memory entries mode address ≡ Err fault
 unfolding read
-fetch_refused_too m n entries mode address fault same_length fetch_is = judged-refused _ _ _ _ number_of_bytes fault (rw same_length at fetch_is)
+fetch_refused_too memory other_memory entries mode address fault same_length fetch_is =
+    judged-refused _ _ _ _ number_of_bytes fault (rw same_length at fetch_is)
 
--- a load that fails in the memory m fails with the same fault in each memory n of the same size
-pub load_refused_too : (m n : List ℕ) (entries : Entries) (mode : Mode) (address : ℕ) (width : Width) (fault : AccessFault)
-    → length m ≡ length n → loaded m entries mode address width ≡ Err fault → loaded n entries mode address width ≡ Err fault
+-- a load that fails in a memory fails with the same fault in each memory of the same size
+pub load_refused_too : (memory other_memory : List ℕ) (entries : Entries) (mode : Mode) (address : ℕ) (width : Width) (fault : AccessFault)
+    → length memory ≡ length other_memory → loaded memory entries mode address width ≡ Err fault
+    → loaded other_memory entries mode address width ≡ Err fault
 unfolding read
-load_refused_too m n entries mode address width fault same_length load_is = judged-refused _ _ _ _ number_of_bytes fault (rw same_length at load_is)
+load_refused_too memory other_memory entries mode address width fault same_length load_is =
+    judged-refused _ _ _ _ number_of_bytes fault (rw same_length at load_is)
 
--- a store that fails in the memory m fails with the same fault in each memory n of the same size
-pub store_refused_too : (m n : List ℕ) (entries : Entries) (mode : Mode) (address : ℕ) (width : Width) (value : ℕ) (fault : AccessFault)
-    → length m ≡ length n → stored m entries mode address width value ≡ Err fault → stored n entries mode address width value ≡ Err fault
+-- a store that fails in a memory fails with the same fault in each memory of the same size
+pub store_refused_too : (memory other_memory : List ℕ) (entries : Entries) (mode : Mode) (address : ℕ) (width : Width) (value : ℕ)
+    (fault : AccessFault)
+    → length memory ≡ length other_memory → stored memory entries mode address width value ≡ Err fault
+    → stored other_memory entries mode address width value ≡ Err fault
 unfolding write
-store_refused_too m n entries mode address width value fault same_length store_is =
-    judged-refused _ _ _ _ (λ (memory : List ℕ). memory) fault (rw same_length at store_is)
+store_refused_too memory other_memory entries mode address width value fault same_length store_is =
+    judged-refused _ _ _ _ (λ (after : List ℕ). after) fault (rw same_length at store_is)
 
--- a store that succeeds in the memory m also succeeds in each memory n of the same size, and writes the same bytes
-pub store_done_too : (m n : List ℕ) (entries : Entries) (mode : Mode) (address : ℕ) (width : Width) (value : ℕ) (after : List ℕ)
-    → length m ≡ length n → stored m entries mode address width value ≡ Ok after
-    → stored n entries mode address width value ≡ Ok (write_bytes n (address - ram_base) (bytes_of (bytes_in width) value))
+-- a store that succeeds in a memory also succeeds in each memory of the same size, and writes the same bytes
+pub store_done_too : (memory other_memory : List ℕ) (entries : Entries) (mode : Mode) (address : ℕ) (width : Width) (value : ℕ) (after : List ℕ)
+    → length memory ≡ length other_memory → stored memory entries mode address width value ≡ Ok after
+    → stored other_memory entries mode address width value ≡ Ok (write_bytes other_memory (address - ram_base) (bytes_of (bytes_in width) value))
 unfolding write
-store_done_too m n entries mode address width value after same_length store_is =
-    let ok = store_done m entries mode address width value after store_is in
-    let inside : is_inside n address (length (bytes_of (bytes_in width) value)) ≡ true = rw (length-bytes_of, ← same_length) ok.0 in
+store_done_too memory other_memory entries mode address width value after same_length store_is =
+    let ok = store_done memory entries mode address width value after store_is in
+    let inside : is_inside other_memory address (length (bytes_of (bytes_in width) value)) ≡ true = rw (length-bytes_of, ← same_length) ok.0 in
     rw (inside, ok.1) refl
 
 -- ---- an access has the same result in two memories with the same bytes there
 
--- a fetch has the same result in two memories m and n with the same bytes at the address
-pub fetch_same : (m n : List ℕ) (entries : Entries) (mode : Mode) (address : ℕ)
-    → read m address (bytes_in Word) ≡ read n address (bytes_in Word) → fetched m entries mode address ≡ fetched n entries mode address
-fetch_same m n entries mode address same_bytes = rw same_bytes refl
+-- a fetch has the same result in two memories with the same bytes at the address
+pub fetch_same : (memory other_memory : List ℕ) (entries : Entries) (mode : Mode) (address : ℕ)
+    → read memory address (bytes_in Word) ≡ read other_memory address (bytes_in Word)
+    → fetched memory entries mode address ≡ fetched other_memory entries mode address
+fetch_same memory other_memory entries mode address same_bytes = rw same_bytes refl
 
--- a load has the same result in two memories m and n with the same bytes at the address
-pub load_same : (m n : List ℕ) (entries : Entries) (mode : Mode) (address : ℕ) (width : Width)
-    → read m address (bytes_in width) ≡ read n address (bytes_in width)
-    → loaded m entries mode address width ≡ loaded n entries mode address width
-load_same m n entries mode address width same_bytes = rw same_bytes refl
+-- a load has the same result in two memories with the same bytes at the address
+pub load_same : (memory other_memory : List ℕ) (entries : Entries) (mode : Mode) (address : ℕ) (width : Width)
+    → read memory address (bytes_in width) ≡ read other_memory address (bytes_in width)
+    → loaded memory entries mode address width ≡ loaded other_memory entries mode address width
+load_same memory other_memory entries mode address width same_bytes = rw same_bytes refl

@@ -25,49 +25,50 @@ pub length-with_complements : (memory : List ℕ) (index count : ℕ) → index 
 length-with_complements memory index count range_in_bounds = grind (arith, common_steps)
 
 -- the complement that belongs to an index k in the range is the complement of the byte at k
-complements-at : (memory : List ℕ) (index count k : ℕ) → index + count ≤ length memory → index ≤ k → k < index + count
-    → get_or (complements memory index count) (k - index) 0 ≡ complement_of (get_or memory k 0)
-complements-at memory index count k range_in_bounds from_start below_end =
+complements-at : (memory : List ℕ) (index count other : ℕ) → index + count ≤ length memory → index ≤ other → other < index + count
+    → get_or (complements memory index count) (other - index) 0 ≡ complement_of (get_or memory other 0)
+complements-at memory index count other range_in_bounds from_start below_end =
     let part = take count (drop index memory) in
     let part_has_count : length part ≡ count = grind (arith, common_steps) in
-    let offset_in_part : k - index < count = omega arith in
-    let offset_is : index + (k - index) ≡ k = omega arith in
-    get_or-map complement_of part (k - index) 0 0 (omega (arith, part_has_count, offset_in_part))
+    let offset_in_part : other - index < count = omega arith in
+    let offset_is : index + (other - index) ≡ other = omega arith in
+    get_or-map complement_of part (other - index) 0 0 (omega (arith, part_has_count, offset_in_part))
     ∙ ap complement_of
-    (get_or-take count (drop index memory) (k - index) 0 offset_in_part
-    ∙ get_or-drop index memory (k - index) 0
+    (get_or-take count (drop index memory) (other - index) 0 offset_in_part
+    ∙ get_or-drop index memory (other - index) 0
     ∙ ap (λ j. get_or memory j 0) offset_is)
 
 -- after a write, the byte at an index k in the written range is the byte of the list at `k - index`
-index-within : (memory : List ℕ) (index : ℕ) (bytes : List ℕ) (k : ℕ) → index + length bytes ≤ length memory → index ≤ k → k < index + length bytes
-    → get_or (write_bytes memory index bytes) k 0 ≡ get_or bytes (k - index) 0
-index-within memory index bytes k write_in_bounds from_start below_end = grind (arith, common_steps)
+index-within : (memory : List ℕ) (index : ℕ) (bytes : List ℕ) (other : ℕ) → index + length bytes ≤ length memory → index ≤ other
+    → other < index + length bytes
+    → get_or (write_bytes memory index bytes) other 0 ≡ get_or bytes (other - index) 0
+index-within memory index bytes other write_in_bounds from_start below_end = grind (arith, common_steps)
 
 -- a byte at an index k in the range is complemented
-byte_in_range : (memory : List ℕ) (index count k : ℕ) → index + count ≤ length memory → index ≤ k → k < index + count
-    → get_or (with_complements memory index count) k 0 ≡ complement_of (get_or memory k 0)
-byte_in_range memory index count k range_in_bounds from_start below_end =
+byte_in_range : (memory : List ℕ) (index count other : ℕ) → index + count ≤ length memory → index ≤ other → other < index + count
+    → get_or (with_complements memory index count) other 0 ≡ complement_of (get_or memory other 0)
+byte_in_range memory index count other range_in_bounds from_start below_end =
     let has_count = length-complements memory index count range_in_bounds in
-    index-within memory index (complements memory index count) k (omega (arith, has_count)) from_start (omega (arith, has_count))
-    ∙ complements-at memory index count k range_in_bounds from_start below_end
+    index-within memory index (complements memory index count) other (omega (arith, has_count)) from_start (omega (arith, has_count))
+    ∙ complements-at memory index count other range_in_bounds from_start below_end
 
--- a byte at an index k below the complemented range is unchanged
-pub below : (memory : List ℕ) (index count k : ℕ) → index + count ≤ length memory → k < index
-    → get_or (with_complements memory index count) k 0 ≡ get_or memory k 0
-below memory index count k range_in_bounds k_is_below =
+-- a byte at another index below the complemented range is unchanged
+pub below : (memory : List ℕ) (index count other : ℕ) → index + count ≤ length memory → other < index
+    → get_or (with_complements memory index count) other 0 ≡ get_or memory other 0
+below memory index count other range_in_bounds other_is_below =
     let has_count = length-complements memory index count range_in_bounds in
-    index-below memory index (complements memory index count) k (omega (arith, has_count)) k_is_below
+    index-below memory index (complements memory index count) other (omega (arith, has_count)) other_is_below
 
--- a byte at an index k above the complemented range is unchanged
-pub above : (memory : List ℕ) (index count k : ℕ) → index + count ≤ length memory → index + count ≤ k
-    → get_or (with_complements memory index count) k 0 ≡ get_or memory k 0
-above memory index count k range_in_bounds k_is_above =
+-- a byte at another index above the complemented range is unchanged
+pub above : (memory : List ℕ) (index count other : ℕ) → index + count ≤ length memory → index + count ≤ other
+    → get_or (with_complements memory index count) other 0 ≡ get_or memory other 0
+above memory index count other range_in_bounds other_is_above =
     let has_count = length-complements memory index count range_in_bounds in
-    index-above memory index (complements memory index count) k (omega (arith, has_count)) (omega (arith, has_count))
+    index-above memory index (complements memory index count) other (omega (arith, has_count)) (omega (arith, has_count))
 
--- Complementing the same bytes twice restores the memory, if each element is a byte (below 256). The proof is for the byte at each index k: below
+-- Complementing the same bytes twice restores the memory, if each element is a byte (below 256). The proof is for the byte at each index: below
 -- the complemented range, in it, or above it.
-pub complemented_twice : (memory : List ℕ) (index count : ℕ) → index + count ≤ length memory → ((k : ℕ) → get_or memory k 0 < 256)
+pub complemented_twice : (memory : List ℕ) (index count : ℕ) → index + count ≤ length memory → ((other : ℕ) → get_or memory other 0 < 256)
     → with_complements (with_complements memory index count) index count ≡ memory
 complemented_twice memory index count range_in_bounds are_bytes =
     let once = with_complements memory index count in
@@ -75,16 +76,17 @@ complemented_twice memory index count range_in_bounds are_bytes =
     let same_length : length once ≡ length memory = length-with_complements memory index count range_in_bounds in
     let range_in_once : index + count ≤ length once = omega (arith, same_length) in
     same_number_lists twice memory (length-with_complements once index count range_in_once ∙ same_length)
-    (λ k _. elim (cases_lt k index) [
-      | inl k_is_below ↦ below once index count k range_in_once k_is_below ∙ below memory index count k range_in_bounds k_is_below
-      | inr from_start ↦ elim (cases_lt k (index + count)) [
+    (λ other _. elim (cases_lt other index) [
+      | inl other_is_below ↦ below once index count other range_in_once other_is_below ∙ below memory index count other range_in_bounds other_is_below
+      | inr from_start ↦ elim (cases_lt other (index + count)) [
         | inl below_end ↦
-            let is_byte = are_bytes k in
-            let restored : complement_of (complement_of (get_or memory k 0)) ≡ get_or memory k 0 = omega (arith, is_byte) in
-            byte_in_range once index count k range_in_once from_start below_end
-            ∙ ap complement_of (byte_in_range memory index count k range_in_bounds from_start below_end)
+            let is_byte = are_bytes other in
+            let restored : complement_of (complement_of (get_or memory other 0)) ≡ get_or memory other 0 = omega (arith, is_byte) in
+            byte_in_range once index count other range_in_once from_start below_end
+            ∙ ap complement_of (byte_in_range memory index count other range_in_bounds from_start below_end)
             ∙ restored
-        | inr k_is_above ↦ above once index count k range_in_once k_is_above ∙ above memory index count k range_in_bounds k_is_above
+        | inr other_is_above ↦ above once index count other range_in_once other_is_above
+            ∙ above memory index count other range_in_bounds other_is_above
       ]
     ])
 

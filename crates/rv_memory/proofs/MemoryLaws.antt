@@ -33,15 +33,15 @@ pub read-write : (memory : List ℕ) (address : ℕ) (bytes after : List ℕ) �
 unfolding write read
 read-write memory address bytes after write_is = grind (arith, common_steps)
 
--- a byte at an index k below the written bytes is unchanged
-pub index-below : (memory : List ℕ) (index : ℕ) (bytes : List ℕ) (k : ℕ) → index + length bytes ≤ length memory → k < index
-    → slice_index (write_bytes memory index bytes) k ≡ slice_index memory k
-index-below memory index bytes k write_in_bounds k_is_below = grind (arith, common_steps)
+-- a byte at another index below the written bytes is unchanged
+pub index-below : (memory : List ℕ) (index : ℕ) (bytes : List ℕ) (other : ℕ) → index + length bytes ≤ length memory → other < index
+    → slice_index (write_bytes memory index bytes) other ≡ slice_index memory other
+index-below memory index bytes other write_in_bounds other_is_below = grind (arith, common_steps)
 
--- a byte at an index k above the written bytes is unchanged
-pub index-above : (memory : List ℕ) (index : ℕ) (bytes : List ℕ) (k : ℕ) → index + length bytes ≤ length memory → index + length bytes ≤ k
-    → slice_index (write_bytes memory index bytes) k ≡ slice_index memory k
-index-above memory index bytes k write_in_bounds k_is_above = grind (arith, common_steps)
+-- a byte at another index above the written bytes is unchanged
+pub index-above : (memory : List ℕ) (index : ℕ) (bytes : List ℕ) (other : ℕ) → index + length bytes ≤ length memory → index + length bytes ≤ other
+    → slice_index (write_bytes memory index bytes) other ≡ slice_index memory other
+index-above memory index bytes other write_in_bounds other_is_above = grind (arith, common_steps)
 
 -- the byte at an address in RAM is the element of the list at the index `address - ram_base`; outside RAM there is no byte
 pub byte_at-index : (memory : List ℕ) (address : ℕ)

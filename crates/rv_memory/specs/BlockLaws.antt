@@ -4,11 +4,14 @@ use Rattle.rv_memory.specs.Blocks.{has, meets}
 use Rattle.rv_memory.specs.declared.block.Block.{Block}
 
 -- a byte address that is in both blocks
-pub record SharesByte (a b : Block) : Type 0 where
+pub record SharesByte (first second : Block) : Type 0 where
+  -- the address of the byte
   pub byte : ℕ
-  pub in_a : has a byte ≡ true
-  pub in_b : has b byte ≡ true
+  -- the byte is in the first block
+  pub in_a : has first byte ≡ true
+  -- the byte is in the second block
+  pub in_b : has second byte ≡ true
 
 -- the test of overlap holds if and only if some byte is in both blocks
 abbrev pub MeetsLaw : Type 0
-MeetsLaw = (a b : Block) → (SharesByte a b → meets a b ≡ true) × (meets a b ≡ true → SharesByte a b)
+MeetsLaw = (first second : Block) → (SharesByte first second → meets first second ≡ true) × (meets first second ≡ true → SharesByte first second)

@@ -17,5 +17,5 @@ has block byte = nat_le block.base byte && nat_lt byte (block.base + block.size)
 
 -- `meets` states whether two blocks share a byte
 abbrev pub meets : Block → Block → Bool
-meets a b =
-    nat_lt 0 a.size && (nat_lt 0 b.size && (nat_lt a.base (b.base + b.size) && nat_lt b.base (a.base + a.size)))
+meets first second =
+    nat_lt 0 first.size && (nat_lt 0 second.size && (nat_lt first.base (second.base + second.size) && nat_lt second.base (first.base + first.size)))
