@@ -20,8 +20,8 @@ use Rattle.rv_asm.proofs.WordCounts.{length-line_words}
 -- ---- the words of lines
 
 -- a result without an error is Ok, and has the words that `words_or_none` gives
-ok_words : (r : Result (List ℕ) AsmFaultKind) → (let fault : Option AsmFaultKind = result_case r (λ words. None) Some in fault ≡ None)
-    → r ≡ Ok (words_or_none r)
+ok_words : (result : Result (List ℕ) AsmFaultKind) → (let fault : Option AsmFaultKind = result_case result (λ words. None) Some in fault ≡ None)
+    → result ≡ Ok (words_or_none result)
 ok_words (Ok words) no_error = refl
 ok_words (Err kind) no_error = cc
 
@@ -42,9 +42,10 @@ no_fault_in fault before (line ∷ prefix) after no_error =
     (rw first_and_rest.0 prefix_and_after.0, rw (← append_assoc before (line ∷ []) prefix) prefix_and_after.1)
 
 -- if the lines of a text have no error, neither a line nor the lines before it have one
-no_fault_at : (fault : List Reading → Reading → Option AsmFaultKind) (all before after : List Reading) (line : Reading)
-    → all ≡ before ++ line ∷ after → first_line_fault fault [] all ≡ None → (first_line_fault fault [] before ≡ None) × (fault before line ≡ None)
-no_fault_at fault all before after line is_split no_error =
+no_fault_at : (fault : List Reading → Reading → Option AsmFaultKind) (all_lines before after : List Reading) (line : Reading)
+    → all_lines ≡ before ++ line ∷ after → first_line_fault fault [] all_lines ≡ None
+    → (first_line_fault fault [] before ≡ None) × (fault before line ≡ None)
+no_fault_at fault all_lines before after line is_split no_error =
     let parts = no_fault_in fault [] before (line ∷ after) (rw is_split at no_error) in
     (parts.0, (no_fault_first fault before after line parts.1).0)
 
@@ -66,35 +67,39 @@ length-words_from labels before (line ∷ lines) no_error =
     let same_length = length-line_words labels (words_in before) line (words_or_none first_words) (ok_words first_words first_and_rest.0) in
     let rest_length = length-words_from labels (before ++ line ∷ []) lines first_and_rest.1 in
     length-append (words_or_none first_words) (words_from labels (before ++ line ∷ []) lines)
-    ∙ ap₂ (λ m n. m + n) same_length rest_length ∙ sym (sum_by-cons line_size line lines)
+    ∙ ap₂ (λ first others. first + others) same_length rest_length ∙ sym (sum_by-cons line_size line lines)
 
--- of three lists, one after another, the m elements after the first n are the second list, if the first has n elements and the second has m
-second_of_three : (n m : ℕ) (xs ys zs : List ℕ) → length xs ≡ n → length ys ≡ m → take m (drop n (xs ++ (ys ++ zs))) ≡ ys
-second_of_three n m xs ys zs first_length second_length = ap (take m) (drop_at xs (ys ++ zs) n first_length) ∙ ap (λ k. take k (ys ++ zs))
+-- of three lists, one after another, the `count` elements after the first `start` are the second list, if the first has `start` elements and
+-- the second has `count`
+second_of_three : (start count : ℕ) (xs ys zs : List ℕ) → length xs ≡ start → length ys ≡ count → take count (drop start (xs ++ (ys ++ zs))) ≡ ys
+second_of_three start count xs ys zs first_length second_length =
+    ap (take count) (drop_at xs (ys ++ zs) start first_length) ∙ ap (λ length_taken. take length_taken (ys ++ zs))
     (sym second_length) ∙ take-append_seam ys zs
 
 -- in the words of all lines, the words of a line are at the address of the line
-words_at_address : (labels : List ℕ → Option ℕ) (all before after : List Reading) (line : Reading) → all ≡ before ++ line ∷ after
-    → first_line_fault (name_fault labels) [] all ≡ None
-    → line_words labels (words_in before) line ≡ Ok (take (line_size line) (drop (words_in before) (words_from labels [] all)))
-words_at_address labels all before after line is_split no_error =
+words_at_address : (labels : List ℕ → Option ℕ) (all_lines before after : List Reading) (line : Reading) → all_lines ≡ before ++ line ∷ after
+    → first_line_fault (name_fault labels) [] all_lines ≡ None
+    → line_words labels (words_in before) line ≡ Ok (take (line_size line) (drop (words_in before) (words_from labels [] all_lines)))
+words_at_address labels all_lines before after line is_split no_error =
     let own_words = line_words labels (words_in before) line in
-    let no_errors = no_fault_at (name_fault labels) all before after line is_split no_error in
+    let no_errors = no_fault_at (name_fault labels) all_lines before after line is_split no_error in
     let is_ok = ok_words own_words no_errors.1 in
     let part_is =
     second_of_three (words_in before) (line_size line) (words_from labels [] before) (words_or_none own_words)
     (words_from labels (before ++ line ∷ []) after)
     (length-words_from labels [] before no_errors.0) (length-line_words labels (words_in before) line (words_or_none own_words) is_ok) in
-    is_ok ∙ ap Ok (sym part_is) ∙ ap (λ ws. Ok (take (line_size line) (drop (words_in before) ws)))
+    is_ok ∙ ap Ok (sym part_is) ∙ ap (λ words. Ok (take (line_size line) (drop (words_in before) words)))
     (sym (ap (words_from labels []) is_split ∙ words_from-append labels [] before (line ∷ after)))
 
 -- ---- the addresses of labels
 
 -- a label has the address that it had before a line that defines it, or else the address of this line
-address_of_label : (all before after : List Reading) (line : Line) (name : List ℕ) → all ≡ before ++ Ok line ∷ after → line.label ≡ Some name
-    → place_in all name ≡ option_case (place_in before name) (Some (words_in before)) Some
-address_of_label all before after line name is_split has_name =
-    ap (λ ls. place_in ls name) is_split ∙ place_from-append [] before (Ok line ∷ after) name ∙ rw (has_name, (bytes_eq-Decides name name).1 refl)
+address_of_label : (all_lines before after : List Reading) (line : Line) (name : List ℕ) → all_lines ≡ before ++ Ok line ∷ after
+    → line.label ≡ Some name
+    → place_in all_lines name ≡ option_case (place_in before name) (Some (words_in before)) Some
+address_of_label all_lines before after line name is_split has_name =
+    ap (λ lines. place_in lines name) is_split ∙ place_from-append [] before (Ok line ∷ after) name
+    ∙ rw (has_name, (bytes_eq-Decides name name).1 refl)
     refl
 
 -- a label that is not repeated has no address before its line
@@ -107,10 +112,10 @@ no_earlier_address before line name has_name no_fault = none_from_is_some (place
       not_repeated true no_fault = cc
       not_repeated false no_fault = refl
 
--- a line of `all` defines the label `name`, and `place` is the number of words before this line
+-- a line of `all_lines` defines the label `name`, and `place` is the number of words before this line
 abbrev FoundIn : List Reading → List ℕ → ℕ → Type 0
-FoundIn all name place =
-    (before : List Reading) × (line : Line) × ((after : List Reading) × (all ≡ before ++ Ok line ∷ after)) × (line.label ≡ Some name)
+FoundIn all_lines name place =
+    (before : List Reading) × (line : Line) × ((after : List Reading) × (all_lines ≡ before ++ Ok line ∷ after)) × (line.label ≡ Some name)
     × (place ≡ words_in before)
 
 -- a label that passes the test `is_label` for a name is this name
@@ -119,26 +124,28 @@ label_is name None test_holds = cc
 label_is name (Some label) test_holds = ap Some ((bytes_eq-Decides label name).0 test_holds)
 
 -- a label that a line defines is found there, with the address of the line
-found_here : (all before lines : List Reading) (line : Reading) (name : List ℕ) (place : ℕ) → all ≡ before ++ line ∷ lines
-    → has_label name line ≡ true → place ≡ words_in before → FoundIn all name place
-found_here all before lines (Ok line) name place is_split has_it is_address =
+found_here : (all_lines before lines : List Reading) (line : Reading) (name : List ℕ) (place : ℕ) → all_lines ≡ before ++ line ∷ lines
+    → has_label name line ≡ true → place ≡ words_in before → FoundIn all_lines name place
+found_here all_lines before lines (Ok line) name place is_split has_it is_address =
     (before, line, (lines, is_split), label_is name line.label has_it, is_address)
-found_here all before lines (Err kind) name place is_split has_it is_address = cc
+found_here all_lines before lines (Err kind) name place is_split has_it is_address = cc
 
 -- If an address is found, it is the address here or that of another line. A claim P therefore holds if it follows from each of the two.
-found_either : {P : Type 0} (is_here : Bool) (here place : ℕ) (others : Option ℕ) → (is_here ≡ true → place ≡ here → P) → (others ≡ Some place → P)
-    → (if is_here then Some here else others) ≡ Some place → P
-found_either true here place others if_here if_later place_is = if_here refl cc
-found_either false here place others if_here if_later place_is = if_later place_is
+found_either : {P : Type 0} (is_own : Bool) (own_place place : ℕ) (others : Option ℕ) → (is_own ≡ true → place ≡ own_place → P)
+    → (others ≡ Some place → P)
+    → (if is_own then Some own_place else others) ≡ Some place → P
+found_either true own_place place others if_here if_later place_is = if_here refl cc
+found_either false own_place place others if_here if_later place_is = if_later place_is
 
 -- each label with an address is found at a line that defines it (by induction over the lines)
-label_found : (all before lines : List Reading) (name : List ℕ) (place : ℕ) → all ≡ before ++ lines → place_from before lines name ≡ Some place
-    → FoundIn all name place
-label_found all before [] name place is_split place_from_is = cc
-label_found all before (line ∷ lines) name place is_split place_from_is =
+label_found : (all_lines before lines : List Reading) (name : List ℕ) (place : ℕ) → all_lines ≡ before ++ lines
+    → place_from before lines name ≡ Some place
+    → FoundIn all_lines name place
+label_found all_lines before [] name place is_split place_from_is = cc
+label_found all_lines before (line ∷ lines) name place is_split place_from_is =
     found_either (has_label name line) (words_in before) place (place_from (before ++ line ∷ []) lines name)
-    (found_here all before lines line name place is_split)
-    (label_found all (before ++ line ∷ []) lines name place (is_split ∙ sym (append_assoc before (line ∷ []) lines))) place_from_is
+    (found_here all_lines before lines line name place is_split)
+    (label_found all_lines (before ++ line ∷ []) lines name place (is_split ∙ sym (append_assoc before (line ∷ []) lines))) place_from_is
 
 -- ---- the assembled words are words that the text denotes
 
@@ -173,7 +180,7 @@ denotes_words_of text no_error =
           let no_earlier = no_earlier_address before line name has_name (no_fault_at label_fault lines before line_in_text.0 (Ok line) line_in_text.1
           no_errors.0).1 in
           address_of_label lines before line_in_text.0 line name line_in_text.1 has_name
-          ∙ ap (λ (o : Option ℕ). option_case o (Some (words_in before)) Some) no_earlier;
+          ∙ ap (λ (earlier : Option ℕ). option_case earlier (Some (words_in before)) Some) no_earlier;
       -- each label with an address is the label of a line
       named = λ name place has_name. label_found lines [] lines name place refl has_name;
       -- the words of each line are at its address
@@ -192,15 +199,16 @@ denotes_assembled text words assembled_is =
 -- ---- the text denotes no other words
 
 -- two options are equal if each element of the second is in the first, and the second has an element if the first has
-agree : (first second : Option ℕ) → ((n : ℕ) → second ≡ Some n → first ≡ Some n) → ((n : ℕ) → first ≡ Some n → is_some second ≡ true) → first ≡ second
-agree first (Some n) second_in_first second_has_one = second_in_first n refl
+agree : (first second : Option ℕ) → ((element : ℕ) → second ≡ Some element → first ≡ Some element)
+    → ((element : ℕ) → first ≡ Some element → is_some second ≡ true) → first ≡ second
+agree first (Some element) second_in_first second_has_one = second_in_first element refl
 agree None None second_in_first second_has_one = refl
-agree (Some n) None second_in_first second_has_one = let is_false : false ≡ true = second_has_one n refl in cc
+agree (Some element) None second_in_first second_has_one = let is_false : false ≡ true = second_has_one element refl in cc
 
 -- a choice between an option and an element has an element
-option_case-is_some : (o : Option ℕ) (n : ℕ) → is_some (option_case o (Some n) Some) ≡ true
-option_case-is_some None n = refl
-option_case-is_some (Some m) n = refl
+option_case-is_some : (option : Option ℕ) (default : ℕ) → is_some (option_case option (Some default) Some) ≡ true
+option_case-is_some None default = refl
+option_case-is_some (Some element) default = refl
 
 -- the labels of words that a text denotes have the addresses that the definition gives
 same_place : (text words : List ℕ) (denotes : Denotes text words) (name : List ℕ) → denotes.labels name ≡ place_in (readings text) name
@@ -215,24 +223,26 @@ same_place text words denotes name =
     ∙ option_case-is_some (place_in before name) (words_in before))
 
 -- a part of a list and the part after it are one part
-join_parts : (n m : ℕ) (words rest : List ℕ) → rest ≡ drop (n + m) words → take m (drop n words) ++ rest ≡ drop n words
-join_parts n m words rest rest_is = ap (λ ws. take m (drop n words) ++ ws) (rest_is ∙ sym (drop-drop m n words)) ∙ take-append-drop m (drop n words)
+join_parts : (start count : ℕ) (words rest : List ℕ) → rest ≡ drop (start + count) words → take count (drop start words) ++ rest ≡ drop start words
+join_parts start count words rest rest_is =
+    ap (λ others. take count (drop start words) ++ others) (rest_is ∙ sym (drop-drop count start words)) ∙ take-append-drop count (drop start words)
 
 -- if each line has its words at its address in some words, these are the words of the text (by induction over the lines)
-words_from-each : (labels : List ℕ → Option ℕ) (all before lines : List Reading) (words : List ℕ) → all ≡ before ++ lines
-    → length words ≡ words_in all
-    → ((prefix : List Reading) (line : Reading) → (after : List Reading) × (all ≡ prefix ++ line ∷ after)
+words_from-each : (labels : List ℕ → Option ℕ) (all_lines before lines : List Reading) (words : List ℕ) → all_lines ≡ before ++ lines
+    → length words ≡ words_in all_lines
+    → ((prefix : List Reading) (line : Reading) → (after : List Reading) × (all_lines ≡ prefix ++ line ∷ after)
     → line_words labels (words_in prefix) line ≡ Ok (take (line_size line) (drop (words_in prefix) words)))
     → words_from labels before lines ≡ drop (words_in before) words
-words_from-each labels all before [] words is_split same_length each_in_place =
-    let end_is : words_in all ≡ words_in before = ap words_in (is_split ∙ append-nil before) in
+words_from-each labels all_lines before [] words is_split same_length each_in_place =
+    let end_is : words_in all_lines ≡ words_in before = ap words_in (is_split ∙ append-nil before) in
     sym (drop_of_length-le words (omega (arith, same_length, end_is)))
-words_from-each labels all before (line ∷ lines) words is_split same_length each_in_place =
-    let rest_is = words_from-each labels all (before ++ line ∷ []) lines words (is_split ∙ sym (append_assoc before (line ∷ []) lines)) same_length
+words_from-each labels all_lines before (line ∷ lines) words is_split same_length each_in_place =
+    let rest_is = words_from-each labels all_lines (before ++ line ∷ []) lines words (is_split
+    ∙ sym (append_assoc before (line ∷ []) lines)) same_length
     each_in_place in
     let next_is : words_in (before ++ line ∷ []) ≡ words_in before + line_size line = sum_by_push line_size before line in
     rw (each_in_place before line (lines, is_split))
-    (join_parts (words_in before) (line_size line) words _ (rest_is ∙ ap (λ n. drop n words) next_is))
+    (join_parts (words_in before) (line_size line) words _ (rest_is ∙ ap (λ count. drop count words) next_is))
 
 -- a text without an error denotes only the words to which it assembles
 pub assembled_denoted : (text words : List ℕ) → Denotes text words → fault_in (readings text) ≡ None → assembled text ≡ Ok words

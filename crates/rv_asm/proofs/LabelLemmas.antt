@@ -21,12 +21,12 @@ abbrev pub max_words : ℕ
 max_words = 65536
 
 -- a choice between an option and None is the option
-option_case-some : {A : Type 0} (o : Option A) → option_case o None Some ≡ o
+option_case-some : {A : Type 0} (option : Option A) → option_case option None Some ≡ option
 option_case-some None = refl
 option_case-some (Some x) = refl
 
 -- an option is None if the test `is_some` says so
-pub none_from_is_some : {A : Type 0} (o : Option A) → is_some o ≡ false → o ≡ None
+pub none_from_is_some : {A : Type 0} (option : Option A) → is_some option ≡ false → option ≡ None
 none_from_is_some None test_is = refl
 none_from_is_some (Some x) test_is = cc
 
@@ -46,10 +46,10 @@ adds_new places name other words is_absent =
 -- ---- one more line
 
 -- an earlier address of a label stays, whatever line follows
-some_stays : (is_here : Bool) (n : ℕ) (later last : Option ℕ)
-    → cond is_here (Some n) (option_case later last Some) ≡ option_case (cond is_here (Some n) later) last Some
-some_stays true n later last = refl
-some_stays false n later last = refl
+some_stays : (is_own : Bool) (place : ℕ) (later last : Option ℕ)
+    → cond is_own (Some place) (option_case later last Some) ≡ option_case (cond is_own (Some place) later) last Some
+some_stays true place later last = refl
+some_stays false place later last = refl
 
 -- the address of a label in two lists of lines, one after the other, is that in the first, or else that in the second
 pub place_from-append : (before prefix after : List Reading) (name : List ℕ)

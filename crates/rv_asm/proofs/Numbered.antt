@@ -16,33 +16,33 @@ and_both true false both_hold = cc
 and_both false second both_hold = cc
 
 -- a number that passes the test `nat_lt` of a limit is below the limit
-lt_of_test : (n limit : ℕ) → nat_lt n limit ≡ true → n < limit
-lt_of_test n limit test_holds = grind (arith, nat_tests)
+lt_of_test : (number limit : ℕ) → nat_lt number limit ≡ true → number < limit
+lt_of_test number limit test_holds = grind (arith, nat_tests)
 
 -- the number of the row that is found, the first or a later one, is below the limit, if the numbers of both are
-first_in_range : (limit n : ℕ) (is_first_row : Bool) (later_row : Option (List ℕ × ℕ)) (name : List ℕ) → n < limit
-    → IfSome (option_map (λ (row : List ℕ × ℕ). row.1) later_row) (λ m. m < limit)
-    → IfSome (option_map (λ (row : List ℕ × ℕ). row.1) (cond is_first_row (Some (name, n)) later_row)) (λ m. m < limit)
-first_in_range limit n true later_row name first_below later_below = first_below
-first_in_range limit n false later_row name first_below later_below = later_below
+first_in_range : (limit number : ℕ) (is_first_row : Bool) (later_row : Option (List ℕ × ℕ)) (name : List ℕ) → number < limit
+    → IfSome (option_map (λ (row : List ℕ × ℕ). row.1) later_row) (λ other. other < limit)
+    → IfSome (option_map (λ (row : List ℕ × ℕ). row.1) (cond is_first_row (Some (name, number)) later_row)) (λ other. other < limit)
+first_in_range limit number true later_row name first_below later_below = first_below
+first_in_range limit number false later_row name first_below later_below = later_below
 
 -- a number that is looked up in a table is below the limit, if all numbers of the table are
 looked_up-in_range : (limit : ℕ) (rows : List (List ℕ × ℕ)) (name : List ℕ) → list_all (λ row. nat_lt row.1 limit) rows ≡ true
-    → IfSome (looked_up rows name) (λ m. m < limit)
+    → IfSome (looked_up rows name) (λ other. other < limit)
 looked_up-in_range limit [] name all_below = tt
-looked_up-in_range limit ((known, n) ∷ rows) name all_below =
+looked_up-in_range limit ((known, number) ∷ rows) name all_below =
     let first_and_rest = and_both _ _ all_below in
-    first_in_range limit n (bytes_eq name known) (find (λ row. bytes_eq name row.0) rows) known (lt_of_test n limit first_and_rest.0)
+    first_in_range limit number (bytes_eq name known) (find (λ row. bytes_eq name row.0) rows) known (lt_of_test number limit first_and_rest.0)
     (looked_up-in_range limit rows name first_and_rest.1)
 
 -- a register that is found by its name has a number up to 31
-pub registers_in_range : (name : List ℕ) (n : ℕ) → looked_up registers name ≡ Some n → n ≤ 31
+pub registers_in_range : (name : List ℕ) (number : ℕ) → looked_up registers name ≡ Some number → number ≤ 31
 unfolding registers
-registers_in_range name n looked_up_is =
-    let below_32 : n < 32 = rw looked_up_is at (looked_up-in_range 32 registers name refl) in
+registers_in_range name number looked_up_is =
+    let below_32 : number < 32 = rw looked_up_is at (looked_up-in_range 32 registers name refl) in
     omega (arith, below_32)
 
 -- a CSR that is found by its name has a 12-bit number
-pub csrs_in_range : (name : List ℕ) (n : ℕ) → looked_up csrs name ≡ Some n → n < 4096
+pub csrs_in_range : (name : List ℕ) (number : ℕ) → looked_up csrs name ≡ Some number → number < 4096
 unfolding csrs csr_listing
-csrs_in_range name n looked_up_is = rw looked_up_is at (looked_up-in_range 4096 csrs name refl)
+csrs_in_range name number looked_up_is = rw looked_up_is at (looked_up-in_range 4096 csrs name refl)

@@ -10,11 +10,15 @@ use Rattle.rv_asm.proofs.LabelLemmas.{fault_later, first_fault-push}
 
 -- The first pass has read the lines `before`, and none of these has an error of its own. `rest` is the text that remains, with the other lines.
 pub record HasReadUpTo (pass : FirstPass) (text rest : List ℕ) : Type 0 where
+  -- the lines that were read
   pub before : List Reading
+  -- the state of the pass is that after these lines
   pub read : HasRead pass before
+  -- the lines of the text are these, followed by the lines of the rest
   pub is_split : readings text ≡ before ++ readings rest
   -- the first error of a line of its own is in the rest
   pub fault_in_rest : first_line_fault own_fault [] (readings text) ≡ first_line_fault own_fault before (readings rest)
+  -- no line of these has an error of its own
   pub no_fault_before : first_line_fault own_fault [] before ≡ None
 
 -- after one more line without an error of its own, the first pass has read up to the line after it

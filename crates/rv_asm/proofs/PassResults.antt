@@ -25,15 +25,15 @@ abbrev IsWithin : ℕ → ℕ → AsmFault → Type 0
 IsWithin before count fault = (before + 1 ≤ fault.line) × (fault.line ≤ before + count)
 
 -- An error is that of the first line, or of a later one. If an error of a later line is in one of these lines, then the error is in one of the lines.
-later_or_here : (before count longer : ℕ) (here : Option AsmFaultKind) (rest : Option AsmFault) (found : AsmFault) → longer ≡ before + 1
-    → (rest ≡ Some found → IsWithin longer count found) → option_case here rest (λ kind. Some (fault_after before kind)) ≡ Some found
+later_or_here : (before count longer : ℕ) (own_kind : Option AsmFaultKind) (rest : Option AsmFault) (found : AsmFault) → longer ≡ before + 1
+    → (rest ≡ Some found → IsWithin longer count found) → option_case own_kind rest (λ kind. Some (fault_after before kind)) ≡ Some found
     → IsWithin before (count + 1) found
 later_or_here before count longer None rest found one_more later choice_is =
     let bounds = later choice_is in
     (omega (arith, bounds.0, one_more), omega (arith, bounds.1, one_more))
 later_or_here before count longer (Some kind) rest found one_more later choice_is =
     let is_here : fault_after before kind ≡ found = cc in
-    let line_is : before + 1 ≡ found.line = ap (λ f. f.line) is_here in
+    let line_is : before + 1 ≡ found.line = ap (λ fault. fault.line) is_here in
     (omega (arith, line_is), omega (arith, line_is))
 
 -- the line of the first error is one of the lines (by induction over the lines)
@@ -97,10 +97,10 @@ words_decide text pass words has_read no_own_fault not_repeated no_name_fault wo
     rw (no_own_fault, not_twice text pass has_read not_repeated, no_fault_by_labels) (ap Ok words_are)
 
 -- if the second pass returns the words of all lines, the text assembles to these words
-pub words_decide_if : {Z : Type 0} (text : List ℕ) (pass : FirstPass) (r : Result (Vec ℕ Z) AsmFault) → HasRead pass (readings text)
+pub words_decide_if : {Z : Type 0} (text : List ℕ) (pass : FirstPass) (result : Result (Vec ℕ Z) AsmFault) → HasRead pass (readings text)
     → first_line_fault own_fault [] (readings text) ≡ None → pass.repeated ≡ None
-    → IfOk r (λ words. (words.items ≡ words_from (places_of pass.labels) [] (readings text))
-    × (first_line_fault (name_fault (places_of pass.labels)) [] (readings text) ≡ None)) → IfOk r (λ words. assembled text ≡ Ok words.items)
+    → IfOk result (λ words. (words.items ≡ words_from (places_of pass.labels) [] (readings text))
+    × (first_line_fault (name_fault (places_of pass.labels)) [] (readings text) ≡ None)) → IfOk result (λ words. assembled text ≡ Ok words.items)
 words_decide_if text pass (Ok words) has_read no_own_fault not_repeated words_and_no_fault = words_decide text pass words.items has_read no_own_fault
     not_repeated words_and_no_fault.1 words_and_no_fault.0
 words_decide_if text pass (Err fault) has_read no_own_fault not_repeated words_and_no_fault = tt
@@ -112,11 +112,11 @@ own_fails text fault (inl has_own_fault) = inl (own_decides text fault has_own_f
 own_fails text fault (inr out_of_memory) = inr (inl out_of_memory)
 
 -- the second pass fails because of an error of a used label, or because memory is exhausted
-pub name_fails_if : {A : Type 0} (text : List ℕ) (pass : FirstPass) (r : Result A AsmFault) → HasRead pass (readings text)
+pub name_fails_if : {A : Type 0} (text : List ℕ) (pass : FirstPass) (result : Result A AsmFault) → HasRead pass (readings text)
     → first_line_fault own_fault [] (readings text) ≡ None → pass.repeated ≡ None
-    → IfErr r (λ fault. (first_line_fault (name_fault (places_of pass.labels)) [] (readings text) ≡ Some fault)
+    → IfErr result (λ fault. (first_line_fault (name_fault (places_of pass.labels)) [] (readings text) ≡ Some fault)
     ⊎ ((fault.kind ≡ NoMemory) × (first_line_fault (name_fault (places_of pass.labels)) [] (take fault.line (readings text)) ≡ None)
-    × (words_in (take (fault.line - 1) (readings text)) < words_in (take fault.line (readings text))))) → IfErr r (FailsFor text)
+    × (words_in (take (fault.line - 1) (readings text)) < words_in (take fault.line (readings text))))) → IfErr result (FailsFor text)
 name_fails_if text pass (Ok words) has_read no_own_fault not_repeated has_fault = tt
 name_fails_if text pass (Err fault) has_read no_own_fault not_repeated (inl has_name_fault) =
     inl (name_decides text pass fault has_read no_own_fault not_repeated has_name_fault)

@@ -25,8 +25,11 @@ is_piece text = nat_lt 0 (length text) && nat_le (length text) 20 && list_all is
 
 -- a piece of a line is a text of 1 to 20 plain bytes
 pub record IsPiece (text : List ℕ) : Type 0 where
+  -- the text is not empty
   pub some : 0 < length text
+  -- the text has at most 20 bytes
   pub short : length text ≤ 20
+  -- each byte is plain
   pub plain : list_all is_plain text ≡ true
 
 -- a text that passes the test is a piece
@@ -52,7 +55,8 @@ is_plain-blank byte is_plain_byte = grind (arith, nat_tests)
 -- if no plain byte passes a test, then no byte of a plain text passes it
 pub meets_none : (test : ℕ → Bool) (text : List ℕ) → ((byte : ℕ) → is_plain byte ≡ true → test byte ≡ false) → list_all is_plain text ≡ true
     → All (λ byte. test byte ≡ false) text
-meets_none test text plain_fails are_plain = λ k d k_in_text. plain_fails _ (AllPass-from_list_all is_plain text are_plain k d k_in_text)
+meets_none test text plain_fails are_plain =
+    λ index default index_in_text. plain_fails _ (AllPass-from_list_all is_plain text are_plain index default index_in_text)
 
 -- ---- blanks
 
@@ -101,8 +105,8 @@ trimmed-some : (byte : ℕ) (text : List ℕ) → is_plain byte ≡ true → 0 <
 unfolding trimmed
 trimmed-some byte text is_plain_byte =
     let same_length : length (trimmed (space ∷ byte ∷ text)) ≡ length (after_blanks (reverse text ++ byte ∷ [])) =
-    ap (λ t. length (before_blanks t)) (after_blanks-start byte text is_plain_byte) ∙ length-reverse (after_blanks (reverse (byte ∷ text)))
-    ∙ ap (λ t. length (after_blanks t)) (reverse_onto text byte []) in
+    ap (λ text. length (before_blanks text)) (after_blanks-start byte text is_plain_byte) ∙ length-reverse (after_blanks (reverse (byte ∷ text)))
+    ∙ ap (λ text. length (after_blanks text)) (reverse_onto text byte []) in
     rw same_length (after_blanks-end (reverse text) byte is_plain_byte)
 
 -- ---- the operands, in the text after a mnemonic
@@ -112,23 +116,24 @@ abbrev pub spaced : List ℕ → List (List ℕ) → List ℕ
 spaced first more = space ∷ (first ++ flat_map (λ operand. codes ", " ++ operand) more)
 
 -- a space (32) and a plain text have no comma (44)
-no_comma : (text : List ℕ) → list_all is_plain text ≡ true → (k d : ℕ) → k < length (space ∷ text)
-    → (slice_index_or (space ∷ text) k d == comma) ≡ false
-no_comma text are_plain zero d k_in_text = refl
-no_comma text are_plain (suc k) d k_in_text = meets_none (λ byte. byte == comma) text is_plain-comma are_plain k d (omega (arith, k_in_text))
+no_comma : (text : List ℕ) → list_all is_plain text ≡ true → (index default : ℕ) → index < length (space ∷ text)
+    → (slice_index_or (space ∷ text) index default == comma) ≡ false
+no_comma text are_plain zero default index_in_text = refl
+no_comma text are_plain (suc index) default index_in_text =
+    meets_none (λ byte. byte == comma) text is_plain-comma are_plain index default (omega (arith, index_in_text))
 
 -- the operands of `spaced` are split at the commas into the operands, each with the space before it
 split-spaced : (first : List ℕ) (more : List (List ℕ)) → IsPiece first → ArePieces more
-    → slice_split (λ byte. byte == comma) (spaced first more) ≡ map (λ t. space ∷ t) (first ∷ more)
+    → slice_split (λ byte. byte == comma) (spaced first more) ≡ map (λ text. space ∷ text) (first ∷ more)
 split-spaced first [] first_is_piece are_pieces =
-    ap (λ t. slice_split (λ byte. byte == comma) (space ∷ t)) (append-nil first) ∙ slice_split_none (λ byte. byte == comma) (space ∷ first)
+    ap (λ text. slice_split (λ byte. byte == comma) (space ∷ text)) (append-nil first) ∙ slice_split_none (λ byte. byte == comma) (space ∷ first)
     (no_comma first first_is_piece.plain)
 split-spaced first (next ∷ more) first_is_piece are_pieces =
     slice_split_at (λ byte. byte == comma) (space ∷ first) comma (spaced next more) (no_comma first first_is_piece.plain) refl
     ∙ ap (λ parts. (space ∷ first) ∷ parts) (split-spaced next more are_pieces.0 are_pieces.1)
 
 -- pieces with a space before each are trimmed to the pieces
-trimmed-all : (texts : List (List ℕ)) → ArePieces texts → map trimmed (map (λ t. space ∷ t) texts) ≡ texts
+trimmed-all : (texts : List (List ℕ)) → ArePieces texts → map trimmed (map (λ text. space ∷ text) texts) ≡ texts
 trimmed-all [] are_pieces = refl
 trimmed-all (text ∷ texts) are_pieces = rw (trimmed-padded text are_pieces.0.plain, trimmed-all texts are_pieces.1) refl
 
@@ -147,5 +152,6 @@ operands_of-spaced (byte ∷ first) more first_is_piece are_pieces =
     all_fields (length (trimmed (spaced (byte ∷ first) more))) not_empty ∙ fields_of-spaced (byte ∷ first) more first_is_piece are_pieces
   where
     -- a text that is not empty without its blanks has all its comma fields as operands
-    all_fields : (n : ℕ) → 0 < n → (if n == 0 then [] else comma_fields (spaced (byte ∷ first) more)) ≡ comma_fields (spaced (byte ∷ first) more)
-    all_fields n not_empty = let not_none : (n == 0) ≡ false = grind (arith, nat_tests) in rw not_none refl
+    all_fields : (field_length : ℕ) → 0 < field_length
+        → (if field_length == 0 then [] else comma_fields (spaced (byte ∷ first) more)) ≡ comma_fields (spaced (byte ∷ first) more)
+    all_fields field_length not_empty = let not_none : (field_length == 0) ≡ false = grind (arith, nat_tests) in rw not_none refl

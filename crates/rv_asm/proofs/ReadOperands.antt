@@ -31,110 +31,121 @@ use Rattle.rv_asm.proofs.ReadNumbers.{digit_between, signed_number, written-sign
 -- ---- properties of each number below a bound, by computation
 
 -- if two functions have the same values on the numbers from `start` on, they agree on each of these numbers
-maps_agree : {A : Type 0} (f g : ℕ → A) (count start n : ℕ) → n < count → map f (range_with_len start count) ≡ map g (range_with_len start count)
-    → f (start + n) ≡ g (start + n)
-maps_agree f g zero start n n_below_count same_values = absurd (omega (arith, n_below_count))
-maps_agree f g (suc count) start zero n_below_count same_values =
-    let same_head : f start ≡ g start = cc in
+maps_agree : {A : Type 0} (value other_value : ℕ → A) (count start number : ℕ) → number < count
+    → map value (range_with_len start count) ≡ map other_value (range_with_len start count)
+    → value (start + number) ≡ other_value (start + number)
+maps_agree value other_value zero start number number_below_count same_values = absurd (omega (arith, number_below_count))
+maps_agree value other_value (suc count) start zero number_below_count same_values =
+    let same_head : value start ≡ other_value start = cc in
     let sum_is : start + 0 ≡ start = omega arith in
     rw sum_is same_head
-maps_agree f g (suc count) start (suc n) n_below_count same_values =
-    let same_tail : map f (range_with_len (start + 1) count) ≡ map g (range_with_len (start + 1) count) = cc in
-    let sum_is : start + suc n ≡ (start + 1) + n = omega arith in
-    rw sum_is (maps_agree f g count (start + 1) n (omega (arith, n_below_count)) same_tail)
+maps_agree value other_value (suc count) start (suc number) number_below_count same_values =
+    let same_tail : map value (range_with_len (start + 1) count) ≡ map other_value (range_with_len (start + 1) count) = cc in
+    let sum_is : start + suc number ≡ (start + 1) + number = omega arith in
+    rw sum_is (maps_agree value other_value count (start + 1) number (omega (arith, number_below_count)) same_tail)
 
 -- if two functions have the same list of values on the numbers below `count`, which is computed, they agree on each of these numbers
-agree_below : {A : Type 0} (f g : ℕ → A) (count n : ℕ) → n < count → map f (range_with_len 0 count) ≡ map g (range_with_len 0 count) → f n ≡ g n
-agree_below f g count n n_below_count same_values = let sum_is : 0 + n ≡ n = omega arith in
-    rw sum_is at (maps_agree f g count 0 n n_below_count same_values)
+agree_below : {A : Type 0} (value other_value : ℕ → A) (count number : ℕ) → number < count
+    → map value (range_with_len 0 count) ≡ map other_value (range_with_len 0 count)
+    → value number ≡ other_value number
+agree_below value other_value count number number_below_count same_values = let sum_is : 0 + number ≡ number = omega arith in
+    rw sum_is at (maps_agree value other_value count 0 number number_below_count same_values)
 
 -- ---- registers, small numbers, and the access sets of fences
 
 -- the name of a register is a piece
-pub piece-register : (n : ℕ) → n < 32 → IsPiece (register_operand_text n)
+pub piece-register : (number : ℕ) → number < 32 → IsPiece (register_operand_text number)
 unfolding digits
-piece-register n n_below_limit = IsPiece-from_test _ (agree_below (λ n. is_piece (register_operand_text n)) (λ n. true) 32 n n_below_limit refl)
+piece-register number number_below_limit =
+    IsPiece-from_test _ (agree_below (λ number. is_piece (register_operand_text number)) (λ number. true) 32 number number_below_limit refl)
 
 -- the name of a register is read as its number
-pub read-register : (n : ℕ) → n < 32 → register_at (register_operand_text n) ≡ Ok n
+pub read-register : (number : ℕ) → number < 32 → register_at (register_operand_text number) ≡ Ok number
 unfolding digits registers
-read-register n n_below_limit = agree_below (λ n. register_at (register_operand_text n)) (λ n. Ok n) 32 n n_below_limit refl
+read-register number number_below_limit =
+    agree_below (λ number. register_at (register_operand_text number)) (λ number. Ok number) 32 number number_below_limit refl
 
 -- a decimal number below 32 is a piece
-pub piece-small : (n : ℕ) → n < 32 → IsPiece (decimal n)
+pub piece-small : (number : ℕ) → number < 32 → IsPiece (decimal number)
 unfolding digits
-piece-small n n_below_limit = IsPiece-from_test _ (agree_below (λ n. is_piece (decimal n)) (λ n. true) 32 n n_below_limit refl)
+piece-small number number_below_limit =
+    IsPiece-from_test _ (agree_below (λ number. is_piece (decimal number)) (λ number. true) 32 number number_below_limit refl)
 
 -- a decimal number below 32 is read as the number
-pub read-small : (n : ℕ) → n < 32 → number_operand (decimal n) ≡ Ok (plus n)
-read-small n n_below_limit = let number_is = written-decimal n (omega (arith, n_below_limit)) in rw number_is refl
+pub read-small : (number : ℕ) → number < 32 → number_operand (decimal number) ≡ Ok (plus number)
+read-small number number_below_limit = let number_is = written-decimal number (omega (arith, number_below_limit)) in rw number_is refl
 
 -- the name of a set of accesses is a piece
-pub piece-accesses : (n : ℕ) → n < 16 → IsPiece (accesses_text n)
-piece-accesses n n_below_limit = IsPiece-from_test _ (agree_below (λ n. is_piece (accesses_text n)) (λ n. true) 16 n n_below_limit refl)
+pub piece-accesses : (number : ℕ) → number < 16 → IsPiece (accesses_text number)
+piece-accesses number number_below_limit =
+    IsPiece-from_test _ (agree_below (λ number. is_piece (accesses_text number)) (λ number. true) 16 number number_below_limit refl)
 
 -- the name of a set of accesses is read as its bits
-pub read-accesses : (n : ℕ) → n < 16 → fence_set_at (accesses_text n) ≡ Ok n
+pub read-accesses : (number : ℕ) → number < 16 → fence_set_at (accesses_text number) ≡ Ok number
 unfolding fence_sets
-read-accesses n n_below_limit = agree_below (λ n. fence_set_at (accesses_text n)) (λ n. Ok n) 16 n n_below_limit refl
+read-accesses number number_below_limit =
+    agree_below (λ number. fence_set_at (accesses_text number)) (λ number. Ok number) 16 number number_below_limit refl
 
 -- ---- hexadecimal numbers
 
 -- a hexadecimal digit is plain
-digit_char-plain : (d : ℕ) → d < 16 → is_plain (digit_char d) ≡ true
-digit_char-plain d below_16 = agree_below (λ d. is_plain (digit_char d)) (λ d. true) 16 d below_16 refl
+digit_char-plain : (digit : ℕ) → digit < 16 → is_plain (digit_char digit) ≡ true
+digit_char-plain digit below_16 = agree_below (λ digit. is_plain (digit_char digit)) (λ digit. true) 16 digit below_16 refl
 
 -- hexadecimal digits are plain
-plain-hex : (places n : ℕ) → list_all is_plain (hex_digits places n) ≡ true
+plain-hex : (places number : ℕ) → list_all is_plain (hex_digits places number) ≡ true
 unfolding hex_digits
-plain-hex zero n = refl
-plain-hex (suc places) n =
-    list_all-append is_plain (hex_digits places (n / 16)) (digit_char (n % 16) ∷ [])
-    ∙ and_from _ _ (plain-hex places (n / 16)) (and_from _ _ (digit_char-plain (n % 16) (omega arith)) refl)
+plain-hex zero number = refl
+plain-hex (suc places) number =
+    list_all-append is_plain (hex_digits places (number / 16)) (digit_char (number % 16) ∷ [])
+    ∙ and_from _ _ (plain-hex places (number / 16)) (and_from _ _ (digit_char-plain (number % 16) (omega arith)) refl)
 
 -- `0x` (the bytes 48 and 120) and up to 8 hexadecimal digits are a piece
-pub piece-hex : (places n : ℕ) → places ≤ 8 → IsPiece (48 ∷ 120 ∷ hex_digits places n)
-piece-hex places n at_most_8_digits =
-    record { some = omega arith; short = omega (arith, at_most_8_digits, length-hex_digits places n); plain = plain-hex places n }
+pub piece-hex : (places number : ℕ) → places ≤ 8 → IsPiece (48 ∷ 120 ∷ hex_digits places number)
+piece-hex places number at_most_8_digits =
+    record { some = omega arith; short = omega (arith, at_most_8_digits, length-hex_digits places number); plain = plain-hex places number }
 
 -- the text of a hexadecimal number of at most 20 bits is a piece: the cases are the numbers of digits
-pub piece-hex_text : (n : ℕ) → n < 2 ^ 20 → IsPiece (hex_text n)
-piece-hex_text n fits_20_bits = by_size (nat_lt n 0x10) (nat_lt n 0x100) (nat_lt n 0x1000) (nat_lt n 0x10000) refl refl refl refl
+pub piece-hex_text : (number : ℕ) → number < 2 ^ 20 → IsPiece (hex_text number)
+piece-hex_text number fits_20_bits =
+    by_size (nat_lt number 0x10) (nat_lt number 0x100) (nat_lt number 0x1000) (nat_lt number 0x10000) refl refl refl refl
   where
     -- the text of a number is a piece, if `places` digits are all of its digits
-    by_places : (places : ℕ) → places ≤ 8 → hex_digits places n ≡ digits 16 false n → IsPiece (hex_text n)
-    by_places places at_most_8 digits_agree = subst (λ t. IsPiece (48 ∷ 120 ∷ t)) digits_agree (piece-hex places n at_most_8)
+    by_places : (places : ℕ) → places ≤ 8 → hex_digits places number ≡ digits 16 false number → IsPiece (hex_text number)
+    by_places places at_most_8 digits_agree = subst (λ text. IsPiece (48 ∷ 120 ∷ text)) digits_agree (piece-hex places number at_most_8)
 
     -- the text of a number is a piece whatever its size is: below 2^4, 2^8, 2^12, 2^16 or 2^20
-    by_size : (fits_1 fits_2 fits_3 fits_4 : Bool) → nat_lt n 0x10 ≡ fits_1 → nat_lt n 0x100 ≡ fits_2 → nat_lt n 0x1000 ≡ fits_3
-        → nat_lt n 0x10000 ≡ fits_4 → IsPiece (hex_text n)
+    by_size : (fits_1 fits_2 fits_3 fits_4 : Bool) → nat_lt number 0x10 ≡ fits_1 → nat_lt number 0x100 ≡ fits_2 → nat_lt number 0x1000 ≡ fits_3
+        → nat_lt number 0x10000 ≡ fits_4 → IsPiece (hex_text number)
     -- below 2^4, with one digit
-    by_size true fits_2 fits_3 fits_4 test_1 test_2 test_3 test_4 = by_places 1 (omega arith) (one_digit n (grind (arith, nat_tests)))
+    by_size true fits_2 fits_3 fits_4 test_1 test_2 test_3 test_4 = by_places 1 (omega arith) (one_digit number (grind (arith, nat_tests)))
     -- below 2^8, with two digits
     by_size false true fits_3 fits_4 test_1 test_2 test_3 test_4 =
-        by_places 2 (omega arith) (two_digits n (grind (arith, nat_tests)) (grind (arith, nat_tests)))
+        by_places 2 (omega arith) (two_digits number (grind (arith, nat_tests)) (grind (arith, nat_tests)))
     -- below 2^12, with three digits
     by_size false false true fits_4 test_1 test_2 test_3 test_4 =
-        by_places 3 (omega arith) (three_digits n (grind (arith, nat_tests)) (grind (arith, nat_tests)))
+        by_places 3 (omega arith) (three_digits number (grind (arith, nat_tests)) (grind (arith, nat_tests)))
     -- below 2^16, with four digits
     by_size false false false true test_1 test_2 test_3 test_4 =
-        by_places 4 (omega arith) (four_digits n (grind (arith, nat_tests)) (grind (arith, nat_tests)))
+        by_places 4 (omega arith) (four_digits number (grind (arith, nat_tests)) (grind (arith, nat_tests)))
     -- below 2^20, with five digits
     by_size false false false false test_1 test_2 test_3 test_4 =
-        by_places 5 (omega arith) (five_digits n (grind (arith, nat_tests)) (omega (arith, fits_20_bits)))
+        by_places 5 (omega arith) (five_digits number (grind (arith, nat_tests)) (omega (arith, fits_20_bits)))
 
 -- a hexadecimal number of 20 bits is read as the number
-pub read-hex_text : (n : ℕ) → n < 2 ^ 20 → number_operand (hex_text n) ≡ Ok (plus n)
-read-hex_text n fits_20_bits = let number_is = written-hex_text n fits_20_bits in rw number_is refl
+pub read-hex_text : (number : ℕ) → number < 2 ^ 20 → number_operand (hex_text number) ≡ Ok (plus number)
+read-hex_text number fits_20_bits = let number_is = written-hex_text number fits_20_bits in rw number_is refl
 
 -- `0x` and 1 to 8 hexadecimal digits of a number are read as the number
-pub read-hex : (places n : ℕ) → 0 < places → places ≤ 8 → n < 16 ^ places → number_operand (48 ∷ 120 ∷ hex_digits places n) ≡ Ok (plus n)
-read-hex places n at_least_1 at_most_8 digits_suffice = let number_is = written-hex places n at_least_1 at_most_8 digits_suffice in rw number_is refl
+pub read-hex : (places number : ℕ) → 0 < places → places ≤ 8 → number < 16 ^ places
+    → number_operand (48 ∷ 120 ∷ hex_digits places number) ≡ Ok (plus number)
+read-hex places number at_least_1 at_most_8 digits_suffice =
+    let number_is = written-hex places number at_least_1 at_most_8 digits_suffice in rw number_is refl
 
 -- the text of a CSR number is read as the number, since no name of a CSR begins with a digit
-pub read-csr : (n : ℕ) → n < 2 ^ 12 → csr_operand (csr_operand_text n) ≡ Ok (plus n)
+pub read-csr : (number : ℕ) → number < 2 ^ 12 → csr_operand (csr_operand_text number) ≡ Ok (plus number)
 unfolding csrs csr_listing
-read-csr n fits_12_bits = let number_is = written-hex 3 n (omega arith) (omega arith) (omega (arith, fits_12_bits)) in rw number_is refl
+read-csr number fits_12_bits = let number_is = written-hex 3 number (omega arith) (omega arith) (omega (arith, fits_12_bits)) in rw number_is refl
 
 -- ---- signed numbers
 
@@ -145,55 +156,59 @@ is_signed byte = nat_le 45 byte && nat_le byte 57
 -- decimal digits pass the test `is_signed`
 are_signed : (text : List ℕ) → AllDigits 10 text → list_all is_signed text ≡ true
 are_signed [] are_digits = refl
-are_signed (c ∷ text) are_digits =
-    let is_decimal = digit_between c are_digits.0 in
+are_signed (byte ∷ text) are_digits =
+    let is_decimal = digit_between byte are_digits.0 in
     and_from _ _ (grind (arith, nat_tests, is_decimal)) (are_signed text are_digits.1)
 
 -- bytes that pass the test `is_signed` are plain
 signed-plain : (text : List ℕ) → list_all is_signed text ≡ true → list_all is_plain text ≡ true
 signed-plain [] are_signed_bytes = refl
-signed-plain (c ∷ text) are_signed_bytes =
-    let parts = and_parts (is_signed c) (list_all is_signed text) are_signed_bytes in
+signed-plain (byte ∷ text) are_signed_bytes =
+    let parts = and_parts (is_signed byte) (list_all is_signed text) are_signed_bytes in
     and_from _ _ (signed_is_plain parts.0) (signed-plain text parts.1)
   where
     -- a byte of a signed number is plain
-    signed_is_plain : is_signed c ≡ true → is_plain c ≡ true
+    signed_is_plain : is_signed byte ≡ true → is_plain byte ≡ true
     signed_is_plain is_one = grind (arith, nat_tests)
 
 -- the text of a signed number: it has 1 to 9 bytes (a minus and 8 digits) that pass the test `is_signed`, and is no name of a label
 pub record IsSignedText (text : List ℕ) : Type 0 where
+  -- the text is not empty
   pub not_empty : 0 < length text
+  -- the text has at most 9 bytes
   pub short : length text ≤ 9
+  -- each byte passes the test `is_signed`
   pub signed : list_all is_signed text ≡ true
+  -- the text is no name of a label
   pub no_name : is_name text ≡ false
 
 -- decimal digits are no name, since a name begins with a letter (from 97 or 65 on), `_` (95) or `.` (46)
 digits-no_name : (text : List ℕ) → AllDigits 10 text → is_name text ≡ false
 unfolding is_name
 digits-no_name [] are_digits = refl
-digits-no_name (c ∷ text) are_digits =
-    let is_decimal = digit_between c are_digits.0 in
-    let no_lower_case : nat_le 97 c ≡ false = grind (arith, nat_tests, is_decimal) in
-    let no_upper_case : nat_le 65 c ≡ false = grind (arith, nat_tests, is_decimal) in
-    let no_underscore : (c == low_line) ≡ false = grind (arith, nat_tests, is_decimal) in
-    let no_dot : (c == full_stop) ≡ false = grind (arith, nat_tests, is_decimal) in
+digits-no_name (byte ∷ text) are_digits =
+    let is_decimal = digit_between byte are_digits.0 in
+    let no_lower_case : nat_le 97 byte ≡ false = grind (arith, nat_tests, is_decimal) in
+    let no_upper_case : nat_le 65 byte ≡ false = grind (arith, nat_tests, is_decimal) in
+    let no_underscore : (byte == low_line) ≡ false = grind (arith, nat_tests, is_decimal) in
+    let no_dot : (byte == full_stop) ≡ false = grind (arith, nat_tests, is_decimal) in
     rw (no_lower_case, no_upper_case, no_underscore, no_dot) refl
 
 -- the decimal text of a number below 10 ^ 8 is the text of a signed number
-signed-decimal : (n : ℕ) → n < 10 ^ 8 → IsSignedText (decimal n)
-signed-decimal n has_8_digits =
-    let (not_empty, digits) = (decimal_is_IsNumeral n (omega (arith, has_8_digits))).0 in
-    let length_is = length-decimal-le 8 n (omega arith) has_8_digits (omega (arith, has_8_digits)) in
-    let no_name = digits-no_name (decimal n) digits in
-    record { not_empty = not_empty; short = omega (arith, length_is); signed = are_signed (decimal n) digits; no_name = no_name }
+signed-decimal : (number : ℕ) → number < 10 ^ 8 → IsSignedText (decimal number)
+signed-decimal number has_8_digits =
+    let (not_empty, digits) = (decimal_is_IsNumeral number (omega (arith, has_8_digits))).0 in
+    let length_is = length-decimal-le 8 number (omega arith) has_8_digits (omega (arith, has_8_digits)) in
+    let no_name = digits-no_name (decimal number) digits in
+    record { not_empty = not_empty; short = omega (arith, length_is); signed = are_signed (decimal number) digits; no_name = no_name }
 
 -- a minus (45) and the decimal text of a number below 10 ^ 8 are the text of a signed number
-signed-minus : (n : ℕ) → n < 10 ^ 8 → IsSignedText (45 ∷ decimal n)
+signed-minus : (number : ℕ) → number < 10 ^ 8 → IsSignedText (45 ∷ decimal number)
 unfolding is_name
-signed-minus n has_8_digits =
-    let numeral = (decimal_is_IsNumeral n (omega (arith, has_8_digits))).0 in
-    let length_is = length-decimal-le 8 n (omega arith) has_8_digits (omega (arith, has_8_digits)) in
-    record { not_empty = omega arith; short = omega (arith, length_is); signed = are_signed (decimal n) numeral.1; no_name = refl }
+signed-minus number has_8_digits =
+    let numeral = (decimal_is_IsNumeral number (omega (arith, has_8_digits))).0 in
+    let length_is = length-decimal-le 8 number (omega arith) has_8_digits (omega (arith, has_8_digits)) in
+    record { not_empty = omega arith; short = omega (arith, length_is); signed = are_signed (decimal number) numeral.1; no_name = refl }
 
 -- the text of a signed field is the text of a signed number
 signed_text-signed : (width field : ℕ) → field < 10 ^ 8 → 2 ^ width < 10 ^ 8 → IsSignedText (signed_text width field)
@@ -237,12 +252,13 @@ address-parts : (offset base : ℕ) → address_text offset base ≡ signed_text
 address-parts offset base = simp append_assoc
 
 -- the text of a base register is plain, has at most 5 bytes, and is read as its number
-piece-base : (n : ℕ) → n < 32 → (list_all is_plain (base_text n) ≡ true) × (nat_le (length (base_text n)) 5 ≡ true) × (base_of (base_text n) ≡ Some n)
+piece-base : (number : ℕ) → number < 32
+    → (list_all is_plain (base_text number) ≡ true) × (nat_le (length (base_text number)) 5 ≡ true) × (base_of (base_text number) ≡ Some number)
 unfolding digits base_of registers
-piece-base n below_32 = (
-  agree_below (λ n. list_all is_plain (base_text n)) (λ n. true) 32 n below_32 refl,
-  agree_below (λ n. nat_le (length (base_text n)) 5) (λ n. true) 32 n below_32 refl,
-  agree_below (λ n. base_of (base_text n)) (λ n. Some n) 32 n below_32 refl,
+piece-base number below_32 = (
+  agree_below (λ number. list_all is_plain (base_text number)) (λ number. true) 32 number below_32 refl,
+  agree_below (λ number. nat_le (length (base_text number)) 5) (λ number. true) 32 number below_32 refl,
+  agree_below (λ number. base_of (base_text number)) (λ number. Some number) 32 number below_32 refl,
 )
 
 -- the text of an address, which is an offset with a base register in parentheses, is a piece
@@ -263,13 +279,13 @@ piece-address offset base offset_fits base_below_32 =
 -- the position of the first opening parenthesis is the length of the offset before it, since no byte of the offset is a parenthesis
 opening-signed : (prefix back : List ℕ) → list_all is_signed prefix ≡ true → opening (prefix ++ left_parenthesis ∷ back) ≡ length prefix
 opening-signed [] back is_signed_prefix = refl
-opening-signed (c ∷ prefix) back is_signed_prefix =
-    let parts = and_parts (is_signed c) (list_all is_signed prefix) is_signed_prefix in
-    let no_parenthesis : (c == left_parenthesis) ≡ false = signed_differs parts.0 in
+opening-signed (byte ∷ prefix) back is_signed_prefix =
+    let parts = and_parts (is_signed byte) (list_all is_signed prefix) is_signed_prefix in
+    let no_parenthesis : (byte == left_parenthesis) ≡ false = signed_differs parts.0 in
     rw no_parenthesis (omega (arith, opening-signed prefix back parts.1))
   where
     -- a byte that passes the test `is_signed` is not an opening parenthesis (40)
-    signed_differs : is_signed c ≡ true → (c == left_parenthesis) ≡ false
+    signed_differs : is_signed byte ≡ true → (byte == left_parenthesis) ≡ false
     signed_differs is_one = grind (arith, nat_tests)
 
 -- an address is read as its offset and its base register, if these are read from the parts before and after the parenthesis

@@ -87,7 +87,9 @@ length-spaced name first more name_is_piece first_is_piece are_pieces at_most_3 
 
 -- a text has one line, and this line is read as a statement
 record Says (text : List ℕ) (statement : Statement) : Type 0 where
+  -- the text is one line
   is_one_line : lines_of text ≡ text ∷ []
+  -- the line has no label, and is read as the statement
   is_read : line_read text ≡ Ok (record { label = None; statement = Some statement })
 
 -- a line with a name and one to three operands is read as a statement, if `statement_at` reads this statement from it

@@ -16,23 +16,25 @@ use Rattle.rv_asm.specs.declared.fault.AsmFaultKind.{AsmFaultKind}
 use Rattle.rv_asm.specs.declared.fault.AsmFaultKind.TheVariants.{UnknownLabel}
 
 -- two values are equal if the results that are Ok with them are equal
-ok_same : {A E : Type 0} (x y : A) → (let r : Result A E = Ok x in r ≡ Ok y) → x ≡ y
+ok_same : {A E : Type 0} (x y : A) → (let result : Result A E = Ok x in result ≡ Ok y) → x ≡ y
 ok_same x y same_result = cc
 
 -- a statement that makes one word of a number has one word
-one_word : (r : Result ℕ AsmFaultKind) (word : ℕ → ℕ) (words : List ℕ) → (r >>= (λ n. Ok (word n ∷ []))) ≡ Ok words → length words ≡ 1
-one_word (Ok n) word words words_are = sym (ap length (ok_same _ _ words_are))
+one_word : (result : Result ℕ AsmFaultKind) (word : ℕ → ℕ) (words : List ℕ) → (result >>= (λ number. Ok (word number ∷ []))) ≡ Ok words
+    → length words ≡ 1
+one_word (Ok number) word words words_are = sym (ap length (ok_same _ _ words_are))
 one_word (Err kind) word words words_are = cc
 
 -- a jump or a branch to a label has one word
 jump_word : (target : Result ℕ AsmFaultKind) (offset : ℕ → Result ℕ AsmFaultKind) (word : ℕ → ℕ) (words : List ℕ)
-    → (target >>= (λ place. offset place >>= (λ n. Ok (word n ∷ [])))) ≡ Ok words → length words ≡ 1
+    → (target >>= (λ place. offset place >>= (λ number. Ok (word number ∷ [])))) ≡ Ok words → length words ≡ 1
 jump_word (Ok place) offset word words words_are = one_word (offset place) word words words_are
 jump_word (Err kind) offset word words words_are = cc
 
 -- a statement has as many words as its size says
-length-statement_words : (labels : List ℕ → Option ℕ) (place : ℕ) (s : Statement) (words : List ℕ) → statement_words labels place s ≡ Ok words
-    → length words ≡ statement_size s
+length-statement_words : (labels : List ℕ → Option ℕ) (place : ℕ) (statement : Statement) (words : List ℕ)
+    → statement_words labels place statement ≡ Ok words
+    → length words ≡ statement_size statement
 unfolding statement_words statement_size
 length-statement_words labels place (Instruction instruction) words statement_words_is = sym (ap length (ok_same _ _ statement_words_is))
 length-statement_words labels place (JumpTo rd name) words statement_words_is =
@@ -46,10 +48,10 @@ length-statement_words labels place (Li rd value) words statement_words_is = sym
 length-statement_words labels place (Word word) words statement_words_is = sym (ap length (ok_same _ _ statement_words_is))
 
 -- a line without a statement has no word, and a line with one has as many as its size says
-length-optional : (labels : List ℕ → Option ℕ) (place : ℕ) (s : Option Statement) (words : List ℕ)
-    → option_case s (Ok []) (statement_words labels place) ≡ Ok words → length words ≡ option_case s 0 statement_size
+length-optional : (labels : List ℕ → Option ℕ) (place : ℕ) (statement : Option Statement) (words : List ℕ)
+    → option_case statement (Ok []) (statement_words labels place) ≡ Ok words → length words ≡ option_case statement 0 statement_size
 length-optional labels place None words choice_is = sym (ap length (ok_same _ _ choice_is))
-length-optional labels place (Some s) words choice_is = length-statement_words labels place s words choice_is
+length-optional labels place (Some statement) words choice_is = length-statement_words labels place statement words choice_is
 
 -- a line has as many words as its size says
 pub length-line_words : (labels : List ℕ → Option ℕ) (place : ℕ) (line : Reading) (words : List ℕ) → line_words labels place line ≡ Ok words
@@ -63,7 +65,7 @@ some_code true one two others = lit< tt
 some_code false one two others = omega (arith, length others)
 
 -- every statement has at least one word
-pub has_words : (s : Statement) → 0 < statement_size s
+pub has_words : (statement : Statement) → 0 < statement_size statement
 unfolding statement_size li_code
 has_words (Instruction instruction) = lit< tt
 has_words (JumpTo rd name) = lit< tt

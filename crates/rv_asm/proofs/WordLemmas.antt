@@ -16,15 +16,23 @@ use Rattle.rv_asm.proofs.LabelLemmas.{fault_after, fault_later, fault_here, firs
 
 -- The second pass has written the words of the lines `before`. `rest` is the text that remains, with the other lines.
 pub record HasWrittenUpTo (labels : List ℕ → Option ℕ) (words : List ℕ) (lines : ℕ) (text rest : List ℕ) : Type 0 where
+  -- the lines whose words are written
   pub before : List Reading
+  -- `lines` is the number of these lines
   pub line_count : lines ≡ length before
+  -- the number of words is the sum of the sizes of these lines
   pub word_count : length words ≡ words_in before
+  -- there are at most `max_words` words
   pub within_limit : words_in before ≤ max_words
+  -- the lines of the text are these, followed by the lines of the rest
   pub is_split : readings text ≡ before ++ readings rest
+  -- no line of the rest has an error of its own
   pub no_own_fault : first_line_fault own_fault before (readings rest) ≡ None
   -- the first error of a used label is in the rest
   pub fault_in_rest : first_line_fault (name_fault labels) [] (readings text) ≡ first_line_fault (name_fault labels) before (readings rest)
+  -- no line of these has an error of a used label
   pub no_fault_before : first_line_fault (name_fault labels) [] before ≡ None
+  -- the words of the text are these words, followed by those of the rest
   pub words_split : words_from labels [] (readings text) ≡ words ++ words_from labels before (readings rest)
 
 -- if an error is chosen before the rest of errors and none is found, then neither has one
@@ -52,10 +60,12 @@ pub writes_on : (labels : List ℕ → Option ℕ) (words new added : List ℕ) 
 writes_on labels words new added lines text rest after line so_far lines_are words_are new_words_are same_length =
     let read_line = line_read line in
     let rest_is : readings rest ≡ read_line ∷ readings after = ap (map line_read) lines_are in
+    -- neither the line nor the lines after it have an error of their own
     let line_and_rest =
     no_fault (own_fault so_far.before read_line) (fault_after (length so_far.before)) (first_line_fault own_fault (so_far.before ++ read_line ∷ [])
     (readings after))
     (rw rest_is at so_far.no_own_fault) in
+    -- the words of the lines so far and of the line are the words of both
     let word_sum : words_in (so_far.before ++ read_line ∷ []) ≡ words_in so_far.before + line_size read_line =
     sum_by_push line_size so_far.before read_line in
     let now_within_limit = stays_within_limit so_far.before read_line line_and_rest.0 in
@@ -65,8 +75,8 @@ writes_on labels words new added lines text rest after line so_far lines_are wor
       line_count = omega (arith, so_far.line_count, length-append so_far.before (read_line ∷ []));
       word_count = omega (arith, same_length, so_far.word_count, word_sum);
       within_limit = omega (arith, now_within_limit, word_sum);
-      is_split = so_far.is_split ∙ ap (λ ls. so_far.before ++ ls) rest_is ∙ sym (append_assoc so_far.before (read_line ∷ []) (readings after));
-      -- the line has no error of its own, and neither have the lines after it
+      is_split = so_far.is_split ∙ ap (λ others. so_far.before ++ others) rest_is
+          ∙ sym (append_assoc so_far.before (read_line ∷ []) (readings after));
       no_own_fault = line_and_rest.1;
       fault_in_rest =
           so_far.fault_in_rest ∙ ap (first_line_fault (name_fault labels) so_far.before) rest_is
@@ -75,7 +85,7 @@ writes_on labels words new added lines text rest after line so_far lines_are wor
       no_fault_before = first_fault-push (name_fault labels) [] so_far.before read_line ∙ rw (so_far.no_fault_before, line_words_are) refl;
       -- the words of the text are those so far, those of the line, and those of the lines after it
       words_split =
-          so_far.words_split ∙ ap (λ ls. words ++ words_from labels so_far.before ls) rest_is
+          so_far.words_split ∙ ap (λ others. words ++ words_from labels so_far.before others) rest_is
           ∙ rw (line_words_are, new_words_are)
           (sym (append_assoc words added (words_from labels (so_far.before ++ read_line ∷ []) (readings after))));
     }
@@ -94,16 +104,16 @@ module _ {labels : List ℕ → Option ℕ} {words : List ℕ} {lines : ℕ} {te
 
   -- the lines of the text are those before the rest, the next line, and those after it
   text_is_split : readings text ≡ so_far.before ++ read_line ∷ readings after
-  text_is_split = so_far.is_split ∙ ap (λ ls. so_far.before ++ map line_read ls) lines_are
+  text_is_split = so_far.is_split ∙ ap (λ others. so_far.before ++ map line_read others) lines_are
 
   -- an error in the words of the next line is the first error of a used label in the text
   fails_at : (kind : AsmFaultKind) → line_words labels (length words) read_line ≡ Err kind
       → first_line_fault (name_fault labels) [] (readings text) ≡ Some (record { line = lines + 1; kind = kind })
   fails_at kind line_fails =
       let has_fault : line_words labels (words_in so_far.before) read_line ≡ Err kind = rw (← so_far.word_count) line_fails in
-      so_far.fault_in_rest ∙ ap (λ ls. first_line_fault (name_fault labels) so_far.before (map line_read ls)) lines_are
+      so_far.fault_in_rest ∙ ap (λ others. first_line_fault (name_fault labels) so_far.before (map line_read others)) lines_are
       ∙ fault_here (name_fault labels) so_far.before (readings after) read_line kind (rw has_fault refl)
-      ∙ ap (λ n. Some (fault_after n kind)) (sym so_far.line_count)
+      ∙ ap (λ number. Some (fault_after number kind)) (sym so_far.line_count)
 
   -- the lines up to and including the next one are those before the rest and the next one
   lines_through : take (lines + 1) (readings text) ≡ so_far.before ++ read_line ∷ []

@@ -10,7 +10,7 @@ use Rattle.rv_text.specs.GoodLines.{is_blank}
 -- `after_blanks` is the text without leading blanks
 abbrev pub after_blanks : List ℕ → List ℕ
 after_blanks [] = []
-after_blanks (b ∷ text) = if is_blank b then after_blanks text else b ∷ text
+after_blanks (byte ∷ text) = if is_blank byte then after_blanks text else byte ∷ text
 
 -- `before_blanks` is the text without trailing blanks
 abbrev pub before_blanks : List ℕ → List ℕ
@@ -22,7 +22,7 @@ trimmed text = before_blanks (after_blanks text)
 
 -- `comma_fields` has the fields between commas, without leading and trailing blanks
 unfoldable pub comma_fields : List ℕ → List (List ℕ)
-comma_fields text = map trimmed (slice_split (λ b. b == comma) text)
+comma_fields text = map trimmed (slice_split (λ byte. byte == comma) text)
 
 -- the operands; a text of blanks alone has none
 abbrev pub operands_in : List ℕ → List (List ℕ)
@@ -32,11 +32,11 @@ operands_in text = if length (trimmed text) == 0 then [] else comma_fields text
 
 -- `before_comment` is the line before the first `#`
 abbrev pub before_comment : List ℕ → List ℕ
-before_comment line = take (position_or_len (λ b. b == number_sign) line) line
+before_comment line = take (position_or_len (λ byte. byte == number_sign) line) line
 
 -- `colon_place` is the index of the first `:`, or the length of the text
 abbrev pub colon_place : List ℕ → ℕ
-colon_place text = position_or_len (λ b. b == colon) text
+colon_place text = position_or_len (λ byte. byte == colon) text
 
 -- `label_text` is the text before the first `:`, if there is one, without leading blanks
 unfoldable pub label_text : List ℕ → Option (List ℕ)
@@ -60,13 +60,13 @@ after_word text = drop (position_or_len is_blank text) text
 
 -- a letter of a name is a letter, `_` or `.`
 abbrev pub is_letter : ℕ → Bool
-is_letter b = nat_le 97 b && nat_le b 122 || nat_le 65 b && nat_le b 90 || b == low_line || b == full_stop
+is_letter byte = nat_le 97 byte && nat_le byte 122 || nat_le 65 byte && nat_le byte 90 || byte == low_line || byte == full_stop
 
 -- a byte of a name is a letter, `_`, `.` or a digit
 unfoldable pub is_name_byte : ℕ → Bool
-is_name_byte b = is_letter b || nat_le 48 b && nat_le b 57
+is_name_byte byte = is_letter byte || nat_le 48 byte && nat_le byte 57
 
 -- a name: 1 to 32 of these bytes, and the first is no digit
 unfoldable pub is_name : List ℕ → Bool
 is_name [] = false
-is_name (b ∷ text) = is_letter b && list_all is_name_byte text && nat_lt (length text) 32
+is_name (byte ∷ text) = is_letter byte && list_all is_name_byte text && nat_lt (length text) 32

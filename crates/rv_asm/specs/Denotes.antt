@@ -12,11 +12,16 @@ StandsIn text before line = (after : List Reading) × (readings text ≡ before 
 -- before it, and no other name has an address. With this map, each line assembles to its words, which follow those of the lines before it. There
 -- are no other words.
 pub record Denotes (text words : List ℕ) : Type 0 where
+  -- the map from names to addresses
   pub labels : List ℕ → Option ℕ
+  -- a label has the address of its line
   pub placed : (before : List Reading) (line : Line) (name : List ℕ) → StandsIn text before (Ok line) → line.label ≡ Some name
       → labels name ≡ Some (words_in before)
+  -- each name with an address is the label of a line
   pub named : (name : List ℕ) (place : ℕ) → labels name ≡ Some place
       → (before : List Reading) × (line : Line) × StandsIn text before (Ok line) × (line.label ≡ Some name) × (place ≡ words_in before)
+  -- each line has its words at its address
   pub each : (before : List Reading) (line : Reading) → StandsIn text before line
       → line_words labels (words_in before) line ≡ Ok (take (line_size line) (drop (words_in before) words))
+  -- there are no other words
   pub whole : length words ≡ words_in (readings text)

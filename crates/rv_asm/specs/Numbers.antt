@@ -18,7 +18,7 @@ minus magnitude = record { is_negative = true; magnitude = magnitude }
 -- `decimal_digits` is the value of one or more decimal digits; a value above 2^64 - 1, which is out of every range, counts as 2^64 - 1
 unfoldable pub decimal_digits : List ℕ → Option ℕ
 decimal_digits text =
-    if nat_lt 0 (length text) && list_all (λ c. is_digit c 10) text then Some (min (digits_value 10 text) (2 ^ 64 - 1)) else None
+    if nat_lt 0 (length text) && list_all (λ digit. is_digit digit 10) text then Some (min (digits_value 10 text) (2 ^ 64 - 1)) else None
 
 -- A number is written as `0x` and one to eight hexadecimal digits of either case, or as decimal digits with an optional `-` before them.
 unfoldable pub written_number : List ℕ → Option Number

@@ -42,7 +42,7 @@ base_of text =
 
 -- `opening` is the index of the first `(`, or the length of the text
 abbrev pub opening : List ℕ → ℕ
-opening text = position_or_len (λ b. b == left_parenthesis) text
+opening text = position_or_len (λ byte. byte == left_parenthesis) text
 
 -- an operand `n(rs1)` is an offset and a base register
 unfoldable pub offset_and_base : List ℕ → Option (Number × ℕ)

@@ -14,10 +14,15 @@ label_twice line = record { line = line; kind = LabelTwice }
 -- The state of the first pass after exactly these lines: the counts of lines and words, the addresses of the labels, and the first line that
 -- repeats a label. (The words are at most 65536.)
 pub record HasRead (pass : FirstPass) (lines : List Reading) : Type 0 where
+  -- the pass has counted the lines
   pub count : pass.lines ≡ length lines
+  -- the pass has counted the words of the lines
   pub words : pass.words ≡ words_in lines
+  -- there are at most 65536 words
   pub few : words_in lines ≤ 65536
+  -- the map of the pass has the addresses of the labels
   pub labels : places_of pass.labels ≡ place_in lines
+  -- the pass has the first line that repeats a label
   pub repeated : first_line_fault label_fault [] lines ≡ option_map label_twice pass.repeated
 
 -- `repeated_with` is the first line that repeats a label, after one more line with this label
@@ -28,7 +33,12 @@ repeated_with pass (Some name) =
 
 -- the state after the label of the next line, if it has one
 pub record AddsLabel (old new : FirstPass) (label : Option (List ℕ)) : Type 0 where
+  -- the number of lines is unchanged
   pub count : new.lines ≡ old.lines
+  -- the number of words is unchanged
   pub words : new.words ≡ old.words
-  pub labels : (name : List ℕ) → places_of new.labels name ≡ option_case (places_of old.labels name) (if is_label name label then Some old.words else None) Some
+  -- a new label gets the number of words so far as its address
+  pub labels : (name : List ℕ)
+      → places_of new.labels name ≡ option_case (places_of old.labels name) (if is_label name label then Some old.words else None) Some
+  -- a label that is in the map already is repeated
   pub repeated : new.repeated ≡ repeated_with old label

@@ -50,18 +50,18 @@ statement_size (Word word) = 1
 
 -- `distance` is the distance from one address to another, in bytes; addresses count words
 abbrev pub distance : ℕ → ℕ → Number
-distance here there = if nat_lt there here then minus (4 * (here - there)) else plus (4 * (there - here))
+distance from to = if nat_lt to from then minus (4 * (from - to)) else plus (4 * (to - from))
 
 -- `statement_words` has the words of a statement at an address, with these addresses of the labels
 unfoldable pub statement_words : (List ℕ → Option ℕ) → ℕ → Statement → Result (List ℕ) AsmFaultKind
 statement_words labels place (Instruction instruction) = Ok (word_of instruction ∷ [])
 statement_words labels place (JumpTo rd name) = do
-  there ← ok_or (labels name) UnknownLabel
-  offset ← jump_offset_of (distance place there)
+  target ← ok_or (labels name) UnknownLabel
+  offset ← jump_offset_of (distance place target)
   Ok (word_of (Jal rd offset) ∷ [])
 statement_words labels place (BranchTo kind rs1 rs2 name) = do
-  there ← ok_or (labels name) UnknownLabel
-  offset ← branch_offset_of (distance place there)
+  target ← ok_or (labels name) UnknownLabel
+  offset ← branch_offset_of (distance place target)
   Ok (word_of (Branch kind rs1 rs2 offset) ∷ [])
 statement_words labels place (Li rd value) = Ok (map word_of (li_code rd value))
 statement_words labels place (Word word) = Ok (word ∷ [])

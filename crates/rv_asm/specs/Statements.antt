@@ -30,9 +30,9 @@ read >>= next = result_case read next Err
 
 -- lui and auipc have the operands `rd, n`
 abbrev pub upper_operands : List (List ℕ) → Result (ℕ × ℕ) AsmFaultKind
-upper_operands (rd ∷ n ∷ []) = do
+upper_operands (rd ∷ number_text ∷ []) = do
   rd ← register_at rd
-  number ← number_operand n
+  number ← number_operand number_text
   imm ← upper_immediate_of number
   Ok (rd, imm)
 upper_operands _ = Err BadOperand
@@ -46,9 +46,9 @@ jump_statement rd (Offset number) = do
 
 -- the statement of jal has a register and a target
 abbrev pub jal_statement : List (List ℕ) → Result Statement AsmFaultKind
-jal_statement (rd ∷ t ∷ []) = do
+jal_statement (rd ∷ target_text ∷ []) = do
   rd ← register_at rd
-  target ← target_at t
+  target ← target_at target_text
   jump_statement rd target
 jal_statement _ = Err BadOperand
 
@@ -61,38 +61,38 @@ branch kind rs1 rs2 (Offset number) = do
 
 -- the statement of a branch has two registers and a target
 abbrev pub branch_statement : BranchKind → List (List ℕ) → Result Statement AsmFaultKind
-branch_statement kind (rs1 ∷ rs2 ∷ t ∷ []) = do
+branch_statement kind (rs1 ∷ rs2 ∷ target_text ∷ []) = do
   rs1 ← register_at rs1
   rs2 ← register_at rs2
-  target ← target_at t
+  target ← target_at target_text
   branch kind rs1 rs2 target
 branch_statement kind _ = Err BadOperand
 
 -- `r, n(rs1)` of jalr, loads and stores: r, rs1 and n
 abbrev pub address_operands : List (List ℕ) → Result (ℕ × ℕ × ℕ) AsmFaultKind
-address_operands (r ∷ address ∷ []) = do
-  r ← register_at r
+address_operands (register ∷ address ∷ []) = do
+  register ← register_at register
   address ← address_operand address
   offset ← immediate_of address.0
-  Ok (r, address.1, offset)
+  Ok (register, address.1, offset)
 address_operands _ = Err BadOperand
 
 -- an instruction with an immediate is written `addi rd, rs1, n`
 abbrev pub immediate_statement : OpImmKind → List (List ℕ) → Result Statement AsmFaultKind
-immediate_statement kind (rd ∷ rs1 ∷ n ∷ []) = do
+immediate_statement kind (rd ∷ rs1 ∷ number_text ∷ []) = do
   rd ← register_at rd
   rs1 ← register_at rs1
-  number ← number_operand n
+  number ← number_operand number_text
   imm ← immediate_of number
   Ok (Instruction (instr.OpImm kind rd rs1 imm))
 immediate_statement kind _ = Err BadOperand
 
 -- a shift by an immediate is written `slli rd, rs1, n`
 abbrev pub shift_statement : ShiftKind → List (List ℕ) → Result Statement AsmFaultKind
-shift_statement kind (rd ∷ rs1 ∷ n ∷ []) = do
+shift_statement kind (rd ∷ rs1 ∷ number_text ∷ []) = do
   rd ← register_at rd
   rs1 ← register_at rs1
-  number ← number_operand n
+  number ← number_operand number_text
   shamt ← five_bits_of number
   Ok (Instruction (instr.ShiftImm kind rd rs1 shamt))
 shift_statement kind _ = Err BadOperand
@@ -108,17 +108,17 @@ register_statement kind _ = Err BadOperand
 
 -- a fence is written `fence p, s`
 abbrev pub fence_statement : List (List ℕ) → Result Statement AsmFaultKind
-fence_statement (p ∷ s ∷ []) = do
-  pred ← fence_set_at p
-  succ ← fence_set_at s
+fence_statement (pred_text ∷ succ_text ∷ []) = do
+  pred ← fence_set_at pred_text
+  succ ← fence_set_at succ_text
   Ok (Instruction (instr.Fence 0 pred succ 0 0))
 fence_statement _ = Err BadOperand
 
 -- a CSR instruction with a register is written `csrrw rd, c, rs1`
 abbrev pub csr_statement : CsrKind → List (List ℕ) → Result Statement AsmFaultKind
-csr_statement kind (rd ∷ c ∷ rs1 ∷ []) = do
+csr_statement kind (rd ∷ csr_text ∷ rs1 ∷ []) = do
   rd ← register_at rd
-  number ← csr_operand c
+  number ← csr_operand csr_text
   rs1 ← register_at rs1
   csr ← csr_number_field number
   Ok (Instruction (instr.Csr kind rd rs1 csr))
@@ -126,10 +126,10 @@ csr_statement kind _ = Err BadOperand
 
 -- a CSR instruction with an immediate is written `csrrwi rd, c, n`
 abbrev pub csr_immediate_statement : CsrKind → List (List ℕ) → Result Statement AsmFaultKind
-csr_immediate_statement kind (rd ∷ c ∷ n ∷ []) = do
+csr_immediate_statement kind (rd ∷ csr_text ∷ number_text ∷ []) = do
   rd ← register_at rd
-  number ← csr_operand c
-  immediate ← number_operand n
+  number ← csr_operand csr_text
+  immediate ← number_operand number_text
   csr ← csr_number_field number
   uimm ← five_bits_of immediate
   Ok (Instruction (instr.CsrImm kind rd uimm csr))
@@ -150,17 +150,17 @@ plain_statement instruction _ = Err BadOperand
 
 -- a word is written `.word n`
 abbrev pub word_statement : List (List ℕ) → Result Statement AsmFaultKind
-word_statement (n ∷ []) = do
-  number ← number_operand n
+word_statement (number_text ∷ []) = do
+  number ← number_operand number_text
   word ← word_of_number number
   Ok (Word word)
 word_statement _ = Err BadOperand
 
 -- a load of a number is written `li rd, n`
 abbrev pub li_statement : List (List ℕ) → Result Statement AsmFaultKind
-li_statement (rd ∷ n ∷ []) = do
+li_statement (rd ∷ number_text ∷ []) = do
   rd ← register_at rd
-  number ← number_operand n
+  number ← number_operand number_text
   word ← word_of_number number
   Ok (Li rd word)
 li_statement _ = Err BadOperand
