@@ -23,9 +23,9 @@ getter_value read found id result if_not_given if_given = rw (sym (one_text-rows
   by_text (Some text) is_given = if_given text is_given
 
 -- digits pass the test of a decimal number
-digits_decided : (ds : List ℕ) → Decides (list_all (λ d. nat_lt (digit_value d) 10) ds) (AllDigits 10 ds)
+digits_decided : (digits : List ℕ) → Decides (list_all (λ digit. nat_lt (digit_value digit) 10) digits) (AllDigits 10 digits)
 digits_decided [] = ((λ all_digits. tt), (λ all_digits. refl))
-digits_decided (d ∷ ds) = Decides-and _ _ (Decides-ltb (digit_value d) 10) (digits_decided ds)
+digits_decided (digit ∷ digits) = Decides-and _ _ (Decides-ltb (digit_value digit) 10) (digits_decided digits)
 
 module _ (bits : ℕ) (text : Text) where
   -- `value` is the value of the digits
@@ -43,8 +43,8 @@ module _ (bits : ℕ) (text : Text) where
 
   -- the value that `get_one` returns for a text is the number of `bits` bits in the text
   pub reads_number : {E : Type 0} (G : Text → Result ℕ E → Type 0) (result : Option ℕ) → ReadsOne G text result
-      → ((x : Result ℕ E) → G text x → ParsesUnsigned bits 10 text x) → result ≡ number_in_text bits text
-  reads_number G (Some n) read parses = let only_one = parses (Ok n) read in rw (word_decided.1 only_one.0) (ap Some only_one.1)
+      → ((result_read : Result ℕ E) → G text result_read → ParsesUnsigned bits 10 text result_read) → result ≡ number_in_text bits text
+  reads_number G (Some number) read parses = let only_one = parses (Ok number) read in rw (word_decided.1 only_one.0) (ap Some only_one.1)
   reads_number G None read parses = by_test is_word refl where
     -- the same claim by cases on the test: a getter returns no value only if the text is no number in range
     by_test : (test : Bool) → is_word ≡ test → None ≡ cond test (Some value) None

@@ -23,7 +23,7 @@ use Rattle.clap.specs.declared.builder.value_parser.ValueParser.TheVariants as p
 use Rattle.clap.specs.declared.error.kind.ErrorKind.{ErrorKind}
 use Rattle.clap.specs.declared.error.kind.ErrorKind.TheVariants as kind
 use Rattle.clap.specs.declared.parser.matches.ValueSource.TheVariants.{CommandLine, DefaultValue}
-use Rattle.rv_command_line.proofs.Alike.{Alike, entered_alike, entered_rows, first, Fits, itself, no_fault_in_parts, rule_at, with_names}
+use Rattle.rv_command_line.proofs.Alike.{Alike, entered_alike, entered_rows, at_definition, Fits, itself, no_fault_in_parts, rule_at, with_names}
 use Rattle.rv_command_line.proofs.Numbers.{number_reads}
 use Rattle.rv_command_line.proofs.Readable.{are_values, either_good, Good, how, is_read, values_good, without_good}
 use Rattle.rv_command_line.specs.CommandLine as line
@@ -44,8 +44,8 @@ abbrev last_slot : ℕ
 last_slot = 12
 
 -- an accepted value of `--kind` is readable
-kind_read : (v : Text) → accepts false (parser.Names first) v ≡ true → is_some (kind_of v) ≡ true
-kind_read v = by_name (bytes_eq (codes "auto") v) (bytes_eq (codes "raw") v) (bytes_eq (codes "elf") v) where
+kind_read : (value : Text) → accepts false (parser.Names at_definition) value ≡ true → is_some (kind_of value) ≡ true
+kind_read value = by_name (bytes_eq (codes "auto") value) (bytes_eq (codes "raw") value) (bytes_eq (codes "elf") value) where
   -- a text that is `auto`, `raw` or `elf` is the name of an image format
   by_name : (is_auto is_raw is_elf : Bool) → (is_auto || (is_raw || (is_elf || false))) ≡ true
       → is_some (option_map (λ (row : Text × ImageKind). row.1)
@@ -57,49 +57,54 @@ kind_read v = by_name (bytes_eq (codes "auto") v) (bytes_eq (codes "raw") v) (by
   by_name false false false accepted = accepted
 
 -- a text that the parser for a range of numbers accepts is read as a number of the range
-number_between : (bits low high : ℕ) → high < 2 ^ bits → (v : Text) → accepts false (parser.Signed (pos low) (pos high)) v ≡ true
-    → (n : ℕ) × (number_in_text bits (without_minus v) ≡ Some n) × (low ≤ n) × (n ≤ high)
-number_between bits low high high_fits v accepted =
-    signed_reads Bool (λ text result. ParsesUnsigned bits 10 text result) bits low high v (number_in_text bits (without_minus v))
-    (number_reads bits (without_minus v)) (λ text result parses. parses) high_fits
-    (accepts-Accepts false (parser.Signed (pos low) (pos high)) v accepted)
+number_between : (bits low high : ℕ) → high < 2 ^ bits → (value : Text) → accepts false (parser.Signed (pos low) (pos high)) value ≡ true
+    → (number : ℕ) × (number_in_text bits (without_minus value) ≡ Some number) × (low ≤ number) × (number ≤ high)
+number_between bits low high high_fits value accepted =
+    signed_reads Bool (λ text result. ParsesUnsigned bits 10 text result) bits low high value (number_in_text bits (without_minus value))
+    (number_reads bits (without_minus value)) (λ text result parses. parses) high_fits
+    (accepts-Accepts false (parser.Signed (pos low) (pos high)) value accepted)
 
 -- an accepted value of `--ram` is readable
-ram_read : (v : Text) → accepts false (parser.Signed (pos 0) (pos max_u32)) v ≡ true → is_some (number_in_text 32 (without_minus v)) ≡ true
-ram_read v accepted = ap is_some (number_between 32 0 max_u32 (omega arith) v accepted).1
+ram_read : (value : Text) → accepts false (parser.Signed (pos 0) (pos max_u32)) value ≡ true
+    → is_some (number_in_text 32 (without_minus value)) ≡ true
+ram_read value accepted = ap is_some (number_between 32 0 max_u32 (omega arith) value accepted).1
 
 -- an accepted value of `--slot` is readable
-slot_read : (v : Text) → accepts false (parser.Signed (pos 0) (pos last_slot)) v ≡ true → is_slot (without_minus v) ≡ true
-slot_read v accepted =
-    let number = number_between 8 0 last_slot (omega arith) v accepted in
+slot_read : (value : Text) → accepts false (parser.Signed (pos 0) (pos last_slot)) value ≡ true → is_slot (without_minus value) ≡ true
+slot_read value accepted =
+    let number = number_between 8 0 last_slot (omega arith) value accepted in
     ap (λ found. option_map_or (λ slot. nat_lt slot 13) found false) number.1 ∙ lt-ltb number.0 13 (omega arith)
 
 -- 1 and 2 are valid numbers of harts
-harts_counted : (n : ℕ) → 1 ≤ n → n ≤ 2 → is_some (counted_harts n) ≡ true
-harts_counted n at_least_one at_most_two = grind (arith, nat_tests)
+harts_counted : (number : ℕ) → 1 ≤ number → number ≤ 2 → is_some (counted_harts number) ≡ true
+harts_counted number at_least_one at_most_two = grind (arith, nat_tests)
 
 -- an accepted value of `--harts` is readable
-harts_read : (v : Text) → accepts false (parser.Signed (pos 1) (pos 2)) v ≡ true → is_some (harts_in_text (without_minus v)) ≡ true
-harts_read v accepted =
-    let number = number_between 8 1 2 (omega arith) v accepted in
+harts_read : (value : Text) → accepts false (parser.Signed (pos 1) (pos 2)) value ≡ true → is_some (harts_in_text (without_minus value)) ≡ true
+harts_read value accepted =
+    let number = number_between 8 1 2 (omega arith) value accepted in
     ap (λ found. is_some (option_and_then counted_harts found)) number.1 ∙ harts_counted number.0 number.2 number.3
 
 -- if there is no error for the values of an option, all pass a test that each accepted value passes
-values_pass : (p : ValueParser) (test : Text → Bool) → ((v : Text) → accepts false p v ≡ true → test v ≡ true)
-    → (vs : List Text) → values_kinds false p vs ≡ [] → list_all test vs ≡ true
-values_pass p test each [] no_fault = refl
-values_pass p test each (v ∷ vs) no_fault =
+values_pass : (value_parser : ValueParser) (test : Text → Bool) → ((value : Text) → accepts false value_parser value ≡ true → test value ≡ true)
+    → (other_values : List Text) → values_kinds false value_parser other_values ≡ [] → list_all test other_values ≡ true
+values_pass value_parser test each [] no_fault = refl
+values_pass value_parser test each (value ∷ other_values) no_fault =
     let (first_accepted, others_accepted) = no_fault_in_parts _ _ no_fault in
-    rw (each v (accepted_if_no_fault (accepts false p v) first_accepted), values_pass p test each vs others_accepted) refl where
+    rw (
+      each value (accepted_if_no_fault (accepts false value_parser value) first_accepted),
+      values_pass value_parser test each other_values
+          others_accepted,
+    ) refl where
       -- a value is accepted if there is no error for it
-      accepted_if_no_fault : (accepted : Bool) → cond accepted [] (refused_kind p ∷ []) ≡ [] → accepted ≡ true
+      accepted_if_no_fault : (accepted : Bool) → cond accepted [] (refused_kind value_parser ∷ []) ≡ [] → accepted ≡ true
       accepted_if_no_fault true no_fault = refl
       accepted_if_no_fault false no_fault = cc
 
 -- the arguments after `help` are not values of an option
-topics_read : (vs : List Text) → are_values (codes "subcommand") vs ≡ true
+topics_read : (other_values : List Text) → are_values (codes "subcommand") other_values ≡ true
 topics_read [] = refl
-topics_read (v ∷ vs) = topics_read vs
+topics_read (value ∷ other_values) = topics_read other_values
 
 -- ---- the rules
 
@@ -108,56 +113,60 @@ not_empty : {P : Type 0} (fault : ErrorKind) (faults : Kinds) → fault ∷ faul
 not_empty fault faults is_empty = cc
 
 -- a flag with a value is an error, so the premise that no error was found is false
-no_value_wanted : {P : Type 0} (n : ℕ) (faults : Kinds) → or_else (range_kinds 0 0 (suc n)) faults ≡ [] → P
-no_value_wanted n faults none_given =
-    let one_given : (0 == suc n) ≡ false = grind (arith, nat_tests) in not_empty _ _ (rw one_given at none_given)
+no_value_wanted : {P : Type 0} (number : ℕ) (faults : Kinds) → or_else (range_kinds 0 0 (suc number)) faults ≡ [] → P
+no_value_wanted number faults none_given =
+    let one_given : (0 == suc number) ≡ false = grind (arith, nat_tests) in not_empty _ _ (rw one_given at none_given)
 
-module _ (here : Names) (alike : texts here.now ≡ kind_names) where
+module _ (elsewhere : Names) (alike : texts elsewhere.now ≡ kind_names) where
   -- the errors of a value do not depend on the address of the names
-  value_same : (p : ValueParser) (v : Text) → value_kinds false (with_names here p) v ≡ value_kinds false (with_names first p) v
-  value_same (parser.Names names) v =
-      let test = λ (name : Text). same_text false name v in
-      ap (λ accepted. cond accepted [] (kind.InvalidValue ∷ [])) (list_any-map test (λ name. name.now) here.now ∙ ap (list_any test) alike)
-  value_same _ v = refl
+  value_same : (value_parser : ValueParser) (value : Text)
+      → value_kinds false (with_names elsewhere value_parser) value ≡ value_kinds false (with_names at_definition value_parser) value
+  value_same (parser.Names names) value =
+      let test = λ (name : Text). same_text false name value in
+      ap (λ accepted. cond accepted [] (kind.InvalidValue ∷ [])) (list_any-map test (λ name. name.now) elsewhere.now ∙ ap (list_any test) alike)
+  value_same _ value = refl
 
   -- the errors of values do not depend on the address of the names
-  values_same : (p : ValueParser) (vs : List Text) → values_kinds false (with_names here p) vs ≡ values_kinds false (with_names first p) vs
-  values_same p [] = refl
-  values_same p (v ∷ vs) = rw (value_same p v, values_same p vs) refl
+  values_same : (value_parser : ValueParser) (other_values : List Text)
+      → values_kinds false (with_names elsewhere value_parser) other_values ≡ values_kinds false (with_names at_definition value_parser) other_values
+  values_same value_parser [] = refl
+  values_same value_parser (value ∷ other_values) = rw (value_same value_parser value, values_same value_parser other_values) refl
 
   -- a step that does not use the names is alike, if it keeps rows with readable values readable
-  nameless : {rows after : List Row} {fault : Kinds} → (fault ≡ [] → Good rows → Good after) → Alike here itself rows (λ _. fault) (λ _. after)
+  nameless : {rows after : List Row} {fault : Kinds} → (fault ≡ [] → Good rows → Good after) → Alike elsewhere itself rows (λ _. fault) (λ _. after)
   nameless rows_stay_good = record { same_faults = refl; same_result = refl; keeps_good = rows_stay_good }
 
   -- an option with a value does not depend on the address of the names
-  valued_fits : (name : Text) (p : ValueParser) → ((n : Names) → reading_of (with_names n p) ≡ how name)
-      → ((v : Text) → accepts false (with_names first p) v ≡ true → is_read name (read_as (how name) v) ≡ true)
-      → Fits here (filled (valued name p))
-  valued_fits name p same_reading accepted_is_read = record {
+  valued_fits : (name : Text) (value_parser : ValueParser) → ((number : Names) → reading_of (with_names number value_parser) ≡ how name)
+      → ((value : Text) → accepts false (with_names at_definition value_parser) value ≡ true → is_read name (read_as (how name) value) ≡ true)
+      → Fits elsewhere (filled (valued name value_parser))
+  valued_fits name value_parser same_reading accepted_is_read = record {
     uses = use_alike;
     default = λ rows. nameless (λ no_fault good. either_good (has_row name rows) rows rows good good);
   }
     where
       -- a use of the option with these values does not depend on the address of the names
-      use_alike : (again : Bool) (values : List Text) (rows : List Row) → Alike here itself rows
-          (λ n. use_fault again (rule_at n (filled (valued name p))) values rows) (λ n. used (rule_at n (filled (valued name p))) values rows)
+      use_alike : (again : Bool) (values : List Text) (rows : List Row) → Alike elsewhere itself rows
+          (λ number. use_fault again (rule_at number (filled (valued name value_parser))) values rows)
+          (λ number. used (rule_at number (filled (valued name value_parser))) values rows)
       use_alike again [] rows = record {
         same_faults = refl;
-        same_result = rw (same_reading here, same_reading first) refl;
+        same_result = rw (same_reading elsewhere, same_reading at_definition) refl;
         keeps_good = λ no_fault good. not_empty _ _ no_fault;
       }
-      use_alike again (v ∷ vs) rows = record {
-        same_faults = rw (values_same p (v ∷ vs)) refl;
-        same_result = rw (same_reading here, same_reading first) refl;
+      use_alike again (value ∷ other_values) rows = record {
+        same_faults = rw (values_same value_parser (value ∷ other_values)) refl;
+        same_result = rw (same_reading elsewhere, same_reading at_definition) refl;
         keeps_good = λ no_fault good.
             let values_accepted = (no_fault_in_parts _ _ (no_fault_in_parts _ _ no_fault).1).1 in
             let values_read =
-            values_pass (with_names first p) (λ v. is_read name (read_as (how name) v)) accepted_is_read (v ∷ vs) values_accepted in
-            rw (same_reading first) (values_good name CommandLine (v ∷ vs) _ values_read (without_good name rows good));
+            values_pass (with_names at_definition value_parser) (λ value. is_read name (read_as (how name) value)) accepted_is_read
+            (value ∷ other_values) values_accepted in
+            rw (same_reading at_definition) (values_good name CommandLine (value ∷ other_values) _ values_read (without_good name rows good));
       }
 
   -- `--monitor` does not depend on the address of the names
-  monitor_fits : Fits here (filled line.monitor)
+  monitor_fits : Fits elsewhere (filled line.monitor)
   monitor_fits = record {
     uses = use_alike;
     default = λ rows. nameless (λ no_fault good.
@@ -166,21 +175,22 @@ module _ (here : Names) (alike : texts here.now ≡ kind_names) where
   }
     where
       -- a use of `--monitor` with these values does not depend on the address of the names
-      use_alike : (again : Bool) (values : List Text) (rows : List Row) → Alike here itself rows
-          (λ n. use_fault again (rule_at n (filled line.monitor)) values rows) (λ n. used (rule_at n (filled line.monitor)) values rows)
+      use_alike : (again : Bool) (values : List Text) (rows : List Row) → Alike elsewhere itself rows
+          (λ number. use_fault again (rule_at number (filled line.monitor)) values rows)
+          (λ number. used (rule_at number (filled line.monitor)) values rows)
       use_alike again [] rows = nameless (λ no_fault good.
           values_good (codes "monitor") CommandLine (codes "true" ∷ []) _ refl (without_good (codes "monitor") rows good))
-      use_alike again (v ∷ vs) rows = nameless (λ no_fault good. no_value_wanted (length vs) _ no_fault)
+      use_alike again (value ∷ other_values) rows = nameless (λ no_fault good. no_value_wanted (length other_values) _ no_fault)
 
   -- `--help` does not depend on the address of the names
-  help_fits : Fits here (filled help_rule)
+  help_fits : Fits elsewhere (filled help_rule)
   help_fits = record {
     uses = λ again values rows. nameless (λ no_fault good. good);
     default = λ rows. nameless (λ no_fault good. either_good (has_row (codes "help") rows) rows rows good good);
   }
 
   -- the topic of help does not depend on the address of the names
-  topic_fits : Fits here (record (filled topic_rule) { index = Some 1 })
+  topic_fits : Fits elsewhere (record (filled topic_rule) { index = Some 1 })
   topic_fits = record {
     uses = λ again values rows. nameless (λ no_fault good.
         let raw = values_or_missing (filled topic_rule) values in values_good (codes "subcommand") CommandLine raw rows (topics_read raw) good);
@@ -189,13 +199,13 @@ module _ (here : Names) (alike : texts here.now ≡ kind_names) where
 
   -- the errors and the rows of the entered subcommand do not depend on the address of the names, since each of its rules does not
   enters : (stop : Option (Text × List Text))
-      → Alike here entered_rows [] (λ n. entered_fault (built (program n)) stop) (λ n. entered (built (program n)) stop)
+      → Alike elsewhere entered_rows [] (λ number. entered_fault (built (program number)) stop) (λ number. entered (built (program number)) stop)
   enters =
-      let kind = valued_fits (codes "kind") (parser.Names first) (λ n. refl) kind_read in
-      let ram = valued_fits (codes "ram") (parser.Signed (pos 0) (pos max_u32)) (λ n. refl) ram_read in
-      let harts = valued_fits (codes "harts") (parser.Signed (pos 1) (pos 2)) (λ n. refl) harts_read in
-      let slot = valued_fits (codes "slot") (parser.Signed (pos 0) (pos last_slot)) (λ n. refl) slot_read in
-      entered_alike here (built rvbench).subs (
+      let kind = valued_fits (codes "kind") (parser.Names at_definition) (λ number. refl) kind_read in
+      let ram = valued_fits (codes "ram") (parser.Signed (pos 0) (pos max_u32)) (λ number. refl) ram_read in
+      let harts = valued_fits (codes "harts") (parser.Signed (pos 1) (pos 2)) (λ number. refl) harts_read in
+      let slot = valued_fits (codes "slot") (parser.Signed (pos 0) (pos last_slot)) (λ number. refl) slot_read in
+      entered_alike elsewhere (built rvbench).subs (
         (kind, (ram, (monitor_fits, (harts, (help_fits, tt))))),
         ((slot, (kind, (ram, (harts, (help_fits, tt))))), ((help_fits, tt), ((help_fits, tt), ((topic_fits, tt), tt)))),
       )
@@ -207,10 +217,10 @@ abbrev stop_at : List Text → Option (Text × List Text)
 stop_at words = let app = built rvbench in stop_after app.top.rules (names_of app) (argument_words app words)
 
 -- the errors and the subcommand of the arguments do not depend on the address of the names
-pub program_alike : (here : Names) → texts here.now ≡ kind_names → (words : List Text)
-    → (fault_of (program here) words ≡ faults_of words) × (subcommand_of (program here) words ≡ subcommand_of rvbench words)
-program_alike here same_names words =
-    let entered = enters here same_names (stop_at words) in (rw (entered.same_result, entered.same_faults) refl, entered.same_result)
+pub program_alike : (elsewhere : Names) → texts elsewhere.now ≡ kind_names → (words : List Text)
+    → (fault_of (program elsewhere) words ≡ faults_of words) × (subcommand_of (program elsewhere) words ≡ subcommand_of rvbench words)
+program_alike elsewhere same_names words =
+    let entered = enters elsewhere same_names (stop_at words) in (rw (entered.same_result, entered.same_faults) refl, entered.same_result)
 
 -- if the arguments are accepted, the options of the subcommand have readable values
 pub accepted_good : (words : List Text) → faults_of words ≡ [] → Good (entered_rows (subcommand_of rvbench words))
@@ -218,4 +228,4 @@ accepted_good words no_fault =
     let app = built rvbench in
     let walks = walk_fault app.top (names_of app) (walk_from nothing_held) (argument_words app words) in
     let none_in_entered = (no_fault_in_parts (entered_fault app (stop_at words)) _ (no_fault_in_parts walks _ no_fault).1).0 in
-    (enters first refl (stop_at words)).keeps_good none_in_entered tt
+    (enters at_definition refl (stop_at words)).keeps_good none_in_entered tt

@@ -29,11 +29,11 @@ is_read id text =
 
 -- each text of a list is a readable value of the option
 abbrev pub are_values : Text → List Text → Bool
-are_values id = list_all (λ v. is_read id (read_as (how id) v))
+are_values id = list_all (λ value. is_read id (read_as (how id) value))
 
 -- a row has the reading of its option, and readable values
 abbrev pub GoodRow : Row → Type 0
-GoodRow r = (r.reading ≡ how r.id) × (are_values r.id r.values ≡ true)
+GoodRow row = (row.reading ≡ how row.id) × (are_values row.id row.values ≡ true)
 
 -- each row has the reading of its option, and readable values
 abbrev pub Good : List Row → Type 0
@@ -47,9 +47,9 @@ either_good false rows others rows_good others_good = others_good
 -- rows stay good if the rows of one option are removed
 pub without_good : (id : Text) (rows : List Row) → Good rows → Good (without id rows)
 without_good id [] good = tt
-without_good id (r ∷ rs) good = by_id (bytes_eq r.id id) (without_good id rs good.1) where
-  -- the same claim by cases on whether the first row r is one of that option
-  by_id : (same_id : Bool) → Good (without id rs) → Good (cond same_id rs (r ∷ without id rs))
+without_good id (row ∷ other_rows) good = by_id (bytes_eq row.id id) (without_good id other_rows good.1) where
+  -- the same claim by cases on whether the first row is one of that option
+  by_id : (same_id : Bool) → Good (without id other_rows) → Good (cond same_id other_rows (row ∷ without id other_rows))
   by_id true others_good = good.1
   by_id false others_good = (good.0, others_good)
 
@@ -57,42 +57,50 @@ without_good id (r ∷ rs) good = by_id (bytes_eq r.id id) (without_good id rs g
 pub values_good : (id : Text) (source : ValueSource) (values : List Text) (rows : List Row) → are_values id values ≡ true → Good rows
     → Good (with_values id (how id) source values rows)
 values_good id source values [] values_readable good = ((refl, values_readable), tt)
-values_good id source values (r ∷ rs) values_readable good = by_id (bytes_eq r.id id) refl (values_good id source values rs values_readable good.1)
+values_good id source values (row ∷ other_rows) values_readable good =
+    by_id (bytes_eq row.id id) refl (values_good id source values other_rows values_readable good.1)
   where
-    -- the same claim by cases on whether the first row r is one of the option
-    by_id : (same_id : Bool) → bytes_eq r.id id ≡ same_id → Good (with_values id (how id) source values rs)
-        → Good (cond same_id (more_values source values r ++ rs) (r ∷ with_values id (how id) source values rs))
+    -- the same claim by cases on whether the first row is one of the option
+    by_id : (same_id : Bool) → bytes_eq row.id id ≡ same_id → Good (with_values id (how id) source values other_rows)
+        → Good (cond same_id (more_values source values row ++ other_rows) (row ∷ with_values id (how id) source values other_rows))
     by_id true id_is others_good =
-        let ids_are_equal = (bytes_eq-Decides r.id id).0 id_is in
-        ((good.0.0, rw (list_all-append (λ v. is_read r.id (read_as (how r.id) v)) r.values values, good.0.1, ids_are_equal) values_readable), good.1)
+        let ids_are_equal = (bytes_eq-Decides row.id id).0 id_is in (
+          (
+            good.0.0,
+            rw (list_all-append (λ value. is_read row.id (read_as (how row.id) value)) row.values values, good.0.1, ids_are_equal)
+                values_readable,
+          ),
+          good.1,
+        )
     by_id false id_is others_good = (good.0, others_good)
 
 -- if a text is readable in each good row with this id, it is readable in the row that a search for the id finds
-row_read : (id : Text) (text : Row → Option Text) → ((r : Row) → r.id ≡ id → GoodRow r → option_map_or (is_read id) (text r) true ≡ true)
-    → (rows : List Row) → Good rows → option_map_or (is_read id) (option_and_then text (find (λ r. bytes_eq r.id id) rows)) true ≡ true
+row_read : (id : Text) (text : Row → Option Text) → ((row : Row) → row.id ≡ id → GoodRow row → option_map_or (is_read id) (text row) true ≡ true)
+    → (rows : List Row) → Good rows → option_map_or (is_read id) (option_and_then text (find (λ row. bytes_eq row.id id) rows)) true ≡ true
 row_read id text each_read [] good = refl
-row_read id text each_read (r ∷ rs) good = by_id (bytes_eq r.id id) refl (row_read id text each_read rs good.1) where
-  -- the same claim by cases on whether the first row r has the id
-  by_id : (same_id : Bool) → bytes_eq r.id id ≡ same_id
-      → option_map_or (is_read id) (option_and_then text (find (λ r. bytes_eq r.id id) rs)) true ≡ true
-      → option_map_or (is_read id) (option_and_then text (cond same_id (Some r) (find (λ r. bytes_eq r.id id) rs))) true ≡ true
-  by_id true id_is others_read = each_read r ((bytes_eq-Decides r.id id).0 id_is) good.0
+row_read id text each_read (row ∷ other_rows) good = by_id (bytes_eq row.id id) refl (row_read id text each_read other_rows good.1) where
+  -- the same claim by cases on whether the first row has the id
+  by_id : (same_id : Bool) → bytes_eq row.id id ≡ same_id
+      → option_map_or (is_read id) (option_and_then text (find (λ row. bytes_eq row.id id) other_rows)) true ≡ true
+      → option_map_or (is_read id) (option_and_then text (cond same_id (Some row) (find (λ row. bytes_eq row.id id) other_rows))) true ≡ true
+  by_id true id_is others_read = each_read row ((bytes_eq-Decides row.id id).0 id_is) good.0
   by_id false id_is others_read = others_read
 
 -- the first of several readable values is readable
-first_read : (id : Text) (vs : List Text) → are_values id vs ≡ true
-    → option_map_or (is_read id) (option_map (read_as (how id)) (slice_get vs 0)) true ≡ true
+first_read : (id : Text) (other_values : List Text) → are_values id other_values ≡ true
+    → option_map_or (is_read id) (option_map (read_as (how id)) (slice_get other_values 0)) true ≡ true
 first_read id [] all_read = refl
-first_read id (v ∷ vs) all_read = (both (is_read id (read_as (how id) v)) (are_values id vs) all_read).0
+first_read id (value ∷ other_values) all_read = (both (is_read id (read_as (how id) value)) (are_values id other_values) all_read).0
 
 -- in good rows, the value of an option is readable, if the option has a value
 pub one_read : (id : Text) (rows : List Row) → Good rows → option_map_or (is_read id) (one_of id rows) true ≡ true
-one_read id = row_read id row_text (λ r same_id good. rw (good.0, sym same_id) (first_read r.id r.values good.1))
+one_read id = row_read id row_text (λ row same_id good. rw (good.0, sym same_id) (first_read row.id row.values good.1))
 
 -- in good rows, the value of `--kind` is readable, if the option has a value
 pub kind_read : (rows : List Row) → Good rows → option_map_or (is_read (codes "kind")) (first_of (codes "kind") rows) true ≡ true
-kind_read = row_read (codes "kind") (λ r. slice_get r.values 0) (λ r same_id good. first_value_read r.values (rw same_id at good.1)) where
+kind_read = row_read (codes "kind") (λ row. slice_get row.values 0) (λ row same_id good. first_value_read row.values (rw same_id at good.1)) where
   -- the first of readable values of `--kind` is readable, if there is one
-  first_value_read : (vs : List Text) → are_values (codes "kind") vs ≡ true → option_map_or (is_read (codes "kind")) (slice_get vs 0) true ≡ true
+  first_value_read : (other_values : List Text) → are_values (codes "kind") other_values ≡ true
+      → option_map_or (is_read (codes "kind")) (slice_get other_values 0) true ≡ true
   first_value_read [] all_read = refl
-  first_value_read (v ∷ vs) all_read = (both (is_read (codes "kind") v) (are_values (codes "kind") vs) all_read).0
+  first_value_read (value ∷ other_values) all_read = (both (is_read (codes "kind") value) (are_values (codes "kind") other_values) all_read).0

@@ -44,9 +44,9 @@ slot_below : (slot : Option Text) → option_map_or is_slot slot true ≡ true �
 slot_below None no_slot = refl
 slot_below (Some text) slot_is_valid = by_number (number_in_text 8 text) slot_is_valid where
   -- the same claim by cases on the number in the text, or `None` if the text is no number
-  by_number : (slot : Option ℕ) → option_map_or (λ n. nat_lt n 13) slot false ≡ true → nat_lt (unwrap_or slot 0) 13 ≡ true
+  by_number : (slot : Option ℕ) → option_map_or (λ number. nat_lt number 13) slot false ≡ true → nat_lt (unwrap_or slot 0) 13 ≡ true
   by_number None slot_is_valid = refl
-  by_number (Some n) slot_is_valid = slot_is_valid
+  by_number (Some number) slot_is_valid = slot_is_valid
 
 -- the job of a subcommand with good options is valid
 named_valid : (met : Option (Text × List Row)) → Good (entered_rows met) → is_valid_job (named_job met) ≡ true
