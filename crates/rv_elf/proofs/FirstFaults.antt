@@ -34,30 +34,31 @@ pub no_fault_parts : (condition : Bool) (fault : ElfFault) (rows : List (Bool ×
 no_fault_parts true fault rows no_fault = absurd (grind arith)
 no_fault_parts false fault rows no_fault = (refl, no_fault)
 
--- the rows of the table have the numbers n, n + 1, n + 2, .., in this order
+-- the rows of the table have consecutive numbers from `first_number` on
 abbrev AreNumbered : ℕ → List (Bool × ElfFault) → Type 0
-AreNumbered n rows = map (λ row. elf_fault_number row.1) rows ≡ range_with_len n (length rows)
+AreNumbered first_number rows = map (λ row. elf_fault_number row.1) rows ≡ range_with_len first_number (length rows)
 
--- if the rows have consecutive numbers from n on, no error with a number below n has a condition that holds (by induction over the rows)
-no_lesser_fault : (rows : List (Bool × ElfFault)) (n number : ℕ) → AreNumbered n rows → number ≤ n
+-- if the rows have consecutive numbers from `first_number` on, no error with a smaller number has a condition that holds (by induction over the rows)
+no_lesser_fault : (rows : List (Bool × ElfFault)) (first_number number : ℕ) → AreNumbered first_number rows → number ≤ first_number
     → list_any (λ row. row.0 && nat_lt (elf_fault_number row.1) number) rows ≡ false
-no_lesser_fault [] n number rows_are_numbered least_below_n = refl
-no_lesser_fault ((condition, fault) ∷ rows) n number rows_are_numbered least_below_n =
-    let no_lesser_in_rest = no_lesser_fault rows (suc n) number (grind arith) (omega arith) in
-    let number_is : elf_fault_number fault ≡ n = grind arith in
+no_lesser_fault [] first_number number rows_are_numbered least_below_n = refl
+no_lesser_fault ((condition, fault) ∷ rows) first_number number rows_are_numbered least_below_n =
+    let no_lesser_in_rest = no_lesser_fault rows (suc first_number) number (grind arith) (omega arith) in
+    let number_is : elf_fault_number fault ≡ first_number = grind arith in
     grind (arith, common_steps)
 
 -- if the rows have consecutive numbers, the first error whose condition holds has the smallest number (by induction over the rows)
-first_fault_is_least : (rows : List (Bool × ElfFault)) (n : ℕ) (fault : ElfFault) → AreNumbered n rows → first_fault rows ≡ Some fault
+first_fault_is_least : (rows : List (Bool × ElfFault)) (first_number : ℕ) (fault : ElfFault) → AreNumbered first_number rows
+    → first_fault rows ≡ Some fault
     → IsLeast rows fault
-first_fault_is_least [] n fault rows_are_numbered fault_found = absurd (grind arith)
-first_fault_is_least ((true, row_fault) ∷ rows) n fault rows_are_numbered fault_found =
-    let no_lesser_in_rest = no_lesser_fault rows (suc n) n (grind arith) (omega arith) in
-    let number_is : elf_fault_number row_fault ≡ n = grind arith in
+first_fault_is_least [] first_number fault rows_are_numbered fault_found = absurd (grind arith)
+first_fault_is_least ((true, row_fault) ∷ rows) first_number fault rows_are_numbered fault_found =
+    let no_lesser_in_rest = no_lesser_fault rows (suc first_number) first_number (grind arith) (omega arith) in
+    let number_is : elf_fault_number row_fault ≡ first_number = grind arith in
     let row_fault_is : row_fault ≡ fault = grind arith in
     (grind (arith, common_steps), grind (arith, common_steps))
-first_fault_is_least ((false, row_fault) ∷ rows) n fault rows_are_numbered fault_found =
-    first_fault_is_least rows (suc n) fault (grind arith) fault_found
+first_fault_is_least ((false, row_fault) ∷ rows) first_number fault rows_are_numbered fault_found =
+    first_fault_is_least rows (suc first_number) fault (grind arith) fault_found
 
 -- the errors of an ELF file have the numbers from that of `Truncated` on, in the order in which they are checked
 file_faults_numbered : (file : List ℕ) (ram_size len entry : ℕ) (monitored : Bool) (segments others : List Segment)

@@ -46,37 +46,37 @@ unfolding LoadInvariant
 loads_size image plan before memory rest invariant = invariant.1
 
 -- the segment at the index of the loop fits the image and the RAM
-pub loads_fits : (image : List ℕ) (plan : LoadPlan) (before memory : List ℕ) (i : ℕ) (default : Segment) → i < length plan.segments
-    → LoadInvariant image plan before (drop i plan.segments) memory
-    → fits plan.image_size plan.ram_size plan.monitored (slice_index_or plan.segments i default) ≡ true
+pub loads_fits : (image : List ℕ) (plan : LoadPlan) (before memory : List ℕ) (index : ℕ) (default : Segment) → index < length plan.segments
+    → LoadInvariant image plan before (drop index plan.segments) memory
+    → fits plan.image_size plan.ram_size plan.monitored (slice_index_or plan.segments index default) ≡ true
 unfolding LoadInvariant
-loads_fits image plan before memory i default index_in_bounds invariant =
-    let at_segment = rw (drop_more plan.segments i default index_in_bounds) at invariant in
-    (and_parts (fits plan.image_size plan.ram_size plan.monitored (slice_index_or plan.segments i default)) _ at_segment.2).0
+loads_fits image plan before memory index default index_in_bounds invariant =
+    let at_segment = rw (drop_more plan.segments index default index_in_bounds) at invariant in
+    (and_parts (fits plan.image_size plan.ram_size plan.monitored (slice_index_or plan.segments index default)) _ at_segment.2).0
 
 -- the segment at the index of the loop is inside RAM
-pub loads_inside : (image : List ℕ) (plan : LoadPlan) (before memory : List ℕ) (i : ℕ) (default : Segment) → i < length plan.segments
-    → LoadInvariant image plan before (drop i plan.segments) memory
-    → lies_inside plan.ram_size (slice_index_or plan.segments i default).address (slice_index_or plan.segments i default).memory_size ≡ true
-loads_inside image plan before memory i default index_in_bounds invariant =
-    let segment_fits = loads_fits image plan before memory i default index_in_bounds invariant in
-    (fits_parts plan.image_size plan.ram_size plan.monitored (slice_index_or plan.segments i default) segment_fits).0
+pub loads_inside : (image : List ℕ) (plan : LoadPlan) (before memory : List ℕ) (index : ℕ) (default : Segment) → index < length plan.segments
+    → LoadInvariant image plan before (drop index plan.segments) memory
+    → lies_inside plan.ram_size (slice_index_or plan.segments index default).address (slice_index_or plan.segments index default).memory_size ≡ true
+loads_inside image plan before memory index default index_in_bounds invariant =
+    let segment_fits = loads_fits image plan before memory index default index_in_bounds invariant in
+    (fits_parts plan.image_size plan.ram_size plan.monitored (slice_index_or plan.segments index default) segment_fits).0
 
 -- the invariant holds for the next index after the segment at the index is loaded
-pub loads_more : (image : List ℕ) (plan : LoadPlan) (before memory : List ℕ) (i : ℕ) (default : Segment) → i < length plan.segments
-    → LoadInvariant image plan before (drop i plan.segments) memory
-    → LoadInvariant image plan before (drop (i + 1) plan.segments)
-    (loaded_memory image (slice_index_or plan.segments i default ∷ []) memory)
-loads_more image plan before memory i default index_in_bounds invariant =
-    invariant_for_others image plan before memory (slice_index_or plan.segments i default) (drop (i + 1) plan.segments)
-    (rw (drop_more plan.segments i default index_in_bounds) at invariant)
+pub loads_more : (image : List ℕ) (plan : LoadPlan) (before memory : List ℕ) (index : ℕ) (default : Segment) → index < length plan.segments
+    → LoadInvariant image plan before (drop index plan.segments) memory
+    → LoadInvariant image plan before (drop (index + 1) plan.segments)
+    (loaded_memory image (slice_index_or plan.segments index default ∷ []) memory)
+loads_more image plan before memory index default index_in_bounds invariant =
+    invariant_for_others image plan before memory (slice_index_or plan.segments index default) (drop (index + 1) plan.segments)
+    (rw (drop_more plan.segments index default index_in_bounds) at invariant)
 
 -- after the loop, the memory is that of the whole plan: no segment is left to load
-pub loads_end : (image : List ℕ) (plan : LoadPlan) (before memory : List ℕ) (i : ℕ) → length plan.segments ≤ i
-    → LoadInvariant image plan before (drop i plan.segments) memory → memory ≡ loaded_memory image plan.segments before
+pub loads_end : (image : List ℕ) (plan : LoadPlan) (before memory : List ℕ) (index : ℕ) → length plan.segments ≤ index
+    → LoadInvariant image plan before (drop index plan.segments) memory → memory ≡ loaded_memory image plan.segments before
 unfolding LoadInvariant
-loads_end image plan before memory i index_at_end invariant =
-    let no_segment_left : drop i plan.segments ≡ [] = drop_of_length-le plan.segments index_at_end in
+loads_end image plan before memory index index_at_end invariant =
+    let no_segment_left : drop index plan.segments ≡ [] = drop_of_length-le plan.segments index_at_end in
     let memory_is = rw no_segment_left at invariant.0 in
     sym (load_none image memory) ∙ memory_is
 

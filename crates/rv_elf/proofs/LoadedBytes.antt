@@ -19,11 +19,11 @@ use Rattle.rv_elf.proofs.SharedBytes.{not_in_other}
 -- ---- the memory as a list
 
 -- two functions that agree on a range of numbers have the same list of values on it
-map_same : (f g : ℕ → ℕ) (first count : ℕ) → ((k : ℕ) → first ≤ k → k < first + count → f k ≡ g k)
+map_same : (f g : ℕ → ℕ) (first count : ℕ) → ((number : ℕ) → first ≤ number → number < first + count → f number ≡ g number)
     → map f (range_with_len first count) ≡ map g (range_with_len first count)
 map_same f g first zero agree = refl
 map_same f g first (suc count) agree =
-    let agree_on_rest = map_same f g (first + 1) count (λ k not_below is_below. agree k (omega arith) (omega arith)) in
+    let agree_on_rest = map_same f g (first + 1) count (λ number not_below is_below. agree number (omega arith) (omega arith)) in
     rw (agree first (omega arith) (omega arith), agree_on_rest) refl
 
 -- loading does not change the size of the memory
@@ -94,10 +94,10 @@ load_first image segment others memory shares_no_byte =
 pub load_none : (image memory : List ℕ) → loaded_memory image [] memory ≡ memory
 load_none image memory =
     same_number_lists (loaded_memory image [] memory) memory (length-loaded_memory image [] memory)
-    (λ k is_below. let in_memory : k < length memory = rw (length-loaded_memory image [] memory) at is_below in
-    let byte_is : slice_index (loaded_memory image [] memory) (ram_base + k - ram_base) ≡ slice_index memory (ram_base + k - ram_base) =
-    loaded_at image [] memory (ram_base + k) (omega arith) (omega (arith, in_memory)) in
-    let index_is : ram_base + k - ram_base ≡ k = omega arith in
+    (λ index is_below. let in_memory : index < length memory = rw (length-loaded_memory image [] memory) at is_below in
+    let byte_is : slice_index (loaded_memory image [] memory) (ram_base + index - ram_base) ≡ slice_index memory (ram_base + index - ram_base) =
+    loaded_at image [] memory (ram_base + index) (omega arith) (omega (arith, in_memory)) in
+    let index_is : ram_base + index - ram_base ≡ index = omega arith in
     rw index_is at byte_is)
 
 -- ---- segments that share no byte
@@ -105,13 +105,13 @@ load_none image memory =
 -- if no two segments share a byte, a search for an address of a segment finds this segment (by induction over the segments)
 pub segment_found : (segments : List Segment) (segment : Segment) (address : ℕ) → has_overlap segments ≡ false
     → Contains segments segment → has_address address segment ≡ true → find (has_address address) segments ≡ Some segment
-segment_found [] segment address no_overlap (k, k_in_bounds, segment_at_k) is_in_segment = absurd (omega (arith, k_in_bounds))
-segment_found (first ∷ others) segment address no_overlap (zero, k_in_bounds, segment_at_k) is_in_segment =
-    rw (ap (has_address address) segment_at_k ∙ is_in_segment) (ap Some segment_at_k)
-segment_found (first ∷ others) segment address no_overlap (suc k, k_in_bounds, segment_at_k) is_in_segment =
+segment_found [] segment address no_overlap (index, index_in_bounds, segment_at_index) is_in_segment = absurd (omega (arith, index_in_bounds))
+segment_found (first ∷ others) segment address no_overlap (zero, index_in_bounds, segment_at_index) is_in_segment =
+    rw (ap (has_address address) segment_at_index ∙ is_in_segment) (ap Some segment_at_index)
+segment_found (first ∷ others) segment address no_overlap (suc index, index_in_bounds, segment_at_index) is_in_segment =
     let first_is_apart = or_parts (list_any (share_a_byte first) others) (has_overlap others) no_overlap in
     let found_in_others =
-    segment_found others segment address first_is_apart.1 (k, omega (arith, k_in_bounds), segment_at_k) is_in_segment in
+    segment_found others segment address first_is_apart.1 (index, omega (arith, index_in_bounds), segment_at_index) is_in_segment in
     elim (cases_Bool (has_address address first)) [
       | inl is_in_first ↦
           let not_found = not_found_in_others first others address first_is_apart.0 is_in_first in
@@ -122,11 +122,11 @@ segment_found (first ∷ others) segment address no_overlap (suc k, k_in_bounds,
 -- if all segments pass a test, each segment of the list passes it
 passes_if_all_pass : (test : Segment → Bool) (segments : List Segment) (segment : Segment) → list_all test segments ≡ true
     → Contains segments segment → test segment ≡ true
-passes_if_all_pass test [] segment all_pass (k, k_in_bounds, segment_at_k) = absurd (omega (arith, k_in_bounds))
-passes_if_all_pass test (first ∷ others) segment all_pass (zero, k_in_bounds, segment_at_k) =
-    ap test (sym segment_at_k) ∙ (and_parts (test first) _ all_pass).0
-passes_if_all_pass test (first ∷ others) segment all_pass (suc k, k_in_bounds, segment_at_k) =
-    passes_if_all_pass test others segment (and_parts (test first) _ all_pass).1 (k, omega (arith, k_in_bounds), segment_at_k)
+passes_if_all_pass test [] segment all_pass (index, index_in_bounds, segment_at_index) = absurd (omega (arith, index_in_bounds))
+passes_if_all_pass test (first ∷ others) segment all_pass (zero, index_in_bounds, segment_at_index) =
+    ap test (sym segment_at_index) ∙ (and_parts (test first) _ all_pass).0
+passes_if_all_pass test (first ∷ others) segment all_pass (suc index, index_in_bounds, segment_at_index) =
+    passes_if_all_pass test others segment (and_parts (test first) _ all_pass).1 (index, omega (arith, index_in_bounds), segment_at_index)
 
 -- an address of a segment that fits is in RAM
 in_ram : (memory : List ℕ) (image_size address : ℕ) (monitored : Bool) (segment : Segment)

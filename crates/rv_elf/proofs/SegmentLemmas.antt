@@ -9,9 +9,9 @@ use Rattle.rv_elf.specs.declared.segment.Segment.{Segment}
 use Rattle.rv_elf.specs.Fields.{e_phoff, p_type, pt_load}
 use Rattle.rv_elf.specs.Segments.{is_load, segment_at, has_no_bytes, occupying}
 
--- `header_offset` is the offset in the file of program header k; each header has 32 bytes
+-- `header_offset` is the offset in the file of a program header; each header has 32 bytes
 abbrev pub header_offset : List ℕ → ℕ → ℕ
-header_offset file k = e_phoff file + 32 * k
+header_offset file header = e_phoff file + 32 * header
 
 -- `first_segments` has the segments of type PT_LOAD of the first `count` program headers
 unfoldable pub first_segments : List ℕ → ℕ → List Segment
@@ -42,22 +42,22 @@ without_load file count is_not_pt_load =
     ∙ rw (ne_eqb (p_type file (header_offset file count)) pt_load is_not_pt_load) (append-nil (first_segments file count))
 
 -- a segment with bytes in memory is appended to the segments that occupy memory
-pub with_occupying : (segments : List Segment) (i : ℕ) (default : Segment) → i < length segments
-    → (slice_index_or segments i default).memory_size ≢ 0
-    → occupying (take (i + 1) segments) ≡ occupying (take i segments) ++ slice_index_or segments i default ∷ []
+pub with_occupying : (segments : List Segment) (index : ℕ) (default : Segment) → index < length segments
+    → (slice_index_or segments index default).memory_size ≢ 0
+    → occupying (take (index + 1) segments) ≡ occupying (take index segments) ++ slice_index_or segments index default ∷ []
 unfolding occupying
-with_occupying segments i default index_in_bounds has_bytes =
-    filter_more (λ segment. not (has_no_bytes segment)) segments i default index_in_bounds
-    ∙ rw (ne_eqb (slice_index_or segments i default).memory_size 0 has_bytes) refl
+with_occupying segments index default index_in_bounds has_bytes =
+    filter_more (λ segment. not (has_no_bytes segment)) segments index default index_in_bounds
+    ∙ rw (ne_eqb (slice_index_or segments index default).memory_size 0 has_bytes) refl
 
 -- a segment without bytes in memory is not appended to the segments that occupy memory
-pub without_occupying : (segments : List Segment) (i : ℕ) (default : Segment) → i < length segments
-    → (slice_index_or segments i default).memory_size ≡ 0 → occupying (take (i + 1) segments) ≡ occupying (take i segments)
+pub without_occupying : (segments : List Segment) (index : ℕ) (default : Segment) → index < length segments
+    → (slice_index_or segments index default).memory_size ≡ 0 → occupying (take (index + 1) segments) ≡ occupying (take index segments)
 unfolding occupying
-without_occupying segments i default index_in_bounds has_none =
-    filter_more (λ segment. not (has_no_bytes segment)) segments i default index_in_bounds
-    ∙ rw (eq-eqb (slice_index_or segments i default).memory_size 0 has_none)
-    (append-nil (filter (λ segment. not (has_no_bytes segment)) (take i segments)))
+without_occupying segments index default index_in_bounds has_none =
+    filter_more (λ segment. not (has_no_bytes segment)) segments index default index_in_bounds
+    ∙ rw (eq-eqb (slice_index_or segments index default).memory_size 0 has_none)
+    (append-nil (filter (λ segment. not (has_no_bytes segment)) (take index segments)))
 
 -- of an empty list of segments, none occupies memory
 pub occupying_none : occupying [] ≡ []

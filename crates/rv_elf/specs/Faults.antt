@@ -50,8 +50,8 @@ header_faults file =
 
 -- `segment_faults` has the errors of the segments by themselves, in the order in which they are checked
 unfoldable pub segment_faults : ℕ → List Segment → List (Bool × ElfFault)
-segment_faults len segments =
-    (list_any (is_truncated len) segments, SegmentTruncated)
+segment_faults size segments =
+    (list_any (is_truncated size) segments, SegmentTruncated)
     ∷ (list_any is_oversized segments, SegmentSizes)
     ∷ []
 
@@ -70,9 +70,9 @@ file_faults file ram_size monitored =
     ++ segment_faults (length file) (segments_of file)
     ++ place_faults ram_size monitored (occupying (segments_of file)) (e_entry file)
 
--- `raw_faults` is the table for a raw image of `len` bytes, whose first byte is also its entry
+-- `raw_faults` is the table for a raw image of `size` bytes, whose first byte is also its entry
 abbrev pub raw_faults : ℕ → ℕ → Bool → List (Bool × ElfFault)
-raw_faults len ram_size monitored = place_faults ram_size monitored (raw_segments len monitored) (first_address monitored)
+raw_faults size ram_size monitored = place_faults ram_size monitored (raw_segments size monitored) (first_address monitored)
 
 -- `first_fault` is the first error whose condition holds
 abbrev pub first_fault : List (Bool × ElfFault) → Option ElfFault
@@ -90,6 +90,6 @@ IsLeast rows fault =
 abbrev pub file_fault : List ℕ → ℕ → Bool → Option ElfFault
 file_fault file ram_size monitored = first_fault (file_faults file ram_size monitored)
 
--- `raw_fault` is the error of a raw image of `len` bytes
+-- `raw_fault` is the error of a raw image of `size` bytes
 abbrev pub raw_fault : ℕ → ℕ → Bool → Option ElfFault
-raw_fault len ram_size monitored = first_fault (raw_faults len ram_size monitored)
+raw_fault size ram_size monitored = first_fault (raw_faults size ram_size monitored)

@@ -81,4 +81,4 @@ p_memsz file offset = word_at file (offset + 20)
 
 -- `header_places` has the offsets of the program headers, which have 32 bytes each
 abbrev pub header_places : List ℕ → List ℕ
-header_places file = map (λ k. e_phoff file + 32 * k) (range_with_len 0 (e_phnum file))
+header_places file = map (λ header. e_phoff file + 32 * header) (range_with_len 0 (e_phnum file))

@@ -10,8 +10,8 @@ use Rattle.rv_elf.specs.Segments.{has_address}
 -- a byte of a segment at an address is from its part of the file, and 0 after that
 abbrev pub byte_in : List ℕ → ℕ → Segment → ℕ
 byte_in image address segment =
-    let k = address - segment.address in
-    if nat_lt k segment.file_size then slice_index image (segment.offset + k) else 0
+    let offset = address - segment.address in
+    if nat_lt offset segment.file_size then slice_index image (segment.offset + offset) else 0
 
 -- the byte at an address after the segments are loaded: that of the segment with this address, otherwise the old byte; no two segments share an
 -- address
@@ -25,9 +25,12 @@ loaded_memory image segments memory = map (byte_after image segments memory) (ra
 
 -- each byte of each segment is loaded, and every other byte is unchanged
 pub record LoadsEach (image : List ℕ) (segments : List Segment) (old new : List ℕ) : Type 0 where
+  -- the memory keeps its size
   pub size : length new ≡ length old
+  -- at an address of a segment, memory has the byte of the segment
   pub inside : (segment : Segment) (address : ℕ) → Contains segments segment → has_address address segment ≡ true
       → byte_at new address ≡ Some (byte_in image address segment)
+  -- at any other address, memory has its old byte
   pub elsewhere : (address : ℕ) → list_any (has_address address) segments ≡ false → byte_at new address ≡ byte_at old address
 
 -- each byte at a reserved address is unchanged

@@ -12,10 +12,15 @@ use Rattle.rv_elf.specs.Segments.{segments_of, occupying, raw_segments, is_trunc
 -- A plan: the segments that occupy memory, the address of the first instruction, and whether there is a monitor. It is for an image and a RAM of
 -- these sizes in bytes.
 pub record LoadPlan : Type 0 where
+  -- the segments to load, which occupy memory
   pub segments : List Segment
+  -- the address of the first instruction
   pub entry : ℕ
+  -- the size of the image in bytes
   pub image_size : ℕ
+  -- the size of the RAM in bytes
   pub ram_size : ℕ
+  -- whether there is a monitor
   pub monitored : Bool
 
 -- A segment fits if its part of the image is complete, and the image may use the memory of the segment.
@@ -44,14 +49,14 @@ file_plan file ram_size monitored =
     }))
     Err
 
--- A raw image of `len` bytes has a plan, or the error with the smallest number of those that it has.
+-- A raw image of `size` bytes has a plan, or the error with the smallest number of those that it has.
 abbrev pub raw_plan : ℕ → ℕ → Bool → Result LoadPlan ElfFault
-raw_plan len ram_size monitored =
-    option_case (raw_fault len ram_size monitored)
+raw_plan size ram_size monitored =
+    option_case (raw_fault size ram_size monitored)
     (Ok (record {
-      segments = raw_segments len monitored;
+      segments = raw_segments size monitored;
       entry = first_address monitored;
-      image_size = len;
+      image_size = size;
       ram_size = ram_size;
       monitored = monitored;
     }))

@@ -30,13 +30,13 @@ has_no_bytes segment = segment.memory_size == 0
 unfoldable pub occupying : List Segment → List Segment
 occupying segments = filter (λ segment. not (has_no_bytes segment)) segments
 
--- `raw_segments` has the segments of a raw image of `len` bytes: one at the first address that an image may use, or none if it is empty
+-- `raw_segments` has the segments of a raw image of `size` bytes: one at the first address that an image may use, or none if it is empty
 abbrev pub raw_segments : ℕ → Bool → List Segment
-raw_segments len monitored = occupying (record { offset = 0; address = first_address monitored; file_size = len; memory_size = len } ∷ [])
+raw_segments size monitored = occupying (record { offset = 0; address = first_address monitored; file_size = size; memory_size = size } ∷ [])
 
--- the segment's part of a file of `len` bytes ends after the end of the file
+-- the segment's part of a file of `size` bytes ends after the end of the file
 abbrev pub is_truncated : ℕ → Segment → Bool
-is_truncated len segment = not (segment.file_size == 0) && nat_lt len (segment.offset + segment.file_size)
+is_truncated size segment = not (segment.file_size == 0) && nat_lt size (segment.offset + segment.file_size)
 
 -- the segment has more bytes in the file than in memory
 abbrev pub is_oversized : Segment → Bool
@@ -52,7 +52,7 @@ has_address address segment = nat_le segment.address address && nat_lt address (
 
 -- a byte of one segment is a byte of the other
 unfoldable pub share_a_byte : Segment → Segment → Bool
-share_a_byte one other = list_any (λ address. has_address address other) (range_with_len one.address one.memory_size)
+share_a_byte first second = list_any (λ address. has_address address second) (range_with_len first.address first.memory_size)
 
 -- two of the segments share a byte
 abbrev pub has_overlap : List Segment → Bool

@@ -9,16 +9,19 @@ use Rattle.rv_script.specs.declared.keyword.Keyword.TheVariants.{Step, Run, Brea
 use Rattle.rv_script.specs.declared.keyword.Keyword.TheVariants.{Access, Timer, Hart, Sched}
 use Rattle.rv_script.specs.Command.{spelling_of, keywords, keyword_of}
 
--- a function f of the choice of `Some x` or another option is the choice of f of each
-mapped_if : {A B : Type 0} (f : A → B) (test : Bool) (x : A) (other : Option A) (mapped_other : Option B) → option_map f other ≡ mapped_other
-    → option_map f (cond test (Some x) other) ≡ cond test (Some (f x)) mapped_other
-mapped_if f true x other mapped_other mapped_is = refl
-mapped_if f false x other mapped_other mapped_is = mapped_is
+-- a function of the choice of `Some x` or another option is the choice of the function of each
+mapped_if : {A B : Type 0} (convert : A → B) (test : Bool) (x : A) (other : Option A) (mapped_other : Option B)
+    → option_map convert other ≡ mapped_other
+    → option_map convert (cond test (Some x) other) ≡ cond test (Some (convert x)) mapped_other
+mapped_if convert true x other mapped_other mapped_is = refl
+mapped_if convert false x other mapped_other mapped_is = mapped_is
 
--- a search in a mapped list finds f of what a search in the list finds, by induction over the list
-found_in_map : {A B : Type 0} (f : A → B) (test : B → Bool) (xs : List A) → option_map f (find (λ x. test (f x)) xs) ≡ find test (map f xs)
-found_in_map f test [] = refl
-found_in_map f test (x ∷ xs) = mapped_if f (test (f x)) x (find (λ x. test (f x)) xs) (find test (map f xs)) (found_in_map f test xs)
+-- a search in a mapped list finds the function of what a search in the list finds, by induction over the list
+found_in_map : {A B : Type 0} (convert : A → B) (test : B → Bool) (xs : List A)
+    → option_map convert (find (λ x. test (convert x)) xs) ≡ find test (map convert xs)
+found_in_map convert test [] = refl
+found_in_map convert test (x ∷ xs) =
+    mapped_if convert (test (convert x)) x (find (λ x. test (convert x)) xs) (find test (map convert xs)) (found_in_map convert test xs)
 
 -- `row_of` is a borrowed row of the table, by value: a text and its keyword
 abbrev row_of : Bor (List ℕ) × Keyword → List ℕ × Keyword
@@ -47,14 +50,16 @@ keyword_of_row (Some keyword) = refl
 
 -- the keyword of a word in the table of all keywords is the keyword of the definition
 pub keyword_of-rows : (word : List ℕ)
-    → option_map (λ (row : List ℕ × Keyword). row.1) (find (λ row. bytes_eq word row.0) (map (λ k. (spelling_of k, k)) keywords)) ≡ keyword_of word
+    → option_map (λ (row : List ℕ
+    × Keyword). row.1) (find (λ row. bytes_eq word row.0) (map (λ keyword. (spelling_of keyword, keyword)) keywords)) ≡ keyword_of word
 unfolding keyword_of
 keyword_of-rows word =
-    ap (option_map (λ (row : List ℕ × Keyword). row.1)) (sym (found_in_map (λ k. (spelling_of k, k)) (λ row. bytes_eq word row.0) keywords))
-    ∙ keyword_of_row (find (λ k. bytes_eq word (spelling_of k)) keywords)
+    ap (option_map (λ (row : List ℕ × Keyword). row.1))
+    (sym (found_in_map (λ keyword. (spelling_of keyword, keyword)) (λ row. bytes_eq word row.0) keywords))
+    ∙ keyword_of_row (find (λ keyword. bytes_eq word (spelling_of keyword)) keywords)
 
 -- the keyword of the text of a keyword is this keyword
-pub keyword_of-spelling_of : (k : Keyword) → Some k ≡ keyword_of (spelling_of k)
+pub keyword_of-spelling_of : (keyword : Keyword) → Some keyword ≡ keyword_of (spelling_of keyword)
 unfolding keyword_of
 keyword_of-spelling_of Step = refl
 keyword_of-spelling_of Run = refl
@@ -77,9 +82,9 @@ keyword_of-spelling_of Hart = refl
 keyword_of-spelling_of Sched = refl
 
 -- no two keywords have the same text, since the keyword of a text is unique
-pub spelling_of-injective : (j k : Keyword) → spelling_of j ≡ spelling_of k → j ≡ k
-spelling_of-injective j k same_text =
-    let j_is = keyword_of-spelling_of j in
-    let k_is = keyword_of-spelling_of k in
+pub spelling_of-injective : (first second : Keyword) → spelling_of first ≡ spelling_of second → first ≡ second
+spelling_of-injective first second same_text =
+    let first_is = keyword_of-spelling_of first in
+    let second_is = keyword_of-spelling_of second in
     let same_keyword = ap keyword_of same_text in
     cc

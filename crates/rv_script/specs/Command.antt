@@ -81,19 +81,21 @@ one read make = OneOperand (λ operand. option_map make (read operand))
 -- `two` is the form of a command with two operands, each with its reader
 abbrev pub two : {A B : Type 0} → (List ℕ → Option A) → (List ℕ → Option B) → (A → B → Command) → Form
 two read_first read_second make =
-    TwoOperands (λ first second. option_and_then (λ a. option_map (make a) (read_second second)) (read_first first))
+    TwoOperands (λ first second. option_and_then (λ first_value. option_map (make first_value) (read_second second)) (read_first first))
 
 -- `four` is the form of a command with four operands, each with its reader
 abbrev pub four : {A B C D : Type 0} → (List ℕ → Option A) → (List ℕ → Option B) → (List ℕ → Option C) → (List ℕ → Option D)
     → (A → B → C → D → Command) → Form
 four read_first read_second read_third read_fourth make =
     FourOperands (λ first second third fourth.
-    option_and_then (λ a. option_and_then (λ b. option_and_then (λ c.
-    option_map (make a b c) (read_fourth fourth)) (read_third third)) (read_second second)) (read_first first))
+    option_and_then (λ first_value. option_and_then (λ second_value. option_and_then (λ third_value.
+    option_map (make first_value second_value third_value) (read_fourth fourth)) (read_third third)) (read_second second)) (read_first first))
 
 -- a row of the table of commands has the first word and the operands
 pub record CommandRow : Type 0 where
+  -- the first word of the command
   pub spelling : List ℕ
+  -- the operands, and the command that they give
   pub form : Form
 
 -- `command_row` is the row of a keyword: its text, and the form of its operands
