@@ -24,7 +24,7 @@ ahead_given buffer rest given start end count room count_is given_is =
     let returned = take count (drop start buffer) in
     let staying = ahead buffer (start + count) end in
     let ahead_is : ahead buffer start end ≡ returned ++ staying =
-    ap (λ n. take n (drop start buffer)) (omega arith) ∙ (take-add count (end - (start + count)) (drop start buffer)
+    ap (λ count. take count (drop start buffer)) (omega arith) ∙ (take-add count (end - (start + count)) (drop start buffer)
     ∙ ap (λ bytes. returned ++ take (end - (start + count)) bytes) (drop-drop count start buffer)) in
     let returned_is : returned ≡ given = sym (given_is ∙ take-take count (end - start) (drop start buffer) count_fits) in
     ap (λ bytes. bytes ++ rest) ahead_is ∙ (append_assoc returned staying rest ∙ ap (λ bytes. bytes ++ (staying ++ rest)) returned_is)
@@ -41,16 +41,16 @@ line_given buffer rest given line start end count room line_is_prefix count_is g
     ahead_given buffer rest given start end count count (omega (arith, count_is, line_fits)) (given_is ∙ same_bytes)
 
 -- if a text has no line feed before its end, its bytes without the last have no line feed
-pub feedless-whole : (text : List ℕ) (end : ℕ) → end ≡ position_or_len (λ b. b == line_feed) text → end ≡ length text
+pub feedless-whole : (text : List ℕ) (end : ℕ) → end ≡ position_or_len (λ byte. byte == line_feed) text → end ≡ length text
     → has_feed (take (length text - 1) text) ≡ false
 feedless-whole text end end_is end_is_length = has_feed-take (length text - 1) text (all_taken text (sym end_is ∙ end_is_length))
 
 -- the bytes before the first line feed have no line feed
-pub feedless-cut : (text : List ℕ) (end : ℕ) → end ≡ position_or_len (λ b. b == line_feed) text → end < length text
+pub feedless-cut : (text : List ℕ) (end : ℕ) → end ≡ position_or_len (λ byte. byte == line_feed) text → end < length text
     → has_feed (take (length (take (end + 1) text) - 1) (take (end + 1) text)) ≡ false
 feedless-cut text end end_is end_in_text =
     let length_is : length (take (end + 1) text) - 1 ≡ end = omega (arith, length-take (end + 1) text) in
-    rw length_is (ap has_feed (take-take end (end + 1) text (omega arith)) ∙ (ap (λ n. has_feed (take n text)) end_is ∙ no_feed text))
+    rw length_is (ap has_feed (take-take end (end + 1) text (omega arith)) ∙ (ap (λ count. has_feed (take count text)) end_is ∙ no_feed text))
 
 -- a text with one more byte in front has a line feed if this byte is one, or if the rest has one
 feed_found-step : (is_feed : Bool) (position len : ℕ) (rest_has_feed : Bool) → nat_lt position len ≡ rest_has_feed
@@ -59,20 +59,20 @@ feed_found-step true position len rest_has_feed found_in_rest = grind (arith, na
 feed_found-step false position len rest_has_feed found_in_rest = grind (arith, nat_tests, found_in_rest)
 
 -- a text has a line feed if the position of the first one is in the text
-pub feed_found : (text : List ℕ) (at : ℕ) → at ≡ position_or_len (λ b. b == line_feed) text → nat_lt at (length text) ≡ has_feed text
-feed_found text at at_is = ap (λ position. nat_lt position (length text)) at_is ∙ position_in_text text where
+pub feed_found : (text : List ℕ) (index : ℕ) → index ≡ position_or_len (λ byte. byte == line_feed) text → nat_lt index (length text) ≡ has_feed text
+feed_found text index index_is = ap (λ position. nat_lt position (length text)) index_is ∙ position_in_text text where
   -- the same claim for the position itself, by induction over the text
-  position_in_text : (text : List ℕ) → nat_lt (position_or_len (λ b. b == line_feed) text) (length text) ≡ has_feed text
+  position_in_text : (text : List ℕ) → nat_lt (position_or_len (λ byte. byte == line_feed) text) (length text) ≡ has_feed text
   position_in_text [] = refl
-  position_in_text (b ∷ bs) = feed_found-step (b == line_feed) _ (length bs) (has_feed bs) (position_in_text bs)
+  position_in_text (byte ∷ bytes) = feed_found-step (byte == line_feed) _ (length bytes) (has_feed bytes) (position_in_text bytes)
 
 -- a text has a line feed at the position of the first one
-pub feed_within : (text : List ℕ) (at : ℕ) → at ≡ position_or_len (λ b. b == line_feed) text → at < length text → has_feed text ≡ true
-feed_within text at at_is at_in_text =
-    let is_in_text : nat_lt at (length text) ≡ true = grind (arith, nat_tests, at_in_text) in sym (feed_found text at at_is) ∙ is_in_text
+pub feed_within : (text : List ℕ) (index : ℕ) → index ≡ position_or_len (λ byte. byte == line_feed) text → index < length text → has_feed text ≡ true
+feed_within text index index_is index_in_text =
+    let is_in_text : nat_lt index (length text) ≡ true = grind (arith, nat_tests, index_in_text) in sym (feed_found text index index_is) ∙ is_in_text
 
 -- a text has a line feed if a part at its beginning has one
-pub feed_in_part : (n : ℕ) (text : List ℕ) → has_feed (take n text) ≡ true → has_feed text ≡ true
-feed_in_part n text part_has_feed =
-    ap has_feed (sym (take-append-drop n text))
-    ∙ (has_feed-append (take n text) (drop n text) ∙ ap (λ has_one. has_one || has_feed (drop n text)) part_has_feed)
+pub feed_in_part : (count : ℕ) (text : List ℕ) → has_feed (take count text) ≡ true → has_feed text ≡ true
+feed_in_part count text part_has_feed =
+    ap has_feed (sym (take-append-drop count text))
+    ∙ (has_feed-append (take count text) (drop count text) ∙ ap (λ has_one. has_one || has_feed (drop count text)) part_has_feed)

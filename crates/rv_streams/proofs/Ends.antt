@@ -36,18 +36,22 @@ EndsWithSource-ends {S} {source_view} old new not_at_end at_end one_more_end sam
     }
 
 -- a call that does not fail leaves the count of failures unchanged
-pub no_failure : {A E : Type 0} (old mid new : ℕ) (result : Result A E) (a : A) → new ≡ counted_if (is_err result) mid → result ≡ Ok a → mid ≡ old
+pub no_failure : {A E : Type 0} (old between new : ℕ) (result : Result A E) (value : A) → new ≡ counted_if (is_err result) between → result ≡ Ok value
+    → between ≡ old
     → new ≡ old
-no_failure old mid new result a new_is result_is mid_is = new_is ∙ (ap (λ result. counted_if (is_err result) mid) result_is ∙ mid_is)
+no_failure old between new result value new_is result_is between_is =
+    new_is ∙ (ap (λ result. counted_if (is_err result) between) result_is ∙ between_is)
 
 -- a sink that worked and then failed has failed
-pub SinkFailed-after : {W : Type 0} (sink_view : SinkGhosts W) {old mid new : W} → SinkWorked sink_view old mid → SinkFailed sink_view mid new
+pub SinkFailed-after : {W : Type 0} (sink_view : SinkGhosts W) {old between new : W} → SinkWorked sink_view old between
+    → SinkFailed sink_view between new
     → SinkFailed sink_view old new
 SinkFailed-after sink_view worked (inl failures_rose) = let same_failures = worked.worked.0 in inl (omega (arith, failures_rose, same_failures))
 SinkFailed-after sink_view worked (inr refusals_rose) = let same_refusals = worked.worked.1 in inr (omega (arith, refusals_rose, same_refusals))
 
 -- a sink that worked in two calls, one after the other, worked in both together
-pub SinkWorked-more : {W : Type 0} (sink_view : SinkGhosts W) {old mid new : W} → SinkWorked sink_view old mid → SinkWorked sink_view mid new
+pub SinkWorked-more : {W : Type 0} (sink_view : SinkGhosts W) {old between new : W} → SinkWorked sink_view old between
+    → SinkWorked sink_view between new
     → SinkWorked sink_view old new
 SinkWorked-more sink_view first next = record {
   worked = (next.worked.0 ∙ first.worked.0, next.worked.1 ∙ first.worked.1);
@@ -55,7 +59,8 @@ SinkWorked-more sink_view first next = record {
 }
 
 -- a sink that worked, and was flushed once after that, was flushed once in both calls together
-pub SinkFlushed-after : {W : Type 0} (sink_view : SinkGhosts W) {old mid new : W} → SinkWorked sink_view old mid → SinkFlushed sink_view mid new
+pub SinkFlushed-after : {W : Type 0} (sink_view : SinkGhosts W) {old between new : W} → SinkWorked sink_view old between
+    → SinkFlushed sink_view between new
     → SinkFlushed sink_view old new
 SinkFlushed-after sink_view first flush = record {
   worked = (flush.worked.0 ∙ first.worked.0, flush.worked.1 ∙ first.worked.1);
@@ -64,57 +69,60 @@ SinkFlushed-after sink_view first flush = record {
 }
 
 -- if a call succeeds that writes a text and flushes the sink, the sink is flushed once after it
-pub flushed_once : {W A E : Type 0} (sink_view : SinkGhosts W) {old new : W} (result : Result A E) {a : A} → result ≡ Ok a
+pub flushed_once : {W A E : Type 0} (sink_view : SinkGhosts W) {old new : W} (result : Result A E) {value : A} → result ≡ Ok value
     → OnOk result (NoneFailed sink_view old new)
     → OnOk result ((sink_view.is_flushed new ≡ true) × (sink_view.flushes new ≡ sink_view.flushes old + 1)) → SinkFlushed sink_view old new
-flushed_once sink_view (Ok a) result_is worked flushed = record { worked = worked; flushed = flushed.0; once = flushed.1 }
-flushed_once sink_view (Err e) result_is worked flushed = let impossible : Err e ≡ Ok _ = result_is in cc
+flushed_once sink_view (Ok value) result_is worked flushed = record { worked = worked; flushed = flushed.0; once = flushed.1 }
+flushed_once sink_view (Err fault) result_is worked flushed = let impossible : Err fault ≡ Ok _ = result_is in cc
 
 -- a flush that succeeded counts as one flush, without a failure
-pub SinkFlushed-flush : {W A E : Type 0} (sink_view : SinkGhosts W) {old new : W} (result : Result A E) {a : A} → result ≡ Ok a
+pub SinkFlushed-flush : {W A E : Type 0} (sink_view : SinkGhosts W) {old new : W} (result : Result A E) {value : A} → result ≡ Ok value
     → sink_view.failures new ≡ counted_if (is_err result) (sink_view.failures old) → sink_view.refusals new ≡ sink_view.refusals old
     → sink_view.is_flushed new ≡ (sink_view.is_flushed old || is_ok result)
     → sink_view.flushes new ≡ counted_if (is_ok result) (sink_view.flushes old) → SinkFlushed sink_view old new
-SinkFlushed-flush sink_view {old = old} (Ok a) result_is same_failures same_refusals is_flushed flushes_is =
+SinkFlushed-flush sink_view {old = old} (Ok value) result_is same_failures same_refusals is_flushed flushes_is =
     record { worked = (same_failures, same_refusals); flushed = is_flushed ∙ or-true (sink_view.is_flushed old); once = flushes_is }
-SinkFlushed-flush sink_view (Err e) result_is same_failures same_refusals is_flushed flushes_is = let impossible : Err e ≡ Ok _ = result_is in cc
+SinkFlushed-flush sink_view (Err fault) result_is same_failures same_refusals is_flushed flushes_is =
+    let impossible : Err fault ≡ Ok _ = result_is in cc
 
 -- the lines end with their source over two calls, one after the other
-pub EndsWithSource-more : {S : Type 0} {source_view : Ghosts S} (old mid new : Lines S source_view) → EndsWithSource old mid → EndsWithSource mid new
+pub EndsWithSource-more : {S : Type 0} {source_view : Ghosts S} (old between new : Lines S source_view) → EndsWithSource old between
+    → EndsWithSource between new
     → EndsWithSource old new
-EndsWithSource-more {S} {source_view} old mid new first second = record {
-  stays_at_end = λ at_end. let (mid_at_end, first_ends) = first.stays_at_end at_end in
-      let (new_at_end, second_ends) = second.stays_at_end mid_at_end in (new_at_end, second_ends ∙ first_ends);
-  no_new_end = λ not_at_end. no_new_end mid.is_at_end refl not_at_end;
-  ended = λ at_end. has_ended mid.is_at_end refl at_end;
+EndsWithSource-more {S} {source_view} old between new first second = record {
+  stays_at_end = λ at_end. let (at_end_between, first_ends) = first.stays_at_end at_end in
+      let (new_at_end, second_ends) = second.stays_at_end at_end_between in (new_at_end, second_ends ∙ first_ends);
+  no_new_end = λ not_at_end. no_new_end between.is_at_end refl not_at_end;
+  ended = λ at_end. has_ended between.is_at_end refl at_end;
   same_input = second.same_input ∙ first.same_input;
   followed_before = λ follows. first.followed_before (second.followed_before follows);
 } where
   -- if the lines are not at their end in `new`, the number of ends that the source returned is unchanged
-  no_new_end : (mid_ended : Bool) → mid.is_at_end ≡ mid_ended → new.is_at_end ≡ false → source_view.ends new.source ≡ source_view.ends old.source
-  no_new_end true mid_at_end not_at_end = let new_at_end = (second.stays_at_end mid_at_end).0 in cc
-  no_new_end false mid_not_at_end not_at_end = second.no_new_end not_at_end ∙ first.no_new_end mid_not_at_end
+  no_new_end : (ended_between : Bool) → between.is_at_end ≡ ended_between → new.is_at_end ≡ false
+      → source_view.ends new.source ≡ source_view.ends old.source
+  no_new_end true at_end_between not_at_end = let new_at_end = (second.stays_at_end at_end_between).0 in cc
+  no_new_end false not_at_end_between not_at_end = second.no_new_end not_at_end ∙ first.no_new_end not_at_end_between
 
-  -- if the lines are at their end in `new`, the source returned its end, in the first call if `mid_ended`, and otherwise in the second
-  has_ended : (mid_ended : Bool) → mid.is_at_end ≡ mid_ended → new.is_at_end ≡ true → HasEnded old new
-  has_ended true mid_at_end at_end = elim (first.ended mid_at_end) [
+  -- if the lines are at their end in `new`, the source returned its end, in the first call if `ended_between`, and otherwise in the second
+  has_ended : (ended_between : Bool) → between.is_at_end ≡ ended_between → new.is_at_end ≡ true → HasEnded old new
+  has_ended true at_end_between at_end = elim (first.ended at_end_between) [
     | inl old_at_end ↦ inl old_at_end
     | inr first_rose ↦
-        let same_ends = (second.stays_at_end mid_at_end).1 in
+        let same_ends = (second.stays_at_end at_end_between).1 in
         let ends_rose : HasRisen (source_view.ends old.source) (source_view.ends new.source) = omega (arith, first_rose, same_ends) in inr ends_rose
   ]
-  has_ended false mid_not_at_end at_end = elim (second.ended at_end) [
-    | inl mid_at_end ↦ cc
+  has_ended false not_at_end_between at_end = elim (second.ended at_end) [
+    | inl at_end_between ↦ cc
     | inr second_rose ↦
-        let same_ends = first.no_new_end mid_not_at_end in
+        let same_ends = first.no_new_end not_at_end_between in
         let ends_rose : HasRisen (source_view.ends old.source) (source_view.ends new.source) = omega (arith, second_rose, same_ends) in inr ends_rose
   ]
 
 -- if lines were read through the separator, and not to the end of the input, the input has a separator
-pub separator_read : {S : Type 0} {source_view : Ghosts S} (old mid new : Lines S source_view) → ReadsThroughSeparator old mid
-    → EndsWithSource mid new
+pub separator_read : {S : Type 0} {source_view : Ghosts S} (old between new : Lines S source_view) → ReadsThroughSeparator old between
+    → EndsWithSource between new
     → new.is_at_end ≡ false → source_view.follows_input new.source → IsTrue (has_separator (unread old))
-separator_read old mid new reads ends not_at_end follows = elim reads.ended [
-  | inl mid_at_end ↦ absurd (false≢true (sym not_at_end ∙ (ends.stays_at_end mid_at_end).0))
+separator_read old between new reads ends not_at_end follows = elim reads.ended [
+  | inl at_end_between ↦ absurd (false≢true (sym not_at_end ∙ (ends.stays_at_end at_end_between).0))
   | inr separated ↦ separated (ends.followed_before follows)
 ]

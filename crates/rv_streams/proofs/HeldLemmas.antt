@@ -6,16 +6,16 @@ use Rattle.std.proofs.Math.Bool.{and-false}
 use Rattle.std.proofs.lemmas.Bool.{false≢true}
 use Rattle.std.proofs.lemmas.List.{drop-append-le, drop-drop, drop_all, length-take, take-append-drop, take-take}
 
--- If the taken bytes and the bytes from index `at` on are all bytes, this holds after `count` of at most `room` further bytes are passed on.
-pub passed_more : (mid after all bytes : List ℕ) (at count room : ℕ) → count ≤ room
-    → after ≡ mid ++ take count (take room (drop at bytes)) → mid ++ drop at bytes ≡ all → after ++ drop (at + count) bytes ≡ all
-passed_more mid after all bytes at count room count_within_room after_is all_are =
-    let passed = take count (drop at bytes) in
-    let taken_is = after_is ∙ ap (λ added. mid ++ added) (take-take count room (drop at bytes) count_within_room) in
-    ap (λ taken. taken ++ drop (at + count) bytes) taken_is
-    ∙ (append_assoc mid passed (drop (at + count) bytes)
-    ∙ (ap (λ rest. mid ++ (passed ++ rest)) (sym (drop-drop count at bytes))
-    ∙ (ap (λ rest. mid ++ rest) (take-append-drop count (drop at bytes)) ∙ all_are)))
+-- If the taken bytes and the bytes from index `start` on are all bytes, this holds after `count` of at most `room` further bytes are passed on.
+pub passed_more : (before after all bytes : List ℕ) (start count room : ℕ) → count ≤ room
+    → after ≡ before ++ take count (take room (drop start bytes)) → before ++ drop start bytes ≡ all → after ++ drop (start + count) bytes ≡ all
+passed_more before after all bytes start count room count_within_room after_is all_are =
+    let passed = take count (drop start bytes) in
+    let taken_is = after_is ∙ ap (λ added. before ++ added) (take-take count room (drop start bytes) count_within_room) in
+    ap (λ taken. taken ++ drop (start + count) bytes) taken_is
+    ∙ (append_assoc before passed (drop (start + count) bytes)
+    ∙ (ap (λ rest. before ++ (passed ++ rest)) (sym (drop-drop count start bytes))
+    ∙ (ap (λ rest. before ++ rest) (take-append-drop count (drop start bytes)) ∙ all_are)))
 
 -- a part that is copied to the buffer at index `end` is held behind the bytes that are held
 pub held_more : (before buffer new part : List ℕ) (start end count : ℕ) → start ≤ end → end ≤ length buffer
@@ -27,16 +27,17 @@ held_more before buffer new part start end count start_before_end end_in_buffer 
     ∙ (ap (λ bytes. before ++ bytes) (drop-append-le start (take end buffer) (take count part) start_in_held)
     ∙ sym (append_assoc before (drop start (take end buffer)) (take count part)))
 
--- A sink is flushed if the other sink is and no byte is left (`at == len`). This stays the same if a call takes a byte: bytes were left before it,
+-- A sink is flushed if the other sink is and no byte is left (`index == len`). This stays the same if a call takes a byte: bytes were left before it,
 -- and after it the other sink is not flushed.
-pub unflushed : (was is after : Bool) (start at count len : ℕ) → after ≡ (is && (count == 0)) → (is && (at == len)) ≡ (was && (start == len))
-    → at < len → count ≢ 0 → (after && (at + count == len)) ≡ (was && (start == len))
-unflushed was is after start at count len after_is same_so_far bytes_left some_taken =
+pub unflushed : (was_flushed is_flushed flushed_after : Bool) (start index count len : ℕ) → flushed_after ≡ (is_flushed && (count == 0))
+    → (is_flushed && (index == len)) ≡ (was_flushed && (start == len))
+    → index < len → count ≢ 0 → (flushed_after && (index + count == len)) ≡ (was_flushed && (start == len))
+unflushed was_flushed is_flushed flushed_after start index count len flushed_after_is same_so_far bytes_left some_taken =
     let count_not_0 : (count == 0) ≡ false = grind (arith, nat_tests, some_taken) in
-    let not_at_end : (at == len) ≡ false = grind (arith, nat_tests, bytes_left) in
-    let not_flushed_after = after_is ∙ (ap (λ none_taken. is && none_taken) count_not_0 ∙ and-false is) in
-    let not_flushed_before = sym same_so_far ∙ (ap (λ none_left. is && none_left) not_at_end ∙ and-false is) in
-    ap (λ flushed. flushed && (at + count == len)) not_flushed_after ∙ sym not_flushed_before
+    let not_at_end : (index == len) ≡ false = grind (arith, nat_tests, bytes_left) in
+    let not_flushed_after = flushed_after_is ∙ (ap (λ none_taken. is_flushed && none_taken) count_not_0 ∙ and-false is_flushed) in
+    let not_flushed_before = sym same_so_far ∙ (ap (λ none_left. is_flushed && none_left) not_at_end ∙ and-false is_flushed) in
+    ap (λ flushed. flushed && (index + count == len)) not_flushed_after ∙ sym not_flushed_before
 
 -- if the other sink is flushed and no byte is held, all bytes are passed on
 pub all_passed : (bytes buffer : List ℕ) (flushed : Bool) (start end : ℕ) → (flushed && (start == end)) ≡ true

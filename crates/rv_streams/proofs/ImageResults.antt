@@ -24,36 +24,41 @@ no_separator line no_word = ap is_dashes (sym no_word)
 pub other_word : (line word : List ℕ) → Some word ≡ line_word line → bytes_eq word (codes "--") ≡ false → is_separator line ≡ false
 other_word line word word_is not_dashes = ap is_dashes (sym word_is) ∙ not_dashes
 
-module _ {S : Type 0} {g : Ghosts S} (Z : Type 0) (old new : Lines S g) (source_worked : SourceWorked g old.source new.source)
+module _ {S : Type 0} {source_view : Ghosts S} (Z : Type 0) (old new : Lines S source_view)
+    (source_worked : SourceWorked source_view old.source new.source)
     (none_held : held new ≡ []) where
   -- the result at a line whose bytes are not appended is the fault of this line
-  pub refused : (left image added shown word : List ℕ) (fault : BenchFault)
-      → (g.follows_input new.source → TakesInImage (unread old) left (unread new) new.is_at_end image shown)
+  pub refused : (remaining image added shown word : List ℕ) (fault : BenchFault)
+      → (source_view.follows_input new.source → TakesInImage (unread old) remaining (unread new) new.is_at_end image shown)
       → Some word ≡ line_word shown → AddsBytes word image added (Err fault) → ReadsImage {Z = Z} old new (Err fault)
-  refused left image added shown word Hex line_taken word_is (no_bytes, unchanged) = record {
+  -- the word of the line is not an even number of hexadecimal digits
+  refused remaining image added shown word Hex line_taken word_is (no_bytes, unchanged) = record {
     source = source_worked;
     emptied = none_held;
     image = λ follows. (EncodesImage-no_digits (line_taken follows) word_is no_bytes).0;
     reads = λ follows. (EncodesImage-no_digits (line_taken follows) word_is no_bytes).1;
   }
-  refused left image added shown word TooLong line_taken word_is (exceeds, unchanged) = record {
+  -- the image with the bytes of the line exceeds the limit
+  refused remaining image added shown word TooLong line_taken word_is (exceeds, unchanged) = record {
     source = source_worked;
     emptied = none_held;
     image = λ follows. (EncodesImage-too_long (line_taken follows) word_is exceeds).0;
     reads = λ follows. (EncodesImage-too_long (line_taken follows) word_is exceeds).1;
   }
-  refused left image added shown word NoMemory line_taken word_is (memory_refused, unchanged) =
-      let reads = λ (follows : g.follows_input new.source). EncodesImage-refused (line_taken follows) word_is memory_refused in
+  -- memory for the bytes of the line is refused
+  refused remaining image added shown word NoMemory line_taken word_is (memory_refused, unchanged) =
+      let reads = λ (follows : source_view.follows_input new.source). EncodesImage-refused (line_taken follows) word_is memory_refused in
       record { source = source_worked; emptied = none_held; reads = reads }
-  refused left image added shown word _ line_taken word_is impossible = absurd impossible
+  refused remaining image added shown word _ line_taken word_is impossible = absurd impossible
 
   -- if no line of the image is left, the result is the image, which has at most 32 MiB
-  pub image_read : (mid : Lines S g) (image : Vec ℕ Z) → FindsEnd Separator mid new → vec_len image ≤ image_limit
-      → (g.follows_input new.source → EncodesImage (unread old) (unread mid) mid.is_at_end image.items) → ReadsImage old new (Ok image)
-  image_read mid image found_end within_limit encodes = (
-    FindsEnd-separator old mid new source_worked none_held found_end
+  pub image_read : (before_end : Lines S source_view) (image : Vec ℕ Z) → FindsEnd Separator before_end new → vec_len image ≤ image_limit
+      → (source_view.follows_input new.source → EncodesImage (unread old) (unread before_end) before_end.is_at_end image.items)
+      → ReadsImage old new (Ok image)
+  image_read before_end image found_end within_limit encodes = (
+    FindsEnd-separator old before_end new source_worked none_held found_end
         (λ follows. ((encodes follows).lines, EncodesImage-taken (encodes follows))),
     within_limit,
     λ follows. EncodesImage-whole _ _ _ _ _ (encodes follows) (omega arith)
-        (FindsEnd-whole old mid new Separator _ found_end (EncodesImage-taken (encodes follows)) follows),
+        (FindsEnd-whole old before_end new Separator _ found_end (EncodesImage-taken (encodes follows)) follows),
   )

@@ -30,10 +30,10 @@ unfolding line_word
 line_word-take line = if_good-take (λ good_line. only_word (words_of good_line)) None line
 
 -- the shown bytes of a line determine whether it ends the script
-pub ends_script-shown : (end : ScriptEnd) (left rest : List ℕ) (ends : Bool) (shown : List ℕ) → (takes : TakesLine left rest ends shown)
+pub ends_script-shown : (end : ScriptEnd) (remaining rest : List ℕ) (ends : Bool) (shown : List ℕ) → (takes : TakesLine remaining rest ends shown)
     → ends_script end takes.line ≡ ends_script end shown
-ends_script-shown Input left rest ends shown takes = refl
-ends_script-shown Separator left rest ends shown takes = ap is_dashes (sym (line_word-take takes.line) ∙ ap line_word (sym takes.prefix))
+ends_script-shown Input remaining rest ends shown takes = refl
+ends_script-shown Separator remaining rest ends shown takes = ap is_dashes (sym (line_word-take takes.line) ∙ ap line_word (sym takes.prefix))
 
 -- each line is a line of a script that ends with the input
 all_are_script_lines : (lines : List (List ℕ)) → list_all (is_script_line Input) lines ≡ true
@@ -73,24 +73,31 @@ has_separator-at lines others line unread lines_are line_separates =
 -- ---- a script that was read completely
 
 -- The lines `lines` are all lines of the script. At most the line that ends the script was read in addition.
-pub record ReadsScript (end : ScriptEnd) (unread left : List ℕ) (lines : List (List ℕ)) : Type 0 where
+pub record ReadsScript (end : ScriptEnd) (unread remaining : List ℕ) (lines : List (List ℕ)) : Type 0 where
   -- the line that ends the script, if it was read
   pub closing : List (List ℕ)
+  -- whether the lines have reported the end of the input
   pub is_at_end : Bool
-  pub reads : ReadsLines unread left is_at_end (lines ++ closing)
+  -- exactly these lines were read
+  pub reads : ReadsLines unread remaining is_at_end (lines ++ closing)
+  -- at most one line ends the script
   pub at_most_one : length closing ≤ 1
   -- the lines that were read, and all unread lines, have the same lines of the script
   pub in_script : script_lines end (lines ++ closing) ≡ lines
+  -- these are all lines of the script
   pub all_lines : script_lines end (lines_of unread) ≡ lines
-  pub rest : left ≡ after_lines (length lines + 1) unread
+  -- the bytes after the script are left
+  pub rest : remaining ≡ after_lines (length lines + 1) unread
 
 -- the script is complete at the end of the input
-ReadsScript-ended : (end : ScriptEnd) (unread left rest : List ℕ) (is_at_end : Bool) (lines : List (List ℕ))
-    → TakesScript end unread left is_at_end lines → left ≡ [] → rest ≡ [] → ReadsScript end unread rest lines
-ReadsScript-ended end unread left rest is_at_end lines so_far none_left no_rest =
+ReadsScript-ended : (end : ScriptEnd) (unread remaining rest : List ℕ) (is_at_end : Bool) (lines : List (List ℕ))
+    → TakesScript end unread remaining is_at_end lines → remaining ≡ [] → rest ≡ [] → ReadsScript end unread rest lines
+ReadsScript-ended end unread remaining rest is_at_end lines so_far none_left no_rest =
+    -- no text is left, so the lines so far are all lines of the text
     let all_lines : lines_of unread ≡ lines =
     so_far.reads.all_lines ∙ (ap (λ text. lines ++ lines_of text) none_left ∙ append-nil lines) in
     let all_inside = script_lines-all end lines so_far.in_script in
+    -- no text is left after the lines so far
     let none_after : after_lines (length lines + 1) unread ≡ [] =
     rw add-one (after_lines-more (length lines) unread) ∙ ap after_line (sym so_far.reads.rest ∙ none_left) in record {
       closing = [];
@@ -104,53 +111,58 @@ ReadsScript-ended end unread left rest is_at_end lines so_far none_left no_rest 
     }
 
 -- the unread text has the lines that were read, the next line, and the lines of the rest
-pub lines_of-taken : (unread left rest : List ℕ) (is_at_end ends : Bool) (shown : List ℕ) (lines : List (List ℕ))
-    → ReadsLines unread left is_at_end lines → (takes : TakesLine left rest ends shown)
+pub lines_of-taken : (unread remaining rest : List ℕ) (is_at_end ends : Bool) (shown : List ℕ) (lines : List (List ℕ))
+    → ReadsLines unread remaining is_at_end lines → (takes : TakesLine remaining rest ends shown)
     → lines_of unread ≡ lines ++ takes.line ∷ lines_of rest
-lines_of-taken unread left rest is_at_end ends shown lines reads takes = reads.all_lines ∙ ap (λ others. lines ++ others) takes.lines
+lines_of-taken unread remaining rest is_at_end ends shown lines reads takes = reads.all_lines ∙ ap (λ others. lines ++ others) takes.lines
 
 -- the script is complete after a line that ends it
-ReadsScript-through : (end : ScriptEnd) (unread left rest : List ℕ) (ends : Bool) (shown : List ℕ) (lines : List (List ℕ))
-    → TakesScript end unread left false lines → TakesLine left rest ends shown → ends_script end shown ≡ true
+ReadsScript-through : (end : ScriptEnd) (unread remaining rest : List ℕ) (ends : Bool) (shown : List ℕ) (lines : List (List ℕ))
+    → TakesScript end unread remaining false lines → TakesLine remaining rest ends shown → ends_script end shown ≡ true
     → ReadsScript end unread rest lines
-ReadsScript-through end unread left rest ends shown lines so_far takes shown_ends =
-    let line_ends = ends_script-shown end left rest ends shown takes ∙ shown_ends in
-    let reads = ReadsLines-more unread left rest ends shown lines so_far.reads takes in record {
+ReadsScript-through end unread remaining rest ends shown lines so_far takes shown_ends =
+    -- the whole line ends the script, as the bytes shown do
+    let line_ends = ends_script-shown end remaining rest ends shown takes ∙ shown_ends in
+    let reads = ReadsLines-more unread remaining rest ends shown lines so_far.reads takes in record {
       closing = takes.line ∷ [];
       is_at_end = ends;
       reads = reads;
       at_most_one = lit≤ tt;
       in_script = script_lines-stop end lines [] takes.line so_far.in_script line_ends;
-      all_lines = ap (script_lines end) (lines_of-taken unread left rest false ends shown lines so_far.reads takes)
+      all_lines = ap (script_lines end) (lines_of-taken unread remaining rest false ends shown lines so_far.reads takes)
           ∙ script_lines-stop end lines (lines_of rest) takes.line so_far.in_script line_ends;
-      rest = reads.rest ∙ ap (λ n. after_lines n unread) (length-append lines (takes.line ∷ []));
+      rest = reads.rest ∙ ap (λ count. after_lines count unread) (length-append lines (takes.line ∷ []));
     }
 
 -- ---- a source, read through the end of a script
 
--- The script begins in the lines `old`. Its end is found by the call that leads from `mid` to `new`.
-module _ {S : Type 0} {g : Ghosts S} (old mid new : Lines S g) where
+-- The script begins in the lines `old`. Its end is found by the call that leads from `before_end` to `new`.
+module _ {S : Type 0} {source_view : Ghosts S} (old before_end new : Lines S source_view) where
   -- if no line of the script is left, the lines taken are all of its lines
-  pub FindsEnd-whole : (end : ScriptEnd) (lines : List (List ℕ)) → FindsEnd end mid new
-      → TakesScript end (unread old) (unread mid) mid.is_at_end lines → g.follows_input new.source → ReadsScript end (unread old) (unread new) lines
+  pub FindsEnd-whole : (end : ScriptEnd) (lines : List (List ℕ)) → FindsEnd end before_end new
+      → TakesScript end (unread old) (unread before_end) before_end.is_at_end lines → source_view.follows_input new.source
+      → ReadsScript end (unread old) (unread new) lines
   FindsEnd-whole end lines (inl at_end) so_far follows =
-      ReadsScript-ended end (unread old) (unread mid) (unread new) mid.is_at_end lines so_far (at_end.none follows) (at_end.left follows)
+      ReadsScript-ended end (unread old) (unread before_end) (unread new) before_end.is_at_end lines so_far (at_end.none follows)
+      (at_end.none_left follows)
   FindsEnd-whole end lines (inr reads) so_far follows =
-      ReadsScript-through end (unread old) (unread mid) (unread new) new.is_at_end reads.shown lines
-      (subst (λ is_at_end. TakesScript end (unread old) (unread mid) is_at_end lines) reads.not_at_end so_far) (reads.takes follows) reads.ends
+      ReadsScript-through end (unread old) (unread before_end) (unread new) new.is_at_end reads.shown lines
+      (subst (λ is_at_end. TakesScript end (unread old) (unread before_end) is_at_end lines) reads.not_at_end so_far) (reads.takes follows) reads.ends
 
   -- if a line ended the script at a separator, the input has a separator
-  has_separator-if_ended : (lines : List (List ℕ)) → ReadsScriptEnd Separator mid new
-      → TakesScript Separator (unread old) (unread mid) mid.is_at_end lines → g.follows_input new.source → IsTrue (has_separator (unread old))
+  has_separator-if_ended : (lines : List (List ℕ)) → ReadsScriptEnd Separator before_end new
+      → TakesScript Separator (unread old) (unread before_end) before_end.is_at_end lines → source_view.follows_input new.source
+      → IsTrue (has_separator (unread old))
   has_separator-if_ended lines reads so_far follows =
       let takes = reads.takes follows in
       has_separator-at lines (lines_of (unread new)) takes.line (unread old)
-      (lines_of-taken (unread old) (unread mid) (unread new) mid.is_at_end new.is_at_end reads.shown lines so_far.reads takes)
-      (ends_script-shown Separator (unread mid) (unread new) new.is_at_end reads.shown takes ∙ reads.ends)
+      (lines_of-taken (unread old) (unread before_end) (unread new) before_end.is_at_end new.is_at_end reads.shown lines so_far.reads takes)
+      (ends_script-shown Separator (unread before_end) (unread new) new.is_at_end reads.shown takes ∙ reads.ends)
 
   -- after the separator, the bytes that follow it are left
-  pub FindsEnd-separator : SourceWorked g old.source new.source → held new ≡ [] → FindsEnd Separator mid new
-      → (g.follows_input new.source → (lines : List (List ℕ)) × TakesScript Separator (unread old) (unread mid) mid.is_at_end lines)
+  pub FindsEnd-separator : SourceWorked source_view old.source new.source → held new ≡ [] → FindsEnd Separator before_end new
+      → (source_view.follows_input new.source
+      → (lines : List (List ℕ)) × TakesScript Separator (unread old) (unread before_end) before_end.is_at_end lines)
       → ReadsThroughSeparator old new
   FindsEnd-separator source_worked none_held found_end lines_taken = record {
     source = source_worked;

@@ -4,61 +4,77 @@ use Rattle.std.proofs.lemmas.List.Folds.{list_all-append}
 use Rattle.std.proofs.lemmas.List.Sums.{take_while-cons}
 use Rattle.std.specs.List.{list_all, take_while}
 
--- if all lines xs pass the test, the passing lines of xs and ys are xs and the passing lines of ys
-take_while-append : (p : List ℕ → Bool) (xs ys : List (List ℕ)) → list_all p xs ≡ true → take_while p (xs ++ ys) ≡ xs ++ take_while p ys
-take_while-append p [] ys all_pass = refl
-take_while-append p (x ∷ xs) ys all_pass =
-    take_while-cons p x (xs ++ ys) ∙ by_first (p x) all_pass (λ others_pass. take_while-append p xs ys others_pass) where
-      -- the same claim by cases on the test of the first line x, with the claim for the other lines as a premise
-      by_first : (x_passes : Bool) → x_passes && list_all p xs ≡ true → (list_all p xs ≡ true → take_while p (xs ++ ys) ≡ xs ++ take_while p ys)
-          → cond x_passes (x ∷ take_while p (xs ++ ys)) [] ≡ x ∷ (xs ++ take_while p ys)
-      by_first true others_pass hypothesis = ap (λ lines. x ∷ lines) (hypothesis others_pass)
+-- if all `lines` pass the test, the passing lines of both lists are `lines` and the passing lines of `later_lines`
+take_while-append : (passes : List ℕ → Bool) (lines later_lines : List (List ℕ)) → list_all passes lines ≡ true
+    → take_while passes (lines ++ later_lines) ≡ lines ++ take_while passes later_lines
+take_while-append passes [] later_lines all_pass = refl
+take_while-append passes (line ∷ lines) later_lines all_pass =
+    take_while-cons passes line (lines ++ later_lines)
+    ∙ by_first (passes line) all_pass (λ others_pass. take_while-append passes lines later_lines others_pass) where
+      -- the same claim by cases on the test of the first line, with the claim for the other lines as a premise
+      by_first : (line_passes : Bool) → line_passes && list_all passes lines ≡ true
+          → (list_all passes lines ≡ true → take_while passes (lines ++ later_lines) ≡ lines ++ take_while passes later_lines)
+          → cond line_passes (line ∷ take_while passes (lines ++ later_lines)) [] ≡ line ∷ (lines ++ take_while passes later_lines)
+      by_first true others_pass hypothesis = ap (λ others. line ∷ others) (hypothesis others_pass)
       by_first false all_pass hypothesis = cc
 
 -- an element that passes the test is taken
-take_while-cons_yes : (p : List ℕ → Bool) (x : List ℕ) (xs : List (List ℕ)) → p x ≡ true → take_while p (x ∷ xs) ≡ x ∷ take_while p xs
-take_while-cons_yes p x xs x_passes = take_while-cons p x xs ∙ ap (λ test. cond test (x ∷ take_while p xs) []) x_passes
+take_while-cons_yes : (passes : List ℕ → Bool) (line : List ℕ) (lines : List (List ℕ)) → passes line ≡ true
+    → take_while passes (line ∷ lines) ≡ line ∷ take_while passes lines
+take_while-cons_yes passes line lines line_passes =
+    take_while-cons passes line lines ∙ ap (λ test. cond test (line ∷ take_while passes lines) []) line_passes
 
 -- an element that fails the test ends the list
-take_while-cons_no : (p : List ℕ → Bool) (x : List ℕ) (xs : List (List ℕ)) → p x ≡ false → take_while p (x ∷ xs) ≡ []
-take_while-cons_no p x xs x_fails = take_while-cons p x xs ∙ ap (λ test. cond test (x ∷ take_while p xs) []) x_fails
+take_while-cons_no : (passes : List ℕ → Bool) (line : List ℕ) (lines : List (List ℕ)) → passes line ≡ false → take_while passes (line ∷ lines) ≡ []
+take_while-cons_no passes line lines line_fails =
+    take_while-cons passes line lines ∙ ap (λ test. cond test (line ∷ take_while passes lines) []) line_fails
 
 -- if all elements pass the test, all are taken
-pub take_while-all : (p : List ℕ → Bool) (xs : List (List ℕ)) → list_all p xs ≡ true → take_while p xs ≡ xs
-take_while-all p xs all_pass = ap (take_while p) (sym (append-nil xs)) ∙ (take_while-append p xs [] all_pass ∙ append-nil xs)
+pub take_while-all : (passes : List ℕ → Bool) (lines : List (List ℕ)) → list_all passes lines ≡ true → take_while passes lines ≡ lines
+take_while-all passes lines all_pass =
+    ap (take_while passes) (sym (append-nil lines)) ∙ (take_while-append passes lines [] all_pass ∙ append-nil lines)
 
 -- the elements before the first that fails the test are taken
-pub take_while-stop : (p : List ℕ → Bool) (xs : List (List ℕ)) (x : List ℕ) (ys : List (List ℕ)) → list_all p xs ≡ true → p x ≡ false
-    → take_while p (xs ++ x ∷ ys) ≡ xs
-take_while-stop p xs x ys all_pass x_fails =
-    take_while-append p xs (x ∷ ys) all_pass ∙ (ap (λ taken. xs ++ taken) (take_while-cons_no p x ys x_fails) ∙ append-nil xs)
+pub take_while-stop : (passes : List ℕ → Bool) (lines : List (List ℕ)) (line : List ℕ) (later_lines : List (List ℕ))
+    → list_all passes lines ≡ true → passes line ≡ false
+    → take_while passes (lines ++ line ∷ later_lines) ≡ lines
+take_while-stop passes lines line later_lines all_pass line_fails =
+    take_while-append passes lines (line ∷ later_lines) all_pass
+    ∙ (ap (λ taken. lines ++ taken) (take_while-cons_no passes line later_lines line_fails) ∙ append-nil lines)
 
 -- after elements that pass the test, one more that passes is taken, and then the passing elements of the rest
-pub take_while-pass : (p : List ℕ → Bool) (xs : List (List ℕ)) (x : List ℕ) (ys : List (List ℕ)) → list_all p xs ≡ true → p x ≡ true
-    → take_while p (xs ++ x ∷ ys) ≡ xs ++ x ∷ take_while p ys
-take_while-pass p xs x ys all_pass x_passes =
-    take_while-append p xs (x ∷ ys) all_pass ∙ ap (λ taken. xs ++ taken) (take_while-cons_yes p x ys x_passes)
+pub take_while-pass : (passes : List ℕ → Bool) (lines : List (List ℕ)) (line : List ℕ) (later_lines : List (List ℕ))
+    → list_all passes lines ≡ true → passes line ≡ true
+    → take_while passes (lines ++ line ∷ later_lines) ≡ lines ++ line ∷ take_while passes later_lines
+take_while-pass passes lines line later_lines all_pass line_passes =
+    take_while-append passes lines (line ∷ later_lines) all_pass
+    ∙ ap (λ taken. lines ++ taken) (take_while-cons_yes passes line later_lines line_passes)
 
 -- if all elements of a list pass the test, and one more element passes it, all pass it
-pub list_all-push : (p : List ℕ → Bool) (xs : List (List ℕ)) (x : List ℕ) → list_all p xs ≡ true → p x ≡ true
-    → list_all p (xs ++ x ∷ []) ≡ true
-list_all-push p xs x all_pass x_passes = list_all-append p xs (x ∷ []) ∙ (rw (all_pass, x_passes) refl)
+pub list_all-push : (passes : List ℕ → Bool) (lines : List (List ℕ)) (line : List ℕ) → list_all passes lines ≡ true → passes line ≡ true
+    → list_all passes (lines ++ line ∷ []) ≡ true
+list_all-push passes lines line all_pass line_passes = list_all-append passes lines (line ∷ []) ∙ (rw (all_pass, line_passes) refl)
 
 -- not all elements pass the test, if one in the middle fails it
-pub list_all-stop : (p : List ℕ → Bool) (xs : List (List ℕ)) (x : List ℕ) (ys : List (List ℕ)) → list_all p xs ≡ true → p x ≡ false
-    → list_all p (xs ++ x ∷ ys) ≡ false
-list_all-stop p xs x ys all_pass x_fails = list_all-append p xs (x ∷ ys) ∙ (rw (all_pass, x_fails) refl)
+pub list_all-stop : (passes : List ℕ → Bool) (lines : List (List ℕ)) (line : List ℕ) (later_lines : List (List ℕ)) → list_all passes lines ≡ true
+    → passes line ≡ false
+    → list_all passes (lines ++ line ∷ later_lines) ≡ false
+list_all-stop passes lines line later_lines all_pass line_fails = list_all-append passes lines (line ∷ later_lines) ∙ (rw (all_pass, line_fails) refl)
 
 -- the passing lines of a prefix are a prefix of the passing lines of all
-pub take_while-prefix : (p : List ℕ → Bool) (xs ys : List (List ℕ))
-    → (others : List (List ℕ)) × (take_while p (xs ++ ys) ≡ take_while p xs ++ others)
-take_while-prefix p [] ys = (take_while p ys, refl)
-take_while-prefix p (x ∷ xs) ys =
-    let (others, taken_is) = take_while-prefix p xs ys in
-    let (rest, cond_is) = by_first (p x) others taken_is in
-    (rest, take_while-cons p x (xs ++ ys) ∙ (cond_is ∙ ap (λ taken. taken ++ rest) (sym (take_while-cons p x xs)))) where
-      -- the same claim by cases on the test of the first line x, with the claim for the other lines as a premise
-      by_first : (x_passes : Bool) (others : List (List ℕ)) → take_while p (xs ++ ys) ≡ take_while p xs ++ others
-          → (rest : List (List ℕ)) × (cond x_passes (x ∷ take_while p (xs ++ ys)) [] ≡ cond x_passes (x ∷ take_while p xs) [] ++ rest)
-      by_first true others hypothesis = (others, ap (λ lines. x ∷ lines) hypothesis)
+pub take_while-prefix : (passes : List ℕ → Bool) (lines later_lines : List (List ℕ))
+    → (others : List (List ℕ)) × (take_while passes (lines ++ later_lines) ≡ take_while passes lines ++ others)
+take_while-prefix passes [] later_lines = (take_while passes later_lines, refl)
+take_while-prefix passes (line ∷ lines) later_lines =
+    let (others, taken_is) = take_while-prefix passes lines later_lines in
+    let (rest, cond_is) = by_first (passes line) others taken_is in (
+      rest,
+      take_while-cons passes line (lines ++ later_lines)
+          ∙ (cond_is ∙ ap (λ taken. taken ++ rest) (sym (take_while-cons passes line lines))),
+    ) where
+      -- the same claim by cases on the test of the first line, with the claim for the other lines as a premise
+      by_first : (line_passes : Bool) (others : List (List ℕ)) → take_while passes (lines ++ later_lines) ≡ take_while passes lines ++ others
+          → (rest : List (List ℕ))
+          × (cond line_passes (line ∷ take_while passes (lines ++ later_lines)) [] ≡ cond line_passes (line ∷ take_while passes lines) [] ++ rest)
+      by_first true others hypothesis = (others, ap (λ others. line ∷ others) hypothesis)
       by_first false others hypothesis = ([], refl)

@@ -6,56 +6,56 @@ use Rattle.rv_text.specs.GoodLines.{max_line, is_blank, is_text, is_good_line}
 use Rattle.rv_text.specs.Words.{is_filled, words_of}
 use Rattle.rv_streams.specs.Separator.{only_word, line_word}
 
--- each part has at most n bytes
+-- each part has at most `limit` bytes
 AllWithin : ℕ → List (List ℕ) → Type 0
-AllWithin n [] = Unit {0}
-AllWithin n (part ∷ parts) = (length part ≤ n) × AllWithin n parts
+AllWithin limit [] = Unit {0}
+AllWithin limit (part ∷ parts) = (length part ≤ limit) × AllWithin limit parts
 
--- parts of at most n bytes have at most m, if n is at most m
-within_larger : (n m : ℕ) (parts : List (List ℕ)) → n ≤ m → AllWithin n parts → AllWithin m parts
+-- parts of at most `limit` bytes have at most `larger` bytes, if `limit` is at most `larger`
+within_larger : (limit larger : ℕ) (parts : List (List ℕ)) → limit ≤ larger → AllWithin limit parts → AllWithin larger parts
 unfolding AllWithin
-within_larger n m [] n_at_most_m within = tt
-within_larger n m (part ∷ parts) n_at_most_m (part_within, parts_within) =
-    let part_fits : length part ≤ n = part_within in (omega arith, within_larger n m parts n_at_most_m parts_within)
+within_larger limit larger [] limit_at_most_larger within = tt
+within_larger limit larger (part ∷ parts) limit_at_most_larger (part_within, parts_within) =
+    let part_fits : length part ≤ limit = part_within in (omega arith, within_larger limit larger parts limit_at_most_larger parts_within)
 
 -- a byte put before the first part makes it one longer
-within_onto : (n x : ℕ) (parts : List (List ℕ)) → AllWithin n parts → AllWithin (n + 1) (onto_first x parts)
+within_onto : (limit byte : ℕ) (parts : List (List ℕ)) → AllWithin limit parts → AllWithin (limit + 1) (onto_first byte parts)
 unfolding AllWithin
-within_onto n x [] within = (omega arith, tt)
-within_onto n x (part ∷ parts) (part_within, parts_within) =
-    let part_fits : length part ≤ n = part_within in (omega arith, within_larger n (n + 1) parts (omega arith) parts_within)
+within_onto limit byte [] within = (omega arith, tt)
+within_onto limit byte (part ∷ parts) (part_within, parts_within) =
+    let part_fits : length part ≤ limit = part_within in (omega arith, within_larger limit (limit + 1) parts (omega arith) parts_within)
 
 -- the parts of a text are at most as long as the text, by induction over the text
-within_split : (separates : ℕ → Bool) (xs : List ℕ) → AllWithin (length xs) (slice_split separates xs)
+within_split : (separates : ℕ → Bool) (text : List ℕ) → AllWithin (length text) (slice_split separates text)
 unfolding AllWithin
 within_split separates [] = (omega arith, tt)
-within_split separates (x ∷ xs) = by_first (separates x) (within_split separates xs) where
-  -- the same claim by cases on the test of the first byte x: it separates two parts, or belongs to the first part
-  by_first : (x_separates : Bool) → AllWithin (length xs) (slice_split separates xs)
-      → AllWithin (length (x ∷ xs)) (cond x_separates ([] ∷ slice_split separates xs) (onto_first x (slice_split separates xs)))
-  by_first true within = (omega arith, within_larger (length xs) (length (x ∷ xs)) (slice_split separates xs) (omega arith) within)
-  by_first false within = within_larger (length xs + 1) (length (x ∷ xs)) (onto_first x (slice_split separates xs)) (omega arith)
-      (within_onto (length xs) x (slice_split separates xs) within)
+within_split separates (byte ∷ text) = by_first (separates byte) (within_split separates text) where
+  -- the same claim by cases on the test of the first byte: it separates two parts, or belongs to the first part
+  by_first : (byte_separates : Bool) → AllWithin (length text) (slice_split separates text)
+      → AllWithin (length (byte ∷ text)) (cond byte_separates ([] ∷ slice_split separates text) (onto_first byte (slice_split separates text)))
+  by_first true within = (omega arith, within_larger (length text) (length (byte ∷ text)) (slice_split separates text) (omega arith) within)
+  by_first false within = within_larger (length text + 1) (length (byte ∷ text)) (onto_first byte (slice_split separates text)) (omega arith)
+      (within_onto (length text) byte (slice_split separates text) within)
 
--- parts of at most n bytes have at most n bytes after some of them are filtered out
-within_filter : (passes : List ℕ → Bool) (n : ℕ) (parts : List (List ℕ)) → AllWithin n parts → AllWithin n (filter passes parts)
+-- parts of at most `limit` bytes have at most `limit` bytes after some of them are filtered out
+within_filter : (passes : List ℕ → Bool) (limit : ℕ) (parts : List (List ℕ)) → AllWithin limit parts → AllWithin limit (filter passes parts)
 unfolding AllWithin
-within_filter passes n [] within = tt
-within_filter passes n (part ∷ parts) (part_within, parts_within) = by_first (passes part) (within_filter passes n parts parts_within) where
+within_filter passes limit [] within = tt
+within_filter passes limit (part ∷ parts) (part_within, parts_within) = by_first (passes part) (within_filter passes limit parts parts_within) where
   -- the same claim by cases on the test of the first part
-  by_first : (part_passes : Bool) → AllWithin n (filter passes parts)
-      → AllWithin n (cond part_passes (part ∷ filter passes parts) (filter passes parts))
+  by_first : (part_passes : Bool) → AllWithin limit (filter passes parts)
+      → AllWithin limit (cond part_passes (part ∷ filter passes parts) (filter passes parts))
   by_first true filtered_within = (part_within, filtered_within)
   by_first false filtered_within = filtered_within
 
--- if each word has at most n bytes, so has the only word
-only_word_within : (n : ℕ) (words : List (List ℕ)) (word : List ℕ) → AllWithin n words → only_word words ≡ Some word → length word ≤ n
+-- if each word has at most `limit` bytes, so has the only word
+only_word_within : (limit : ℕ) (words : List (List ℕ)) (word : List ℕ) → AllWithin limit words → only_word words ≡ Some word → length word ≤ limit
 unfolding AllWithin
-only_word_within n [] word within only_word_is =
-    let word_is_empty : [] ≡ word = cc in subst (λ (word : List ℕ). length word ≤ n) word_is_empty (omega arith)
-only_word_within n (first ∷ []) word within only_word_is =
-    let word_is_first : first ≡ word = cc in subst (λ (word : List ℕ). length word ≤ n) word_is_first within.0
-only_word_within n (first ∷ second ∷ words) word within only_word_is = cc
+only_word_within limit [] word within only_word_is =
+    let word_is_empty : [] ≡ word = cc in subst (λ (word : List ℕ). length word ≤ limit) word_is_empty (omega arith)
+only_word_within limit (first ∷ []) word within only_word_is =
+    let word_is_first : first ≡ word = cc in subst (λ (word : List ℕ). length word ≤ limit) word_is_first within.0
+only_word_within limit (first ∷ second ∷ words) word within only_word_is = cc
 
 -- a good line has at most `max_line` bytes
 good_line_within : (line : List ℕ) → is_good_line line ≡ true → length line ≤ max_line

@@ -7,25 +7,29 @@ use Rattle.rv_streams.specs.Transfer.{WritesUpTo, WritesPrefix}
 use Rattle.rv_streams.proofs.Writing.{WritesUpTo-on, WritesUpTo-line, WritesUpTo-stopped, WritesUpTo-all}
 
 module _ {X : Type 0} (line : X → List ℕ) (items : List X) where
-  -- the line of item k is gathered, after some of the gathered bytes (`before`) were written and others (`held`) are still held
-  pub lines-more : (k : ℕ) (default : X) (old mid new before held gathered : List ℕ) → k < length items
-      → WritesUpTo old mid (flat_map line (take k items)) before → WritesUpTo mid new before held → gathered ≡ held ++ line (get_or items k default)
-      → WritesUpTo old new (flat_map line (take (k + 1) items)) gathered
-  lines-more k default old mid new before held gathered k_in_items so_far wrote_before gathered_is =
-      WritesUpTo-line old new _ held (line (get_or items k default)) _ gathered (WritesUpTo-on old mid new _ before held so_far wrote_before)
-      (ap (flat_map line) (take_more items k default k_in_items)
-      ∙ (flat_map-append line (take k items) (get_or items k default ∷ [])
-      ∙ ap (λ lines. flat_map line (take k items) ++ lines) (append-nil (line (get_or items k default))))) gathered_is
+  -- the line of the next item, number `count` from 0, is gathered, after some of the gathered bytes (`before`) were written and others (`held`) are
+  -- still held
+  pub lines-more : (count : ℕ) (default : X) (old middle new before held gathered : List ℕ) → count < length items
+      → WritesUpTo old middle (flat_map line (take count items)) before → WritesUpTo middle new before held
+      → gathered ≡ held ++ line (get_or items count default)
+      → WritesUpTo old new (flat_map line (take (count + 1) items)) gathered
+  lines-more count default old middle new before held gathered index_in_items so_far wrote_before gathered_is =
+      WritesUpTo-line old new _ held (line (get_or items count default)) _ gathered (WritesUpTo-on old middle new _ before held so_far wrote_before)
+      (ap (flat_map line) (take_more items count default index_in_items)
+      ∙ (flat_map-append line (take count items) (get_or items count default ∷ [])
+      ∙ ap (λ lines. flat_map line (take count items) ++ lines) (append-nil (line (get_or items count default))))) gathered_is
 
   -- a sink that fails in the bytes of the lines so far has taken a prefix of all lines
-  pub lines-stopped : (k : ℕ) (old mid new before : List ℕ) → WritesUpTo old mid (flat_map line (take k items)) before → WritesPrefix mid new before
+  pub lines-stopped : (count : ℕ) (old middle new before : List ℕ) → WritesUpTo old middle (flat_map line (take count items)) before
+      → WritesPrefix middle new before
       → WritesPrefix old new (flat_map line items)
-  lines-stopped k old mid new before so_far stops =
-      WritesUpTo-stopped old mid new _ before (flat_map line (drop k items)) _ so_far stops
-      (ap (flat_map line) (sym (take-append-drop k items)) ∙ flat_map-append line (take k items) (drop k items))
+  lines-stopped count old middle new before so_far stops =
+      WritesUpTo-stopped old middle new _ before (flat_map line (drop count items)) _ so_far stops
+      (ap (flat_map line) (sym (take-append-drop count items)) ∙ flat_map-append line (take count items) (drop count items))
 
-  -- all lines are written after the lines of k items, if there are at most k items
-  pub lines-all : (k : ℕ) (old mid new before : List ℕ) → length items ≤ k → WritesUpTo old mid (flat_map line (take k items)) before
-      → new ≡ mid ++ before → new ≡ old ++ flat_map line items
-  lines-all k old mid new before k_is_all so_far wrote_held =
-      WritesUpTo-all old mid new _ before so_far wrote_held ∙ ap (λ xs. old ++ flat_map line xs) (take_all k items k_is_all)
+  -- all lines are written after the lines of `count` items, if there are at most `count` items
+  pub lines-all : (count : ℕ) (old middle new before : List ℕ) → length items ≤ count
+      → WritesUpTo old middle (flat_map line (take count items)) before
+      → new ≡ middle ++ before → new ≡ old ++ flat_map line items
+  lines-all count old middle new before count_is_all so_far wrote_held =
+      WritesUpTo-all old middle new _ before so_far wrote_held ∙ ap (λ xs. old ++ flat_map line xs) (take_all count items count_is_all)

@@ -24,32 +24,50 @@ AddsPart part old new (Err _) = ⊥
 module _ {S : Type 0} (source_view : SourceGhosts S) where
   -- The whole text of at most 4 MiB was read, until the source returned its end.
   pub record ReadsWholeText (old new : S) : Type 0 where
+    -- the input that is assumed stays the same
     pub same_input : source_view.input new ≡ source_view.input old
+    -- no call of the source failed
     pub source : SourceWorked source_view old new
+    -- the source returned its end
     pub ended : HasRisen (source_view.ends old) (source_view.ends new)
+    -- the text has at most 4 MiB
     pub within_limit : source_view.follows_input new → length (source_view.remaining old) ≤ 4194304
+    -- no byte of the input is left
     pub used_up : source_view.follows_input new → source_view.remaining new ≡ []
 
   -- The source failed before it returned its end, after at most 4 MiB were read.
   pub record FailsInText (old new : S) : Type 0 where
+    -- the input that is assumed stays the same
     pub same_input : source_view.input new ≡ source_view.input old
+    -- a call of the source failed
     pub source : SourceFailed source_view old new
+    -- the source has not returned its end
     pub no_new_end : source_view.ends new ≡ source_view.ends old
+    -- at most 4 MiB were read
     pub reads : source_view.follows_input new → ReadsAtMost 4194304 (source_view.remaining old) (source_view.remaining new)
 
   -- More than 4 MiB were read before the source returned its end, so the text is too long.
   pub record FindsTooMuch (old new : S) : Type 0 where
+    -- the input that is assumed stays the same
     pub same_input : source_view.input new ≡ source_view.input old
+    -- no call of the source failed
     pub source : SourceWorked source_view old new
+    -- the source has not returned its end
     pub no_new_end : source_view.ends new ≡ source_view.ends old
+    -- more than 4 MiB were read
     pub reads : source_view.follows_input new → ReadsMoreThan 4194304 (source_view.remaining old) (source_view.remaining new)
 
   -- Memory for the text was exhausted before the source returned its end, after at least one byte was read.
   pub record RunsOutOfMemoryForText (old new : S) : Type 0 where
+    -- the input that is assumed stays the same
     pub same_input : source_view.input new ≡ source_view.input old
+    -- no call of the source failed
     pub source : SourceWorked source_view old new
+    -- the source has not returned its end
     pub no_new_end : source_view.ends new ≡ source_view.ends old
+    -- at least one byte was read
     pub some_read : source_view.follows_input new → length (source_view.remaining new) < length (source_view.remaining old)
+    -- at most 4 MiB were read
     pub reads : source_view.follows_input new → ReadsAtMost 4194304 (source_view.remaining old) (source_view.remaining new)
 
   -- the meaning of each result of reading a text

@@ -25,8 +25,11 @@ after_flush log = record log { flushes = log.flushes + 1; is_flushed = true }
 -- The log of a source whose calls gave a beginning of the input that is assumed. If a call returned the end, they gave all of it. The rest is
 -- still to come.
 pub record FollowsInput (log : CallLog) : Type 0 where
+  -- the bytes of the input that are still to come
   pub rest : List ℕ
+  -- the input is the bytes that were given, followed by the rest
   pub split : log.input ≡ log.bytes ++ rest
+  -- after the source returned its end, nothing is still to come
   pub ended : 0 < log.empty_calls → rest ≡ []
 
 -- `still_to_come` has the bytes of the assumed input that the source has not given yet

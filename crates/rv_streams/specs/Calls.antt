@@ -20,13 +20,18 @@ module _ {W : Type 0} (sink_view : SinkGhosts W) (old new : W) where
 
   -- no call of the sink failed, and the sink was not flushed
   pub record SinkWorked : Type 0 where
+    -- no call failed, and each call with a non-empty part took a byte
     pub worked : NoneFailed
+    -- the number of flushes is the same
     pub unflushed : sink_view.flushes new ≡ sink_view.flushes old
 
   -- no call of the sink failed, and it was flushed once, after the last byte that it took
   pub record SinkFlushed : Type 0 where
+    -- no call failed, and each call with a non-empty part took a byte
     pub worked : NoneFailed
+    -- no byte was taken after the last flush
     pub flushed : sink_view.is_flushed new ≡ true
+    -- the number of flushes is one more
     pub once : sink_view.flushes new ≡ sink_view.flushes old + 1
 
   -- a call of the sink failed, or one with a non-empty part took no byte

@@ -4,13 +4,13 @@ use Rattle.std.specs.Prelude.{ℕ, ◌+◌, ◌<◌, ◌==◌, nat_lt, Bool, fal
 
 -- `moved_count` is the number of bytes that a call gave or took, or 0 if it failed
 abbrev pub moved_count : {E : Type 0} → Result ℕ E → ℕ
-moved_count (Ok n) = n
-moved_count (Err e) = 0
+moved_count (Ok count) = count
+moved_count (Err error) = 0
 
 -- `moves_none` states whether a call that could have moved a byte succeeded without moving one
 abbrev pub moves_none : {E : Type 0} → Result ℕ E → ℕ → Bool
-moves_none (Ok n) room = (n == 0) && nat_lt 0 room
-moves_none (Err e) room = false
+moves_none (Ok count) room = (count == 0) && nat_lt 0 room
+moves_none (Err error) room = false
 
 -- `counted_if` is the count after a call, which is or is not of the kind
 abbrev pub counted_if : Bool → ℕ → ℕ

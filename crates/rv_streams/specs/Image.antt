@@ -44,33 +44,51 @@ abbrev pub image_in : List ℕ → Result (List ℕ) BenchFault
 image_in input = image_of (before_separator (lines_of input))
 
 -- Lines of the image were read: none is `--` or has an error, and there are not too many bytes. Then a prefix of a line was read, which is kept.
-pub record ReadsInImage (unread left kept : List ℕ) : Type 0 where
+pub record ReadsInImage (unread remaining kept : List ℕ) : Type 0 where
+  -- the whole lines that were read
   pub lines : List (List ℕ)
+  -- the unread bytes after these lines
   pub others : List ℕ
+  -- exactly these lines were read
   pub reads : ReadsLines unread others false lines
+  -- no line of them is the separator
   pub unmarked : before_separator lines ≡ lines
+  -- the lines have no error
   pub image : image_of lines ≡ Ok (bytes_of_lines lines)
-  pub begun : ReadsLineText others left kept
+  -- a part of the next line was read
+  pub begun : ReadsLineText others remaining kept
 
 -- The lines were read, up to the remaining bytes, and none is `--`.
-pub record ReadsUnmarked (unread left : List ℕ) (lines : List (List ℕ)) : Type 0 where
-  pub all_lines : lines_of unread ≡ lines ++ lines_of left
-  pub rest : left ≡ after_lines (length lines) unread
+pub record ReadsUnmarked (unread remaining : List ℕ) (lines : List (List ℕ)) : Type 0 where
+  -- the other lines of the unread bytes are left
+  pub all_lines : lines_of unread ≡ lines ++ lines_of remaining
+  -- the bytes after these lines are left
+  pub rest : remaining ≡ after_lines (length lines) unread
+  -- no line of them is the separator
   pub unmarked : before_separator lines ≡ lines
 
 -- Lines of the image with at least one byte were read: none is `--` or has an error, and there are not too many bytes.
-pub record ReadsPrefixOfImage (unread left : List ℕ) : Type 0 where
+pub record ReadsPrefixOfImage (unread remaining : List ℕ) : Type 0 where
+  -- the lines that were read
   pub lines : List (List ℕ)
+  -- the lines have at least one byte of the image
   pub some : 0 < length (bytes_of_lines lines)
-  pub reads : ReadsUnmarked unread left lines
+  -- exactly these lines were read, and none is the separator
+  pub reads : ReadsUnmarked unread remaining lines
+  -- the lines have no error
   pub image : image_of lines ≡ Ok (bytes_of_lines lines)
 
 -- Lines of the image were read, none of them `--`, through the first that has an error or with which there are too many bytes.
-pub record StopsAtFault (unread left : List ℕ) (fault : BenchFault) : Type 0 where
+pub record StopsAtFault (unread remaining : List ℕ) (fault : BenchFault) : Type 0 where
+  -- the lines without an error
   pub sound : List (List ℕ)
+  -- the first line with an error
   pub line : List ℕ
-  pub reads : ReadsUnmarked unread left (sound ++ line ∷ [])
+  -- exactly these lines were read, and none is the separator
+  pub reads : ReadsUnmarked unread remaining (sound ++ line ∷ [])
+  -- the lines before have no error
   pub image : image_of sound ≡ Ok (bytes_of_lines sound)
+  -- the last line gives the image its error
   pub fails : image_of (sound ++ line ∷ []) ≡ Err fault
 
 -- the meaning of each result of appending the bytes of a word to an image, which may have at most 32 MiB (33554432 bytes)

@@ -25,31 +25,44 @@ abbrev pub is_script_line : ScriptEnd → List ℕ → Bool
 is_script_line end line = not (ends_script end line)
 
 -- The lines of the script were taken, and no others.
-pub record TakesScript (end : ScriptEnd) (unread left : List ℕ) (is_at_end : Bool) (lines : List (List ℕ)) : Type 0 where
-  pub reads : ReadsLines unread left is_at_end lines
+pub record TakesScript (end : ScriptEnd) (unread remaining : List ℕ) (is_at_end : Bool) (lines : List (List ℕ)) : Type 0 where
+  -- exactly these lines were taken
+  pub reads : ReadsLines unread remaining is_at_end lines
+  -- no line of them ends the script
   pub in_script : list_all (is_script_line end) lines ≡ true
 
-module _ {S : Type 0} {g : Ghosts S} where
+module _ {S : Type 0} {source_view : Ghosts S} where
   -- The source has returned its end, and no line is left.
-  pub record IsAtEnd (old new : Lines S g) : Type 0 where
+  pub record IsAtEnd (old new : Lines S source_view) : Type 0 where
+    -- the lines have reported the end of the input
     pub at_end : new.is_at_end ≡ true
-    pub none : g.follows_input new.source → unread old ≡ []
-    pub left : g.follows_input new.source → unread new ≡ []
+    -- no byte was unread before the call
+    pub none : source_view.follows_input new.source → unread old ≡ []
+    -- no byte is unread after the call
+    pub none_left : source_view.follows_input new.source → unread new ≡ []
 
   -- A line was read that ends the script.
-  pub record ReadsScriptEnd (end : ScriptEnd) (old new : Lines S g) : Type 0 where
+  pub record ReadsScriptEnd (end : ScriptEnd) (old new : Lines S source_view) : Type 0 where
+    -- the significant bytes of the line that ends the script
     pub shown : List ℕ
+    -- the lines had not reported the end of the input before
     pub not_at_end : old.is_at_end ≡ false
-    pub takes : g.follows_input new.source → TakesLine (unread old) (unread new) new.is_at_end shown
+    -- the line was taken from the unread bytes
+    pub takes : source_view.follows_input new.source → TakesLine (unread old) (unread new) new.is_at_end shown
+    -- the line ends the script
     pub ends : ends_script end shown ≡ true
 
   -- no line of the script is left
-  abbrev pub FindsEnd : ScriptEnd → Lines S g → Lines S g → Type 0
+  abbrev pub FindsEnd : ScriptEnd → Lines S source_view → Lines S source_view → Type 0
   FindsEnd end old new = IsAtEnd old new ⊎ ReadsScriptEnd end old new
 
   -- The lines were read through the first separator, or, if there is none, until the source returned its end.
-  pub record ReadsThroughSeparator (old new : Lines S g) : Type 0 where
-    pub source : SourceWorked g old.source new.source
+  pub record ReadsThroughSeparator (old new : Lines S source_view) : Type 0 where
+    -- no call of the source failed
+    pub source : SourceWorked source_view old.source new.source
+    -- no begun line is held
     pub emptied : held new ≡ []
-    pub rest : g.follows_input new.source → unread new ≡ after_separator (unread old)
-    pub ended : (new.is_at_end ≡ true) ⊎ (g.follows_input new.source → IsTrue (has_separator (unread old)))
+    -- the bytes after the separator are unread
+    pub rest : source_view.follows_input new.source → unread new ≡ after_separator (unread old)
+    -- the source returned its end, or the input has a separator
+    pub ended : (new.is_at_end ≡ true) ⊎ (source_view.follows_input new.source → IsTrue (has_separator (unread old)))

@@ -11,8 +11,8 @@ WritesPrefix old new text = (rest : List ℕ) × WritesUpTo old new text rest
 
 -- at most `most` of the unread bytes were read
 abbrev pub ReadsAtMost : ℕ → List ℕ → List ℕ → Type 0
-ReadsAtMost most unread left = (prefix : List ℕ) × (unread ≡ prefix ++ left) × (length prefix ≤ most)
+ReadsAtMost most unread remaining = (prefix : List ℕ) × (unread ≡ prefix ++ remaining) × (length prefix ≤ most)
 
 -- more than `most` of the unread bytes were read
 abbrev pub ReadsMoreThan : ℕ → List ℕ → List ℕ → Type 0
-ReadsMoreThan most unread left = (prefix : List ℕ) × (unread ≡ prefix ++ left) × (most < length prefix)
+ReadsMoreThan most unread remaining = (prefix : List ℕ) × (unread ≡ prefix ++ remaining) × (most < length prefix)

@@ -57,13 +57,15 @@ returns-in-Ok g c =
     let text_output_is = output_is g (goal.at.returns-in-Ok g c).In-Ok in
     let words_are = c.as_slice-in-Ok.ensures.value in
     mapped (RunsAsm g.S.Source g.W.Sink c.args.source.now c.read_whole.new.source c.args.sink.now c.write_words.new.sink)
-    _ Write c.write_words.result c.map_err.result c.map_err.ensures.cases (λ e d is_write. search rules)
+    _ Write c.write_words.result c.map_err.result c.map_err.ensures.cases (λ error mapped_error is_write. search rules)
+    -- the sink took all lines
     (λ _ write_ok. (
       c.in_ok-text.ensures.0,
       flushed_once g.W.Sink c.write_words.result write_ok c.write_words.ensures.ok c.write_words.ensures.flushed,
       λ follows. IsOkAnd-at _ _ _ (text_output_is follows) (IfOk-at_ok _ write_ok c.write_words.ensures.written
           ∙ ap (λ words. g.W.Sink.taken c.args.sink.now ++ asm_text words) words_are),
     ))
+    -- the sink failed after a prefix of the lines
     (λ _ write_failed. (
       c.in_ok-text.ensures.0,
       IfErr-at_err _ write_failed c.write_words.ensures.err,

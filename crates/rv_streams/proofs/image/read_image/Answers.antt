@@ -105,6 +105,6 @@ returns-clause-outcome g c =
     (inl (record {
       at_end = IfOk-at_ok _ no_line c.next_line.ensures.none;
       none = λ follows. (IfOk-at_ok _ no_line (c.next_line.ensures.nothing follows)).0;
-      left = λ follows. (IfOk-at_ok _ no_line (c.next_line.ensures.nothing follows)).1;
+      none_left = λ follows. (IfOk-at_ok _ no_line (c.next_line.ensures.nothing follows)).1;
     }))
     c.loop-image.invariant.within_limit (λ follows. c.loop-image.invariant.image (c.next_line.ensures.read.end.followed_before follows))

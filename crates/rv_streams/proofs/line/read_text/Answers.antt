@@ -74,9 +74,11 @@ loop-count-preserved g c =
     let (ends_in_last, lengths) = c.in-Some.ensures.cases in
     let read = c.in_ok-count.ensures in
     let part = take c.in_ok-count.count c.read_in_line.new.buffer in
+    -- the part has no line feed before its last byte, and its last byte is no line feed
     let text_no_feed = has_feed-before_last _ _ _ _ read.room ends_in_last lengths read.line in
     let part_no_feed : has_feed part ≡ false =
     rw ends_in_last (has_feed-push c.in-Some.text.now c.in-Some.last.now text_no_feed c.if-last-eq-LINE_FEED.false) in record {
+      -- the text so far and the part, without a line feed, are the text that was read
       bytes = λ follows. rw c.keep-in-loop-count.ensures
           (ReadsText-more _ _ _ _ _ (c.loop-count.invariant.bytes (read.before follows)) (read.bytes follows) part_no_feed);
       same_input = search rules;
@@ -84,6 +86,7 @@ loop-count-preserved g c =
       failures = search rules;
       ends = search rules;
       line_fits = omega (arith, ap length c.keep-in-loop-count.ensures, length-take kept_bytes (c.loop-count.line.items ++ part));
+      -- the kept bytes of the text and of the part have no line feed
       no_feed = rw c.keep-in-loop-count.ensures
           (has_feed-kept kept_bytes c.loop-count.line.items part c.loop-count.invariant.no_feed part_no_feed);
       fewer_calls = omega (

@@ -14,12 +14,14 @@ part_refused : {S : Type 0} (Z : Type 0) (g : Ghosts S) (old new : S) (text part
     → g.input new ≡ g.input old → SourceWorked g old new → g.ends new ≡ g.ends old
     → (g.follows_input new → g.remaining old ≡ (text ++ part) ++ g.remaining new)
     → AddsPart part text added (Err fault) → ReadsText g {Z = Z} old new (Err fault)
+-- the text with the part exceeds the limit
 part_refused Z g old new text part added TooLong same_input source_worked same_ends bytes_are (exceeds_limit, unchanged) = record {
   same_input = same_input;
   source = source_worked;
   no_new_end = same_ends;
   reads = λ follows. (text ++ part, bytes_are follows, omega (arith, exceeds_limit, length-append text part));
 }
+-- memory for the part is refused: the part has a byte, and the text with the part is within the limit
 part_refused Z g old new text part added NoMemory same_input source_worked same_ends bytes_are (has_bytes, within_limit, unchanged) = record {
   same_input = same_input;
   source = source_worked;

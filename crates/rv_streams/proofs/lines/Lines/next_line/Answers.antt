@@ -5,8 +5,8 @@ use Rattle.rv_streams.proofs.LineTextLemmas.{TakesLine-feed, TakesLine-end}
 use Rattle.rv_streams.proofs.lines.Lines.next_line.Goals as goal
 
 -- a length is positive if the test of emptiness is false
-length_positive : (n : ℕ) (is_empty : Bool) → is_empty ≡ (n == 0) → is_empty ≡ false → 0 < n
-length_positive n is_empty is_empty_test not_empty = grind arith
+length_positive : (count : ℕ) (is_empty : Bool) → is_empty ≡ (count == 0) → is_empty ≡ false → 0 < count
+length_positive count is_empty is_empty_test not_empty = grind arith
 
 -- the line that a line feed ends is returned, and its line feed is taken (clause `read`)
 pub returns-in-LineFeed-clause-read : goal.returns-in-LineFeed-clause-read
