@@ -41,8 +41,11 @@ other_script = codes "poke 80020ffc 5a\nsetreg 5 0badc0de\nregs\n"
 
 -- the enclave of slot 0 runs on the selected hart, and the two addresses that the scripts poke are in its region
 pub record RunsEnclave (bench : BenchState) : Type 0 where
+  -- the enclave runs on the selected hart
   pub runs : is_selected 0 bench.target ≡ true
+  -- the first address is in the region
   pub first : has (region_in 0 bench.target) 0x80020000 ≡ true
+  -- the second address is in the region
   pub second : has (region_in 0 bench.target) 0x80020ffc ≡ true
 
 -- ---- the commands
@@ -132,7 +135,7 @@ secrets_are_concealed setup prefix whole_lines separated enclave_runs =
     secret_declassification setup (prefix ++ script) 0 (prefix ++ other_script) (record {
       prefix = prefix;
       rest = script;
-      another = other_script;
+      other_rest = other_script;
       input_is = refl;
       other_is = refl;
       whole_prefix = whole_lines;

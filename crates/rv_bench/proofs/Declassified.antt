@@ -35,7 +35,9 @@ module _ (enclave : ℕ) where
 
   -- two lines have equal observations, and leave related benches
   record LineObserved (first second : BenchState) (line other : List ℕ) : Type 0 where
+    -- the observed parts of the replies are equal
     pub text : (observed_line enclave first line).reply ≡ (observed_line enclave second other).reply
+    -- the benches are related after the lines
     pub state : BenchesAreRelated enclave (execute_line first line).state (execute_line second other).state
 
   -- two lines that are alike have equal observations, and leave related benches
@@ -191,19 +193,19 @@ module _ (setup : Setup) (enclave : ℕ) (prefix : List ℕ) (whole : through_la
       ap₂ Observed (bench_in-prefix prefix whole separated setup rest) (script_lines-prefix prefix whole separated rest)
 
   -- two rests of a script that are alike have equal observed outputs
-  rests_observed : (bench : Result BenchState BenchFault) (rest another : List ℕ) → StartInvariant bench
-      → IfOk bench (λ bench. let start = state_after bench_line bench before in LinesAlike enclave start start (lines_of rest) (lines_of another))
-      → Observed bench (before ++ lines_of rest) ≡ Observed bench (before ++ lines_of another)
-  rests_observed (Ok bench) rest another invariant alike =
-      ap Ok (script_observed enclave bench before (lines_of rest) (lines_of another) invariant alike)
-  rests_observed (Err fault) rest another invariant alike = refl
+  rests_observed : (bench : Result BenchState BenchFault) (rest other_rest : List ℕ) → StartInvariant bench
+      → IfOk bench (λ bench. let start = state_after bench_line bench before in LinesAlike enclave start start (lines_of rest) (lines_of other_rest))
+      → Observed bench (before ++ lines_of rest) ≡ Observed bench (before ++ lines_of other_rest)
+  rests_observed (Ok bench) rest other_rest invariant alike =
+      ap Ok (script_observed enclave bench before (lines_of rest) (lines_of other_rest) invariant alike)
+  rests_observed (Err fault) rest other_rest invariant alike = refl
 
 -- proves that inputs which differ only in secrets have equal observed outputs
 pub secret_declassification : (setup : Setup) (input : List ℕ) → SecretDeclassification setup input
 secret_declassification setup input enclave other differ =
     ap (observed_output enclave setup) differ.input_is
     ∙ observed_is setup enclave differ.prefix differ.whole_prefix differ.separated differ.rest
-    ∙ rests_observed setup enclave differ.prefix differ.whole_prefix differ.separated (bench_in setup differ.prefix) differ.rest differ.another
+    ∙ rests_observed setup enclave differ.prefix differ.whole_prefix differ.separated (bench_in setup differ.prefix) differ.rest differ.other_rest
     (bench_in_invariant setup differ.prefix) differ.alike
-    ∙ sym (observed_is setup enclave differ.prefix differ.whole_prefix differ.separated differ.another)
+    ∙ sym (observed_is setup enclave differ.prefix differ.whole_prefix differ.separated differ.other_rest)
     ∙ sym (ap (observed_output enclave setup) differ.other_is)

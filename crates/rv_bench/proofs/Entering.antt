@@ -31,17 +31,17 @@ use Rattle.rv_bench.proofs.Runs.{RespondsToNext-not_over, RespondsToNext-state, 
 -- ---- the meaning of a failure, for equal written bytes
 
 -- a read that fails in the second script has the same meaning if the bytes before the script, `old` and `other`, are equal
-pub read_after : (slot : ℕ) (pair : Option Pair) (unread left kept old other new : List ℕ) → old ≡ other
-    → IsSomeAnd pair (λ pair. StopsAtRead (both_benches slot) Input pair unread left kept old new)
-    → IsSomeAnd pair (λ pair. StopsAtRead (both_benches slot) Input pair unread left kept other new)
-read_after slot pair unread left kept old other new same_bytes stops =
-    subst (λ (bytes : List ℕ). IsSomeAnd pair (λ pair. StopsAtRead (both_benches slot) Input pair unread left kept bytes new)) same_bytes stops
+pub read_after : (slot : ℕ) (pair : Option Pair) (unread remaining kept old other new : List ℕ) → old ≡ other
+    → IsSomeAnd pair (λ pair. StopsAtRead (both_benches slot) Input pair unread remaining kept old new)
+    → IsSomeAnd pair (λ pair. StopsAtRead (both_benches slot) Input pair unread remaining kept other new)
+read_after slot pair unread remaining kept old other new same_bytes stops =
+    subst (λ (bytes : List ℕ). IsSomeAnd pair (λ pair. StopsAtRead (both_benches slot) Input pair unread remaining kept bytes new)) same_bytes stops
 
 -- a write that fails in the second script has the same meaning if the bytes before the script, `old` and `other`, are equal
-pub write_after : (slot : ℕ) (pair : Option Pair) (unread left old other new : List ℕ) → old ≡ other
-    → StopsSecondAtWrite slot pair unread left old new → StopsSecondAtWrite slot pair unread left other new
-write_after slot pair unread left old other new same_bytes stops =
-    subst (λ (bytes : List ℕ). StopsSecondAtWrite slot pair unread left bytes new) same_bytes stops
+pub write_after : (slot : ℕ) (pair : Option Pair) (unread remaining old other new : List ℕ) → old ≡ other
+    → StopsSecondAtWrite slot pair unread remaining old new → StopsSecondAtWrite slot pair unread remaining other new
+write_after slot pair unread remaining old other new same_bytes stops =
+    subst (λ (bytes : List ℕ). StopsSecondAtWrite slot pair unread remaining bytes new) same_bytes stops
 
 -- ---- a line that enters the slot
 
@@ -59,12 +59,12 @@ entry_reported slot pair_now after line reply line_is was_not_entered is_entered
 
       -- the slot is entered in a result of the line
       enters : (replied : Replied Pair) → Gives replied → replied.state.entered ≡ true
-      enters replied replied_is = ap (λ (r : Replied Pair). r.state.entered) replied_is ∙ is_entered
+      enters replied replied_is = ap (λ (result : Replied Pair). result.state.entered) replied_is ∙ is_entered
 
       -- the reply is the text of the entry, by cases on the outcome of the line on both benches; an outcome that enters no slot is impossible
       by_outcome : (outcome : BothLine) (both : BothLineExecuted) → Gives (done_by outcome both pair_now.ran) → reply ≡ entered_text after.ran
       by_outcome (Given Entered blank) both replied_is =
-          ap (λ (r : Replied Pair). r.reply) (sym replied_is) ∙ ap (λ (r : Replied Pair). entered_text r.state.ran) replied_is
+          ap (λ (result : Replied Pair). result.reply) (sym replied_is) ∙ ap (λ (result : Replied Pair). entered_text result.state.ran) replied_is
       by_outcome (Given All blank) both replied_is = absurd (false≢true (enters (done_by (Given All blank) both pair_now.ran) replied_is))
       by_outcome (Given NotBlind blank) both replied_is = absurd (false≢true (enters (done_by (Given NotBlind blank) both pair_now.ran) replied_is))
       by_outcome Faulty both replied_is = absurd (false≢true (enters (done_by Faulty both pair_now.ran) replied_is))
@@ -154,7 +154,7 @@ module _ {S W : Type 0} {source_view : SourceGhosts S} (sink_view : SinkGhosts W
           | inl run ↦ let at_end = at_input_end run.found in inl (record {
             at_end = at_end.at_end;
             ended = ends.ended at_end.at_end;
-            used_up = at_end.left;
+            used_up = at_end.none_left;
             not_entered = never_entered run;
             reports_end = (
               pair_now.ran,
@@ -178,6 +178,7 @@ module _ {S W : Type 0} {source_view : SourceGhosts S} (sink_view : SinkGhosts W
             ),
           )
         ];
+        -- the text of the script was written, whether or not a line entered the slot
         written = λ follows. elim responds.stopped [
           | inl run ↦ wrote_last ∙ ended_all slot start pair_now _ _ _ _ (all_state run follows) (all_wrote run follows) last_is
           | inr run ↦ nothing_more run.is_over ∙ over_wrote run follows
@@ -207,7 +208,7 @@ module _ {S W : Type 0} {source_view : SourceGhosts S} (sink_view : SinkGhosts W
         λ follows. elim responds.stopped [
           -- the sink failed in the line that reports the end of the input
           | inl run ↦ inr (record {
-            used_up = (at_input_end run.found).left follows;
+            used_up = (at_input_end run.found).none_left follows;
             not_entered = never_entered run follows;
             written =
                 let end_line = end_text (state_after (pair_line slot) start (lines_of (unread old))).ran in

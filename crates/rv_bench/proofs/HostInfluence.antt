@@ -164,17 +164,19 @@ rests_same slot other_slot first second lines others first_invariant second_inva
     (host_influence.same slot other_slot first second (commands_of lines)
     (commands_of others) first_invariant second_invariant first_legal second_legal))
 
--- proves the law of influence for scripts, for enclave i of the first script and enclave j of the second, by the law for commands
+-- proves the law of influence for scripts, for an enclave `slot` of the first script and an enclave `other_slot` of the second, by the law for
+-- commands
 pub script_influence : ScriptInfluenceLaw
 script_influence slot other_slot image other_image setup other_setup before other_before lines others =
     by_starts (started image setup) (started other_image other_setup) (started_invariant image setup) (started_invariant other_image other_setup)
     (started_legal image setup) (started_legal other_image other_setup) where
-      -- the law holds for the two starts a and b, which are benches or errors
-      by_starts : (a b : Result BenchState BenchFault)
-          → StartInvariant a → StartInvariant b → IfOk a (λ start. IsLegalTarget start.target) → IfOk b (λ start. IsLegalTarget start.target)
-          → IfOk a (λ first. IfOk b (λ second.
+      -- the law holds for two results of a start, `start_result` and `other_result`, which are benches or errors
+      by_starts : (start_result other_result : Result BenchState BenchFault)
+          → StartInvariant start_result → StartInvariant other_result
+          → IfOk start_result (λ start. IsLegalTarget start.target) → IfOk other_result (λ start. IsLegalTarget start.target)
+          → IfOk start_result (λ first. IfOk other_result (λ second.
           RestsAreSame slot other_slot (state_after bench_line first before) (state_after bench_line second other_before) lines others))
-      by_starts (Err fault) b first_invariant second_invariant first_legal second_legal = tt
+      by_starts (Err fault) other_result first_invariant second_invariant first_legal second_legal = tt
       by_starts (Ok first) (Err fault) first_invariant second_invariant first_legal second_legal = tt
       by_starts (Ok first) (Ok second) first_invariant second_invariant first_legal second_legal =
           rests_same slot other_slot (state_after bench_line first before) (state_after bench_line second other_before) lines others

@@ -22,7 +22,7 @@ use Rattle.rv_bench.specs.ProgramOutput.{FailsBy, MeetsOutput, job_output}
 use Rattle.rv_bench.specs.Stream.{RunsStream}
 use Rattle.rv_bench.specs.Twin.{RunsTwin}
 
-module _ {S W : Type 0} (source_view : SourceGhosts S) (sink_view : SinkGhosts W) (source left : S) (before after : W) where
+module _ {S W : Type 0} (source_view : SourceGhosts S) (sink_view : SinkGhosts W) (source source_after : S) (before after : W) where
   -- the sink took exactly this text in the call
   abbrev Wrote : List ℕ → Type 0
   Wrote text = sink_view.taken after ≡ sink_view.taken before ++ text
@@ -32,29 +32,29 @@ module _ {S W : Type 0} (source_view : SourceGhosts S) (sink_view : SinkGhosts W
   WrotePrefix text = WritesPrefix (sink_view.taken before) (sink_view.taken after) text
 
   -- a source that gave bytes had some
-  some_read : length (source_view.remaining left) < length (source_view.remaining source) → 0 < length (source_view.remaining source)
+  some_read : length (source_view.remaining source_after) < length (source_view.remaining source) → 0 < length (source_view.remaining source)
   some_read fewer_left = omega (arith, fewer_left)
 
   -- the job reads the source by lines, which are `old` before the job and `new` after it
-  module _ (old new : Lines S source_view) (lines : ReadsByLines source_view source left old new) where
+  module _ (old new : Lines S source_view) (lines : ReadsByLines source_view source source_after old new) where
     -- the unread bytes of new lines are the remaining bytes of their source
     input_is : unread old ≡ source_view.remaining source
     input_is = ap (λ bytes. bytes ++ source_view.remaining old.source) lines.none_held ∙ ap source_view.remaining lines.from_source
 
     -- a failure of the source of the lines is a failure of the source
-    source_failed : SourceFailed source_view old.source new.source → SourceFailed source_view source left
+    source_failed : SourceFailed source_view old.source new.source → SourceFailed source_view source source_after
     source_failed risen =
-        subst (λ left. SourceFailed source_view source left) (sym lines.given_back)
+        subst (λ source_after. SourceFailed source_view source source_after) (sym lines.given_back)
         (subst (λ source. SourceFailed source_view source new.source) lines.from_source risen)
 
     -- a property of the unread bytes of the lines is a property of the remaining bytes of the source
-    of_input : (P : List ℕ → Type 0) → (source_view.follows_input new.source → P (unread old)) → source_view.follows_input left
+    of_input : (P : List ℕ → Type 0) → (source_view.follows_input new.source → P (unread old)) → source_view.follows_input source_after
         → P (source_view.remaining source)
     of_input P holds follows = subst P input_is (holds (subst source_view.follows_input lines.given_back follows))
 
     -- an error of a job has its meaning if nothing was written, and the input has this error or memory was refused
     error_meets : (job : Job) (fault : BenchFault) → after ≡ before → (source_view.follows_input new.source → FailsBy job (unread old) fault)
-        → (after ≡ before) × (source_view.follows_input left → FailsBy job (source_view.remaining source) fault)
+        → (after ≡ before) × (source_view.follows_input source_after → FailsBy job (source_view.remaining source) fault)
     error_meets job fault unwritten fails_by = (unwritten, of_input (λ input. FailsBy job input fault) fails_by)
 
     module _ (setup : Setup) where
@@ -64,10 +64,11 @@ module _ {S W : Type 0} (source_view : SourceGhosts S) (sink_view : SinkGhosts W
 
       -- a result of the run has the meaning that the job `run` has
       stream_meets : (outcome : Outcome) → RunsStream sink_view setup old new before after outcome
-          → MeetsOutput source_view sink_view source left before after run outcome
+          → MeetsOutput source_view sink_view source source_after before after run outcome
       stream_meets (Ok done) (size, runs) = (runs.sink, of_input (λ input. IsOkAnd (job_output run input) Wrote) runs.written)
       stream_meets (Err Read) (fails, stops) = source_failed fails.source
       stream_meets (Err Write) (size, fails, stops) = (fails.sink, of_input (λ input. IsOkAnd (job_output run input) WrotePrefix) fails.prefix)
+      -- the input has an error, or memory ran out
       stream_meets (Err Hex) (finds, fault_is, unwritten) = error_meets run Hex unwritten (λ follows. inl (fault_is follows))
       stream_meets (Err TooLong) (finds, fault_is, unwritten) = error_meets run TooLong unwritten (λ follows. inl (fault_is follows))
       stream_meets (Err NoMemory) (memory, unwritten) = error_meets run NoMemory unwritten (λ follows. inr (_, memory.reads follows))
@@ -86,10 +87,11 @@ module _ {S W : Type 0} (source_view : SourceGhosts S) (sink_view : SinkGhosts W
 
         -- a result of the twin run has the meaning that the job `twin` has
         twin_meets : (outcome : Outcome) → RunsTwin sink_view setup slot old new before after outcome
-            → MeetsOutput source_view sink_view source left before after twin outcome
+            → MeetsOutput source_view sink_view source source_after before after twin outcome
         twin_meets (Ok done) (size, runs) = (runs.sink, of_input (λ input. IsOkAnd (job_output twin input) Wrote) runs.written)
         twin_meets (Err Read) (fails, stops) = source_failed fails.source
         twin_meets (Err Write) (size, fails, stops) = (fails.sink, of_input (λ input. IsOkAnd (job_output twin input) WrotePrefix) fails.prefix)
+        -- the input has an error, or memory ran out
         twin_meets (Err Hex) (finds, fault_is, unwritten) = error_meets twin Hex unwritten (λ follows. inl (fault_is follows))
         twin_meets (Err TooLong) (finds, fault_is, unwritten) = error_meets twin TooLong unwritten (λ follows. inl (fault_is follows))
         twin_meets (Err NoMemory) (memory, unwritten) = error_meets twin NoMemory unwritten (λ follows. inr (_, memory.reads follows))
@@ -103,7 +105,7 @@ module _ {S W : Type 0} (source_view : SourceGhosts S) (sink_view : SinkGhosts W
 
     -- a result of the disassembly has the meaning that the job `dis` has
     dis_meets : (outcome : Outcome) → RunsDis sink_view old new before after outcome
-        → MeetsOutput source_view sink_view source left before after Dis outcome
+        → MeetsOutput source_view sink_view source source_after before after Dis outcome
     dis_meets (Ok done) (reads, sink, written) = (sink, of_input (λ input. IsOkAnd (job_output Dis input) Wrote) written)
     dis_meets (Err Read) (fails, unwritten) = source_failed fails.source
     dis_meets (Err Write) (reads, sink, prefix) = (sink, of_input (λ input. IsOkAnd (job_output Dis input) WrotePrefix) prefix)
@@ -115,8 +117,8 @@ module _ {S W : Type 0} (source_view : SourceGhosts S) (sink_view : SinkGhosts W
     dis_meets (Err (AsmText fault)) impossible = absurd impossible
 
   -- a result of the assembly, which does not read by lines, has the meaning that the job `asm` has
-  asm_meets : (outcome : Outcome) → RunsAsm source_view sink_view source left before after outcome
-      → MeetsOutput source_view sink_view source left before after Asm outcome
+  asm_meets : (outcome : Outcome) → RunsAsm source_view sink_view source source_after before after outcome
+      → MeetsOutput source_view sink_view source source_after before after Asm outcome
   asm_meets (Ok done) (reads, sink, written) = (sink, written)
   asm_meets (Err Read) (fails, unwritten) = fails.source
   asm_meets (Err Write) (reads, sink, prefix) = (sink, prefix)
@@ -128,16 +130,16 @@ module _ {S W : Type 0} (source_view : SourceGhosts S) (sink_view : SinkGhosts W
   asm_meets (Err (AsmText fault)) (reads, line, fails, unwritten) = (unwritten, fails)
 
   -- each result of a job has the meaning that the output of the job gives it
-  pub job_meets_output : (job : Job) (outcome : Outcome) → DoesJob source_view sink_view source left before after job outcome
-      → MeetsOutput source_view sink_view source left before after job outcome
+  pub job_meets_output : (job : Job) (outcome : Outcome) → DoesJob source_view sink_view source source_after before after job outcome
+      → MeetsOutput source_view sink_view source source_after before after job outcome
   job_meets_output (Run setup) outcome (old, new, lines, runs) = stream_meets old new lines setup outcome runs
   job_meets_output (Twin setup slot) outcome (old, new, lines, runs) = twin_meets old new lines setup slot outcome runs
   job_meets_output Asm outcome runs = asm_meets outcome runs
   job_meets_output Dis outcome (old, new, lines, runs) = dis_meets old new lines outcome runs
 
   -- an assembly does not change the input of the source, whatever its result
-  asm_same_input : (outcome : Outcome) → RunsAsm source_view sink_view source left before after outcome
-      → source_view.input left ≡ source_view.input source
+  asm_same_input : (outcome : Outcome) → RunsAsm source_view sink_view source source_after before after outcome
+      → source_view.input source_after ≡ source_view.input source
   asm_same_input (Ok done) (reads, sink, written) = reads.same_input
   asm_same_input (Err Read) (fails, unwritten) = fails.same_input
   asm_same_input (Err Write) (reads, sink, prefix) = reads.same_input
@@ -149,13 +151,13 @@ module _ {S W : Type 0} (source_view : SourceGhosts S) (sink_view : SinkGhosts W
   asm_same_input (Err (AsmText fault)) (reads, line, fails, unwritten) = reads.same_input
 
   -- reading by lines does not change the input of the source
-  lines_same_input : (old new : Lines S source_view) → ReadsByLines source_view source left old new
-      → source_view.input left ≡ source_view.input source
+  lines_same_input : (old new : Lines S source_view) → ReadsByLines source_view source source_after old new
+      → source_view.input source_after ≡ source_view.input source
   lines_same_input old new lines = ap source_view.input lines.given_back ∙ (lines.end.same_input ∙ ap source_view.input lines.from_source)
 
   -- no job changes the input that the source is assumed to have
-  pub job_same_input : (job : Job) (outcome : Outcome) → DoesJob source_view sink_view source left before after job outcome
-      → source_view.input left ≡ source_view.input source
+  pub job_same_input : (job : Job) (outcome : Outcome) → DoesJob source_view sink_view source source_after before after job outcome
+      → source_view.input source_after ≡ source_view.input source
   job_same_input (Run setup) outcome (old, new, lines, runs) = lines_same_input old new lines
   job_same_input (Twin setup slot) outcome (old, new, lines, runs) = lines_same_input old new lines
   job_same_input Asm outcome runs = asm_same_input outcome runs

@@ -23,26 +23,38 @@ module _ {S W : Type 0} {source_view : SourceGhosts S} (sink_view : SinkGhosts W
     (start : A) (old : Lines S source_view) (before : W) (state_now : A) (lines_now : Lines S source_view) (sink_now : W) where
   -- The lines so far have their responses, the responder is not over, and no call has failed.
   pub record SoFar : Type 0 where
+    -- the lines so far have their replies
     pub responded : source_view.follows_input lines_now.source
         → RespondsToLines responder end start (unread old) (sink_view.taken before) state_now (unread lines_now) lines_now.is_at_end
         (sink_view.taken sink_now)
+    -- the responder is not over
     pub not_over : responder.is_over state_now ≡ false
+    -- the lines end only if the source does
     pub ends : EndsWithSource old lines_now
+    -- no call of the source failed
     pub source : SourceWorked source_view old.source lines_now.source
+    -- no call of the sink failed, and the sink was not flushed
     pub sink : SinkWorked sink_view before sink_now
 
   -- One more line was taken and has its response.
   pub record LineStep (after : A) (new : Lines S source_view) (reply : List ℕ) : Type 0 where
+    -- the state of the loop before the line
     pub so_far : SoFar
     -- the bytes of the line that the responder gets
     pub shown : List ℕ
+    -- the lines had not reported the end of the input
     pub not_at_end : lines_now.is_at_end ≡ false
+    -- the line was taken from the unread bytes
     pub takes : source_view.follows_input new.source → TakesLine (unread lines_now) (unread new) new.is_at_end shown
     -- the line is a line of the script, and does not end it
     pub in_script : ends_script end shown ≡ false
+    -- the response to the line
     pub responds : RespondsToLine responder state_now shown (record { state = after; reply = reply })
+    -- the lines end only if the source does
     pub ends : EndsWithSource lines_now new
+    -- no call of the source failed
     pub source : SourceWorked source_view lines_now.source new.source
+    -- no begun line is held
     pub emptied : held new ≡ []
 
 module _ {S W : Type 0} {source_view : SourceGhosts S} {sink_view : SinkGhosts W} {A : Type 0} {responder : Responding A} {end : ScriptEnd}
@@ -97,7 +109,7 @@ module _ {S W : Type 0} {source_view : SourceGhosts S} {sink_view : SinkGhosts W
           → RespondsToNext responder end start (unread old) (sink_view.taken before) (sink_view.taken sink_now) after (unread new) new.is_at_end reply
       next follows = record {
         state_now = state_now;
-        left = unread lines_now;
+        remaining = unread lines_now;
         shown = step.shown;
         so_far = RespondsToLines-going step.not_at_end (step.so_far.responded (step.ends.followed_before follows));
         not_over = step.so_far.not_over;

@@ -66,12 +66,14 @@ module _ (enclave : ℕ) where
   lines_alike first second (line ∷ lines) first_invariant second_invariant equiv avoid_enclave avoid_hart =
       while_live first second first_invariant second_invariant equiv (λ one other. RepliesAlike enclave one other (line ∷ lines))
       (is_live_in enclave first.target) refl
+      -- while the enclave is live, the first line has equal replies and leaves equivalent benches, and so do the other lines
       (λ live.
       let (reply, next_equiv) = line_alike first second line first_invariant second_invariant equiv (avoid_enclave live).0 (avoid_hart live).0 in
       let other_lines = lines_alike (execute_line first line).state (execute_line second line).state lines
       (line_keeps_invariant first line first_invariant) (line_keeps_invariant second line second_invariant) next_equiv
       (avoid_enclave live).1 (avoid_hart live).1 in
       record { text = ap₂ (λ (one others : List ℕ). one ++ others) reply other_lines.text; state = other_lines.state })
+      -- if the enclave is not live, the benches are equal
       (λ invariant.
       let end = state_after bench_line first (line ∷ lines) in
       record {
@@ -143,7 +145,9 @@ module _ (enclave : ℕ) where
 
   -- the replies to two lists of lines are equal, and the benches after them are equivalent except for the enclave
   record SecretsAlike (first second : BenchState) (lines others : List (List ℕ)) : Type 0 where
+    -- the replies are equal
     pub text : replies bench_line first lines ≡ replies bench_line second others
+    -- the benches are equivalent except for the enclave
     pub equiv : BenchesEquivExcept enclave (state_after bench_line first lines) (state_after bench_line second others)
 
   -- two lists of lines that differ in pokes into the region have equal replies, by induction over both lists
@@ -183,7 +187,9 @@ module _ (enclave : ℕ) where
 
   -- the enclave runs on no hart after these lines, and each line avoids its hart
   record StaysOnNoHart (bench : BenchState) (lines : List (List ℕ)) : Type 0 where
+    -- each line avoids the hart of the enclave
     pub avoid_hart : EachLineAvoidsHart enclave bench lines
+    -- the enclave runs on no hart after the lines
     pub not_running : RunsOnNoHart enclave (state_after bench_line bench lines).target
 
   -- lines that poke into the region or avoid the enclave leave the enclave on no hart, by induction over the lines
@@ -201,36 +207,39 @@ module _ (enclave : ℕ) where
   -- ---- a script with a secret in it
 
   -- The lines avoid the hart of the enclave: the enclave runs on no hart when the secret is poked, or it is a premise.
-  secret_avoids_hart : (bench : BenchState) (secret another rest : List (List ℕ)) → TargetInvariant bench.target
-      → AreSecret enclave bench secret another rest
+  secret_avoids_hart : (bench : BenchState) (secret other_secret rest : List (List ℕ)) → TargetInvariant bench.target
+      → AreSecret enclave bench secret other_secret rest
       → EachLineAvoidsHart enclave bench secret × LinesAvoidHart enclave (state_after bench_line bench secret) rest
-  secret_avoids_hart bench secret another rest invariant are_secret = elim are_secret.hart_avoided [
+  secret_avoids_hart bench secret other_secret rest invariant are_secret = elim are_secret.hart_avoided [
     | inl is_scramblable ↦
         let not_running = scrambled_on_no_hart enclave bench.target invariant is_scramblable in
-        let stays = pokes_leave_on_no_hart bench bench secret another invariant not_running are_secret.pokes in
+        let stays = pokes_leave_on_no_hart bench bench secret other_secret invariant not_running are_secret.pokes in
         let next_invariant = lines_keep_invariant bench secret invariant in
         (stays.avoid_hart, lines_avoid_hart (state_after bench_line bench secret) rest next_invariant stays.not_running are_secret.passes)
     | inr avoid_hart ↦ avoid_hart
   ]
 
   -- two scripts that differ only in a secret have equal replies: to the lines before it, to the secret, and to the rest
-  script_alike : (bench : BenchState) (before secret another rest : List (List ℕ)) → TargetInvariant bench.target
-      → AreSecret enclave (state_after bench_line bench before) secret another rest
-      → replies bench_line bench (before ++ (secret ++ rest)) ≡ replies bench_line bench (before ++ (another ++ rest))
-  script_alike bench before secret another rest invariant are_secret =
+  script_alike : (bench : BenchState) (before secret other_secret rest : List (List ℕ)) → TargetInvariant bench.target
+      → AreSecret enclave (state_after bench_line bench before) secret other_secret rest
+      → replies bench_line bench (before ++ (secret ++ rest)) ≡ replies bench_line bench (before ++ (other_secret ++ rest))
+  script_alike bench before secret other_secret rest invariant are_secret =
       let start = state_after bench_line bench before in
       let start_invariant = lines_keep_invariant bench before invariant in
-      let (secret_avoid, rest_avoid) = secret_avoids_hart start secret another rest start_invariant are_secret in
+      let (secret_avoid, rest_avoid) = secret_avoids_hart start secret other_secret rest start_invariant are_secret in
+      -- the two secrets have equal replies, and leave equivalent benches
       let secrets =
-      secrets_alike start start secret another start_invariant start_invariant (equiv_with_itself enclave start) secret_avoid are_secret.pokes in
-      let rests = lines_alike (state_after bench_line start secret) (state_after bench_line start another) rest
-      (lines_keep_invariant start secret start_invariant) (lines_keep_invariant start another start_invariant) secrets.equiv
+      secrets_alike start start secret other_secret start_invariant start_invariant (equiv_with_itself enclave start) secret_avoid are_secret.pokes in
+      -- equivalent benches have equal replies to the rest
+      let rests = lines_alike (state_after bench_line start secret) (state_after bench_line start other_secret) rest
+      (lines_keep_invariant start secret start_invariant) (lines_keep_invariant start other_secret start_invariant) secrets.equiv
       are_secret.passes rest_avoid in
+      -- the replies to each script are the replies to its three parts
       replies-append bench_line bench before (secret ++ rest)
       ∙ ap (λ (text : List ℕ). replies bench_line bench before ++ text)
       (replies-append bench_line start secret rest ∙ ap₂ (λ (one others : List ℕ). one ++ others) secrets.text rests.text
-      ∙ sym (replies-append bench_line start another rest))
-      ∙ sym (replies-append bench_line bench before (another ++ rest))
+      ∙ sym (replies-append bench_line start other_secret rest))
+      ∙ sym (replies-append bench_line bench before (other_secret ++ rest))
 
 -- ---- scripts
 
@@ -251,9 +260,9 @@ started_noninterference = of_started ScriptNoninterference script_noninterferenc
 -- ---- inputs
 
 -- two inputs with the same prefix and the same rest, where the prefix has the image, the separator and the first lines of the script
-module _ (setup : Setup) (enclave : ℕ) (prefix secret another rest : List ℕ) (whole : through_last_feed prefix ≡ prefix)
+module _ (setup : Setup) (enclave : ℕ) (prefix secret other_secret rest : List ℕ) (whole : through_last_feed prefix ≡ prefix)
     (separated : has_separator prefix ≡ true) (whole_secret : through_last_feed secret ≡ secret)
-    (whole_another : through_last_feed another ≡ another) where
+    (whole_other_secret : through_last_feed other_secret ≡ other_secret) where
   -- the lines of the script in the prefix
   abbrev before : List (List ℕ)
   before = lines_of (after_separator prefix)
@@ -273,25 +282,25 @@ module _ (setup : Setup) (enclave : ℕ) (prefix secret another rest : List ℕ)
   -- the texts are secrets in the script, if the bench starts
   abbrev AreSecretIn : Result BenchState BenchFault → Type 0
   AreSecretIn bench =
-      IfOk bench (λ bench. AreSecret enclave (state_after bench_line bench before) (lines_of secret) (lines_of another) (lines_of rest))
+      IfOk bench (λ bench. AreSecret enclave (state_after bench_line bench before) (lines_of secret) (lines_of other_secret) (lines_of rest))
 
   -- the replies with both secrets are equal
   replies_alike : (bench : Result BenchState BenchFault) → StartInvariant bench → AreSecretIn bench
-      → replies_with bench secret ≡ replies_with bench another
+      → replies_with bench secret ≡ replies_with bench other_secret
   replies_alike (Ok bench) invariant are_secret =
-      ap Ok (script_alike enclave bench before (lines_of secret) (lines_of another) (lines_of rest) invariant are_secret)
+      ap Ok (script_alike enclave bench before (lines_of secret) (lines_of other_secret) (lines_of rest) invariant are_secret)
   replies_alike (Err fault) invariant are_secret = refl
 
   -- the outputs with both secrets are equal
-  outputs_alike : AreSecretIn (bench_in setup prefix) → output setup (prefix ++ (secret ++ rest)) ≡ output setup (prefix ++ (another ++ rest))
+  outputs_alike : AreSecretIn (bench_in setup prefix) → output setup (prefix ++ (secret ++ rest)) ≡ output setup (prefix ++ (other_secret ++ rest))
   outputs_alike are_secret =
       output_is secret whole_secret ∙ replies_alike (bench_in setup prefix) (bench_in_invariant setup prefix) are_secret
-      ∙ sym (output_is another whole_another)
+      ∙ sym (output_is other_secret whole_other_secret)
 
 -- proves that inputs which differ only in the secret that they poke have equal outputs
 pub secret_noninterference : (setup : Setup) (input : List ℕ) → SecretNoninterference setup input
 secret_noninterference setup input enclave other differ =
     ap (output setup) differ.input_is
-    ∙ outputs_alike setup enclave differ.prefix differ.secret differ.another differ.rest differ.whole_prefix differ.separated
-    differ.whole_secret differ.whole_another differ.poked
+    ∙ outputs_alike setup enclave differ.prefix differ.secret differ.other_secret differ.rest differ.whole_prefix differ.separated
+    differ.whole_secret differ.whole_other_secret differ.poked
     ∙ sym (ap (output setup) differ.other_is)

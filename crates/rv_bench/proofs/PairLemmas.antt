@@ -18,18 +18,19 @@ use Rattle.rv_bench.specs.Pair.{pair_line, end_text, last_text, marked, script_t
 use Rattle.rv_bench.specs.Replies.{replies, state_after}
 use Rattle.rv_bench.proofs.RepliesLemmas.{replies-append, state_after-append}
 
--- Byte k of a text is written, after the mark if the byte begins a line. The written bytes and the marked rest of the text stay the same.
-pub marked_step : (mark : List ℕ) (begins : Bool) (text : List ℕ) (k : ℕ) (old with_mark new : List ℕ) → k < length text
-    → with_mark ≡ old ++ cond begins mark [] → new ≡ with_mark ++ get_or text k 0 ∷ []
-    → new ++ marked mark (get_or text k 0 == line_feed) (drop (k + 1) text) ≡ old ++ marked mark begins (drop k text)
-marked_step mark begins text k old with_mark new index_in_text mark_written byte_written =
-    let byte = get_or text k 0 in
-    let marked_rest = marked mark (byte == line_feed) (drop (k + 1) text) in
+-- The byte of a text at an index is written, after the mark if the byte begins a line. The written bytes and the marked rest of the text stay the
+-- same.
+pub marked_step : (mark : List ℕ) (begins : Bool) (text : List ℕ) (index : ℕ) (old with_mark new : List ℕ) → index < length text
+    → with_mark ≡ old ++ cond begins mark [] → new ≡ with_mark ++ get_or text index 0 ∷ []
+    → new ++ marked mark (get_or text index 0 == line_feed) (drop (index + 1) text) ≡ old ++ marked mark begins (drop index text)
+marked_step mark begins text index old with_mark new index_in_text mark_written byte_written =
+    let byte = get_or text index 0 in
+    let marked_rest = marked mark (byte == line_feed) (drop (index + 1) text) in
     ap (λ written. written ++ marked_rest) byte_written
     ∙ (append_assoc with_mark (byte ∷ []) marked_rest
     ∙ (ap (λ written. written ++ byte ∷ marked_rest) mark_written
     ∙ (append_assoc old (cond begins mark []) (byte ∷ marked_rest)
-    ∙ ap (λ rest. old ++ marked mark begins rest) (sym (drop_more text k 0 index_in_text)))))
+    ∙ ap (λ rest. old ++ marked mark begins rest) (sym (drop_more text index 0 index_in_text)))))
 
 -- ---- a line
 
@@ -69,9 +70,11 @@ entered_script slot start pair_now lines others unread pair_is pair_entered unre
     let pair_between = state_after (pair_line slot) start lines in
     let first_replies = replies (pair_line slot) start lines in
     let is_entered : pair_between.entered ≡ true = ap (λ (pair : Pair). pair.entered) (sym pair_is) ∙ pair_entered in
+    -- the other lines have no replies
     let replies_are : replies (pair_line slot) start (lines ++ others) ≡ first_replies =
     replies-append (pair_line slot) start lines others
     ∙ (ap (λ text. first_replies ++ text) (no_replies_after_entry slot pair_between others is_entered) ∙ append-nil first_replies) in
+    -- after the entry, the end of the input is not reported
     let no_last_text : last_text (state_after (pair_line slot) start (lines ++ others)) ≡ [] =
     ap last_text (state_after-append (pair_line slot) start lines others ∙ same_state_after_entry slot pair_between others is_entered)
     ∙ ap (λ entered. cond entered [] (end_text pair_between.ran)) is_entered in
@@ -80,12 +83,12 @@ entered_script slot start pair_now lines others unread pair_is pair_entered unre
     ∙ (ap (λ text. first_replies ++ text) no_last_text ∙ append-nil first_replies))
 
 -- the written bytes after a line that entered the slot are the whole text of the script
-pub entered_all : (slot : ℕ) (start pair_now : Pair) (unread left : List ℕ) (is_at_end : Bool) (lines : List (List ℕ)) (old new : List ℕ)
-    → ReadsLines unread left is_at_end lines → pair_now ≡ state_after (pair_line slot) start lines → pair_now.entered ≡ true
+pub entered_all : (slot : ℕ) (start pair_now : Pair) (unread remaining : List ℕ) (is_at_end : Bool) (lines : List (List ℕ)) (old new : List ℕ)
+    → ReadsLines unread remaining is_at_end lines → pair_now ≡ state_after (pair_line slot) start lines → pair_now.entered ≡ true
     → new ≡ old ++ replies (pair_line slot) start lines → new ≡ old ++ script_text slot start (lines_of unread)
-entered_all slot start pair_now unread left is_at_end lines old new reads pair_is pair_entered wrote_replies =
+entered_all slot start pair_now unread remaining is_at_end lines old new reads pair_is pair_entered wrote_replies =
     wrote_replies ∙ ap (λ text. old ++ text)
-    (sym (entered_script slot start pair_now lines (lines_of left) unread pair_is pair_entered reads.all_lines))
+    (sym (entered_script slot start pair_now lines (lines_of remaining) unread pair_is pair_entered reads.all_lines))
 
 -- ---- the written bytes
 
@@ -135,6 +138,6 @@ module _ (slot : ℕ) (start pair_now : Pair) (lines : List (List ℕ)) (old wri
       (subst (WritesPrefix written_so_far new) last_is wrote_prefix)
 
 -- the second script ends at the end of the input, which the source has reported
-pub at_input_end : {S : Type 0} {g : Ghosts S} {old new : Lines S g} → FindsEnd Input old new → IsAtEnd old new
+pub at_input_end : {S : Type 0} {source_view : Ghosts S} {old new : Lines S source_view} → FindsEnd Input old new → IsAtEnd old new
 at_input_end (inl at_end) = at_end
 at_input_end (inr reads) = absurd (false≢true reads.ends)

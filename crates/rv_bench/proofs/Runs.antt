@@ -50,17 +50,18 @@ module _ {A : Type 0} {responder : Responding A} {end : ScriptEnd} {start : A} {
     written = sym (append-nil old);
   }
 
-  module _ {state_now : A} {left new : List ℕ} where
+  module _ {state_now : A} {remaining new : List ℕ} where
     -- the responses to the lines so far, if the end of the input is not yet reported
-    pub RespondsToLines-going : {is_at_end : Bool} → is_at_end ≡ false → RespondsToLines responder end start unread old state_now left is_at_end new
-        → RespondsToLines responder end start unread old state_now left false new
+    pub RespondsToLines-going : {is_at_end : Bool} → is_at_end ≡ false
+        → RespondsToLines responder end start unread old state_now remaining is_at_end new
+        → RespondsToLines responder end start unread old state_now remaining false new
     RespondsToLines-going not_at_end so_far =
-        subst (λ is_at_end. RespondsToLines responder end start unread old state_now left is_at_end new) not_at_end so_far
+        subst (λ is_at_end. RespondsToLines responder end start unread old state_now remaining is_at_end new) not_at_end so_far
 
     -- if the source fails in the next line, the run stops at this read, after the responses to the lines so far
-    pub RespondsToLines-read : {rest kept : List ℕ} → RespondsToLines responder end start unread old state_now left false new
+    pub RespondsToLines-read : {rest kept : List ℕ} → RespondsToLines responder end start unread old state_now remaining false new
         → responder.is_over state_now ≡ false
-        → ReadsLineText left rest kept → StopsAtRead responder end start unread rest kept old new
+        → ReadsLineText remaining rest kept → StopsAtRead responder end start unread rest kept old new
     RespondsToLines-read so_far not_over begun = let reads = so_far.taken.reads in record {
       text = reads.text;
       begun = begun.text;
@@ -73,7 +74,7 @@ module _ {A : Type 0} {responder : Responding A} {end : ScriptEnd} {start : A} {
       written = so_far.written ∙ ap (λ lines. old ++ replies responder.respond start lines) (sym reads.are_lines);
     }
 
-    module _ {is_at_end : Bool} {rest : List ℕ} (so_far : RespondsToLines responder end start unread old state_now left is_at_end new)
+    module _ {is_at_end : Bool} {rest : List ℕ} (so_far : RespondsToLines responder end start unread old state_now remaining is_at_end new)
         (whole : ReadsScript end unread rest so_far.lines) where
       -- after the whole script, the written bytes are the replies to all its lines
       pub RespondsToLines-all : new ≡ old ++ replies responder.respond start (script_lines end (lines_of unread))
@@ -99,14 +100,15 @@ module _ {A : Type 0} {responder : Responding A} {end : ScriptEnd} {start : A} {
       }
 
   -- if the sink fails, the written bytes are a prefix of all replies: the replies before the failure, and a prefix of the next reply
-  pub StopsAtWrite-prefix : {left new : List ℕ} → StopsAtWrite responder end start unread left old new
+  pub StopsAtWrite-prefix : {remaining new : List ℕ} → StopsAtWrite responder end start unread remaining old new
       → WritesPrefix old new (replies responder.respond start (script_lines end (lines_of unread)))
-  StopsAtWrite-prefix {left = left} stops =
+  StopsAtWrite-prefix {remaining = remaining} stops =
       let (unwritten, (prefix, wrote, reply_is)) = stops.written in
-      let (following, script_is) = script_lines-prefix end (lines_of stops.text) (lines_of left) in
+      let (following, script_is) = script_lines-prefix end (lines_of stops.text) (lines_of remaining) in
       let read = script_lines end (lines_of stops.text) in
       let before = replies responder.respond start stops.responded in
       let others = replies responder.respond (state_after responder.respond start read) following in
+      -- the replies to the lines that were read: those before the failure, and then the reply in which the sink failed
       let read_replies : replies responder.respond start read ≡ before ++ (prefix ++ unwritten) =
       ap (replies responder.respond start) stops.are_lines
       ∙ (replies-append responder.respond start stops.responded stops.next ∙ ap (λ reply. before ++ reply) reply_is) in (
@@ -114,6 +116,7 @@ module _ {A : Type 0} {responder : Responding A} {end : ScriptEnd} {start : A} {
         (
           before ++ prefix,
           wrote ∙ append_assoc old before prefix,
+          -- all replies are the replies to the lines that were read, and then the replies to the lines after them
           ap (λ lines. replies responder.respond start (script_lines end lines)) stops.all_lines
               ∙ (ap (replies responder.respond start) script_is
               ∙ (replies-append responder.respond start read following
@@ -144,14 +147,15 @@ module _ {A : Type 0} {responder : Responding A} {end : ScriptEnd} {start : A} {
   -- the state is the state after all lines, including the last one
   pub RespondsToNext-state : after ≡ state_after responder.respond start lines
   RespondsToNext-state =
-      sym (state_after-append responder.respond start next.so_far.lines (next.takes.line ∷ []) ∙ ap (λ (a : Replied A). a.state) next_response)
+      sym (state_after-append responder.respond start next.so_far.lines (next.takes.line ∷ [])
+      ∙ ap (λ (responded : Replied A). responded.state) next_response)
 
   -- the lines taken from the source are the lines of the script so far, and the last one
   pub RespondsToNext-taken : TakesScript end unread rest ends lines
   RespondsToNext-taken = record {
-    reads = ReadsLines-more unread next.left rest ends next.shown next.so_far.lines next.so_far.taken.reads next.takes;
+    reads = ReadsLines-more unread next.remaining rest ends next.shown next.so_far.lines next.so_far.taken.reads next.takes;
     in_script = list_all-push (is_script_line end) next.so_far.lines next.takes.line next.so_far.taken.in_script
-        (ap not (ends_script-shown end next.left rest ends next.shown next.takes ∙ next.in_script));
+        (ap not (ends_script-shown end next.remaining rest ends next.shown next.takes ∙ next.in_script));
   }
 
   -- after the reply to one more line is written, the lines so far include this line
@@ -163,12 +167,13 @@ module _ {A : Type 0} {responder : Responding A} {end : ScriptEnd} {start : A} {
         lines = lines;
         taken = RespondsToNext-taken;
         state = RespondsToNext-state;
+        -- the replies to the lines so far were written, and then the reply to one more line
         written =
             wrote_reply
             ∙ (ap (λ text. text ++ reply) so_far.written
             ∙ (append_assoc old before reply
             ∙ ap (λ text. old ++ text) (sym (replies-more responder.respond start so_far.lines next.takes.line
-            ∙ ap (λ (a : Replied A). before ++ a.reply) next_response))));
+            ∙ ap (λ (responded : Replied A). before ++ responded.reply) next_response))));
       }
 
   -- if the sink fails within the reply to a line, the script stops at this write
@@ -177,7 +182,7 @@ module _ {A : Type 0} {responder : Responding A} {end : ScriptEnd} {start : A} {
       let so_far = next.so_far in
       let reads = RespondsToNext-taken.reads in
       let reply_is = append-nil (responder.respond (state_after responder.respond start so_far.lines) next.takes.line).reply
-      ∙ ap (λ (a : Replied A). a.reply) next_response in record {
+      ∙ ap (λ (responded : Replied A). responded.reply) next_response in record {
         text = reads.text;
         responded = so_far.lines;
         next = next.takes.line ∷ [];
@@ -216,7 +221,7 @@ module _ {S W : Type 0} {source_view : SourceGhosts S} (sink_view : SinkGhosts W
     emptied = none_held;
     source = source_worked;
     sink = sink_calls;
-    used_up = at_end.left;
+    used_up = at_end.none_left;
     written = written;
   }
   RunsScript-whole Input output before after source_worked none_held sink_calls ends_with_source (inr reads) lines_taken written =
@@ -237,6 +242,7 @@ module _ {S W : Type 0} {source_view : SourceGhosts S} (sink_view : SinkGhosts W
         sink = SinkWorked-more sink_view responds.sink sink_worked;
         emptied = responds.emptied;
         stopped = elim responds.stopped [
+          -- all lines of the script have their responses
           | inl run ↦ inl (record {
             last = run.last;
             found = run.found;
@@ -245,6 +251,7 @@ module _ {S W : Type 0} {source_view : SourceGhosts S} (sink_view : SinkGhosts W
                 subst (RespondsToLines responder end start (unread old) (sink_view.taken before) state_now (unread run.last) run.last.is_at_end)
                 (sym same_bytes) (run.responded follows);
           })
+          -- the responder is over after the last line that it read
           | inr run ↦ inr (record {
             state_before = run.state_before;
             shown = run.shown;
@@ -281,12 +288,14 @@ module _ {S W : Type 0} {source_view : SourceGhosts S} (sink_view : SinkGhosts W
       pub one_bench-runs : SinkAt sink_view end sink_now after
           → RunsScript sink_view end (Ok (replies bench_line start (script_lines end (lines_of (unread old))))) old new before after
       one_bench-runs sink_calls = elim responds.stopped [
+        -- all lines of the script have their responses
         | inl run ↦
             RunsScript-whole end _ before after responds.source responds.emptied
             (SinkAt-after sink_view end before sink_now after responds.sink sink_calls)
             ends run.found
             (λ follows. ((run.responded follows).lines, (run.responded follows).taken))
             (λ follows. same_bytes ∙ RespondsToLines-all (run.responded follows) (script_read run follows))
+        -- a bench is never over
         | inr run ↦ absurd (false≢true run.is_over)
       ]
 

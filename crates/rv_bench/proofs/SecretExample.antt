@@ -35,8 +35,11 @@ rest = codes "enclaves\nregs\n"
 
 -- the enclave of slot 0 is live and runs on no hart, and the two addresses that the keys are poked to are in its region
 pub record HasEnclave (bench : BenchState) : Type 0 where
+  -- the enclave is live and runs on no hart
   pub idle : can_scramble 0 bench ≡ true
+  -- the first address is in the region
   pub first : has (region_in 0 bench.target) 0x80020000 ≡ true
+  -- the second address is in the region
   pub second : has (region_in 0 bench.target) 0x80020ffc ≡ true
 
 -- a comment avoids the enclave
@@ -90,13 +93,13 @@ key_is_concealed setup prefix whole_lines separated has_enclave =
     secret_noninterference setup (prefix ++ (key ++ rest)) 0 (prefix ++ (other_key ++ rest)) (record {
       prefix = prefix;
       secret = key;
-      another = other_key;
+      other_secret = other_key;
       rest = rest;
       input_is = refl;
       other_is = refl;
       whole_prefix = whole_lines;
       whole_secret = refl;
-      whole_another = refl;
+      whole_other_secret = refl;
       separated = separated;
       poked = keys_are_secret_after (bench_in setup prefix) (lines_of (after_separator prefix)) has_enclave;
     })

@@ -42,40 +42,42 @@ abbrev byte_at_address : ℕ → ℕ
 byte_at_address address = byte_after calling_host (segment ∷ []) (replicate ram_size 0) address
 
 -- a byte of RAM outside the segment is 0 after the load
-outside_is_0 : (i : ℕ) → i < ram_size → has_address (ram_base + i) segment ≡ false → byte_at_address (ram_base + i) ≡ 0
-outside_is_0 i in_ram outside_segment =
-    let offset_is : ram_base + i - ram_base ≡ i = omega arith in
-    rw (outside_segment, offset_is) (get_or-replicate {A = ℕ} ram_size i 0 0 in_ram)
+outside_is_0 : (index : ℕ) → index < ram_size → has_address (ram_base + index) segment ≡ false → byte_at_address (ram_base + index) ≡ 0
+outside_is_0 index in_ram outside_segment =
+    let offset_is : ram_base + index - ram_base ≡ index = omega arith in
+    rw (outside_segment, offset_is) (get_or-replicate {A = ℕ} ram_size index 0 0 in_ram)
 
 -- each byte after the load is the byte of `loaded`
-byte_is : (i : ℕ) → i < ram_size → byte_at_address (ram_base + i) ≡ get_or loaded i 0
-byte_is i in_ram = elim (cases_lt i image_offset) [
+byte_is : (index : ℕ) → index < ram_size → byte_at_address (ram_base + index) ≡ get_or loaded index 0
+byte_is index in_ram = elim (cases_lt index image_offset) [
   -- before the image: 0
   | inl before_image ↦
-      let outside_segment : has_address (ram_base + i) segment ≡ false = grind (arith, nat_tests, before_image) in
-      let zero_is = get_or-replicate {A = ℕ} image_offset i 0 0 before_image in
-      outside_is_0 i in_ram outside_segment
-      ∙ sym (get_or_append_left (replicate image_offset 0) (calling_host ++ replicate zeros_after 0) 0 i before_image ∙ zero_is)
+      let outside_segment : has_address (ram_base + index) segment ≡ false = grind (arith, nat_tests, before_image) in
+      let zero_is = get_or-replicate {A = ℕ} image_offset index 0 0 before_image in
+      outside_is_0 index in_ram outside_segment
+      ∙ sym (get_or_append_left (replicate image_offset 0) (calling_host ++ replicate zeros_after 0) 0 index before_image ∙ zero_is)
   | inr not_before ↦
-      let skips_zeros = get_or-append_right (replicate image_offset 0) (calling_host ++ replicate zeros_after 0) image_offset i 0 refl not_before in
-      elim (cases_lt i (image_offset + code_size)) [
+      let skips_zeros = get_or-append_right (replicate image_offset 0)
+      (calling_host ++ replicate zeros_after 0) image_offset index 0 refl not_before in
+      elim (cases_lt index (image_offset + code_size)) [
         -- in the image: the byte of the host's code
         | inl in_image ↦
-            let in_segment : has_address (ram_base + i) segment ≡ true = grind (arith, nat_tests, not_before, in_image) in
-            let offset_is : ram_base + i - 0x80010000 ≡ i - image_offset = omega (arith, not_before) in
-            let index_in_code : i - image_offset < code_size = omega (arith, not_before, in_image) in
-            let in_file : nat_lt (i - image_offset) code_size ≡ true = grind (arith, nat_tests, not_before, in_image) in
-            let from_offset_0 : 0 + (i - image_offset) ≡ i - image_offset = omega arith in
+            let in_segment : has_address (ram_base + index) segment ≡ true = grind (arith, nat_tests, not_before, in_image) in
+            let offset_is : ram_base + index - 0x80010000 ≡ index - image_offset = omega (arith, not_before) in
+            let index_in_code : index - image_offset < code_size = omega (arith, not_before, in_image) in
+            let in_file : nat_lt (index - image_offset) code_size ≡ true = grind (arith, nat_tests, not_before, in_image) in
+            let from_offset_0 : 0 + (index - image_offset) ≡ index - image_offset = omega arith in
             rw (in_segment, offset_is, in_file, from_offset_0)
-            (sym (skips_zeros ∙ get_or_append_left calling_host (replicate zeros_after 0) 0 (i - image_offset) index_in_code))
+            (sym (skips_zeros ∙ get_or_append_left calling_host (replicate zeros_after 0) 0 (index - image_offset) index_in_code))
         -- after the image: 0
         | inr after_image ↦
-            let outside_segment : has_address (ram_base + i) segment ≡ false = grind (arith, nat_tests, after_image) in
-            let index_in_zeros : i - image_offset - code_size < zeros_after = omega (arith, not_before, after_image, in_ram) in
+            let outside_segment : has_address (ram_base + index) segment ≡ false = grind (arith, nat_tests, after_image) in
+            let index_in_zeros : index - image_offset - code_size < zeros_after = omega (arith, not_before, after_image, in_ram) in
             let skips_code =
-            get_or-append_right calling_host (replicate zeros_after 0) code_size (i - image_offset) 0 refl (omega (arith, not_before, after_image)) in
-            let zero_is = get_or-replicate {A = ℕ} zeros_after (i - image_offset - code_size) 0 0 index_in_zeros in
-            outside_is_0 i in_ram outside_segment ∙ sym (skips_zeros ∙ skips_code ∙ zero_is)
+            get_or-append_right calling_host (replicate zeros_after 0) code_size (index - image_offset) 0 refl
+            (omega (arith, not_before, after_image)) in
+            let zero_is = get_or-replicate {A = ℕ} zeros_after (index - image_offset - code_size) 0 0 index_in_zeros in
+            outside_is_0 index in_ram outside_segment ∙ sym (skips_zeros ∙ skips_code ∙ zero_is)
       ]
 ]
 
@@ -85,6 +87,6 @@ unfolding loaded_memory occupying
 memory_is =
     let same_length = length-map-range_with_len byte_at_address ram_base ram_size in
     ext_get_or 0 (map byte_at_address (range_with_len ram_base ram_size)) loaded same_length
-    (λ i in_list.
-    let in_ram : i < ram_size = omega (arith, in_list, same_length) in
-    get_or-map-range_with_len byte_at_address ram_base ram_size i (ram_base + i) 0 in_ram refl ∙ byte_is i in_ram)
+    (λ index in_list.
+    let in_ram : index < ram_size = omega (arith, in_list, same_length) in
+    get_or-map-range_with_len byte_at_address ram_base ram_size index (ram_base + index) 0 in_ram refl ∙ byte_is index in_ram)

@@ -82,7 +82,7 @@ unfolding line_word is_text words_of
 differ = record {
   prefix = secret_prefix;
   rest = secret_script (codes "41");
-  another = secret_script (codes "5a");
+  other_rest = secret_script (codes "5a");
   input_is = refl;
   other_is = refl;
   whole_prefix = refl;

@@ -57,14 +57,15 @@ buffered_logs sink_view before after log none_taken none_failed none_flushed sam
 }
 
 -- if a sum of two counts is positive, one of them is
-one_is_positive : (m n : ℕ) → 0 < m + n → (0 < m) ⊎ (0 < n)
-one_is_positive zero n sum_positive = inr (omega (arith, sum_positive))
-one_is_positive (suc m) n sum_positive = inl (omega arith)
+one_is_positive : (count other_count : ℕ) → 0 < count + other_count → (0 < count) ⊎ (0 < other_count)
+one_is_positive zero other_count sum_positive = inr (omega (arith, sum_positive))
+one_is_positive (suc count) other_count sum_positive = inl (omega arith)
 
-module _ {S W : Type 0} (source_view : SourceGhosts S) (sink_view : SinkGhosts W) (source left : S) (before after : W) (writer : CallLog)
+module _ {S W : Type 0} (source_view : SourceGhosts S) (sink_view : SinkGhosts W) (source source_after : S) (before after : W) (writer : CallLog)
     (logs : LogsSink sink_view before after writer) where
   -- if the sink was written and flushed without an error, standard output got exactly this output of the program
-  passed : (output : ProgramOutput) (status : ℕ) → Writes source_view sink_view source left before after output status → Passed writer output status
+  passed : (output : ProgramOutput) (status : ℕ) → Writes source_view sink_view source source_after before after output status
+      → Passed writer output status
   passed output status writes = let worked = writes.sink.worked in record {
     bytes = sym (logs.taken writes.sink.flushed) ∙ (writes.written ∙ ap (λ taken. taken ++ output.text) logs.none_taken);
     failures = omega (arith, logs.failures, worked.0, worked.1, logs.none_failed, logs.none_refused);
@@ -76,7 +77,7 @@ module _ {S W : Type 0} (source_view : SourceGhosts S) (sink_view : SinkGhosts W
 
   -- standard output got the output for the arguments, or another output if memory ran out
   outputs : (meaning : Result Job WordsFault) (input : List ℕ) (status : ℕ)
-      → WritesOutput source_view sink_view source left before after meaning input status
+      → WritesOutput source_view sink_view source source_after before after meaning input status
       → Passed writer (program_output meaning input) status
       ⊎ ((output : ProgramOutput) × StopsOutOfMemory meaning input output × Passed writer output status)
   outputs meaning input status (inl writes) = inl (passed (program_output meaning input) status writes)
@@ -88,28 +89,32 @@ module _ {S W : Type 0} (source_view : SourceGhosts S) (sink_view : SinkGhosts W
   sink_failed (inr refusals_rose) = one_is_positive writer.failures writer.empty_calls (omega (arith, refusals_rose, logs.failures))
 
   -- for refused arguments, no byte of the input was read
-  read_nothing : (meaning : Result Job WordsFault) (Nothing : Type 0) → (left ≡ source → Nothing) → OnErr meaning (left ≡ source)
+  read_nothing : (meaning : Result Job WordsFault) (Nothing : Type 0) → (source_after ≡ source → Nothing) → OnErr meaning (source_after ≡ source)
       → OnErr meaning Nothing
   read_nothing (Ok job) Nothing if_untouched untouched = tt
   read_nothing (Err fault) Nothing if_untouched untouched = if_untouched untouched
 
   -- the program over standard input and output has its specified result, whether its arguments are read or refused
   pub runs_over : (given : Result (List Text) WordsFault) (input : List ℕ) (reader : CallLog) (status : ℕ)
-      → (source_view.input left ≡ source_view.input source → Gave reader input → source_view.follows_input left)
-      → source_view.remaining source ≡ input → source_view.failures source ≡ 0 → source_view.failures left ≡ reader.failures
-      → (left ≡ source → reader ≡ no_call input)
-      → RunsProgram source_view sink_view source left before after (MeansGiven given) status → RunsOverStreams given input reader writer status
+      → (source_view.input source_after ≡ source_view.input source → Gave reader input → source_view.follows_input source_after)
+      → source_view.remaining source ≡ input → source_view.failures source ≡ 0 → source_view.failures source_after ≡ reader.failures
+      → (source_after ≡ source → reader ≡ no_call input)
+      → RunsProgram source_view sink_view source source_after before after (MeansGiven given) status
+      → RunsOverStreams given input reader writer status
   runs_over given input reader status follows_if_gave input_is none_failed same_failures no_call_if_untouched runs = record {
     meaning = runs.meaning;
     is_meaning = runs.is_meaning;
     untouched = read_nothing runs.meaning (reader ≡ no_call input) no_call_if_untouched runs.untouched;
     writes = λ gave. elim (runs.writes (follows_if_gave runs.same_input gave)) [
+      -- neither device failed
       | inl writes ↦
           let writes_for_input = subst
-          (λ input. WritesOutput source_view sink_view source left before after runs.meaning input status) input_is writes in
+          (λ input. WritesOutput source_view sink_view source source_after before after runs.meaning input status) input_is writes in
           inl (outputs runs.meaning input status writes_for_input)
+      -- the source failed, so standard input failed
       | inr (inl source_failed, status_is) ↦
           let reader_failed : 0 < reader.failures = omega (arith, source_failed, none_failed, same_failures) in inr (inl reader_failed, status_is)
+      -- the sink failed, so standard output failed or took no byte in a call
       | inr (inr failed, status_is) ↦ inr (inr (sink_failed failed), status_is)
     ];
   }

@@ -27,9 +27,9 @@ use Rattle.rv_bench.specs.Stream.{RunsStream}
 use Rattle.rv_bench.proofs.Starts.{no_ram, has_ram, fault_has_ram}
 
 -- a result that is Ok and has a property is Ok with a value that has it
-ok_and : {A E : Type 0} (result : Result A E) (P : A → Type 0) → IsOkAnd result P → (x : A) × (result ≡ Ok x) × P x
-ok_and (Ok x) P holds = (x, refl, holds)
-ok_and (Err e) P impossible = absurd impossible
+ok_and : {A E : Type 0} (result : Result A E) (P : A → Type 0) → IsOkAnd result P → (value : A) × (result ≡ Ok value) × P value
+ok_and (Ok value) P holds = (value, refl, holds)
+ok_and (Err fault) P impossible = absurd impossible
 
 -- The image was read from the lines `old` through the separator, which leaves the lines `script_source`. The script is read from there, which leaves
 -- `new`.
@@ -69,6 +69,7 @@ module _ {S W : Type 0} {source_view : SourceGhosts S} (sink_view : SinkGhosts W
   -- the result of the script, or the error of the start, is the result of the whole run
   pub streamed : (outcome : Outcome) → RunsBench sink_view image setup script_source new before after outcome
       → RunsStream sink_view setup old new before after outcome
+  -- the script was read to its end: the calls for the image and the calls for the script are the calls of the whole run
   streamed (Ok done) runs =
       let (state, starts, run) = ok_and (started image setup) _ runs in (
         has_ram image setup state starts,
@@ -79,10 +80,12 @@ module _ {S W : Type 0} {source_view : SourceGhosts S} (sink_view : SinkGhosts W
           source = run.source ∙ reads.source;
           sink = run.sink;
           used_up = run.used_up;
+          -- the replies to the script are the output for the whole input
           written = λ follows. subst (λ output. IsOkAnd output (λ text. sink_view.taken after ≡ sink_view.taken before ++ text))
               (sym (output_is state starts (script_end.followed_before follows))) (run.written follows);
         },
       )
+  -- the source failed in the script: the input has a separator, and the script stops at the failed read
   streamed (Err Read) runs =
       let (state, starts, (fails, stops)) = ok_and (started image setup) _ runs in
       let Stops : List ℕ → BenchState → Type 0 = λ script bench.
@@ -93,6 +96,7 @@ module _ {S W : Type 0} {source_view : SourceGhosts S} (sink_view : SinkGhosts W
           of_input Stops state starts (script_end.followed_before follows) (stops follows),
         ),
       )
+  -- the sink failed in the script: a prefix of the output was written, and the script stops at the failed write
   streamed (Err Write) runs =
       let (state, starts, (fails, stops)) = ok_and (started image setup) _ runs in
       let Stops : List ℕ → BenchState → Type 0 = λ script bench.
@@ -107,12 +111,15 @@ module _ {S W : Type 0} {source_view : SourceGhosts S} (sink_view : SinkGhosts W
         },
         λ follows. of_input Stops state starts (script_end.followed_before follows) (stops follows),
       )
+  -- the RAM has no permitted size: no line of the script was read, and nothing was written
   streamed (Err (Ram BadSize)) (bad_size, same_lines, unwritten) =
       let reads_new = subst (ReadsThroughSeparator old) (sym same_lines) reads in
       (bad_size, reads_new, λ follows. fault_is (Ram BadSize) (no_ram image setup bad_size) (script_end.followed_before follows), unwritten)
+  -- memory for the RAM was refused: no line of the script was read, and nothing was written
   streamed (Err (Ram (NoRamMemory refused))) (valid_size, bytes_are, same_lines, unwritten) =
       let reads_new = subst (ReadsThroughSeparator old) (sym same_lines) reads in
       (valid_size, bytes_are, reads_new, λ follows. rw (image_is (script_end.followed_before follows)) refl, unwritten)
+  -- the image has an error: no line of the script was read, and nothing was written
   streamed (Err (Image fault)) (bad_image, same_lines, unwritten) =
       let reads_new = subst (ReadsThroughSeparator old) (sym same_lines) reads in (
         fault_has_ram image setup fault bad_image,
@@ -121,4 +128,5 @@ module _ {S W : Type 0} {source_view : SourceGhosts S} (sink_view : SinkGhosts W
             (script_end.followed_before follows),
         unwritten,
       )
+  -- a script has no other error
   streamed (Err _) runs = absurd (ok_and (started image setup) _ runs).2

@@ -65,7 +65,9 @@ module _ (slot : ℕ) where
 
   -- the two benches `first` and `second` after a command, whether they executed it or not
   record CommandResult (first second : BenchState) (command : Command) (after : BothExecuted) : Type 0 where
+    -- the first bench satisfies the invariant of the target after the command
     pub first_invariant : TargetInvariant after.first.target
+    -- the second bench satisfies the invariant of the target after the command
     pub second_invariant : TargetInvariant after.second.target
     -- if both benches executed the command and the slot was not entered, the replies are equal and the benches stay together
     pub alike_if_executed : after.why ≡ All → (after.first_reply ≡ after.second_reply) × Together after.first after.second
@@ -101,6 +103,7 @@ module _ (slot : ℕ) where
         -- the same claim by cases on `blind`, which states whether the command is blind to the slot in both benches
         by_blindness : (blind : Bool) → StayAlike slot first second command (executed_if_blind blind first second command)
             → CommandResult first second command (executed_if_blind blind first second command)
+        -- both benches execute the command
         by_blindness true alike = record {
           first_invariant = command_keeps_invariant first command first_invariant;
           second_invariant = command_keeps_invariant second command second_invariant;
@@ -113,6 +116,7 @@ module _ (slot : ℕ) where
           first_state = state_after_command _ first command;
           second_state = state_after_command _ second command;
         }
+        -- no bench executes the command, so both keep their states
         by_blindness false alike = record {
           first_invariant = first_invariant;
           second_invariant = second_invariant;
@@ -126,8 +130,11 @@ module _ (slot : ℕ) where
 
   -- both benches of the pair satisfy the invariant of the target, and they are together until the slot is entered
   record PairInvariant (pair : Pair) : Type 0 where
+    -- until the slot is entered, the benches are equivalent and the enclave of the slot runs on no hart
     pub together : pair.entered ≡ false → Together pair.first pair.second
+    -- the first bench satisfies the invariant of the target
     pub first : TargetInvariant pair.first.target
+    -- the second bench satisfies the invariant of the target
     pub second : TargetInvariant pair.second.target
 
   -- `of_command` is the result of a line with this command on both benches
@@ -195,7 +202,9 @@ module _ (slot : ℕ) where
 
   -- each bench of the pair `end` is in the state after these commands, from the bench of the pair `start`
   record Follows (start : Pair) (commands : List Command) (end : Pair) : Type 0 where
+    -- the commands lead the first bench from `start` to `end`
     pub first : end.first ≡ after_commands start.first commands
+    -- the commands lead the second bench from `start` to `end`
     pub second : end.second ≡ after_commands start.second commands
 
   -- after a command, the benches are in the state after the commands that both executed
@@ -228,9 +237,10 @@ module _ (slot : ℕ) where
     by_entry false unentered (Err fault) = record { first = refl; second = refl }
 
   -- the bench after two lists of commands is the bench after the second, from the bench after the first
-  commands-append : (bench : BenchState) (xs ys : List Command) → after_commands bench (xs ++ ys) ≡ after_commands (after_commands bench xs) ys
-  commands-append bench [] ys = refl
-  commands-append bench (x ∷ xs) ys = commands-append (execute bench x).state xs ys
+  commands-append : (bench : BenchState) (commands later_commands : List Command)
+      → after_commands bench (commands ++ later_commands) ≡ after_commands (after_commands bench commands) later_commands
+  commands-append bench [] later_commands = refl
+  commands-append bench (command ∷ commands) later_commands = commands-append (execute bench command).state commands later_commands
 
   -- after lines, the benches are in the state after the commands that both executed, by induction over the lines
   lines_follow : (pair : Pair) (lines : List (List ℕ)) → PairInvariant pair
@@ -250,16 +260,16 @@ module _ (slot : ℕ) where
 
   -- both benches preserve the enclaves that the commands leave undisturbed, by the law of integrity for the commands that both executed
   both_preserve : (start : Pair) → PairInvariant start → BothPreserve slot start
-  both_preserve start start_invariant k before part =
+  both_preserve start start_invariant enclave before part =
       let pair = state_after (pair_line slot) start before in
       let invariant = lines_keep_pair_invariant start before start_invariant in
       let follows = lines_follow pair part invariant in
       let commands = commands_done slot pair part in
       let end_is = state_after-append (pair_line slot) start before part in (
-        λ undisturbed. subst (λ (bench : BenchState). IsPreservedIn k pair.first.target bench.target)
-            (sym (ap (λ (end : Pair). end.first) end_is ∙ follows.first)) (integrity k pair.first commands invariant.first undisturbed),
-        λ undisturbed. subst (λ (bench : BenchState). IsPreservedIn k pair.second.target bench.target)
-            (sym (ap (λ (end : Pair). end.second) end_is ∙ follows.second)) (integrity k pair.second commands invariant.second undisturbed),
+        λ undisturbed. subst (λ (bench : BenchState). IsPreservedIn enclave pair.first.target bench.target)
+            (sym (ap (λ (end : Pair). end.first) end_is ∙ follows.first)) (integrity enclave pair.first commands invariant.first undisturbed),
+        λ undisturbed. subst (λ (bench : BenchState). IsPreservedIn enclave pair.second.target bench.target)
+            (sym (ap (λ (end : Pair). end.second) end_is ∙ follows.second)) (integrity enclave pair.second commands invariant.second undisturbed),
       )
 
   -- ---- the two benches at the start of the second script

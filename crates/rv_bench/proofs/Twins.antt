@@ -61,11 +61,12 @@ unnumbered_not_scramblable number (Bare machine) invariant no_slot = refl
 unnumbered_not_scramblable number (Monitored selected) invariant no_slot =
     ap is_held (none_past selected.state.shared.table number invariant.shared.valid.count no_slot)
 
--- a property P of a slot and its pair holds of a slot number and its made pair, if it holds of a made slot with this number
-pub holds_of_made_pair : (P : ℕ → Option Pair → Type 0) (number : ℕ) (bench : BenchState) (made : PairOnSlot)
-    → (made.slot ≡ number) × (make_pair number bench ≡ Some made.pair) → P made.slot (Some made.pair) → P number (make_pair number bench)
-holds_of_made_pair P number bench made (slot_is, pair_is) holds =
-    subst (λ (slot : ℕ). P slot (make_pair number bench)) slot_is (subst (P made.slot) (sym pair_is) holds)
+-- a property P of a slot and its pair holds of a slot number and the pair on this slot, if it holds of `pair_on_slot`, whose slot has this number
+pub holds_of_made_pair : (P : ℕ → Option Pair → Type 0) (number : ℕ) (bench : BenchState) (pair_on_slot : PairOnSlot)
+    → (pair_on_slot.slot ≡ number) × (make_pair number bench ≡ Some pair_on_slot.pair) → P pair_on_slot.slot (Some pair_on_slot.pair)
+    → P number (make_pair number bench)
+holds_of_made_pair P number bench pair_on_slot (slot_is, pair_is) holds =
+    subst (λ (slot : ℕ). P slot (make_pair number bench)) slot_is (subst (P pair_on_slot.slot) (sym pair_is) holds)
 
 -- a number that is not the number of a slot has no pair
 pub not_numbered : (number : ℕ) (bench : BenchState) → TargetInvariant bench.target → slot_numbered number ≡ None → make_pair number bench ≡ None
@@ -76,9 +77,11 @@ not_numbered number bench invariant no_slot =
 
 -- the image was read, and the separator after it, where `scripts_source` has the unread text after the separator
 pub record ReadsImage {S : Type 0} {source_view : SourceGhosts S} (old scripts_source : Lines S source_view) (image : List ℕ) : Type 0 where
+  -- the lines were read through the separator
   pub through : ReadsThroughSeparator old scripts_source
   -- the text before the separator describes this image
   pub gives : source_view.follows_input scripts_source.source → image_in (unread old) ≡ Ok image
+  -- the lines end only if the source does
   pub ends : EndsWithSource old scripts_source
 
 -- the first script was run on the bench of the image, whose state it changed
@@ -90,8 +93,11 @@ pub record RunsFirst {S W : Type 0} {source_view : SourceGhosts S} (sink_view : 
   pub sink_between : W
   -- the bench after the first script
   pub bench_between : BenchState
+  -- the first script was run to its separator
   pub runs : RunsLines sink_view Separator bench scripts_source second_source before sink_between (Ok tt)
+  -- the bench is that after the lines before the separator
   pub state : source_view.follows_input second_source.source → bench_between ≡ after_first_script bench (unread scripts_source)
+  -- the lines end only if the source does
   pub ends : EndsWithSource scripts_source second_source
 
 module _ {S W : Type 0} {source_view : SourceGhosts S} (sink_view : SinkGhosts W) (setup : Setup) (slot : ℕ) (image : List ℕ)
@@ -239,6 +245,7 @@ module _ {S W : Type 0} {source_view : SourceGhosts S} (sink_view : SinkGhosts W
       pub second_part : (outcome : Outcome)
           → RunsSecond sink_view slot (make_pair slot bench_between) second_source new ran.sink_between after outcome
           → RunsTwin sink_view setup slot old new before after outcome
+      -- the second script was run: the calls for the image and for both scripts are the calls of the twin run
       second_part (Ok done) run = (
         has_size,
         record {
@@ -246,6 +253,7 @@ module _ {S W : Type 0} {source_view : SourceGhosts S} (sink_view : SinkGhosts W
           sink = SinkFlushed-after sink_view first.sink run.sink;
           emptied = run.emptied;
           read = elim run.read [
+            -- no line entered the slot before the end of the input
             | inl ended ↦ inl (record {
               at_end = ended.at_end;
               ended = (EndsWithSource-more old scripts_source new read.ends both_end).ended ended.at_end;
@@ -253,12 +261,14 @@ module _ {S W : Type 0} {source_view : SourceGhosts S} (sink_view : SinkGhosts W
               not_entered = λ follows. second_of_input (second_end.followed_before follows) (IsNeverEntered slot) (ended.not_entered follows);
               reports_end = ended.reports_end;
             })
+            -- the run was over before the end of the input: no slot was scrambled, or a line entered the slot
             | inr (is_over, told) ↦ inr (
               λ follows. second_of_input (second_end.followed_before follows) (λ pair script. IsOver slot pair script (unread new) new.is_at_end)
                   (is_over follows),
               told,
             )
           ];
+          -- the replies to the first script, and then the text of the second script, are the output
           written = λ follows. subst (λ output. IsOkAnd output (λ text. sink_view.taken after ≡ sink_view.taken before ++ text))
               (sym (output_is bench starts (both_end.followed_before follows)))
               (run.written follows
@@ -269,6 +279,7 @@ module _ {S W : Type 0} {source_view : SourceGhosts S} (sink_view : SinkGhosts W
               ∙ ap (λ (text : List ℕ). sink_view.taken before ++ text) (text_is _ (second_end.followed_before follows) refl))));
         },
       )
+      -- the source failed in the second script: the input has two separators, and the second script stops at the failed read
       second_part (Err Read) (fails, stops) =
           let first_sources = first.reads.source ∙ read.through.source in
           let second_failed = fails.source in
@@ -288,6 +299,7 @@ module _ {S W : Type 0} {source_view : SourceGhosts S} (sink_view : SinkGhosts W
             Stops pair script = IsSomeAnd pair
                 (λ pair. StopsAtRead (both_benches slot) Input pair script (source_view.remaining new.source) (held new)
                 (sink_view.taken before ++ first_text bench (unread scripts_source)) (sink_view.taken after))
+      -- the sink failed in the second script: the replies to the first script and a prefix of the second text were written
       second_part (Err Write) (fails, stops) = (
         has_size,
         record {
@@ -309,4 +321,5 @@ module _ {S W : Type 0} {source_view : SourceGhosts S} (sink_view : SinkGhosts W
         Stops : Option Pair → List ℕ → Type 0
         Stops pair script = StopsSecondAtWrite slot pair script (unread new) (sink_view.taken before ++ first_text bench (unread scripts_source))
             (sink_view.taken after)
+      -- a second script has no other error
       second_part (Err _) impossible = absurd impossible

@@ -38,7 +38,7 @@ observed_output enclave setup input =
 -- two lines, one for each bench: their commands are alike, or both have the same error
 abbrev pub ParsedAlike : ℕ → BenchState → BenchState → Result Command CommandFault → Result Command CommandFault → Type 0
 ParsedAlike enclave first second (Ok command) (Ok other_command) = CommandsAlike enclave first second command other_command
-ParsedAlike enclave first second (Err here) (Err there) = here ≡ there
+ParsedAlike enclave first second (Err fault) (Err other_fault) = fault ≡ other_fault
 ParsedAlike enclave first second _ _ = ⊥
 
 -- two lists of lines of the same length, one for each bench, are alike line by line
@@ -51,7 +51,9 @@ LinesAlike enclave first second _ _ = ⊥
 
 -- what others observe of the replies is equal, and the benches are related again
 pub record LinesObservedAlike (enclave : ℕ) (first second : BenchState) (lines others : List (List ℕ)) : Type 0 where
+  -- the observed parts of the replies are equal
   pub text : replies (observed_line enclave) first lines ≡ replies (observed_line enclave) second others
+  -- the benches are related again after the lines
   pub state : BenchesAreRelated enclave (state_after bench_line first lines) (state_after bench_line second others)
 
 -- A line steps no hart on which the enclave runs, and does not enter it. A line with an error does neither.
@@ -68,13 +70,16 @@ LinesAreLow enclave bench (line ∷ lines) = LineIsLow enclave bench line × Lin
 -- equal. The same lines for both benches are alike if they are low in the first, and if the window is equal while the enclave runs. After the
 -- enclave has ended, the same lines are alike for every slot.
 pub record ScriptDeclassification (bench : BenchState) : Type 0 where
+  -- lines that are alike have equal observed replies on each related bench
   pub alike : (enclave : ℕ) (before lines others : List (List ℕ)) (other : BenchState) → TargetInvariant other.target
       → BenchesAreRelated enclave (state_after bench_line bench before) other
       → LinesAlike enclave (state_after bench_line bench before) other lines others
       → LinesObservedAlike enclave (state_after bench_line bench before) other lines others
+  -- the same lines are alike on a related bench if they are low and the windows are equal
   pub low : (enclave : ℕ) (before lines : List (List ℕ)) (other : BenchState) → TargetInvariant other.target
       → BenchesAreRelated enclave (state_after bench_line bench before) other → WindowsAreEqual enclave (state_after bench_line bench before) other
       → LinesAreLow enclave (state_after bench_line bench before) lines → LinesAlike enclave (state_after bench_line bench before) other lines lines
+  -- after the enclave has ended, the same lines are alike for every slot
   pub ended : (enclave slot : ℕ) (before lines : List (List ℕ)) (other : BenchState) → TargetInvariant other.target
       → BenchesAreRelated enclave (state_after bench_line bench before) other → EnclaveHasEnded enclave (state_after bench_line bench before).target
       → LinesAlike slot (state_after bench_line bench before) other lines lines
@@ -83,16 +88,24 @@ pub record ScriptDeclassification (bench : BenchState) : Type 0 where
 
 -- Two inputs begin with the same lines, through the separator and part of the script. The rest of their scripts is alike, line by line.
 pub record DifferInEnclave (enclave : ℕ) (setup : Setup) (input other : List ℕ) : Type 0 where
+  -- the lines that both inputs begin with
   pub prefix : List ℕ
+  -- the other lines of the one input
   pub rest : List ℕ
-  pub another : List ℕ
+  -- the other lines of the other input
+  pub other_rest : List ℕ
+  -- the parts of the one input
   pub input_is : input ≡ prefix ++ rest
-  pub other_is : other ≡ prefix ++ another
+  -- the parts of the other input
+  pub other_is : other ≡ prefix ++ other_rest
+  -- the prefix consists of whole lines
   pub whole_prefix : through_last_feed prefix ≡ prefix
+  -- the prefix has the separator after the image
   pub separated : has_separator prefix ≡ true
+  -- the other lines of both inputs are alike, line by line
   pub alike : IfOk (bench_in setup prefix) (λ bench.
       let start = state_after bench_line bench (lines_of (after_separator prefix)) in
-      LinesAlike enclave start start (lines_of rest) (lines_of another))
+      LinesAlike enclave start start (lines_of rest) (lines_of other_rest))
 
 -- what others observe of the output is equal for every other input that differs only in secrets of an enclave, if it hands over the same
 abbrev pub SecretDeclassification : Setup → List ℕ → Type 0

@@ -16,9 +16,15 @@ FailsInMemory job input fault = FailsBy job input fault
 
 -- The text and the status are the output of the program for its arguments and the input. Or memory was refused, and they report this.
 pub record RunsInMemory (given : List Text) (input text : List ℕ) (status : ℕ) : Type 0 where
+  -- the job that the arguments name, or their fault
   pub meaning : Result Job WordsFault
+  -- the arguments have this meaning
   pub is_meaning : Means given meaning
+  -- the output that was written
   pub output : ProgramOutput
+  -- it is the output for the arguments and the input, or the report of refused memory
   pub output_is : (output ≡ program_output meaning input) ⊎ StopsOutOfMemory meaning input output
+  -- the written bytes are the text of the output
   pub text_is : text ≡ output.text
+  -- the exit status is that of the output
   pub status_is : status ≡ output.status

@@ -38,15 +38,19 @@ LinesAvoidHart enclave bench (line ∷ lines) =
 
 -- Two benches give the same replies to lines, byte for byte, and are equivalent again after them.
 pub record RepliesAlike (enclave : ℕ) (first second : BenchState) (lines : List (List ℕ)) : Type 0 where
+  -- the replies are equal, byte for byte
   pub text : replies bench_line first lines ≡ replies bench_line second lines
+  -- the benches are equivalent again after the lines
   pub state : RemainEquiv enclave (state_after bench_line first lines) (state_after bench_line second lines)
 
 -- After any lines, take a part of the script that avoids an enclave and the hart on which it runs. Every bench that is equivalent except for
 -- that enclave replies the same to it. If the enclave runs on no hart at first, every part that avoids the enclave also avoids its hart.
 pub record ScriptNoninterference (bench : BenchState) : Type 0 where
+  -- lines that avoid the enclave and its hart have equal replies on each equivalent bench
   pub alike : (enclave : ℕ) (before part : List (List ℕ)) (other : BenchState) → TargetInvariant other.target
       → BenchesEquivExcept enclave (state_after bench_line bench before) other → LinesAvoidEnclave enclave (state_after bench_line bench before) part
       → LinesAvoidHart enclave (state_after bench_line bench before) part → RepliesAlike enclave (state_after bench_line bench before) other part
+  -- if the enclave runs on no hart at first, lines that avoid the enclave also avoid its hart
   pub not_running : (enclave : ℕ) (before part : List (List ℕ)) → RunsOnNoHart enclave (state_after bench_line bench before).target
       → LinesAvoidEnclave enclave (state_after bench_line bench before) part → LinesAvoidHart enclave (state_after bench_line bench before) part
 
@@ -72,26 +76,40 @@ EachLineAvoidsHart enclave bench (line ∷ lines) = LineAvoidsHart enclave bench
 
 -- Both lists of lines poke a secret into the region of an enclave. The other lines avoid it, both those between the pokes and the rest of the
 -- script. The enclave runs on no hart, or the lines avoid the one on which it runs.
-pub record AreSecret (enclave : ℕ) (bench : BenchState) (secret another rest : List (List ℕ)) : Type 0 where
-  pub pokes : DifferInPokes enclave bench bench secret another
+pub record AreSecret (enclave : ℕ) (bench : BenchState) (secret other_secret rest : List (List ℕ)) : Type 0 where
+  -- the two lists of lines differ only in the bytes that they poke into the enclave
+  pub pokes : DifferInPokes enclave bench bench secret other_secret
+  -- the rest of the script avoids the enclave
   pub passes : LinesAvoidEnclave enclave (state_after bench_line bench secret) rest
+  -- the enclave runs on no hart, or all lines avoid its hart
   pub hart_avoided : (can_scramble enclave bench ≡ true)
       ⊎ (EachLineAvoidsHart enclave bench secret × LinesAvoidHart enclave (state_after bench_line bench secret) rest)
 
 -- Two inputs differ only in lines in the middle of the script, which poke a secret.
 pub record DifferInSecret (enclave : ℕ) (setup : Setup) (input other : List ℕ) : Type 0 where
+  -- the image, the separator, and the lines before the secret
   pub prefix : List ℕ
+  -- the lines of one input that poke its secret
   pub secret : List ℕ
-  pub another : List ℕ
+  -- the lines of the other input that poke its secret
+  pub other_secret : List ℕ
+  -- the lines after the secret, which are the same in both inputs
   pub rest : List ℕ
+  -- the parts of the one input
   pub input_is : input ≡ prefix ++ (secret ++ rest)
-  pub other_is : other ≡ prefix ++ (another ++ rest)
+  -- the parts of the other input
+  pub other_is : other ≡ prefix ++ (other_secret ++ rest)
+  -- the prefix consists of whole lines
   pub whole_prefix : through_last_feed prefix ≡ prefix
+  -- the one secret consists of whole lines
   pub whole_secret : through_last_feed secret ≡ secret
-  pub whole_another : through_last_feed another ≡ another
+  -- the other secret consists of whole lines
+  pub whole_other_secret : through_last_feed other_secret ≡ other_secret
+  -- the prefix has the separator after the image
   pub separated : has_separator prefix ≡ true
+  -- if the prefix starts a bench, the two lists of lines are secrets for it
   pub poked : IfOk (bench_in setup prefix) (λ bench.
-      AreSecret enclave (state_after bench_line bench (lines_of (after_separator prefix))) (lines_of secret) (lines_of another) (lines_of rest))
+      AreSecret enclave (state_after bench_line bench (lines_of (after_separator prefix))) (lines_of secret) (lines_of other_secret) (lines_of rest))
 
 -- the output for an input equals that for every other input that differs only in what is poked into an enclave
 abbrev pub SecretNoninterference : Setup → List ℕ → Type 0

@@ -29,12 +29,16 @@ exit_status (Err fault) = 1
 module _ {W : Type 0} (sink_view : SinkGhosts W) where
   -- A text was written after what the sink had taken, and the sink was flushed.
   pub record WritesAll (before after : W) (text : List ℕ) : Type 0 where
+    -- no call of the sink failed, and the sink was flushed once, at the end
     pub sink : SinkFlushed sink_view before after
+    -- exactly the text was written
     pub written : sink_view.taken after ≡ sink_view.taken before ++ text
 
   -- The sink failed, and took a prefix of the text.
   pub record WritesOnlyPrefix (before after : W) (text : List ℕ) : Type 0 where
+    -- a call of the sink failed, or took no byte of a part that was not empty
     pub sink : SinkFailed sink_view before after
+    -- a prefix of the text was written
     pub prefix : WritesPrefix (sink_view.taken before) (sink_view.taken after) text
 
   -- a text was written, or a prefix of it if the sink failed; the status is the same
@@ -54,21 +58,30 @@ module _ {W : Type 0} (sink_view : SinkGhosts W) where
   Refuses before after (words.Help text) status =
       (WritesAll before after (string_bytes text) × (status ≡ 0)) ⊎ (WritesOnlyPrefix before after (string_bytes text) × (status ≡ 1))
 
-module _ {S W : Type 0} (source_view : SourceGhosts S) (sink_view : SinkGhosts W) (source left : S) (before after : W) where
-  -- The program executed the job, which left the source so, and reported its outcome.
+module _ {S W : Type 0} (source_view : SourceGhosts S) (sink_view : SinkGhosts W) (source source_after : S) (before after : W) where
+  -- The program executed the job, which left the source in the state `source_after`, and reported its outcome.
   pub record DoesAndReports (job : Job) (status : ℕ) : Type 0 where
+    -- the outcome of the job
     pub outcome : Outcome
+    -- the sink after the job
     pub job_sink : W
-    pub does : DoesJob source_view sink_view source left before job_sink job outcome
+    -- the job was executed, with this outcome
+    pub does : DoesJob source_view sink_view source source_after before job_sink job outcome
+    -- the outcome was reported after the output of the job
     pub reports : ReportsOutcome sink_view outcome job_sink after
+    -- the exit status is that of the outcome
     pub status_is : status ≡ exit_status outcome
 
   -- The arguments name no job, for a reason that they have, or an allocation failed. The program reports it, and reads nothing.
   pub record RefusesArguments (given : List Text) (status : ℕ) : Type 0 where
+    -- the reason why the arguments name no job
     pub fault : WordsFault
+    -- the arguments have this fault, or an allocation failed
     pub reason : IsFaultOf (refusals_of given) fault
+    -- the fault was reported
     pub refuses : Refuses sink_view before after fault status
-    pub untouched : left ≡ source
+    -- nothing was read
+    pub untouched : source_after ≡ source
 
   -- The arguments name a job, which the program executed, or they name none.
   abbrev pub Performs : List Text → ℕ → Type 0
@@ -77,4 +90,4 @@ module _ {S W : Type 0} (source_view : SourceGhosts S) (sink_view : SinkGhosts W
   -- The program performs the job of arguments that may be unreadable. If they are, the program reports why, and reads nothing.
   abbrev pub PerformsGiven : Result (List Text) WordsFault → ℕ → Type 0
   PerformsGiven (Ok given) status = Performs given status
-  PerformsGiven (Err fault) status = Refuses sink_view before after fault status × (left ≡ source)
+  PerformsGiven (Err fault) status = Refuses sink_view before after fault status × (source_after ≡ source)

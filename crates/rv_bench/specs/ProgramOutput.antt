@@ -40,7 +40,7 @@ job_output Dis input = dis_output input
 
 -- memory was refused for the bytes of an image, after some of them were read: no line so far has an error
 abbrev pub OutOfMemoryForImage : List ℕ → Type 0
-OutOfMemoryForImage input = (left : List ℕ) × ReadsPrefixOfImage input left
+OutOfMemoryForImage input = (remaining : List ℕ) × ReadsPrefixOfImage input remaining
 
 -- memory was refused for a RAM of the requested size, which is valid, as is the text of the image
 abbrev pub OutOfMemoryForRam : Setup → List ℕ → RefusedRam → Type 0
@@ -62,25 +62,27 @@ IsOutOfMemory job input _ = ⊥
 abbrev pub FailsBy : Job → List ℕ → BenchFault → Type 0
 FailsBy job input fault = (job_output job input ≡ Err fault) ⊎ IsOutOfMemory job input fault
 
-module _ {S W : Type 0} (source_view : SourceGhosts S) (sink_view : SinkGhosts W) (source left : S) (before after : W) (job : Job) where
+module _ {S W : Type 0} (source_view : SourceGhosts S) (sink_view : SinkGhosts W) (source source_after : S) (before after : W) (job : Job) where
   -- The outcome of a job by its output for the input. An error is a failure of a device, or nothing was written.
   abbrev pub MeetsOutput : Outcome → Type 0
   MeetsOutput (Ok _) =
       SinkFlushed sink_view before after
-      × (source_view.follows_input left
+      × (source_view.follows_input source_after
       → IsOkAnd (job_output job (source_view.remaining source)) (λ text. sink_view.taken after ≡ sink_view.taken before ++ text))
-  MeetsOutput (Err Read) = SourceFailed source_view source left
+  MeetsOutput (Err Read) = SourceFailed source_view source source_after
   MeetsOutput (Err Write) =
       SinkFailed sink_view before after
-      × (source_view.follows_input left
+      × (source_view.follows_input source_after
       → IsOkAnd (job_output job (source_view.remaining source)) (λ text. WritesPrefix (sink_view.taken before) (sink_view.taken after) text))
-  MeetsOutput (Err fault) = (after ≡ before) × (source_view.follows_input left → FailsBy job (source_view.remaining source) fault)
+  MeetsOutput (Err fault) = (after ≡ before) × (source_view.follows_input source_after → FailsBy job (source_view.remaining source) fault)
 
 -- ---- the program
 
 -- `ProgramOutput` has the text that the program writes, and its exit status
 pub record ProgramOutput : Type 0 where
+  -- the bytes that are written to standard output
   pub text : List ℕ
+  -- the exit status
   pub status : ℕ
 
 -- `output_of` is the output for the result of a job
@@ -121,11 +123,14 @@ abbrev pub StopsOutOfMemory : Result Job WordsFault → List ℕ → ProgramOutp
 StopsOutOfMemory (Ok job) input output = (fault : BenchFault) × IsOutOfMemory job input fault × (output ≡ output_of (Err fault))
 StopsOutOfMemory (Err fault) input output = ⊥
 
-module _ {S W : Type 0} (source_view : SourceGhosts S) (sink_view : SinkGhosts W) (source left : S) (before after : W) where
+module _ {S W : Type 0} (source_view : SourceGhosts S) (sink_view : SinkGhosts W) (source source_after : S) (before after : W) where
   -- Exactly this output was written, and the sink was flushed once, after it.
   pub record Writes (output : ProgramOutput) (status : ℕ) : Type 0 where
+    -- no call of the sink failed, and the sink was flushed once, at the end
     pub sink : SinkFlushed sink_view before after
+    -- exactly the text of the output was written
     pub written : sink_view.taken after ≡ sink_view.taken before ++ output.text
+    -- the exit status is that of the output
     pub status_is : status ≡ output.status
 
   -- the output of the program was written, or, since memory was refused, a line that reports this
@@ -136,13 +141,18 @@ module _ {S W : Type 0} (source_view : SourceGhosts S) (sink_view : SinkGhosts W
 
   -- a device failed, and the exit status reports an error
   abbrev pub StopsAtDevice : Result Job WordsFault → ℕ → Type 0
-  StopsAtDevice meaning status = (SourceFailed source_view source left ⊎ SinkFailed sink_view before after) × (status ≡ failed_status meaning)
+  StopsAtDevice meaning status = (SourceFailed source_view source source_after ⊎ SinkFailed sink_view before after) × (status ≡ failed_status meaning)
 
   -- The program wrote its output for its arguments and the assumed input, which stays the same, or a device failed. If the arguments name no
   -- job, it read nothing.
   pub record RunsProgram (IsMeaning : Result Job WordsFault → Type 0) (status : ℕ) : Type 0 where
-    pub same_input : source_view.input left ≡ source_view.input source
+    -- the input that is assumed stays the same
+    pub same_input : source_view.input source_after ≡ source_view.input source
+    -- the job that the arguments name, or their fault
     pub meaning : Result Job WordsFault
+    -- the arguments have this meaning
     pub is_meaning : IsMeaning meaning
-    pub untouched : OnErr meaning (left ≡ source)
-    pub writes : source_view.follows_input left → WritesOutput meaning (source_view.remaining source) status ⊎ StopsAtDevice meaning status
+    -- if the arguments name no job, nothing was read
+    pub untouched : OnErr meaning (source_after ≡ source)
+    -- the output was written, or a device failed
+    pub writes : source_view.follows_input source_after → WritesOutput meaning (source_view.remaining source) status ⊎ StopsAtDevice meaning status

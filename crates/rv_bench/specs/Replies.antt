@@ -5,12 +5,16 @@ use Rattle.rv_debug.specs.BenchState.{BenchState}
 
 -- the state after a line, and the text of the reply to it
 pub record Replied (A : Type 0) : Type 0 where
+  -- the state after the line
   pub state : A
+  -- the text of the reply
   pub reply : List ℕ
 
 -- A responder to the lines of a script: its reply in each state, and the states in which it is over and reads no further line.
 pub record Responding (A : Type 0) : Type 0 where
+  -- the state and the reply after a line
   pub respond : A → List ℕ → Replied A
+  -- whether no further line is read in a state
   pub is_over : A → Bool
 
 -- the replies to the lines, one after another, each in the state that the lines before it lead to

@@ -24,47 +24,75 @@ use Rattle.rv_bench.specs.Replies.{Responding, bench_line, one_bench, replies, s
 module _ {A : Type 0} (responder : Responding A) where
   -- The source failed. A text of whole lines of the script has its replies, and the responder is not over after it. At most `kept_bytes`
   -- bytes of the line that was begun are held, so that a later call continues from there.
-  pub record StopsAtRead (end : ScriptEnd) (start : A) (unread left kept old new : List ℕ) : Type 0 where
+  pub record StopsAtRead (end : ScriptEnd) (start : A) (unread remaining kept old new : List ℕ) : Type 0 where
+    -- the whole lines that were read
     pub text : List ℕ
+    -- the part of the next line that was read
     pub begun : List ℕ
-    pub split : unread ≡ text ++ (begun ++ left)
+    -- the unread bytes are these two, followed by the bytes that are left
+    pub split : unread ≡ text ++ (begun ++ remaining)
+    -- the text is empty or ends with a line feed
     pub whole_lines : through_last_feed text ≡ text
+    -- the begun line has no line feed yet
     pub unfinished : has_feed begun ≡ false
+    -- at most `kept_bytes` bytes of the begun line are kept
     pub prefix : kept ≡ take kept_bytes begun
+    -- no line of the text ends the script
     pub in_script : script_lines end (lines_of text) ≡ lines_of text
+    -- the responder is not over after the lines of the text
     pub not_over : responder.is_over (state_after responder.respond start (lines_of text)) ≡ false
+    -- the replies to the lines of the text were written
     pub written : new ≡ old ++ replies responder.respond start (lines_of text)
 
   -- The sink failed, or took nothing. Some lines of the script have their responses, and the responder is not over after them. At most one more
   -- line was read: the next line of the script, of whose reply a prefix was written, or the line that ends the script. A later call continues
   -- after these.
-  pub record StopsAtWrite (end : ScriptEnd) (start : A) (unread left old new : List ℕ) : Type 0 where
+  pub record StopsAtWrite (end : ScriptEnd) (start : A) (unread remaining old new : List ℕ) : Type 0 where
+    -- the lines that were read
     pub text : List ℕ
+    -- the lines whose replies were written in full
     pub responded : List (List ℕ)
+    -- the line whose reply was written in part, or no line
     pub next : List (List ℕ)
+    -- at most one line was read after the lines with a full reply
     pub at_most_one : length (lines_of text) ≤ length responded + 1
-    pub split : unread ≡ text ++ left
+    -- the unread bytes are the text, followed by the bytes that are left
+    pub split : unread ≡ text ++ remaining
+    -- the lines of the text that belong to the script are these lines
     pub are_lines : script_lines end (lines_of text) ≡ responded ++ next
-    pub all_lines : lines_of unread ≡ lines_of text ++ lines_of left
+    -- a later call continues with the lines after the text
+    pub all_lines : lines_of unread ≡ lines_of text ++ lines_of remaining
+    -- the responder is not over after the lines with a full reply
     pub not_over : responder.is_over (state_after responder.respond start responded) ≡ false
+    -- the full replies were written, and then a prefix of the next reply
     pub written : WritesPrefix (old ++ replies responder.respond start responded) new
         (replies responder.respond (state_after responder.respond start responded) next)
 
 module _ {S W : Type 0} {source_view : SourceGhosts S} (sink_view : SinkGhosts W) where
   -- All was read, to the end that the source reported. Exactly the output was written, and the sink was flushed afterwards.
   pub record RunsToEnd (output : Result (List ℕ) BenchFault) (old new : Lines S source_view) (before after : W) : Type 0 where
+    -- the lines have reported the end of the input
     pub at_end : new.is_at_end ≡ true
+    -- the source returned its end
     pub ended : HasEnded old new
+    -- no begun line is held
     pub emptied : held new ≡ []
+    -- no call of the source failed
     pub source : SourceWorked source_view old.source new.source
+    -- no call of the sink failed, and the sink was flushed once, at the end
     pub sink : SinkFlushed sink_view before after
+    -- no byte of the input is left
     pub used_up : source_view.follows_input new.source → unread new ≡ []
+    -- exactly the output was written
     pub written : source_view.follows_input new.source → IsOkAnd output (λ text. sink_view.taken after ≡ sink_view.taken before ++ text)
 
   -- All was read through the first separator, or to the end that the source reported. Exactly the output was written.
   pub record RunsToSeparator (output : Result (List ℕ) BenchFault) (old new : Lines S source_view) (before after : W) : Type 0 where
+    -- the lines were read through the first separator, or to the end of the input
     pub reads : ReadsThroughSeparator old new
+    -- no call of the sink failed, and the sink was not flushed
     pub sink : SinkWorked sink_view before after
+    -- exactly the output was written
     pub written : source_view.follows_input new.source → IsOkAnd output (λ text. sink_view.taken after ≡ sink_view.taken before ++ text)
 
   -- the script was run, up to its end
@@ -74,15 +102,22 @@ module _ {S W : Type 0} {source_view : SourceGhosts S} (sink_view : SinkGhosts W
 
   -- The source failed, and the sink did not.
   pub record FailsToRead (old new : Lines S source_view) (before after : W) : Type 0 where
+    -- a call of the source failed
     pub source : SourceFailed source_view old.source new.source
+    -- no call of the sink failed
     pub sink : SinkWorked sink_view before after
+    -- the lines have not reported the end of the input
     pub not_at_end : new.is_at_end ≡ false
 
   -- The sink failed, and the source did not: a prefix of the output is written.
   pub record FailsToWrite (output : Result (List ℕ) BenchFault) (old new : Lines S source_view) (before after : W) : Type 0 where
+    -- no call of the source failed
     pub source : SourceWorked source_view old.source new.source
+    -- a call of the sink failed, or took no byte of a part that was not empty
     pub sink : SinkFailed sink_view before after
+    -- no begun line is held
     pub emptied : held new ≡ []
+    -- a prefix of the output was written
     pub prefix : source_view.follows_input new.source → IsOkAnd output (λ text. WritesPrefix (sink_view.taken before) (sink_view.taken after) text)
 
   -- the meaning of each failure of a run over the lines of a script, from the state before it

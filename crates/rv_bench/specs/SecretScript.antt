@@ -33,7 +33,10 @@ secret_input digits = secret_prefix ++ secret_script digits
 
 -- the first lines lead to the bench of the instance for commands; the inputs satisfy the premise of the law, and their observed outputs are equal
 pub record SecretScriptLaw : Type 0 where
+  -- the first lines lead to the bench of the instance for commands
   pub starts : IsOkAnd (bench_in secret_setup secret_prefix) (λ bench.
       state_after bench_line bench (lines_of (after_separator secret_prefix)) ≡ secret_bench)
+  -- the two inputs differ only in the secret that they poke
   pub differ : DifferInEnclave 0 secret_setup (secret_input (codes "41")) (secret_input (codes "5a"))
+  -- the observed outputs of the two inputs are equal
   pub alike : observed_output 0 secret_setup (secret_input (codes "41")) ≡ observed_output 0 secret_setup (secret_input (codes "5a"))

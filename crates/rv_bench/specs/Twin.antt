@@ -60,34 +60,42 @@ twin_output setup slot input =
 -- ---- the lines that were read
 
 -- Lines were read that did not enter the slot, and then the line that entered it, through its line feed or to the end of the input.
-pub record EntersSlot (slot : ℕ) (pair : Pair) (unread left : List ℕ) (is_at_end : Bool) : Type 0 where
+pub record EntersSlot (slot : ℕ) (pair : Pair) (unread remaining : List ℕ) (is_at_end : Bool) : Type 0 where
+  -- the lines that did not enter the slot
   pub lines : List (List ℕ)
+  -- the line that entered the slot
   pub line : List ℕ
-  pub reads : ReadsLines unread left is_at_end (lines ++ line ∷ [])
+  -- exactly these lines were read
+  pub reads : ReadsLines unread remaining is_at_end (lines ++ line ∷ [])
+  -- the slot is not entered after the lines before
   pub not_entered : (state_after (pair_line slot) pair lines).entered ≡ false
+  -- the slot is entered after the last line
   pub entered : (state_after (pair_line slot) pair (lines ++ line ∷ [])).entered ≡ true
 
 -- the run was over before the end: no slot was scrambled, or the slot was entered
 abbrev pub IsOver : ℕ → Option Pair → List ℕ → List ℕ → Bool → Type 0
-IsOver slot None unread left is_at_end = left ≡ unread
-IsOver slot (Some pair) unread left is_at_end = EntersSlot slot pair unread left is_at_end
+IsOver slot None unread remaining is_at_end = remaining ≡ unread
+IsOver slot (Some pair) unread remaining is_at_end = EntersSlot slot pair unread remaining is_at_end
 
 -- a slot was scrambled, and no line of the input entered it
 abbrev pub IsNeverEntered : ℕ → Option Pair → List ℕ → Type 0
 IsNeverEntered slot pair input = IsSomeAnd pair (λ pair. (state_after (pair_line slot) pair (lines_of input)).entered ≡ false)
 
 -- The sink failed in the line that reports the end of the input, and no line entered the slot.
-pub record StopsInEnd (slot : ℕ) (pair : Pair) (unread left old new : List ℕ) : Type 0 where
-  pub used_up : left ≡ []
+pub record StopsInEnd (slot : ℕ) (pair : Pair) (unread remaining old new : List ℕ) : Type 0 where
+  -- no byte of the input is left
+  pub used_up : remaining ≡ []
+  -- no line of the input entered the slot
   pub not_entered : (state_after (pair_line slot) pair (lines_of unread)).entered ≡ false
+  -- all replies were written, and then a prefix of the line that reports the end
   pub written : WritesPrefix (old ++ replies (pair_line slot) pair (lines_of unread)) new
       (end_text (state_after (pair_line slot) pair (lines_of unread)).ran)
 
 -- the sink failed in the second script, or in the line `twin no slot`
 abbrev pub StopsSecondAtWrite : ℕ → Option Pair → List ℕ → List ℕ → List ℕ → List ℕ → Type 0
-StopsSecondAtWrite slot None unread left old new = (left ≡ unread) × WritesPrefix old new no_slot_text
-StopsSecondAtWrite slot (Some pair) unread left old new =
-    StopsAtWrite (both_benches slot) Input pair unread left old new ⊎ StopsInEnd slot pair unread left old new
+StopsSecondAtWrite slot None unread remaining old new = (remaining ≡ unread) × WritesPrefix old new no_slot_text
+StopsSecondAtWrite slot (Some pair) unread remaining old new =
+    StopsAtWrite (both_benches slot) Input pair unread remaining old new ⊎ StopsInEnd slot pair unread remaining old new
 
 -- the written bytes end in this text
 abbrev pub EndsIn : List ℕ → List ℕ → Type 0
@@ -100,19 +108,29 @@ ReportsEnd sink_view after = EndsIn no_slot_text (sink_view.taken after) ⊎ ((r
 module _ {S W : Type 0} {source_view : SourceGhosts S} (sink_view : SinkGhosts W) where
   -- The run reached the end of the input, which the source reported, and no line entered the slot. The last line reports it.
   pub record GoesToEnd (NeverEntered : Type 0) (old new : Lines S source_view) (after : W) : Type 0 where
+    -- the lines have reported the end of the input
     pub at_end : new.is_at_end ≡ true
+    -- the source returned its end
     pub ended : HasEnded old new
+    -- no byte of the input is left
     pub used_up : source_view.follows_input new.source → unread new ≡ []
+    -- no line of the input entered the slot
     pub not_entered : source_view.follows_input new.source → NeverEntered
+    -- the last line that was written reports the end, with the number of executed commands
     pub reports_end : (ran : ℕ) × EndsIn (end_text ran) (sink_view.taken after)
 
   -- The text was written, and the sink flushed afterwards. The input was read to its end, or as far as the run continued.
   pub record TellsTwin (output : Result (List ℕ) BenchFault) (NeverEntered Over : Type 0) (old new : Lines S source_view)
       (before after : W) : Type 0 where
+    -- no call of the source failed
     pub source : SourceWorked source_view old.source new.source
+    -- no call of the sink failed, and the sink was flushed once, at the end
     pub sink : SinkFlushed sink_view before after
+    -- no begun line is held
     pub emptied : held new ≡ []
+    -- the input was read to its end, or until the slot was entered
     pub read : GoesToEnd NeverEntered old new after ⊎ ((source_view.follows_input new.source → Over) × ReportsEnd sink_view after)
+    -- exactly the output was written
     pub written : source_view.follows_input new.source → IsOkAnd output (λ text. sink_view.taken after ≡ sink_view.taken before ++ text)
 
   -- The meaning of each result of the second part, for the pair after the scramble.

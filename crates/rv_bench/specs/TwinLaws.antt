@@ -53,16 +53,16 @@ commands_done slot pair [] = []
 commands_done slot pair (line ∷ lines) =
     done_in_line slot pair line ++ commands_done slot (pair_line slot pair line).state lines
 
--- After any lines, take any part that follows them, and the commands of it that both benches execute. In each bench, these preserve every
--- enclave that they leave undisturbed there.
+-- After any lines, take any part that follows them, and the commands of this part that both benches execute. In each bench, these commands
+-- preserve every enclave that they leave undisturbed in this bench.
 abbrev pub BothPreserve : ℕ → Pair → Type 0
 BothPreserve slot start =
-    (k : ℕ) (before part : List (List ℕ))
+    (enclave : ℕ) (before part : List (List ℕ))
     → (let pair = state_after (pair_line slot) start before in
     let end = state_after (pair_line slot) start (before ++ part) in
     let commands = commands_done slot pair part in
-    (UndisturbedByAll k pair.first commands → IsPreservedIn k pair.first.target end.first.target)
-    × (UndisturbedByAll k pair.second commands → IsPreservedIn k pair.second.target end.second.target))
+    (UndisturbedByAll enclave pair.first commands → IsPreservedIn enclave pair.first.target end.first.target)
+    × (UndisturbedByAll enclave pair.second commands → IsPreservedIn enclave pair.second.target end.second.target))
 
 -- ---- a whole input
 
@@ -77,12 +77,16 @@ TwinNoninterference setup slot input = OfPair setup slot input (StayTogether slo
 
 -- the first script, and in the second script both benches, preserve the enclaves that the commands leave undisturbed
 pub record TwinIntegrity (setup : Setup) (slot : ℕ) (input : List ℕ) : Type 0 where
+  -- the first script preserves each enclave that its commands leave undisturbed
   pub first : IfOk (bench_in (monitored_setup setup) input) PreservesThrough
+  -- in the second script, each bench preserves each enclave that the commands leave undisturbed in it
   pub second : OfPair setup slot input (BothPreserve slot)
 
 -- ---- the laws
 
 -- `TwinLaw` has the laws of a twin run, for every input
 pub record TwinLaw : Type 0 where
+  -- the two benches stay equivalent until the slot is entered, and reply the same
   pub noninterference : (setup : Setup) (slot : ℕ) (input : List ℕ) → TwinNoninterference setup slot input
+  -- each bench preserves each enclave that is undisturbed
   pub integrity : (setup : Setup) (slot : ℕ) (input : List ℕ) → TwinIntegrity setup slot input

@@ -51,7 +51,7 @@ is_over_result : (g : given.Over) (c : After-is_over g)
     → (g.T.Responder.responding c.args.responding.now).is_over (g.T.Responder.state c.respond_to_line.new.self) ≡ c.is_over.result
 is_over_result g c =
     let same_responder = c.respond_to_line.ensures.kept ∙ c.loop-told.invariant.same_responder in
-    ap (λ (by : Responding g.row.T-State.Denot). by.is_over (g.T.Responder.state c.respond_to_line.new.self)) (sym same_responder)
+    ap (λ (responder : Responding g.row.T-State.Denot). responder.is_over (g.T.Responder.state c.respond_to_line.new.self)) (sym same_responder)
     ∙ sym c.is_over.ensures
 
 -- the invariant of the loop over `told` holds before its first iteration: no line was read

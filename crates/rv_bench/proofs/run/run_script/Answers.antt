@@ -16,7 +16,7 @@ returns-clause-outcome g c =
     let ends = c.run_lines.ensures.end in
     let same_bytes = c.flush.ensures.bytes in
     mapped (RunsLines g.W.Sink Input c.args.bench.now c.args.lines.now c.run_lines.new.lines c.args.sink.now c.flush.new.self)
-    _ Write c.flush.result c.map_err.result c.map_err.ensures.cases (λ e d is. search rules)
+    _ Write c.flush.result c.map_err.result c.map_err.ensures.cases (λ error mapped_error is_write. search rules)
     (λ _ flush_ok. one_bench-runs g.W.Sink responds ends same_bytes (SinkFlushed-flush g.W.Sink c.flush.result flush_ok c.flush.ensures.failures
     c.flush.ensures.refusals c.flush.ensures.flushed c.flush.ensures.flushes))
     (λ _ flush_failed. one_bench-fails g.W.Sink responds ends same_bytes (search rules))

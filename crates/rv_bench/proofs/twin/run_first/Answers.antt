@@ -16,7 +16,7 @@ returns-clause-outcome g c =
     let same_bytes = c.pass_on.ensures.bytes in
     mapped (RespondsToScript g.W.Sink one_bench Separator c.args.benches.now.first c.run_lines.new.responding.first
     c.args.lines.now c.run_lines.new.lines c.args.sink.now c.pass_on.new.self)
-    _ Write c.pass_on.result c.map_err.result c.map_err.ensures.cases (λ e d is_write. search rules)
+    _ Write c.pass_on.result c.map_err.result c.map_err.ensures.cases (λ error mapped_error is_write. search rules)
     (λ _ passed. RespondsToAll-passed g.W.Sink responds same_bytes (record {
       worked = (no_failure _ _ _ c.pass_on.result _ c.pass_on.ensures.failures passed refl, c.pass_on.ensures.refusals);
       unflushed = c.pass_on.ensures.flushes;

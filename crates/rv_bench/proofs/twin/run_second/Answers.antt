@@ -19,8 +19,9 @@ returns-in_default-clause-outcome g c =
     subst (λ pair. RunsSecond g.W.Sink c.args.number pair c.args.lines.now c.args.lines.now c.args.sink.now c.write_last.new.sink c.map_err.result)
     (sym no_pair)
     (mapped (RunsSecond g.W.Sink c.args.number None c.args.lines.now c.args.lines.now c.args.sink.now c.write_last.new.sink)
-    _ Write c.write_last.result c.map_err.result c.map_err.ensures.cases (λ e d is_write. search rules)
+    _ Write c.write_last.result c.map_err.result c.map_err.ensures.cases (λ error mapped_error is_write. search rules)
     (λ _ write_ok.
+    -- the sink took the line, so the run is over, and no line of the script was read
     let written = IfOk-at_ok _ write_ok c.write_last.ensures.written ∙ ap (λ text. before ++ text) c.no_slot.ensures in record {
       source = refl;
       sink = flushed_once g.W.Sink c.write_last.result write_ok c.write_last.ensures.ok c.write_last.ensures.flushed;
@@ -29,6 +30,7 @@ returns-in_default-clause-outcome g c =
       written = λ follows. written;
     })
     (λ _ write_failed.
+    -- the sink failed in the line, so a prefix of the line was written
     let wrote_prefix = subst (WritesPrefix before (g.W.Sink.taken c.write_last.new.sink)) c.no_slot.ensures c.write_last.ensures.prefix in (
       record { source = refl; sink = search rules; emptied = c.requires; prefix = λ follows. wrote_prefix },
       λ follows. (refl, wrote_prefix),
@@ -55,7 +57,7 @@ returns-clause-outcome g c =
     holds_of_made_pair runs c.args.number c.args.benches.first c.in-Some.found (rw c.in-Some.is at c.make_pair.ensures.pair)
     (mapped
     (RunsSecond g.W.Sink slot (Some c.in-Some.found.pair) c.args.lines.now c.run_lines.new.lines c.args.sink.now c.write_last-2.new.sink)
-    _ Write c.write_last-2.result c.map_err-2.result c.map_err-2.ensures.cases (λ e d is_write. search rules)
+    _ Write c.write_last-2.result c.map_err-2.result c.map_err-2.ensures.cases (λ error mapped_error is_write. search rules)
     (λ _ write_ok. two_benches-report g.W.Sink slot responds c.last.ensures c.run_lines.ensures.end
     (IfOk-at_ok _ write_ok c.write_last-2.ensures.written)
     (flushed_once g.W.Sink c.write_last-2.result write_ok c.write_last-2.ensures.ok c.write_last-2.ensures.flushed))
