@@ -107,7 +107,7 @@ pub record DifferInEnclave (enclave : ℕ) (setup : Setup) (input other : List �
       let start = state_after bench_line bench (lines_of (after_separator prefix)) in
       LinesAlike enclave start start (lines_of rest) (lines_of other_rest))
 
--- what others observe of the output is equal for every other input that differs only in secrets of an enclave, if it hands over the same
+-- what others observe of the output is equal for every other input that differs only in secrets of an enclave, if the enclave hands over the same
 abbrev pub SecretDeclassification : Setup → List ℕ → Type 0
 SecretDeclassification setup input =
     (enclave : ℕ) (other : List ℕ) → DifferInEnclave enclave setup input other

@@ -45,7 +45,8 @@ lines_for [] = []
 lines_for (StepOf hart ∷ later) = hart_line hart ∷ codes "step 1" ∷ lines_for later
 lines_for (LineOf hart raised ∷ later) = hart_line hart ∷ timer_line raised ∷ lines_for later
 
--- After any lines, every list of events of harts 0 and 1, as far as they exist, is that of lines.
+-- After any lines, take a list of events of harts 0 and 1, as far as the machine has these harts. The lines for this list lead the machine to the
+-- state to which the events lead.
 abbrev pub ScriptEventsLaw : Type 0
 ScriptEventsLaw =
     (image : List ℕ) (setup : Setup) (before : List (List ℕ)) (list : List Event) → are_of_harts 2 list ≡ true

@@ -22,7 +22,7 @@ pub record RunsInMemory (given : List Text) (input text : List ℕ) (status : �
   pub is_meaning : Means given meaning
   -- the output that was written
   pub output : ProgramOutput
-  -- it is the output for the arguments and the input, or the report of refused memory
+  -- `output` is the output for the arguments and the input, or the report of refused memory
   pub output_is : (output ≡ program_output meaning input) ⊎ StopsOutOfMemory meaning input output
   -- the written bytes are the text of the output
   pub text_is : text ≡ output.text

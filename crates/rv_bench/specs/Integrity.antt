@@ -10,7 +10,7 @@ use Rattle.rv_command_line.specs.declared.setup.Setup.{Setup}
 use Rattle.rv_bench.specs.Loaded.{started}
 use Rattle.rv_bench.specs.Replies.{bench_line, state_after}
 
--- the commands of lines; a line with an error has none, and changes nothing
+-- the commands of lines; a line with an error has no command, and changes nothing
 abbrev pub commands_of : List (List ℕ) → List Command
 commands_of [] = []
 commands_of (line ∷ lines) = result_case (parse_of line) (λ command. command ∷ commands_of lines) (λ _. commands_of lines)

@@ -42,7 +42,7 @@ end_text ran = codes "twin end " ++ (decimal ran ++ codes "\n")
 abbrev pub one_more : ℕ → ℕ
 one_more count = min (count + 1) (2 ^ 64 - 1)
 
--- the number of commands with that of this line; a blank line has none
+-- the number of commands with the command of this line; a blank line has no command
 abbrev pub with_line : Bool → ℕ → ℕ
 with_line is_blank ran = if is_blank then ran else one_more ran
 

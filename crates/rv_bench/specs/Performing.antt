@@ -41,11 +41,11 @@ module _ {W : Type 0} (sink_view : SinkGhosts W) where
     -- a prefix of the text was written
     pub prefix : WritesPrefix (sink_view.taken before) (sink_view.taken after) text
 
-  -- a text was written, or a prefix of it if the sink failed; the status is the same
+  -- the text was written, or, if the sink failed, a prefix of the text; the exit status is the same in both cases
   abbrev pub TriesToWrite : W → W → List ℕ → Type 0
   TriesToWrite before after text = WritesAll before after text ⊎ WritesOnlyPrefix before after text
 
-  -- an outcome is reported after the output of the job by the line of its error
+  -- After the output of the job, an error other than `Write` is reported by the text of this error. No other outcome is reported.
   abbrev pub ReportsOutcome : Outcome → W → W → Type 0
   ReportsOutcome (Ok _) before after = after ≡ before
   ReportsOutcome (Err Write) before after = after ≡ before

@@ -146,7 +146,7 @@ module _ {S W : Type 0} (source_view : SourceGhosts S) (sink_view : SinkGhosts W
   -- The program wrote its output for its arguments and the assumed input, which stays the same, or a device failed. If the arguments name no
   -- job, it read nothing.
   pub record RunsProgram (IsMeaning : Result Job WordsFault → Type 0) (status : ℕ) : Type 0 where
-    -- the input that is assumed stays the same
+    -- the source assumes the same input after the run
     pub same_input : source_view.input source_after ≡ source_view.input source
     -- the job that the arguments name, or their fault
     pub meaning : Result Job WordsFault

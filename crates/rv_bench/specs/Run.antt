@@ -29,7 +29,7 @@ module _ {A : Type 0} (responder : Responding A) where
     pub text : List ℕ
     -- the part of the next line that was read
     pub begun : List ℕ
-    -- the unread bytes are these two, followed by the bytes that are left
+    -- the unread bytes are the text, then the begun part, and then the bytes that are left (`remaining`)
     pub split : unread ≡ text ++ (begun ++ remaining)
     -- the text is empty or ends with a line feed
     pub whole_lines : through_last_feed text ≡ text
@@ -56,9 +56,9 @@ module _ {A : Type 0} (responder : Responding A) where
     pub next : List (List ℕ)
     -- at most one line was read after the lines with a full reply
     pub at_most_one : length (lines_of text) ≤ length responded + 1
-    -- the unread bytes are the text, followed by the bytes that are left
+    -- the unread bytes are the text, followed by the bytes that are left (`remaining`)
     pub split : unread ≡ text ++ remaining
-    -- the lines of the text that belong to the script are these lines
+    -- the lines of the text that belong to the script are the lines in `responded` and `next`
     pub are_lines : script_lines end (lines_of text) ≡ responded ++ next
     -- a later call continues with the lines after the text
     pub all_lines : lines_of unread ≡ lines_of text ++ lines_of remaining

@@ -101,7 +101,7 @@ StopsSecondAtWrite slot (Some pair) unread remaining old new =
 abbrev pub EndsIn : List ℕ → List ℕ → Type 0
 EndsIn last written = (prefix : List ℕ) × (written ≡ prefix ++ last)
 
--- the last line reports the end, if the run was over before the end
+-- the last line of the output reports that no slot was scrambled, or that the slot was entered
 abbrev pub ReportsEnd : {W : Type 0} → SinkGhosts W → W → Type 0
 ReportsEnd sink_view after = EndsIn no_slot_text (sink_view.taken after) ⊎ ((ran : ℕ) × EndsIn (entered_text ran) (sink_view.taken after))
 

@@ -86,7 +86,7 @@ pub record TwinIntegrity (setup : Setup) (slot : ℕ) (input : List ℕ) : Type 
 
 -- `TwinLaw` has the laws of a twin run, for every input
 pub record TwinLaw : Type 0 where
-  -- the two benches stay equivalent until the slot is entered, and reply the same
+  -- until the slot is entered, the two benches stay equivalent and have equal replies
   pub noninterference : (setup : Setup) (slot : ℕ) (input : List ℕ) → TwinNoninterference setup slot input
   -- each bench preserves each enclave that is undisturbed
   pub integrity : (setup : Setup) (slot : ℕ) (input : List ℕ) → TwinIntegrity setup slot input
