@@ -46,7 +46,7 @@ use Rattle.rv_hart.specs.GuestView.{below_m_hart}
 -- the trap handler does not change the size of the memory
 handled_size : (hart_state : HartState) (shared : Shared) (trap : Trap) → length (handled hart_state shared trap).shared.memory ≡ length shared.memory
 unfolding created destroyed measured entered_slot left
-handled_size hart_state shared trap = handler_cases hart_state trap shared (λ h. length h.shared.memory ≡ length shared.memory) (record {
+handled_size hart_state shared trap = handler_cases hart_state trap shared (λ result. length result.shared.memory ≡ length shared.memory) (record {
   answers = λ status result. refl;
   creates = λ requests no_refusal. refl;
   destroys = λ requests is_taken. put_size shared.memory _ _ (write shared.memory _ _) refl;
@@ -67,117 +67,131 @@ same_size hart machine = by_hart hart machine (λ after. length after.state.shar
 -- ---- create
 
 -- a slot has an identity if and only if it has an enclave
-pub some_identity : (o : Option SlotInfo) → is_some (option_map identity_of o) ≡ is_some o
+pub some_identity : (maybe_info : Option SlotInfo) → is_some (option_map identity_of maybe_info) ≡ is_some maybe_info
 some_identity None = refl
 some_identity (Some info) = refl
 
--- slot k is free before the trap handler
-module _ (k : ℕ) (shared : Shared) (valid : IsValid shared.memory shared.table) (contexts : length shared.contexts ≡ slot_count)
-    (dead : is_live shared.table k ≡ false) where
-  -- if slot k is live after the trap handler, then it has an enclave that is as create made it
+-- the slot is free before the trap handler
+module _ (slot : ℕ) (shared : Shared) (valid : IsValid shared.memory shared.table) (contexts : length shared.contexts ≡ slot_count)
+    (slot_is_free : is_live shared.table slot ≡ false) where
+  -- if the slot is live after the trap handler, then it has an enclave that is as create made it
   abbrev Created : Handled → Type 0
-  Created h = is_live h.shared.table k ≡ true → IsAsCreated k h.shared
+  Created result = is_live result.shared.table slot ≡ true → IsAsCreated slot result.shared
 
-  -- a slot that is not live before the trap handler, and is as live after it as before it, is not live after it
-  still_dead : (after : Shared) → is_live after.table k ≡ is_live shared.table k → is_live after.table k ≡ true → IsAsCreated k after
-  still_dead after same live_after = absurd (both_ways _ dead (sym same ∙ live_after))
+  -- If the trap handler does not change whether the slot is live, then the slot stays free. A claim about the slot as live then has a false premise.
+  slot_still_free : (after : Shared) → is_live after.table slot ≡ is_live shared.table slot → is_live after.table slot ≡ true → IsAsCreated slot after
+  slot_still_free after same live_after = absurd (both_ways _ slot_is_free (sym same ∙ live_after))
 
-  -- if slot k is live after a create, then it has the new enclave, which is as create made it
-  created_is : (new : CreateArgs) → MayCreate shared new → is_live (created shared new).table k ≡ true → IsAsCreated k (created shared new)
+  -- if the slot is live after a create, then it has the new enclave, which is as create made it
+  create_gives_as_created : (new : CreateArgs) → MayCreate shared new → is_live (created shared new).table slot ≡ true
+      → IsAsCreated slot (created shared new)
   unfolding created
-  created_is new no_refusal live_after = elim (cases_eq k (new_slot shared.table)) [
+  create_gives_as_created new no_refusal live_after = elim (cases_eq slot (new_slot shared.table)) [
     | inl equal ↦
         let free = free_slot_from shared.table (new_slot shared.table) no_refusal.free in
-        let within = free.in_range in
+        let slot_in_range = free.in_range in
         let info = recorded shared.memory new in
         rw equal (record {
           info = info;
-          is = at_written_slot shared.table (new_slot shared.table) (Some info) (omega (arith, within, valid.count));
+          is = at_written_slot shared.table (new_slot shared.table) (Some info) (omega (arith, slot_in_range, valid.count));
           fresh = refl;
-          context = at_written_slot shared.contexts (new_slot shared.table) (Some (first_context info)) (omega (arith, within, contexts));
+          context = at_written_slot shared.contexts (new_slot shared.table) (Some (first_context info)) (omega (arith, slot_in_range, contexts));
           measurement = refl;
         })
     | inr distinct ↦
-        still_dead (created shared new)
-        (ap (λ (o : Option SlotInfo). is_some o) (at_other_slot shared.table (new_slot shared.table) k _ distinct)) live_after
+        slot_still_free (created shared new)
+        (ap (λ (maybe_info : Option SlotInfo). is_some maybe_info) (at_other_slot shared.table (new_slot shared.table) slot _ distinct)) live_after
   ]
 
   -- no slot becomes live by a destroy
-  destroyed_is : (j : ℕ) → SlotIsAccepted shared.table Destroy j → is_live (destroyed shared j).table k ≡ true → IsAsCreated k (destroyed shared j)
+  destroy_makes_no_slot_live : (other_slot : ℕ) → SlotIsAccepted shared.table Destroy other_slot
+      → is_live (destroyed shared other_slot).table slot ≡ true
+      → IsAsCreated slot (destroyed shared other_slot)
   unfolding destroyed
-  destroyed_is j is_taken live_after = elim (cases_eq k j) [
+  destroy_makes_no_slot_live other_slot is_taken live_after = elim (cases_eq slot other_slot) [
     | inl equal ↦
-        let was_live : is_live shared.table j ≡ true = ap (λ (o : Option SlotInfo). is_some o) is_taken.is in
-        absurd (both_ways _ dead (rw equal was_live))
+        let was_live : is_live shared.table other_slot ≡ true = ap (λ (maybe_info : Option SlotInfo). is_some maybe_info) is_taken.is in
+        absurd (both_ways _ slot_is_free (rw equal was_live))
     | inr distinct ↦
-        still_dead (destroyed shared j)
-        (ap (λ (o : Option SlotInfo). is_some o) (at_other_slot shared.table j k None distinct)) live_after
+        slot_still_free (destroyed shared other_slot)
+        (ap (λ (maybe_info : Option SlotInfo). is_some maybe_info) (at_other_slot shared.table other_slot slot None distinct)) live_after
   ]
 
   -- no slot becomes live by a change of the state of some slot
-  state_dead : (j : ℕ) (state : EnclaveState) (after : Shared) → after.table ≡ with_state shared.table j state → is_live after.table k ≡ true
-      → IsAsCreated k after
-  state_dead j state after table live_after =
-      let known : is_some (identity_at (with_state shared.table j state) k) ≡ is_some (identity_at shared.table k) =
-      ap (λ (o : Option SlotInfo). is_some o) (state_keeps shared.table k j state valid.count) in
-      still_dead after (ap (λ (t : Slots). is_live t k) table ∙ sym (some_identity (slot_at (with_state shared.table j state) k)) ∙ known
-      ∙ some_identity (slot_at shared.table k)) live_after
+  state_change_keeps_slot_free : (other_slot : ℕ) (state : EnclaveState) (after : Shared) → after.table ≡ with_state shared.table other_slot state
+      → is_live after.table slot ≡ true
+      → IsAsCreated slot after
+  state_change_keeps_slot_free other_slot state after table live_after =
+      let same_liveness : is_some (identity_at (with_state shared.table other_slot state) slot) ≡ is_some (identity_at shared.table slot) =
+      ap (λ (maybe_info : Option SlotInfo). is_some maybe_info) (state_keeps shared.table slot other_slot state valid.count) in
+      slot_still_free after (ap (λ (table : Slots). is_live table slot) table
+      ∙ sym (some_identity (slot_at (with_state shared.table other_slot state) slot))
+      ∙ same_liveness
+      ∙ some_identity (slot_at shared.table slot)) live_after
 
-  -- if the trap handler makes slot k live, then the enclave in slot k is as create made it
+  -- if the trap handler makes the slot live, then the enclave in the slot is as create made it
   handled_created : (hart_state : HartState) (trap : Trap) → Created (handled hart_state shared trap)
   unfolding measured entered_slot left
   handled_created hart_state trap = handler_cases hart_state trap shared Created (record {
-    answers = λ status result live. still_dead shared refl live;
-    creates = λ requests no_refusal live. created_is (create_args_of hart_state.hart.regs) no_refusal live;
-    destroys = λ requests is_taken live. destroyed_is (a0 hart_state) is_taken live;
-    measures = λ requests no_refusal live. still_dead _ refl live;
-    enters = λ call requests is_entry_call from_host is_taken live. state_dead (a0 hart_state) Running _ refl live;
-    leaves = λ live. state_dead (running_slot hart_state.world) (enclave_state_after trap.cause hart_state.hart.regs) _ refl live;
-    redirects = λ live. still_dead shared refl live;
+    answers = λ status result live. slot_still_free shared refl live;
+    creates = λ requests no_refusal live. create_gives_as_created (create_args_of hart_state.hart.regs) no_refusal live;
+    destroys = λ requests is_taken live. destroy_makes_no_slot_live (a0 hart_state) is_taken live;
+    measures = λ requests no_refusal live. slot_still_free _ refl live;
+    enters = λ call requests is_entry_call from_host is_taken live. state_change_keeps_slot_free (a0 hart_state) Running _ refl live;
+    leaves = λ live. state_change_keeps_slot_free (running_slot hart_state.world) (enclave_state_after trap.cause hart_state.hart.regs) _ refl live;
+    redirects = λ live. slot_still_free shared refl live;
   })
 
 -- ---- until the first entry
 
 -- if an address is from the base of a block to its end, then the test that the address is outside the block fails
-in_block : (block : Block) (byte : ℕ) → block.base ≤ byte → byte < block.base + block.size → not (has block byte) ≡ false
-in_block block byte from_base before_end = ap not (and_from _ _ (le-leb block.base byte from_base) (lt-ltb byte (block.base + block.size) before_end))
+not_outside_block : (block : Block) (byte : ℕ) → block.base ≤ byte → byte < block.base + block.size → not (has block byte) ≡ false
+not_outside_block block byte from_base before_end =
+    ap not (and_from _ _ (le-leb block.base byte from_base) (lt-ltb byte (block.base + block.size) before_end))
 
 -- two memories with equal bytes at each address of a block have the same list of bytes for the block
-same_block : (m n : List ℕ) (block : Block) → length n ≡ length m → is_inside m block.base block.size ≡ true
-    → ((byte : ℕ) → has block byte ≡ true → byte_at n byte ≡ byte_at m byte) → bytes_of_block m block ≡ bytes_of_block n block
-same_block m n block same_length inside same =
-    ap (λ (o : Option (List ℕ)). option_case o [] (λ bytes. bytes))
-    (same_read (λ byte. not (has block byte)) m n block.base block.size (record {
+equal_block_bytes : (memory other_memory : List ℕ) (block : Block) → length other_memory ≡ length memory
+    → is_inside memory block.base block.size ≡ true
+    → ((byte : ℕ) → has block byte ≡ true → byte_at other_memory byte ≡ byte_at memory byte)
+    → bytes_of_block memory block ≡ bytes_of_block other_memory block
+equal_block_bytes memory other_memory block same_length inside same =
+    ap (λ (maybe_bytes : Option (List ℕ)). option_case maybe_bytes [] (λ bytes. bytes))
+    (same_read (λ byte. not (has block byte)) memory other_memory block.base block.size (record {
       size = sym same_length;
-      bytes = λ i not_hidden. index_same m n i (sym same_length) (same (ram_base + i) (not-false (has block (ram_base + i)) not_hidden));
-    }) inside (λ byte low high. in_block block byte low high))
+      bytes =
+          λ index not_hidden. index_same memory other_memory index (sym same_length)
+          (same (ram_base + index) (not-false (has block (ram_base + index)) not_hidden));
+    }) inside (λ byte from_base are_high_steps. not_outside_block block byte from_base are_high_steps))
 
--- the enclave in slot k is as create made it
-module _ (k : ℕ) (machine : MonitoredMachine) (invariant : Invariant machine) (as_created : IsAsCreated k machine.shared) where
+-- the enclave in the slot is as create made it
+module _ (slot : ℕ) (machine : MonitoredMachine) (invariant : Invariant machine) (as_created : IsAsCreated slot machine.shared) where
   -- the record of an enclave that is as create made it is valid
   pub valid_slot : IsValidSlot machine.shared.memory as_created.info
-  valid_slot = subst (λ (o : Option SlotInfo). IfSome o (IsValidSlot machine.shared.memory)) as_created.is (invariant.shared.valid.well_formed k)
+  valid_slot =
+      subst (λ (maybe_info : Option SlotInfo). IfSome maybe_info (IsValidSlot machine.shared.memory)) as_created.is
+      (invariant.shared.valid.well_formed slot)
 
   -- an enclave that is as create made it runs on no hart, because its state is Fresh
-  pub runs_nowhere : (hart : ℕ) → runs_on k hart machine ≡ false
-  runs_nowhere hart = elim (cases_Bool (runs_on k hart machine)) [
+  pub runs_nowhere : (hart : ℕ) → runs_on slot hart machine ≡ false
+  runs_nowhere hart = elim (cases_Bool (runs_on slot hart machine)) [
     | inr not_running ↦ not_running
     | inl runs_on_hart ↦
-        let running : runs machine.shared.table k ≡ true = invariant.shared.running k ∙ runs_among k hart machine runs_on_hart in
-        let idle : runs machine.shared.table k ≡ false =
-        ap (λ (o : Option SlotInfo). option_case o false (λ info. is_running info.state)) as_created.is ∙ ap is_running as_created.fresh in
+        let running : runs machine.shared.table slot ≡ true = invariant.shared.running slot ∙ runs_among slot hart machine runs_on_hart in
+        let idle : runs machine.shared.table slot ≡ false =
+        ap (λ (maybe_info : Option SlotInfo). option_case maybe_info false (λ info. is_running info.state)) as_created.is
+        ∙ ap is_running as_created.fresh in
         absurd (both_ways _ idle running)
   ]
 
   -- an enclave that is as create made it stays so after each step that does not enter it and after which it is live
-  stays_as_created : (hart : ℕ) → enters k (step_of hart machine).outcome.entered ≡ false
-      → is_live (step_of hart machine).state.shared.table k ≡ true → IsAsCreated k (step_of hart machine).state.shared
+  stays_as_created : (hart : ℕ) → enters slot (step_of hart machine).outcome.entered ≡ false
+      → is_live (step_of hart machine).state.shared.table slot ≡ true → IsAsCreated slot (step_of hart machine).state.shared
   stays_as_created hart not_entered live_after =
-      let live_before : is_live machine.shared.table k ≡ true = ap (λ (o : Option SlotInfo). is_some o) as_created.is in
-      let same = (integrity hart machine invariant k (runs_nowhere hart) live_before not_entered live_after).preserved in
-      let bytes = same_block machine.shared.memory (step_of hart machine).state.shared.memory as_created.info.region (same_size hart machine)
+      let live_before : is_live machine.shared.table slot ≡ true = ap (λ (maybe_info : Option SlotInfo). is_some maybe_info) as_created.is in
+      let same = (integrity hart machine invariant slot (runs_nowhere hart) live_before not_entered live_after).preserved in
+      let bytes = equal_block_bytes machine.shared.memory (step_of hart machine).state.shared.memory as_created.info.region (same_size hart machine)
       (valid_inside machine.shared.memory as_created.info.region valid_slot.region)
-      (λ byte in_region. same.bytes byte (ap (λ (o : Option SlotInfo). has (region_of o) byte) as_created.is ∙ in_region)) in
+      (λ byte in_region. same.bytes byte (ap (λ (maybe_info : Option SlotInfo). has (region_of maybe_info) byte) as_created.is ∙ in_region)) in
       record {
         info = as_created.info;
         is = same.slot ∙ as_created.is;
@@ -191,15 +205,15 @@ module _ (k : ℕ) (machine : MonitoredMachine) (invariant : Invariant machine) 
 -- proves that each enclave that a step creates is as create made it, and stays so until it is entered or destroyed
 pub as_created_law : (hart : ℕ) (machine : MonitoredMachine) → Invariant machine → KeepsAsCreated machine (step_of hart machine)
 as_created_law hart machine invariant = record {
-  creates = λ k dead.
-      by_hart hart machine (λ after. is_live after.state.shared.table k ≡ true → IsAsCreated k after.state.shared)
-      (λ live_here. absurd (both_ways _ dead live_here)) (λ in_range.
+  creates = λ slot slot_is_free.
+      by_hart hart machine (λ after. is_live after.state.shared.table slot ≡ true → IsAsCreated slot after.state.shared)
+      (λ live_after. absurd (both_ways _ slot_is_free live_after)) (λ in_range.
       let state : HartView = hart_view hart machine in
-      step_cases state (λ after. is_live after.state.shared.table k ≡ true → IsAsCreated k after.state.shared)
-      (λ no_trap live_here. absurd (both_ways _ dead live_here))
-      (λ trap trapped. handled_created k state.shared invariant.shared.valid invariant.shared.contexts.count dead
+      step_cases state (λ after. is_live after.state.shared.table slot ≡ true → IsAsCreated slot after.state.shared)
+      (λ no_trap live_after. absurd (both_ways _ slot_is_free live_after))
+      (λ trap trapped. handled_created slot state.shared invariant.shared.valid invariant.shared.contexts.count slot_is_free
       (hart_state_after state.hart_state trap) trap));
-  keeps = λ k as_created. stays_as_created k machine invariant as_created hart;
+  keeps = λ slot as_created. stays_as_created slot machine invariant as_created hart;
 }
 
 -- ---- the step that enters the enclave
@@ -208,16 +222,16 @@ as_created_law hart machine invariant = record {
 abbrev plain_csrs : Bool → CsrState
 plain_csrs timer = record at_reset { timer = timer }
 
--- the hart after the entry of an enclave, as S and U see the hart; c has the CSRs before the entry
+-- the hart after the entry of an enclave, as S and U see the hart; `csrs` are the CSRs before the entry
 abbrev hart_after_entry : CsrState → Slots → ℕ → Context → Hart
-hart_after_entry c slots k context =
+hart_after_entry csrs slots slot context =
     let trap : Trap = record { cause = causes.Exception EnvironmentCallFromS; tval = 0 } in
-    below_m_hart (switched_hart (record { regs = []; csrs = c; pc = 0; mode = context.mode }) trap context slots (Enclave k))
+    below_m_hart (switched_hart (record { regs = []; csrs = csrs; pc = 0; mode = context.mode }) trap context slots (Enclave slot))
 
 -- the hart after an entry depends on the hart before the entry only by its timer line
-plain_entry : (hart_state : HartState) (old slots : Slots) (k : ℕ) (context : Context) → HartInvariant old hart_state
-    → hart_after_entry hart_state.hart.csrs slots k context ≡ hart_after_entry (plain_csrs hart_state.hart.csrs.timer) [] 0 context
-plain_entry hart_state old slots k context hart_invariant =
+plain_entry : (hart_state : HartState) (old slots : Slots) (slot : ℕ) (context : Context) → HartInvariant old hart_state
+    → hart_after_entry hart_state.hart.csrs slots slot context ≡ hart_after_entry (plain_csrs hart_state.hart.csrs.timer) [] 0 context
+plain_entry hart_state old slots slot context hart_invariant =
     let mie = hart_invariant.layout.mstatus_mie in
     let mprv = hart_invariant.layout.mprv in
     let tvm = hart_invariant.layout.tvm in
@@ -225,120 +239,127 @@ plain_entry hart_state old slots k context hart_invariant =
     let tsr = hart_invariant.layout.tsr in
     rw (mie, mprv, tvm, tw, tsr) refl
 
--- a step of the host enters the enclave of place p, whose saved context is `context`
-module _ (p : Place) (machine : MonitoredMachine) (context : Context) (invariant : Invariant machine)
-    (has_context : context_at machine.shared.contexts p.slot ≡ Some context) (enters : IsEntry p machine) where
+-- a step of the host enters the enclave of the place, whose saved context is `context`
+module _ (place : Place) (machine : MonitoredMachine) (context : Context) (invariant : Invariant machine)
+    (has_context : context_at machine.shared.contexts place.slot ≡ Some context) (enters : IsEntry place machine) where
   -- the step of the host enters the enclave, which continues with its saved context
-  entry : HasEntered p.hart p.slot machine (step_at p machine)
-  entry = enter_law p.hart machine invariant p.slot enters.host enters.world
+  entry : HasEntered place.hart place.slot machine (step_at place machine)
+  entry = enter_law place.hart machine invariant place.slot enters.host enters.world
 
   -- the machine after the step is the machine after the entry by a call
-  entered_is : (step_at p machine).state ≡ entered_by_call p.hart machine p.slot entry.trap context
-  entered_is =
+  machine_after_entry : (step_at place machine).state ≡ entered_by_call place.hart machine place.slot entry.trap context
+  machine_after_entry =
       let equal : Some entry.call.context ≡ Some context = sym entry.call.kept ∙ has_context in
       let same : entry.call.context ≡ context = cc in
-      entry.call.state ∙ ap (entered_by_call p.hart machine p.slot entry.trap) same
+      entry.call.state ∙ ap (entered_by_call place.hart machine place.slot entry.trap) same
 
   -- the enclave runs on the hart after the step
-  runs_after_entry : runs_at p (step_at p machine).state ≡ true
-  runs_after_entry = ap (is_world_of p.slot) enters.world ∙ eq-eqb p.slot p.slot refl
+  runs_after_entry : runs_at place (step_at place machine).state ≡ true
+  runs_after_entry = ap (is_world_of place.slot) enters.world ∙ eq-eqb place.slot place.slot refl
 
   -- the hart after the step is the hart after an entry, as S and U see it
-  hart_is_entered : below_m_hart (hart_state_of p.hart (step_at p machine).state).hart
-      ≡ hart_after_entry (plain_csrs (hart_state_of p.hart machine).hart.csrs.timer) [] 0 context
+  hart_is_entered : below_m_hart (hart_state_of place.hart (step_at place machine).state).hart
+      ≡ hart_after_entry (plain_csrs (hart_state_of place.hart machine).hart.csrs.timer) [] 0 context
   hart_is_entered =
-      let slots = slots_with_state machine.shared.table p.slot Running in
-      let in_range = (is_trapping p.hart machine entry.trap entry.trapped).has in
+      let slots = slots_with_state machine.shared.table place.slot Running in
+      let in_range = (is_trapping place.hart machine entry.trap entry.trapped).has in
       let same_length = length-map machine.hart_states (reprogrammed slots) in
-      ap (λ (m : MonitoredMachine). below_m_hart (hart_state_of p.hart m).hart) entered_is
-      ∙ ap (λ (s : HartState). below_m_hart s.hart)
-      (get_or-set_at (map (reprogrammed slots) machine.hart_states) p.hart p.hart _ (hart_state_at_start 0) refl
+      ap (λ (machine : MonitoredMachine). below_m_hart (hart_state_of place.hart machine).hart) machine_after_entry
+      ∙ ap (λ (hart_state : HartState). below_m_hart hart_state.hart)
+      (get_or-set_at (map (reprogrammed slots) machine.hart_states) place.hart place.hart _ (hart_state_at_start 0) refl
       (omega (arith, same_length, in_range)))
-      ∙ plain_entry (hart_state_of p.hart machine) machine.shared.table slots p.slot context (invariant.hart_states p.hart in_range)
+      ∙ plain_entry (hart_state_of place.hart machine) machine.shared.table slots place.slot context (invariant.hart_states place.hart in_range)
 
   -- the record of the enclave after the step is the old record with the state Running
-  slot_is_running : slot_at (step_at p machine).state.shared.table p.slot
-      ≡ option_case (slot_at machine.shared.table p.slot) None (λ info. Some (record info { state = Running }))
+  slot_is_running : slot_at (step_at place machine).state.shared.table place.slot
+      ≡ option_case (slot_at machine.shared.table place.slot) None (λ info. Some (record info { state = Running }))
   slot_is_running =
-      ap (λ (m : MonitoredMachine). slot_at m.shared.table p.slot) entered_is
-      ∙ state_slot machine.shared.table p.slot (slot_at machine.shared.table p.slot) Running invariant.shared.valid.count refl
+      ap (λ (machine : MonitoredMachine). slot_at machine.shared.table place.slot) machine_after_entry
+      ∙ state_slot machine.shared.table place.slot (slot_at machine.shared.table place.slot) Running invariant.shared.valid.count refl
 
 -- two enclaves with equal saved states have the same state after their entries
-same_entry : (p q : Place) (one two : MonitoredMachine) → Invariant one → Invariant two → SameSaved p.slot q.slot one.shared two.shared
-    → BothEnter p q one two → SameEnclave p q (step_at p one).state (step_at q two).state
-same_entry p q one two invariant_one invariant_two saved both_enter =
-    let i = p.slot in
-    let extent = state_extent one.shared.table i (slot_at one.shared.table i) Running invariant_one.shared.valid.count refl in
-    let shared_one = ap (λ (m : MonitoredMachine). m.shared) (entered_is p one saved.context invariant_one saved.first both_enter.first) in
-    let shared_two = ap (λ (m : MonitoredMachine). m.shared) (entered_is q two saved.context invariant_two saved.second both_enter.second) in
-    let bytes : EqualOutside (is_beyond (slots_with_state one.shared.table i Running) i) one.shared.memory two.shared.memory = record {
+same_entry : (place other_place : Place) (one other : MonitoredMachine) → Invariant one → Invariant other
+    → SameSaved place.slot other_place.slot one.shared other.shared
+    → BothEnter place other_place one other → SameEnclave place other_place (step_at place one).state (step_at other_place other).state
+same_entry place other_place one other invariant_one invariant_other saved both_enter =
+    let slot = place.slot in
+    let extent = state_extent one.shared.table slot (slot_at one.shared.table slot) Running invariant_one.shared.valid.count refl in
+    let first_shared_is =
+    ap (λ (machine : MonitoredMachine). machine.shared) (machine_after_entry place one saved.context invariant_one saved.first both_enter.first) in
+    let second_shared_is =
+    ap (λ (machine : MonitoredMachine). machine.shared) (machine_after_entry other_place other saved.context invariant_other saved.second
+    both_enter.second) in
+    let bytes : EqualOutside (is_beyond (slots_with_state one.shared.table slot Running) slot) one.shared.memory other.shared.memory = record {
       size = saved.memory.size;
       bytes =
-          λ n byte_within. saved.memory.bytes n (beyond_again i one.shared.table (slots_with_state one.shared.table i Running) _ extent byte_within);
+          λ index byte_within. saved.memory.bytes index (beyond_again slot one.shared.table
+          (slots_with_state one.shared.table slot Running) _ extent byte_within);
     } in
     record {
-      first = runs_after_entry p one saved.context invariant_one saved.first both_enter.first;
-      second = runs_after_entry q two saved.context invariant_two saved.second both_enter.second;
-      hart = hart_is_entered p one saved.context invariant_one saved.first both_enter.first
+      first = runs_after_entry place one saved.context invariant_one saved.first both_enter.first;
+      second = runs_after_entry other_place other saved.context invariant_other saved.second both_enter.second;
+      hart = hart_is_entered place one saved.context invariant_one saved.first both_enter.first
           ∙ ap (λ (b : Bool). hart_after_entry (plain_csrs b) [] 0 saved.context) both_enter.timer
-          ∙ sym (hart_is_entered q two saved.context invariant_two saved.second both_enter.second);
-      slot = slot_is_running p one saved.context invariant_one saved.first both_enter.first
-          ∙ ap (λ (o : Option SlotInfo). option_case o None (λ info. Some (record info { state = Running }))) saved.slot
-          ∙ sym (slot_is_running q two saved.context invariant_two saved.second both_enter.second);
-      memory = subst (λ (s : Shared). EqualOutside (is_beyond s.table i) s.memory (step_at q two).state.shared.memory) (sym shared_one)
-          (subst (λ (s : Shared). EqualOutside (is_beyond (slots_with_state one.shared.table i Running) i) one.shared.memory s.memory)
-          (sym shared_two) bytes);
+          ∙ sym (hart_is_entered other_place other saved.context invariant_other saved.second both_enter.second);
+      slot = slot_is_running place one saved.context invariant_one saved.first both_enter.first
+          ∙ ap (λ (maybe_info : Option SlotInfo). option_case maybe_info None (λ info. Some (record info { state = Running }))) saved.slot
+          ∙ sym (slot_is_running other_place other saved.context invariant_other saved.second both_enter.second);
+      memory =
+          subst (λ (shared : Shared). EqualOutside (is_beyond shared.table slot) shared.memory (step_at other_place other).state.shared.memory)
+          (sym first_shared_is)
+          (subst (λ (shared : Shared). EqualOutside (is_beyond (slots_with_state one.shared.table slot Running) slot) one.shared.memory shared.memory)
+          (sym second_shared_is) bytes);
     }
 
 -- proves the reentry law: two enclaves with equal saved states take the same steps from their entry on
 pub reentry_law : ReentryLaw
-reentry_law p q count one other invariant_one invariant_other saved both_enter high =
-    enclave_run_law p q count (step_at p one).state (step_at q other).state (invariant_law p.hart one invariant_one)
-    (invariant_law q.hart other invariant_other)
-    (same_entry p q one other invariant_one invariant_other saved both_enter) high
+reentry_law place other_place count one other invariant_one invariant_other saved both_enter are_high_steps =
+    enclave_run_law place other_place count (step_at place one).state (step_at other_place other).state (invariant_law place.hart one invariant_one)
+    (invariant_law other_place.hart other invariant_other)
+    (same_entry place other_place one other invariant_one invariant_other saved both_enter) are_high_steps
 
 -- ---- the law
 
 -- two Fresh records are equal if their create arguments and their measurements are equal
 pub same_info : (one other : SlotInfo) → args_of one ≡ args_of other → one.measurement ≡ other.measurement → one.state ≡ Fresh → other.state ≡ Fresh
     → one ≡ other
-same_info one other args digest fresh fresh_too =
-    let record_of : CreateArgs → List ℕ → SlotInfo = λ new digest.
-    record { region = new.region; window = new.window; entry = new.entry; measurement = digest; state = Fresh } in
-    ap (λ (s : EnclaveState). record one { state = s }) fresh ∙ ap₂ record_of args digest
-    ∙ sym (ap (λ (s : EnclaveState). record other { state = s }) fresh_too)
+same_info one other args same_digests fresh other_fresh =
+    let record_of : CreateArgs → List ℕ → SlotInfo = λ new same_digests.
+    record { region = new.region; window = new.window; entry = new.entry; measurement = same_digests; state = Fresh } in
+    ap (λ (state : EnclaveState). record one { state = state }) fresh ∙ ap₂ record_of args same_digests
+    ∙ sym (ap (λ (state : EnclaveState). record other { state = state }) other_fresh)
 
 -- proves the attestation law: two enclaves with equal measured bytes take the same steps in their first run
 pub attestation_law : AttestationLaw
-attestation_law p q count one other invariant_one invariant_other same equal both_enter high =
-    let i = p.slot in
+attestation_law place other_place count one other invariant_one invariant_other same equal both_enter are_high_steps =
+    let slot = place.slot in
     let first_enclave = same.first in
     let second_enclave = same.second in
-    let m = one.shared.memory in
-    let n = other.shared.memory in
+    let memory = one.shared.memory in
+    let other_memory = other.shared.memory in
     let measured =
-    measurement_law m n first_enclave.info second_enclave.info invariant_one.shared.valid.ram equal.size
-    (valid_slot i one invariant_one first_enclave) (valid_slot q.slot other invariant_other second_enclave) same.input in
-    let digest : first_enclave.info.measurement ≡ second_enclave.info.measurement =
-    first_enclave.measurement ∙ same_digest m n (args_of first_enclave.info) (args_of second_enclave.info) same.input
+    measurement_law memory other_memory first_enclave.info second_enclave.info invariant_one.shared.valid.ram equal.size
+    (valid_slot slot one invariant_one first_enclave) (valid_slot other_place.slot other invariant_other second_enclave) same.input in
+    let same_digests : first_enclave.info.measurement ≡ second_enclave.info.measurement =
+    first_enclave.measurement ∙ same_digest memory other_memory (args_of first_enclave.info) (args_of second_enclave.info) same.input
     ∙ sym second_enclave.measurement in
     -- equal measured bytes give equal create arguments and equal measurements, so both records are equal
-    let info = same_info first_enclave.info second_enclave.info measured.args digest first_enclave.fresh second_enclave.fresh in
-    let some : SlotInfo → Option SlotInfo = λ i. Some i in
-    let first : SlotInfo → Option Context = λ i. Some (first_context i) in
-    reentry_law p q count one other invariant_one invariant_other (record {
+    let info = same_info first_enclave.info second_enclave.info measured.args same_digests first_enclave.fresh second_enclave.fresh in
+    let some_info : SlotInfo → Option SlotInfo = λ info. Some info in
+    let some_first_context : SlotInfo → Option Context = λ info. Some (first_context info) in
+    reentry_law place other_place count one other invariant_one invariant_other (record {
       context = first_context first_enclave.info;
       first = first_enclave.context;
-      second = second_enclave.context ∙ ap first (sym info);
-      slot = first_enclave.is ∙ ap some info ∙ sym second_enclave.is;
+      second = second_enclave.context ∙ ap some_first_context (sym info);
+      slot = first_enclave.is ∙ ap some_info info ∙ sym second_enclave.is;
       memory = record {
         size = equal.size;
-        bytes = λ n not_hidden. elim (cases_Bool (has (region one.shared.table i) (ram_base + n))) [
+        bytes = λ index not_hidden. elim (cases_Bool (has (region one.shared.table slot) (ram_base + index))) [
           | inl in_region ↦
-              let in_region_of_record : has first_enclave.info.region (ram_base + n) ≡ true =
-              ap (λ (o : Option SlotInfo). has (region_of o) (ram_base + n)) (sym first_enclave.is) ∙ in_region in
-              measured.bytes.bytes n (ap not in_region_of_record)
-          | inr outside_region ↦ equal.bytes n (rw outside_region at not_hidden)
+              let in_region_of_record : has first_enclave.info.region (ram_base + index) ≡ true =
+              ap (λ (maybe_info : Option SlotInfo). has (region_of maybe_info) (ram_base + index)) (sym first_enclave.is) ∙ in_region in
+              measured.bytes.bytes index (ap not in_region_of_record)
+          | inr outside_region ↦ equal.bytes index (rw outside_region at not_hidden)
         ];
       };
-    }) both_enter high
+    }) both_enter are_high_steps

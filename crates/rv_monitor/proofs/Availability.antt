@@ -32,14 +32,16 @@ host_is Host host_runs = refl
 host_is (Enclave slot) host_runs = cc
 
 -- the monitor does not refuse a destroy of a live enclave with the state Stopped
-stopped_ends : (slots : Slots) (slot : ℕ) (o : Option SlotInfo) → length slots ≡ slot_count → slot_at slots slot ≡ o → is_some o ≡ true
-    → first_refusal (state_refusals (option_case o slots (λ info. with_slot slots slot (Some (record info { state = Stopped })))) Destroy slot) ≡ None
+stopped_ends : (slots : Slots) (slot : ℕ) (maybe_info : Option SlotInfo) → length slots ≡ slot_count → slot_at slots slot ≡ maybe_info
+    → is_some maybe_info ≡ true
+    → first_refusal (state_refusals (option_case maybe_info slots
+    (λ info. with_slot slots slot (Some (record info { state = Stopped })))) Destroy slot) ≡ None
 unfolding state_refusals
-stopped_ends slots slot None table_length slot_is is_present = cc
-stopped_ends slots slot (Some info) table_length slot_is is_present =
+stopped_ends slots slot None table_length slot_is is_live = cc
+stopped_ends slots slot (Some info) table_length slot_is is_live =
     let slot_in_range = live_in_range slots slot info table_length slot_is in
-    let at_k = at_written_slot slots slot (Some (record info { state = Stopped })) (omega (arith, table_length, slot_in_range)) in
-    rw at_k refl
+    let written_record = at_written_slot slots slot (Some (record info { state = Stopped })) (omega (arith, table_length, slot_in_range)) in
+    rw written_record refl
 
 -- proves that an enclave exits by the timer interrupt if the timer line of its hart is set
 pub timer_exits : (hart : ℕ) (machine : MonitoredMachine) → Invariant machine → TimerExits hart machine (step_of hart machine)
@@ -48,23 +50,23 @@ timer_exits hart machine invariant slot host runs host_is_saved timer_set =
     let state = hart_view hart machine in
     let view_invariant = hart_view_invariant hart machine invariant in_range in
     let enabled : state.hart_state.hart.csrs.mie ≡ 0x80 = view_invariant.hart.layout.mie ∙ ap mie_of runs in
-    let bare = takes_timer (bare_machine state)
+    let bare_step_traps = takes_timer (bare_machine state)
     (waits state.hart_state.hart.csrs state.hart_state.hart.mode view_invariant.hart.layout.mode enabled ∙ ap timer_or_none timer_set) in
     let trap_is : (step_of hart machine).outcome.step.trap ≡ Some timer_trap =
     ap (λ (after : HartViewStepped). after.outcome.step.trap) (step_of_view hart machine in_range)
-    ∙ ap (λ (o : StepOutcome). o.trap) (same_outcome state) ∙ bare in
+    ∙ ap (λ (outcome : StepOutcome). outcome.trap) (same_outcome state) ∙ bare_step_traps in
     let world = host_is _ ((exits_law hart machine invariant slot runs).exits timer_trap trap_is) in
-    let both = leave_law hart machine invariant slot host timer_trap runs host_is_saved trap_is world in
-    let left = both.0 in
+    let exit = leave_law hart machine invariant slot host timer_trap runs host_is_saved trap_is world in
+    let left_machine_is = exit.0 in
     let live : is_live machine.shared.table slot ≡ true =
     running_is_live slot hart machine invariant (ap (is_world_of slot) runs ∙ eq-eqb slot slot refl) in
     record {
       trapped = trap_is;
-      left = (left, both.1);
+      left = (left_machine_is, exit.1);
       result =
-          ap (λ (m : MonitoredMachine). (hart_state_of hart m).hart.regs) left
-          ∙ ap (λ (s : HartState). s.hart.regs) (left_hart_state hart machine slot timer_trap host in_range);
+          ap (λ (machine : MonitoredMachine). (hart_state_of hart machine).hart.regs) left_machine_is
+          ∙ ap (λ (hart_state : HartState). hart_state.hart.regs) (left_hart_state hart machine slot timer_trap host in_range);
       world = world;
-      destroyable = ap (λ (m : MonitoredMachine). first_refusal (state_refusals m.shared.table Destroy slot)) left
+      destroyable = ap (λ (machine : MonitoredMachine). first_refusal (state_refusals machine.shared.table Destroy slot)) left_machine_is
           ∙ stopped_ends machine.shared.table slot (slot_at machine.shared.table slot) view_invariant.valid.count refl live;
     }

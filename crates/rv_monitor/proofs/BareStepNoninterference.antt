@@ -10,8 +10,8 @@ use Rattle.rv_monitor.proofs.Prelude.{EqualOn, BareLaw, HartViewInvariant, MayTo
 use Rattle.rv_monitor.proofs.Prelude.{confined, permitted_apart, small_ram, some_bytes, touches_permitted}
 use Rattle.rv_monitor.proofs.AccessControlLemmas.{below_M, data_below}
 
--- A bare step over the memory of the state, and over a memory n with equal bytes outside the hidden bytes. No permitted access of the step has a
--- hidden byte.
+-- A bare step over the memory of the state, and over another memory with equal bytes outside the hidden bytes. No permitted access of the step has
+-- a hidden byte.
 module _ (hidden : ℕ → Bool) (state : HartView) (view_invariant : HartViewInvariant state)
     (not_hidden : (mode : Mode) (access : Access) (span : Span) → is_machine mode ≡ false → MayTouch (bare_machine state) mode access (Some span)
     → IsSeen hidden span.addr (bytes_in span.len)) where
@@ -20,59 +20,70 @@ module _ (hidden : ℕ → Bool) (state : HartView) (view_invariant : HartViewIn
   before = bare_machine state
 
   -- both memories have equal bytes in each permitted access below M
-  same_in : (mode : Mode) (access : Access) (touched : Option Span) (n : List ℕ) → is_machine mode ≡ false → MayTouch before mode access touched
-      → EqualOutside hidden before.memory n → SameIn before.memory n touched
-  same_in mode access None n mode_below_m may_touch equiv = tt
-  same_in mode access (Some span) n mode_below_m may_touch equiv =
-      same_read hidden before.memory n span.addr (bytes_in span.len) equiv may_touch.0 (not_hidden mode access span mode_below_m may_touch)
+  accessed_bytes_equal : (mode : Mode) (access : Access) (touched : Option Span) (other_memory : List ℕ) → is_machine mode ≡ false
+      → MayTouch before mode access touched
+      → EqualOutside hidden before.memory other_memory → SameIn before.memory other_memory touched
+  accessed_bytes_equal mode access None other_memory mode_below_m may_touch equal_outside = tt
+  accessed_bytes_equal mode access (Some span) other_memory mode_below_m may_touch equal_outside =
+      same_read hidden before.memory other_memory span.addr (bytes_in span.len) equal_outside may_touch.0
+      (not_hidden mode access span mode_below_m may_touch)
 
   -- both memories have equal bytes in all accesses of the step
-  equiv_on : (touched : Touched) (n : List ℕ) → MayTouchAll before touched → EqualOutside hidden before.memory n → EqualOn before.memory n touched
-  equiv_on touched n touches_permitted_bytes equiv = record {
-    size = equiv.size;
-    fetched = same_in before.hart.mode Fetch touched.fetched n view_invariant.hart.layout.mode touches_permitted_bytes.fetched equiv;
-    loaded = same_in (data_mode before.hart) Read touched.loaded n (data_below state view_invariant) touches_permitted_bytes.loaded equiv;
+  accesses_equal : (touched : Touched) (other_memory : List ℕ) → MayTouchAll before touched → EqualOutside hidden before.memory other_memory
+      → EqualOn before.memory other_memory touched
+  accesses_equal touched other_memory touches_permitted_bytes equal_outside = record {
+    size = equal_outside.size;
+    fetched =
+        accessed_bytes_equal before.hart.mode Fetch touched.fetched other_memory view_invariant.hart.layout.mode touches_permitted_bytes.fetched
+        equal_outside;
+    loaded =
+        accessed_bytes_equal (data_mode before.hart) Read touched.loaded other_memory
+        (data_below state view_invariant) touches_permitted_bytes.loaded equal_outside;
   }
 
   -- equal stores leave both memories equal outside the hidden bytes
-  same_stores : (stored : Option Span) (n bytes one two : List ℕ) → EqualOutside hidden before.memory n → Stores bytes before.memory one stored
-      → Stores bytes n two stored
-      → EqualOutside hidden one two
-  same_stores None n bytes one two equiv stores_one stores_two = rw (stores_one, stores_two) equiv
-  same_stores (Some span) n bytes one two equiv stores_one stores_two =
-      same_write hidden before.memory n span.addr bytes one two equiv stores_one.1 stores_two.1
+  same_stores : (stored : Option Span) (other_memory bytes after other_after : List ℕ) → EqualOutside hidden before.memory other_memory
+      → Stores bytes before.memory after stored
+      → Stores bytes other_memory other_after stored
+      → EqualOutside hidden after other_after
+  same_stores None other_memory bytes after other_after equal_outside first_stores second_stores = rw (first_stores, second_stores) equal_outside
+  same_stores (Some span) other_memory bytes after other_after equal_outside first_stores second_stores =
+      same_write hidden before.memory other_memory span.addr bytes after other_after equal_outside first_stores.1 second_stores.1
 
   -- the bare step has the same effect on both memories, and leaves them equal outside the hidden bytes
-  pub bare_step_alike : (n : List ℕ) → EqualOutside hidden before.memory n → StepAlike hidden (step before) (step (record before { memory = n }))
-  bare_step_alike n equiv =
+  pub bare_step_alike : (other_memory : List ℕ) → EqualOutside hidden before.memory other_memory
+      → StepAlike hidden (step before) (step (record before { memory = other_memory }))
+  bare_step_alike other_memory equal_outside =
       let after = step before in
       let is_confined = confined before in
-      let alike = is_confined.alike n (equiv_on after.outcome.touched n (touches_permitted before) equiv) in
+      let alike = is_confined.alike other_memory (accesses_equal after.outcome.touched other_memory (touches_permitted before) equal_outside) in
       record {
         hart = alike.hart;
         outcome = alike.outcome;
         memory =
-            same_stores after.outcome.touched.stored n is_confined.bytes after.state.memory
-            (step (record before { memory = n })).state.memory equiv alike.here alike.there;
+            same_stores after.outcome.touched.stored other_memory is_confined.bytes after.state.memory
+            (step (record before { memory = other_memory })).state.memory equal_outside alike.here alike.there;
       }
 
 -- ---- the hidden bytes are the region of an enclave other than the running world
 
 -- the hart of the view does not run `enclave`
 module _ (enclave : ℕ) (state : HartView) (view_invariant : HartViewInvariant state)
-    (runs_other : is_world_of enclave state.hart_state.world ≡ false) where
+    (runs_other_world : is_world_of enclave state.hart_state.world ≡ false) where
   -- a permitted access of the running world has no byte in the region of another enclave
-  unseen : (mode : Mode) (access : Access) (span : Span) → is_machine mode ≡ false → MayTouch (bare_machine state) mode access (Some span)
+  accesses_no_private_byte : (mode : Mode) (access : Access) (span : Span) → is_machine mode ≡ false
+      → MayTouch (bare_machine state) mode access (Some span)
       → IsSeen (is_private state.shared.table enclave) span.addr (bytes_in span.len)
-  unseen mode access span mode_below_m may_touch byte low high =
+  accesses_no_private_byte mode access span mode_below_m may_touch byte from_start before_end =
       let entries = view_invariant.hart.layout.entries in
       let outside_other_regions =
       permitted_apart state.shared.memory state.shared.table state.hart_state.world mode access span.addr (bytes_in span.len)
       (small_ram state.shared.memory view_invariant.valid.ram) view_invariant.valid (below_M mode mode_below_m) (some_bytes span.len)
       (inside-bounds state.shared.memory span.addr (bytes_in span.len) may_touch.0) in
-      outside_other_regions enclave runs_other (rw (← entries) may_touch.1) byte low high
+      outside_other_regions enclave runs_other_world (rw (← entries) may_touch.1) byte from_start before_end
 
 -- proves the bare law: a bare step depends on no byte in the region of another enclave
 pub bare_law : BareLaw
-bare_law enclave state memory view_invariant runs_other equiv =
-    bare_step_alike (is_private state.shared.table enclave) state view_invariant (unseen enclave state view_invariant runs_other) memory equiv
+bare_law enclave state memory view_invariant runs_other_world equal_outside =
+    bare_step_alike (is_private state.shared.table enclave) state view_invariant
+    (accesses_no_private_byte enclave state view_invariant runs_other_world) memory equal_outside

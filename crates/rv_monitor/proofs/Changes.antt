@@ -15,17 +15,19 @@ use Rattle.rv_monitor.proofs.Prelude.{MayTouch, HartView, SlotInfo, Stores, Touc
 use Rattle.rv_monitor.proofs.Prelude.{bare_machine, both_ways, cases_Bool, cases_lt, confined, entered_slot, handled, is_call, le-leb, left}
 use Rattle.rv_monitor.proofs.Prelude.{length-replicate, live_in_range, lt-ltb, reach_law, touches_permitted, ChangesAccessible, monitored_step}
 use Rattle.rv_monitor.proofs.AccessControlLemmas.{below_M, data_below, access_control_law}
-use Rattle.rv_monitor.proofs.StepInvariant.{equiv_itself}
+use Rattle.rv_monitor.proofs.StepInvariant.{equal_to_itself}
 use Rattle.rv_monitor.proofs.TrapSteps.{step_cases, hart_state_after}
 use Rattle.rv_monitor.proofs.HandlerCases.{Requests, handler_cases}
 
 -- ---- bytes written elsewhere
 
 -- a byte outside the range of a write is unchanged, even if the write fails
-put_by : (memory : List ℕ) (address : ℕ) (bytes : List ℕ) (byte : ℕ) (o : Option (List ℕ)) → write memory address bytes ≡ o
-    → byte < address ⊎ address + length bytes ≤ byte → byte_at (option_case o memory (λ after. after)) byte ≡ byte_at memory byte
-put_by memory address bytes byte None written byte_outside = refl
-put_by memory address bytes byte (Some after) written byte_outside = byte_at-write memory address bytes after byte written byte_outside
+unchanged_outside_write : (memory : List ℕ) (address : ℕ) (bytes : List ℕ) (byte : ℕ) (maybe_bytes : Option (List ℕ))
+    → write memory address bytes ≡ maybe_bytes
+    → byte < address ⊎ address + length bytes ≤ byte → byte_at (option_case maybe_bytes memory (λ after. after)) byte ≡ byte_at memory byte
+unchanged_outside_write memory address bytes byte None written byte_outside = refl
+unchanged_outside_write memory address bytes byte (Some after) written byte_outside =
+    byte_at-write memory address bytes after byte written byte_outside
 
 -- an address that is not in a block is before the base of the block, or is not before its end
 outside : (block : Block) (byte : ℕ) → has block byte ≡ false → byte < block.base ⊎ block.base + block.size ≤ byte
@@ -41,9 +43,9 @@ outside block byte not_in_block = elim (cases_lt byte block.base) [
 -- zeroing a block changes no byte outside the block
 zeroed_integrity : (memory : List ℕ) (block : Block) (byte : ℕ) → has block byte ≡ false → byte_at (zeroed memory block) byte ≡ byte_at memory byte
 zeroed_integrity memory block byte not_in_block =
-    let long : length (replicate block.size 0) ≡ block.size = length-replicate {A = ℕ} block.size 0 in
-    put_by memory block.base (replicate block.size 0) byte (write memory block.base (replicate block.size 0)) refl
-    (rw long (outside block byte not_in_block))
+    let zeroes_length : length (replicate block.size 0) ≡ block.size = length-replicate {A = ℕ} block.size 0 in
+    unchanged_outside_write memory block.base (replicate block.size 0) byte (write memory block.base (replicate block.size 0)) refl
+    (rw zeroes_length (outside block byte not_in_block))
 
 -- ---- the trap handler
 
@@ -82,44 +84,45 @@ module _ (hart_state : HartState) (shared : Shared) (valid : IsValid shared.memo
   slot = measured_slot hart_state.world (a0 hart_state)
 
   -- the monitor does not refuse the measure
-  module _ (live : is_live shared.table slot ≡ true) (may : may_store_all shared.memory entries (a1 hart_state) ≡ true) where
+  module _ (live : is_live shared.table slot ≡ true) (may_store_bytes : may_store_all shared.memory entries (a1 hart_state) ≡ true) where
     -- the monitor does not refuse the measure
     not_refused : first_refusal (measure_refusals shared entries slot (a1 hart_state)) ≡ None
     unfolding measure_refusals
-    not_refused = rw (live, may) refl
+    not_refused = rw (live, may_store_bytes) refl
 
     -- the world of the hart may store to each of the 32 bytes from a1 on
-    in_reach_of : a1 hart_state ≤ byte → byte < a1 hart_state + 32 → IsMeasured hart_state.world hart_state.hart.regs shared byte
+    is_measured : a1 hart_state ≤ byte → byte < a1 hart_state + 32 → IsMeasured hart_state.world hart_state.hart.regs shared byte
     unfolding may_store_all
-    in_reach_of low high =
-        let one = each_from_all (may_store shared.memory entries) (a1 hart_state) 32 may byte low high in
-        let parts = and_parts (is_inside shared.memory byte 1) (permits (verdict entries S Write (bytes_from byte 1))) one in
+    is_measured from_start before_end =
+        let may_store_byte = each_from_all (may_store shared.memory entries) (a1 hart_state) 32 may_store_bytes byte from_start before_end in
+        let parts = and_parts (is_inside shared.memory byte 1) (permits (verdict entries S Write (bytes_from byte 1))) may_store_byte in
         record {
           asked = asked;
           done = not_refused;
-          low = low;
-          high = high;
+          low = from_start;
+          high = before_end;
           accessible = sym (reach_law shared.memory shared.table hart_state.world S Write byte Byte valid (below_M S refl) parts.0) ∙ parts.1;
         }
 
     -- a measure changes only the 32 bytes from a1 on
-    put_changes : (o : Option SlotInfo) → IfSome o (IsValidSlot shared.memory) → is_some o ≡ true
+    put_changes : (maybe_info : Option SlotInfo) → IfSome maybe_info (IsValidSlot shared.memory) → is_some maybe_info ≡ true
         → Changes hart_state.world hart_state.hart.regs shared byte (record shared {
           memory =
-              with_bytes_at shared.memory (a1 hart_state) (option_case o [] (λ info. info.measurement));
+              with_bytes_at shared.memory (a1 hart_state) (option_case maybe_info [] (λ info. info.measurement));
         })
-    put_changes None slot_valid is_there = cc
-    put_changes (Some info) slot_valid is_there = elim (cases_lt byte (a1 hart_state)) [
+    put_changes None slot_valid is_live = cc
+    put_changes (Some info) slot_valid is_live = elim (cases_lt byte (a1 hart_state)) [
       | inl before_start ↦
           inl
-          (put_by shared.memory (a1 hart_state) info.measurement byte (write shared.memory (a1 hart_state) info.measurement) refl (inl before_start))
+          (unchanged_outside_write shared.memory (a1 hart_state) info.measurement byte (write shared.memory (a1 hart_state) info.measurement) refl
+          (inl before_start))
       | inr from_start ↦ elim (cases_lt byte (a1 hart_state + 32)) [
-        | inl before_end ↦ inr (inr (in_reach_of from_start before_end))
+        | inl before_end ↦ inr (inr (is_measured from_start before_end))
         | inr after_end ↦
-            let long = slot_valid.measured in
+            let measurement_length = slot_valid.measured in
             inl
-            (put_by shared.memory (a1 hart_state) info.measurement byte (write shared.memory (a1 hart_state) info.measurement) refl
-            (inr (rw long after_end)))
+            (unchanged_outside_write shared.memory (a1 hart_state) info.measurement byte (write shared.memory (a1 hart_state) info.measurement) refl
+            (inr (rw measurement_length after_end)))
       ]
     ]
 
@@ -130,7 +133,7 @@ module _ (hart_state : HartState) (shared : Shared) (valid : IsValid shared.memo
 
 -- The hart has the PMP layout of the table and its world. The lemmas are about one byte of memory.
 module _ (hart_state : HartState) (shared : Shared) (valid : IsValid shared.memory shared.table)
-    (laid : hart_state.hart.csrs.pmp ≡ layout shared.table hart_state.world) (byte : ℕ)
+    (entries_are_layout : hart_state.hart.csrs.pmp ≡ layout shared.table hart_state.world) (byte : ℕ)
     (trap : Trap) where
   -- the byte is unchanged after the trap handler, or the cause is a call that may change it
   abbrev ChangedBy : Shared → Type 0
@@ -139,24 +142,25 @@ module _ (hart_state : HartState) (shared : Shared) (valid : IsValid shared.memo
       ⊎ ((is_call trap.cause ≡ true) × ByMonitor hart_state.world hart_state.hart.regs shared after byte)
 
   -- if the trap requests a call that may change the byte, then the byte may change
-  by_call : (call : Call) (after : Shared) → Requests hart_state trap.cause call → Changes hart_state.world hart_state.hart.regs shared byte after
+  change_by_call : (call : Call) (after : Shared) → Requests hart_state trap.cause call
+      → Changes hart_state.world hart_state.hart.regs shared byte after
       → ChangedBy after
-  by_call call after requests (inl same) = inl same
-  by_call call after requests (inr changed) = let is_call = requests.is_call in inr (rw is_call refl, changed)
+  change_by_call call after requests (inl unchanged) = inl unchanged
+  change_by_call call after requests (inr changed) = let is_call = requests.is_call in inr (rw is_call refl, changed)
 
   -- the trap handler changes only bytes that the requested call may change
   handled_changes : ChangedBy (handled hart_state shared trap).shared
   unfolding created entered_slot left
-  handled_changes = handler_cases hart_state trap shared (λ h. ChangedBy h.shared) (record {
+  handled_changes = handler_cases hart_state trap shared (λ result. ChangedBy result.shared) (record {
     answers = λ status result. inl refl;
     creates = λ requests no_refusal. inl refl;
     destroys =
-        λ requests is_taken. by_call Destroy (destroyed shared (a0 hart_state)) requests
+        λ requests is_taken. change_by_call Destroy (destroyed shared (a0 hart_state)) requests
         (destroyed_changes hart_state shared byte valid requests.asked is_taken);
     measures = λ requests no_refusal.
-        by_call Measure (measured shared (measured_slot hart_state.world (a0 hart_state)) (a1 hart_state)) requests
+        change_by_call Measure (measured shared (measured_slot hart_state.world (a0 hart_state)) (a1 hart_state)) requests
         (measured_changes hart_state shared valid byte requests.asked no_refusal.live
-        (subst (λ (entries : Entries). may_store_all shared.memory entries (a1 hart_state) ≡ true) laid no_refusal.stores));
+        (subst (λ (entries : Entries). may_store_all shared.memory entries (a1 hart_state) ≡ true) entries_are_layout no_refusal.stores));
     enters = λ call requests is_entry_call from_host is_taken. inl refl;
     leaves = inl refl;
     redirects = inl refl;
@@ -175,8 +179,8 @@ module _ (state : HartView) (view_invariant : HartViewInvariant state) (byte : �
       → Stores bytes state.shared.memory after stored → Stored stored after
   stored_by None bytes after may_touch after_is = inl (ap (λ (memory : List ℕ). byte_at memory byte) after_is)
   stored_by (Some span) bytes after may_touch stores =
-      let count = stores.0 in
-      let below = below_M (data_mode state.hart_state.hart) (data_below state view_invariant) in
+      let stored_size = stores.0 in
+      let mode_below_m = below_M (data_mode state.hart_state.hart) (data_below state view_invariant) in
       elim (cases_lt byte span.addr) [
         | inl before_start ↦ inl (byte_at-write state.shared.memory span.addr bytes after byte stores.1 (inl before_start))
         | inr from_start ↦ elim (cases_lt byte (span.addr + bytes_in span.len)) [
@@ -187,10 +191,10 @@ module _ (state : HartView) (view_invariant : HartViewInvariant state) (byte : �
                 low = from_start;
                 high = before_end;
                 accessible =
-                    sym (access_control_law state (data_mode state.hart_state.hart) Write span.addr span.len view_invariant below may_touch.0)
+                    sym (access_control_law state (data_mode state.hart_state.hart) Write span.addr span.len view_invariant mode_below_m may_touch.0)
                     ∙ may_touch.1;
               })
-          | inr after_end ↦ inl (byte_at-write state.shared.memory span.addr bytes after byte stores.1 (inr (rw count after_end)))
+          | inr after_end ↦ inl (byte_at-write state.shared.memory span.addr bytes after byte stores.1 (inr (rw stored_size after_end)))
         ]
       ]
 
@@ -198,9 +202,9 @@ module _ (state : HartView) (view_invariant : HartViewInvariant state) (byte : �
   bare_changes : (after : Stepped) → IsConfined (bare_machine state) after → TouchesPermitted (bare_machine state) after
       → Stored after.outcome.touched.stored after.state.memory
   bare_changes after confined_after touches_permitted_bytes =
-      let equiv = equiv_itself state.shared.memory after.outcome.touched in
+      let same_memory = equal_to_itself state.shared.memory after.outcome.touched in
       stored_by after.outcome.touched.stored confined_after.bytes after.state.memory touches_permitted_bytes.stored
-      (confined_after.alike state.shared.memory equiv).here
+      (confined_after.alike state.shared.memory same_memory).here
 
 -- proves that a step changes only bytes that its world may write, or bytes that its call of the monitor may change
 pub changes : (state : HartView) → HartViewInvariant state → ChangesAccessible state (monitored_step state)
@@ -208,11 +212,11 @@ changes state view_invariant byte =
     step_cases state (λ after. byte_at after.state.shared.memory byte ≡ byte_at state.shared.memory byte ⊎ IsChanged state after byte)
     (λ no_trap. elim (bare_changes state view_invariant byte (step (bare_machine state)) (confined (bare_machine state))
     (touches_permitted (bare_machine state))) [
-      | inl same ↦ inl same
+      | inl unchanged ↦ inl unchanged
       | inr stored ↦ inr (inl stored)
     ])
     (λ trap trapped. elim (handled_changes
     (hart_state_after state.hart_state trap) state.shared view_invariant.valid view_invariant.hart.layout.entries byte trap) [
-      | inl same ↦ inl same
+      | inl unchanged ↦ inl unchanged
       | inr changed ↦ inr (inr (record { trap = trap; trapped = trapped; is = changed.0; change = changed.1 }))
     ])

@@ -18,7 +18,7 @@ use Rattle.rv_monitor.proofs.EnclaveMemory.{world_is_enclave}
 use Rattle.rv_monitor.proofs.EnclaveStays.{index_same, one_unchanged}
 use Rattle.rv_monitor.proofs.EquivLemmas.{hart_states_equiv}
 use Rattle.rv_monitor.proofs.Events.{line_invariant, line_related}
-use Rattle.rv_monitor.proofs.GuestEquiv.{equiv_from_guests, beside_same, same_host_chain, guest_equiv, guest_invariant, guest_step_equiv, hosts_after, rest_of, runs_before, runs_too}
+use Rattle.rv_monitor.proofs.GuestEquiv.{equiv_from_guests, other_harts_keep_host, same_host_chain, guest_equiv, guest_invariant, guest_step_equiv, same_hosts_after, rest_of, ran_before, runs_too}
 use Rattle.rv_monitor.proofs.GuestView.{guest_hart_state, guest_step_of}
 use Rattle.rv_monitor.proofs.InvariantLemmas.{invariant_law}
 use Rattle.rv_monitor.proofs.LowSteps.{low_while_running}
@@ -28,14 +28,15 @@ use Rattle.rv_monitor.proofs.Release.{release}
 -- ---- what the enclave hands over, in the guest view
 
 -- two harts that hand over the same also hand over the same in the guest view
-to_guests : (cause : Cause) (a b : HartState) → SameHandoverBy cause a.hart b.hart → SameHandoverBy cause (guest_state a).hart (guest_state b).hart
-to_guests (causes.Interrupt interrupt) a b same_handover = tt
-to_guests (causes.Exception exception) a b same_handover = record { a0 = same_handover.a0; a6 = same_handover.a6 }
+to_guests : (cause : Cause) (hart_state other_state : HartState) → SameHandoverBy cause hart_state.hart other_state.hart
+    → SameHandoverBy cause (guest_state hart_state).hart (guest_state other_state).hart
+to_guests (causes.Interrupt interrupt) hart_state other_state same_handover = tt
+to_guests (causes.Exception exception) hart_state other_state same_handover = record { a0 = same_handover.a0; a6 = same_handover.a6 }
 
 -- two harts with equal a0 and a6 hand over the same for every cause
-pub hands_over : (cause : Cause) (a b : Hart) → SameHandover a b → SameHandoverBy cause a b
-hands_over (causes.Interrupt interrupt) a b same_handover = tt
-hands_over (causes.Exception exception) a b same_handover = same_handover
+pub hands_over : (cause : Cause) (hart other_hart : Hart) → SameHandover hart other_hart → SameHandoverBy cause hart other_hart
+hands_over (causes.Interrupt interrupt) hart other_hart same_handover = tt
+hands_over (causes.Exception exception) hart other_hart same_handover = same_handover
 
 -- ---- related machines, and machines that are equivalent in the guest view
 
@@ -45,19 +46,21 @@ module _ (enclave : ℕ) (one other : MonitoredMachine) where
   swapped : AreRelated enclave one other → AreRelated enclave other one
   swapped related = record {
     harts = sym related.harts;
-    hart_states = λ j.
-        let related_harts = related.hart_states j in
+    hart_states = λ other_hart.
+        let related_harts = related.hart_states other_hart in
         record { world = sym related_harts.world; same = λ low. sym (related_harts.same (ap (is_world_of enclave) related_harts.world ∙ low)) };
-    hosts = λ j runs_other.
-        let both = related.hosts j (ap (is_world_of enclave) (related.hart_states j).world ∙ runs_other) in
-        record { host = sym both.host; rest = sym both.rest };
+    hosts = λ other_hart runs_other.
+        let same_hosts = related.hosts other_hart (ap (is_world_of enclave) (related.hart_states other_hart).world ∙ runs_other) in
+        record { host = sym same_hosts.host; rest = sym same_hosts.rest };
     table = sym related.table;
     memory = record {
       size = sym related.memory.size;
-      bytes = λ i not_hidden. sym (related.memory.bytes i (ap (λ (t : Slots). may_differ t enclave (ram_base + i)) related.table ∙ not_hidden));
+      bytes =
+          λ index not_hidden. sym (related.memory.bytes index
+          (ap (λ (table : Slots). may_differ table enclave (ram_base + index)) related.table ∙ not_hidden));
     };
-    contexts = record { size = sym related.contexts.size; others = λ k distinct. sym (related.contexts.others k distinct) };
-    gone = λ dead. sym (related.gone (ap (λ (t : Slots). is_live t enclave) related.table ∙ dead));
+    contexts = record { size = sym related.contexts.size; others = λ slot distinct. sym (related.contexts.others slot distinct) };
+    gone = λ dead. sym (related.gone (ap (λ (table : Slots). is_live table enclave) related.table ∙ dead));
   }
 
 -- proves the relation law: when equivalent machines are related, and when related machines are equivalent
@@ -71,12 +74,12 @@ relation_law = record {
 -- ---- a step of the enclave in one machine
 
 -- while the enclave runs, a byte that passes the test `may_differ` with false is outside the region and the window
-beyond_by : (in_region runs_now in_window : Bool) → runs_now ≡ true → (in_region || (runs_now && in_window)) ≡ false
+shown_is_beyond : (in_region runs_now in_window : Bool) → runs_now ≡ true → (in_region || (runs_now && in_window)) ≡ false
     → not (in_region || in_window) ≡ true
-beyond_by false true false running shown = refl
-beyond_by false true true running shown = cc
-beyond_by true runs_now in_window running shown = cc
-beyond_by in_region false in_window running shown = cc
+shown_is_beyond false true false running shown = refl
+shown_is_beyond false true true running shown = cc
+shown_is_beyond true runs_now in_window running shown = cc
+shown_is_beyond in_region false in_window running shown = cc
 
 -- two machines are related, and `enclave` makes a step in the first machine that does not exit
 module _ (enclave hart : ℕ) (one other : MonitoredMachine) (invariant_one : Invariant one) (related : AreRelated enclave one other)
@@ -92,7 +95,7 @@ module _ (enclave hart : ℕ) (one other : MonitoredMachine) (invariant_one : In
       record {
         harts = sym unchanged.harts ∙ related.harts;
         -- the hart of the enclave runs `enclave` before and after the step, and the other harts keep their states
-        hart_states = λ j. elim (cases_eq j hart) [
+        hart_states = λ other_hart. elim (cases_eq other_hart hart) [
           | inl equal ↦ rw equal (record {
             world =
                 world_is_enclave enclave (hart_state_of hart after).world inside.after
@@ -101,36 +104,41 @@ module _ (enclave hart : ℕ) (one other : MonitoredMachine) (invariant_one : In
             same = λ low. absurd (both_ways _ low inside.after);
           })
           | inr distinct ↦
-              hart_states_equiv enclave (guest_state (hart_state_of j after)) (guest_state (hart_state_of j one))
-              (guest_state (hart_state_of j other))
-              (guest_state (hart_state_of j other)) (ap guest_state (sym (unchanged.others j distinct))) refl (related.hart_states j)
+              hart_states_equiv enclave (guest_state (hart_state_of other_hart after)) (guest_state (hart_state_of other_hart one))
+              (guest_state (hart_state_of other_hart other))
+              (guest_state (hart_state_of other_hart other)) (ap guest_state (sym (unchanged.others other_hart distinct))) refl
+              (related.hart_states other_hart)
         ];
-        hosts = λ j runs_there. elim (cases_eq j hart) [
+        hosts = λ other_hart runs_on_other. elim (cases_eq other_hart hart) [
           | inl equal ↦
-              let both = related.hosts hart inside.before in
-              rw equal (record { host = sym unchanged.behind.host ∙ both.host; rest = sym unchanged.behind.rest ∙ both.rest })
+              let same_hosts = related.hosts hart inside.before in
+              rw equal (record { host = sym unchanged.behind.host ∙ same_hosts.host; rest = sym unchanged.behind.rest ∙ same_hosts.rest })
           | inr distinct ↦
-              let both = related.hosts j (ap (λ (s : HartState). is_world_of enclave s.world) (unchanged.others j distinct) ∙ runs_there) in
+              let same_hosts =
+              related.hosts other_hart (ap (λ (hart_state : HartState). is_world_of enclave hart_state.world) (unchanged.others other_hart distinct)
+              ∙ runs_on_other) in
               record {
-                host = ap (λ (s : HartState). s.host_context) (sym (unchanged.others j distinct)) ∙ both.host;
-                rest = ap rest_of (sym (unchanged.others j distinct)) ∙ both.rest;
+                host = ap (λ (hart_state : HartState). hart_state.host_context) (sym (unchanged.others other_hart distinct)) ∙ same_hosts.host;
+                rest = ap rest_of (sym (unchanged.others other_hart distinct)) ∙ same_hosts.rest;
               }
         ];
         table = sym unchanged.table ∙ related.table;
         memory = record {
           size = sym unchanged.size ∙ related.memory.size;
           -- a byte in which the machines may not differ is beyond the enclave, so the step does not change this byte
-          bytes = λ i not_hidden.
-              let shown_before = ap (λ (t : Slots). may_differ t enclave (ram_base + i)) unchanged.table ∙ not_hidden in
+          bytes = λ index not_hidden.
+              let shown_before = ap (λ (table : Slots). may_differ table enclave (ram_base + index)) unchanged.table ∙ not_hidden in
               let running = invariant_one.shared.running enclave ∙ runs_among enclave hart one inside.before in
-              let is_beyond_e = beyond_by (has (region one.shared.table enclave) (ram_base + i)) (runs one.shared.table enclave)
-              (has (window one.shared.table enclave) (ram_base + i)) running shown_before in
-              sym (index_same one.shared.memory after.shared.memory i unchanged.size (unchanged.bytes (ram_base + i) is_beyond_e))
-              ∙ related.memory.bytes i shown_before;
+              let is_beyond_enclave = shown_is_beyond (has (region one.shared.table enclave) (ram_base + index)) (runs one.shared.table enclave)
+              (has (window one.shared.table enclave) (ram_base + index)) running shown_before in
+              sym (index_same one.shared.memory after.shared.memory index unchanged.size (unchanged.bytes (ram_base + index) is_beyond_enclave))
+              ∙ related.memory.bytes index shown_before;
         };
         contexts = record {
-          size = ap (λ (c : Contexts). length c) (sym unchanged.contexts) ∙ related.contexts.size;
-          others = λ k distinct. ap (λ (c : Contexts). context_at c k) (sym unchanged.contexts) ∙ related.contexts.others k distinct;
+          size = ap (λ (contexts : Contexts). length contexts) (sym unchanged.contexts) ∙ related.contexts.size;
+          others =
+              λ slot distinct. ap (λ (contexts : Contexts). context_at contexts slot) (sym unchanged.contexts)
+              ∙ related.contexts.others slot distinct;
         };
         gone = λ dead. absurd (both_ways _ dead (running_is_live enclave hart after (invariant_law hart one invariant_one) inside.after));
       }
@@ -159,59 +167,65 @@ module _ (enclave hart : ℕ) (one other : MonitoredMachine) (invariant_one : In
         let step = guest_step_equiv enclave hart one other invariant_one invariant_other equiv low_both_steps.low in (
           λ low. step.outcome,
           equiv_related enclave (step_of hart one).state (step_of hart other).state step.state
-              (hosts_after enclave hart one other invariant_one invariant_other equiv related.hosts low_both_steps.low),
+              (same_hosts_after enclave hart one other invariant_one invariant_other equiv related.hosts low_both_steps.low),
         )
   ]
 
   -- if the step of a machine exits to the host, then so does the step of its guest view
-  world_after : (machine : MonitoredMachine) → Invariant machine → (hart_state_of hart (step_of hart machine).state).world ≡ Host
+  guest_step_exits : (machine : MonitoredMachine) → Invariant machine → (hart_state_of hart (step_of hart machine).state).world ≡ Host
       → (hart_state_of hart (step_of hart (guest_view machine)).state).world ≡ Host
-  world_after machine invariant host_runs_after =
-      let of : MonitoredMachine → World = λ m. (hart_state_of hart m).world in
-      let world : HartState → World = λ s. s.world in
-      sym (ap world (guest_hart_state hart (step_of hart (guest_view machine)).state)) ∙ sym (ap of (guest_step_of hart machine invariant).state)
-      ∙ ap world (guest_hart_state hart (step_of hart machine).state) ∙ host_runs_after
+  guest_step_exits machine invariant host_runs_after =
+      let world_of_hart : MonitoredMachine → World = λ machine. (hart_state_of hart machine).world in
+      let state_world : HartState → World = λ hart_state. hart_state.world in
+      sym (ap state_world (guest_hart_state hart (step_of hart (guest_view machine)).state))
+      ∙ sym (ap world_of_hart (guest_step_of hart machine invariant).state)
+      ∙ ap state_world (guest_hart_state hart (step_of hart machine).state) ∙ host_runs_after
 
   -- if the step of a machine has a trap, then the step of its guest view has the same trap
-  trap_too : (machine : MonitoredMachine) (trap : Trap) → Invariant machine → (step_of hart machine).outcome.step.trap ≡ Some trap
+  guest_step_traps : (machine : MonitoredMachine) (trap : Trap) → Invariant machine → (step_of hart machine).outcome.step.trap ≡ Some trap
       → (step_of hart (guest_view machine)).outcome.step.trap ≡ Some trap
-  trap_too machine trap invariant trapped = sym (ap (λ (o : Outcome). o.step.trap) (guest_step_of hart machine invariant).outcome) ∙ trapped
+  guest_step_traps machine trap invariant trapped =
+      sym (ap (λ (outcome : Outcome). outcome.step.trap) (guest_step_of hart machine invariant).outcome) ∙ trapped
 
   -- after an exit from both machines that hands over the same, the machines are equivalent in the guest view
   exit_equiv : ExitsAlike enclave hart one other → EquivToGuests enclave (step_of hart one).state (step_of hart other).state
   exit_equiv exits_alike =
-      let view_one = guest_view one in
-      let view_other = guest_view other in
+      let first_view = guest_view one in
+      let second_view = guest_view other in
       let equiv = related_equiv enclave one other related (λ running. exits_alike.window) in
-      let host : SameHost (hart_state_of hart view_one) (hart_state_of hart view_other) =
-      subst (λ (s : HartState). SameHost s (hart_state_of hart view_other)) (sym (guest_hart_state hart one))
+      let host : SameHost (hart_state_of hart first_view) (hart_state_of hart second_view) =
+      subst (λ (hart_state : HartState). SameHost hart_state (hart_state_of hart second_view)) (sym (guest_hart_state hart one))
       (subst (SameHost (guest_state (hart_state_of hart one))) (sym (guest_hart_state hart other)) (related.hosts hart exits_alike.runs)) in
-      let handover : SameHandoverBy exits_alike.trap.cause (hart_state_of hart view_one).hart (hart_state_of hart view_other).hart =
-      subst (λ (s : HartState). SameHandoverBy exits_alike.trap.cause s.hart (hart_state_of hart view_other).hart) (sym (guest_hart_state hart one))
-      (subst (λ (s : HartState). SameHandoverBy exits_alike.trap.cause (guest_state (hart_state_of hart one)).hart s.hart)
+      let handover : SameHandoverBy exits_alike.trap.cause (hart_state_of hart first_view).hart (hart_state_of hart second_view).hart =
+      subst (λ (hart_state : HartState). SameHandoverBy exits_alike.trap.cause hart_state.hart (hart_state_of hart second_view).hart)
+      (sym (guest_hart_state hart one))
+      (subst (λ (hart_state : HartState). SameHandoverBy exits_alike.trap.cause (guest_state (hart_state_of hart one)).hart hart_state.hart)
       (sym (guest_hart_state hart other))
       (to_guests exits_alike.trap.cause (hart_state_of hart one) (hart_state_of hart other) exits_alike.handover)) in
       equiv_from_guests enclave hart one other invariant_one invariant_other
-      (release enclave hart view_one view_other exits_alike.trap (guest_invariant one invariant_one) (guest_invariant other invariant_other) equiv
+      (release enclave hart first_view second_view exits_alike.trap (guest_invariant one invariant_one) (guest_invariant other invariant_other) equiv
       (runs_too enclave hart one ∙ exits_alike.runs) host handover
-      (trap_too one exits_alike.trap invariant_one exits_alike.first) (trap_too other exits_alike.trap invariant_other exits_alike.second)
-      (world_after one invariant_one exits_alike.first_exits)
-      (world_after other invariant_other exits_alike.second_exits))
+      (guest_step_traps one exits_alike.trap invariant_one exits_alike.first)
+      (guest_step_traps other exits_alike.trap invariant_other exits_alike.second)
+      (guest_step_exits one invariant_one exits_alike.first_exits)
+      (guest_step_exits other invariant_other exits_alike.second_exits))
 
   -- after an exit from both machines that hands over the same, the machines are related
   exit_step : ExitsAlike enclave hart one other → Outcomes × Related
   exit_step exits_alike = (
     λ low. absurd (both_ways _ low exits_alike.runs),
     equiv_related enclave (step_of hart one).state (step_of hart other).state (exit_equiv exits_alike)
-        (λ j runs_after. elim (cases_eq j hart) [
+        (λ other_hart runs_after. elim (cases_eq other_hart hart) [
           | inl equal ↦
               let not_running : runs_on enclave hart (step_of hart one).state ≡ false = ap (is_world_of enclave) exits_alike.first_exits in
               let still_here : runs_on enclave hart (step_of hart one).state ≡ true =
-              ap (λ (i : ℕ). runs_on enclave i (step_of hart one).state) (sym equal) ∙ runs_after in
+              ap (λ (index : ℕ). runs_on enclave index (step_of hart one).state) (sym equal) ∙ runs_after in
               absurd (both_ways _ not_running still_here)
           | inr distinct ↦
-              same_host_chain j (step_of hart one).state one other (step_of hart other).state (beside_same hart j one distinct)
-              (related.hosts j (runs_before enclave hart j one distinct runs_after)) (beside_same hart j other distinct)
+              same_host_chain other_hart (step_of hart one).state one other (step_of hart other).state
+              (other_harts_keep_host hart other_hart one distinct)
+              (related.hosts other_hart (ran_before enclave hart other_hart one distinct runs_after))
+              (other_harts_keep_host hart other_hart other distinct)
         ]),
   )
 
@@ -224,25 +238,25 @@ module _ (enclave hart : ℕ) (one other : MonitoredMachine) (invariant_one : In
 
 -- proves the declassification law, by induction on the list of moves
 pub declassification_law : DeclassificationLaw
-declassification_law enclave [] one other invariant_one invariant_other related moves = record { outcomes = tt; state = related }
-declassification_law enclave (First hart ∷ more) one other invariant_one invariant_other related moves =
-    let rest = declassification_law enclave more (step_of hart one).state other (invariant_law hart one invariant_one) invariant_other
-    (step_inside enclave hart one other invariant_one related moves.0) moves.1 in
-    record { outcomes = rest.outcomes; state = rest.state }
-declassification_law enclave (Second hart ∷ more) one other invariant_one invariant_other related moves =
+declassification_law enclave [] one other invariant_one invariant_other related are_moves = record { outcomes = tt; state = related }
+declassification_law enclave (First hart ∷ moves) one other invariant_one invariant_other related are_moves =
+    let remaining = declassification_law enclave moves (step_of hart one).state other (invariant_law hart one invariant_one) invariant_other
+    (step_inside enclave hart one other invariant_one related are_moves.0) are_moves.1 in
+    record { outcomes = remaining.outcomes; state = remaining.state }
+declassification_law enclave (Second hart ∷ moves) one other invariant_one invariant_other related are_moves =
     let after = (step_of hart other).state in
-    let rest = declassification_law enclave more one after invariant_one (invariant_law hart other invariant_other)
-    (swapped enclave after one (step_inside enclave hart other one invariant_other (swapped enclave one other related) moves.0)) moves.1 in
-    record { outcomes = rest.outcomes; state = rest.state }
-declassification_law enclave (Both (StepOf hart) ∷ more) one other invariant_one invariant_other related moves =
-    let step = both_step enclave hart one other invariant_one invariant_other related moves.0 in
-    let rest =
-    declassification_law enclave more (step_of hart one).state (step_of hart other).state (invariant_law hart one invariant_one)
+    let remaining = declassification_law enclave moves one after invariant_one (invariant_law hart other invariant_other)
+    (swapped enclave after one (step_inside enclave hart other one invariant_other (swapped enclave one other related) are_moves.0)) are_moves.1 in
+    record { outcomes = remaining.outcomes; state = remaining.state }
+declassification_law enclave (Both (StepOf hart) ∷ moves) one other invariant_one invariant_other related are_moves =
+    let step = both_step enclave hart one other invariant_one invariant_other related are_moves.0 in
+    let remaining =
+    declassification_law enclave moves (step_of hart one).state (step_of hart other).state (invariant_law hart one invariant_one)
     (invariant_law hart other invariant_other)
-    step.1 moves.1 in
-    record { outcomes = (step.0, rest.outcomes); state = rest.state }
-declassification_law enclave (Both (LineOf hart raised) ∷ more) one other invariant_one invariant_other related moves =
-    let rest = declassification_law enclave more (with_timer hart one raised) (with_timer hart other raised)
+    step.1 are_moves.1 in
+    record { outcomes = (step.0, remaining.outcomes); state = remaining.state }
+declassification_law enclave (Both (LineOf hart raised) ∷ moves) one other invariant_one invariant_other related are_moves =
+    let remaining = declassification_law enclave moves (with_timer hart one raised) (with_timer hart other raised)
     (line_invariant hart raised one invariant_one)
-    (line_invariant hart raised other invariant_other) (line_related enclave hart raised one other related) moves.1 in
-    record { outcomes = rest.outcomes; state = rest.state }
+    (line_invariant hart raised other invariant_other) (line_related enclave hart raised one other related) are_moves.1 in
+    record { outcomes = remaining.outcomes; state = remaining.state }

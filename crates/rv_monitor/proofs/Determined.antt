@@ -16,112 +16,125 @@ use Rattle.rv_monitor.proofs.NumberedCalls.{answers_calls, asks, interrupts_encl
 use Rattle.rv_monitor.proofs.PlainSteps.{host_continues, steps_plainly}
 
 -- the status of an unknown call is not 0
-unknown_status_not_zero : (n : ℕ) → n ≡ 0xFFFFFFFF → n ≢ 0
-unknown_status_not_zero n all_ones is_zero = cc
+unknown_status_not_zero : (status : ℕ) → status ≡ 0xFFFFFFFF → status ≢ 0
+unknown_status_not_zero status all_ones is_zero = cc
 
 -- two results are equal if their states, their step outcomes and their entered slots are equal
-agree : (a b : MonitoredStepped) → a.state ≡ b.state → a.outcome.step ≡ b.outcome.step → a.outcome.entered ≡ b.outcome.entered → a ≡ b
-agree a b state step entered =
-    let with_state : a ≡ record { state = b.state; outcome = a.outcome } =
-    ap (λ (m : MonitoredMachine). let after : MonitoredStepped = record { state = m; outcome = a.outcome } in after) state in
-    let with_step : a.outcome ≡ record { step = b.outcome.step; entered = a.outcome.entered } =
-    ap (λ (o : StepOutcome). let outcome : Outcome = record { step = o; entered = a.outcome.entered } in outcome) step in
-    let same_outcome : a.outcome ≡ b.outcome =
-    with_step ∙ ap (λ (k : Option ℕ). let outcome : Outcome = record { step = b.outcome.step; entered = k } in outcome) entered in
-    with_state ∙ ap (λ (o : Outcome). let after : MonitoredStepped = record { state = b.state; outcome = o } in after) same_outcome
+results_equal : (stepped other_stepped : MonitoredStepped) → stepped.state ≡ other_stepped.state → stepped.outcome.step ≡ other_stepped.outcome.step
+    → stepped.outcome.entered ≡ other_stepped.outcome.entered → stepped ≡ other_stepped
+results_equal stepped other_stepped same_state same_step same_entered =
+    let with_state : stepped ≡ record { state = other_stepped.state; outcome = stepped.outcome } =
+    ap (λ (machine : MonitoredMachine). let after : MonitoredStepped = record { state = machine; outcome = stepped.outcome } in after) same_state in
+    let with_step : stepped.outcome ≡ record { step = other_stepped.outcome.step; entered = stepped.outcome.entered } =
+    ap (λ (outcome : StepOutcome). let monitored : Outcome = record { step = outcome; entered = stepped.outcome.entered } in monitored) same_step in
+    let same_outcome : stepped.outcome ≡ other_stepped.outcome =
+    with_step ∙ ap (λ (entered_slot : Option ℕ). let monitored : Outcome = record {
+      step = other_stepped.outcome.step;
+      entered = entered_slot;
+    } in monitored) same_entered in
+    with_state ∙ ap (λ (monitored : Outcome). let after : MonitoredStepped = record {
+      state = other_stepped.state;
+      outcome = monitored;
+    } in after) same_outcome
 
--- two results a and b of one step both obey the five laws
-module _ (hart : ℕ) (machine : MonitoredMachine) (invariant : Invariant machine) (in_range : hart < count_of machine) (a b : MonitoredStepped)
-    (a_obeys : ObeysCases hart machine a) (b_obeys : ObeysCases hart machine b) where
+-- two results of one step both obey the five laws
+module _ (hart : ℕ) (machine : MonitoredMachine) (invariant : Invariant machine) (in_range : hart < count_of machine)
+    (stepped other_stepped : MonitoredStepped)
+    (first_obeys : ObeysCases hart machine stepped) (second_obeys : ObeysCases hart machine other_stepped) where
   -- both results have the same state and the same entered slot
-  abbrev Same : Type 0
-  Same = (a.state ≡ b.state) × (a.outcome.entered ≡ b.outcome.entered)
+  abbrev SameResult : Type 0
+  SameResult = (stepped.state ≡ other_stepped.state) × (stepped.outcome.entered ≡ other_stepped.outcome.entered)
 
   -- two results that have a given state and a given entered slot are equal
-  same_by : {state : MonitoredMachine} {entered : Option ℕ} → (a.state ≡ state) × (a.outcome.entered ≡ entered)
-      → (b.state ≡ state) × (b.outcome.entered ≡ entered) → Same
-  same_by a_is b_is = (a_is.0 ∙ sym b_is.0, a_is.1 ∙ sym b_is.1)
+  same_if_given : {state : MonitoredMachine} {entered : Option ℕ} → (stepped.state ≡ state) × (stepped.outcome.entered ≡ entered)
+      → (other_stepped.state ≡ state) × (other_stepped.outcome.entered ≡ entered) → SameResult
+  same_if_given first_is second_is = (first_is.0 ∙ sym second_is.0, first_is.1 ∙ sym second_is.1)
 
   -- two results that are both an entry of one slot by a call are equal
-  same_entry : (trap : Trap) (k : ℕ) → EntersByCall hart machine a trap k → EntersByCall hart machine b trap k → Same
-  same_entry trap k entry_a entry_b =
-      let contexts : Some entry_a.context ≡ Some entry_b.context = sym entry_a.kept ∙ entry_b.kept in
-      let same : entry_a.context ≡ entry_b.context = cc in
-      (entry_a.state ∙ ap (entered_by_call hart machine k trap) same ∙ sym entry_b.state, entry_a.entered ∙ sym entry_b.entered)
+  same_entry : (trap : Trap) (slot : ℕ) → EntersByCall hart machine stepped trap slot → EntersByCall hart machine other_stepped trap slot → SameResult
+  same_entry trap slot first_entry second_entry =
+      let some_contexts_equal : Some first_entry.context ≡ Some second_entry.context = sym first_entry.kept ∙ second_entry.kept in
+      let contexts_equal : first_entry.context ≡ second_entry.context = cc in (
+        first_entry.state ∙ ap (entered_by_call hart machine slot trap) contexts_equal ∙ sym second_entry.state,
+        first_entry.entered
+            ∙ sym second_entry.entered,
+      )
 
   -- the state of the hart before the step
-  abbrev own_state : HartState
-  own_state = hart_state_of hart machine
+  abbrev hart_state : HartState
+  hart_state = hart_state_of hart machine
 
   -- both step outcomes are the outcome of the bare step
-  outcomes : a.outcome.step ≡ b.outcome.step
-  outcomes = (a_obeys.plain in_range).outcome ∙ sym (b_obeys.plain in_range).outcome
+  same_step_outcome : stepped.outcome.step ≡ other_stepped.outcome.step
+  same_step_outcome = (first_obeys.plain in_range).outcome ∙ sym (second_obeys.plain in_range).outcome
 
   -- while an enclave runs, the hart has a saved context of the host
-  with_saved_host : (k : ℕ) (P : Type 0) → own_state.world ≡ Enclave k → ((host : Context) → own_state.host_context ≡ Some host → P) → P
-  with_saved_host k P runs claim = by_context own_state.host_context refl where
+  with_saved_host : (slot : ℕ) (Claim : Type 0) → hart_state.world ≡ Enclave slot → ((host : Context) → hart_state.host_context ≡ Some host → Claim)
+      → Claim
+  with_saved_host slot Claim runs claim_for_host = by_context hart_state.host_context refl where
     -- a claim that holds for each saved context of the host holds for a hart that runs an enclave
-    by_context : (o : Option Context) → own_state.host_context ≡ o → P
+    by_context : (maybe_context : Option Context) → hart_state.host_context ≡ maybe_context → Claim
     by_context None context_is =
         let contradiction : false ≡ true =
-        sym (ap (λ (x : Option Context). is_some x) context_is) ∙ (invariant.hart_states hart in_range).host.kept
-        ∙ ap (λ (w : World). not (is_host w)) runs in
+        sym (ap (λ (maybe_context : Option Context). is_some maybe_context) context_is) ∙ (invariant.hart_states hart in_range).host.kept
+        ∙ ap (λ (world : World). not (is_host world)) runs in
         cc
-    by_context (Some host) context_is = claim host context_is
+    by_context (Some host) context_is = claim_for_host host context_is
 
   -- the step has this trap in both results
-  module _ (trap : Trap) (traps : a.outcome.step.trap ≡ Some trap) (traps_too : b.outcome.step.trap ≡ Some trap) where
+  module _ (trap : Trap) (traps : stepped.outcome.step.trap ≡ Some trap) (other_traps : other_stepped.outcome.step.trap ≡ Some trap) where
     -- two results of an interrupt of an enclave are equal, because the interrupt exits the enclave
-    by_interrupt_of : (interrupt : Interrupt) → trap.cause ≡ causes.Interrupt interrupt → (world : World) → own_state.world ≡ world → Same
-    by_interrupt_of interrupt cause_is Host host = absurd ((a_obeys.host host).uninterrupted trap interrupt traps cause_is)
-    by_interrupt_of interrupt cause_is (Enclave k) world_is_own = with_saved_host k Same world_is_own (λ host host_is_saved.
-        same_by (a_obeys.interrupts k host trap interrupt world_is_own host_is_saved traps cause_is)
-        (b_obeys.interrupts k host trap interrupt world_is_own host_is_saved traps_too cause_is))
+    same_by_interrupt : (interrupt : Interrupt) → trap.cause ≡ causes.Interrupt interrupt → (world : World) → hart_state.world ≡ world → SameResult
+    same_by_interrupt interrupt cause_is Host host = absurd ((first_obeys.host host).uninterrupted trap interrupt traps cause_is)
+    same_by_interrupt interrupt cause_is (Enclave slot) world_is = with_saved_host slot SameResult world_is (λ host host_is_saved.
+        same_if_given (first_obeys.interrupts slot host trap interrupt world_is host_is_saved traps cause_is)
+        (second_obeys.interrupts slot host trap interrupt world_is host_is_saved other_traps cause_is))
 
     -- two results of a redirected exception are equal
-    by_redirection : is_redirected trap.cause ≡ true → (world : World) → own_state.world ≡ world → Same
-    by_redirection is_redirection Host host_runs =
-        same_by ((a_obeys.host host_runs).redirects trap traps is_redirection) ((b_obeys.host host_runs).redirects trap traps_too is_redirection)
-    by_redirection is_redirection (Enclave k) world_is_own =
-        same_by ((a_obeys.exits k world_is_own).redirects trap traps is_redirection)
-        ((b_obeys.exits k world_is_own).redirects trap traps_too is_redirection)
+    same_by_redirection : is_redirected trap.cause ≡ true → (world : World) → hart_state.world ≡ world → SameResult
+    same_by_redirection is_redirection Host host_runs =
+        same_if_given ((first_obeys.host host_runs).redirects trap traps is_redirection)
+        ((second_obeys.host host_runs).redirects trap other_traps is_redirection)
+    same_by_redirection is_redirection (Enclave slot) world_is =
+        same_if_given ((first_obeys.exits slot world_is).redirects trap traps is_redirection)
+        ((second_obeys.exits slot world_is).redirects trap other_traps is_redirection)
 
     -- the trap is an ecall from S, and both results have the answer in numbers
-    module _ (answers_a : AnswersInNumbers hart machine a trap) (answers_b : AnswersInNumbers hart machine b trap) where
+    module _ (first_answers : AnswersInNumbers hart machine stepped trap) (second_answers : AnswersInNumbers hart machine other_stepped trap) where
       -- a call that `call_at` finds is offered to the running world
-      offered : (call : Call) → call_at hart machine ≡ Some call → is_offered own_state.world call ≡ true
-      offered call requested = (requested-is_offered own_state.world own_state.hart.regs call (asks own_state machine.shared call requested)).1
+      offered : (call : Call) → call_at hart machine ≡ Some call → is_offered hart_state.world call ≡ true
+      offered call requested = (requested-is_offered hart_state.world hart_state.hart.regs call (asks hart_state machine.shared call requested)).1
 
       -- two results of a run or resume are equal
-      by_entry : (call : Call) (world : World) → own_state.world ≡ world → is_offered own_state.world call ≡ true
-          → (own_state.world ≡ Host → EntersByCall hart machine a trap (register own_state.hart.regs 10))
-          → (own_state.world ≡ Host → EntersByCall hart machine b trap (register own_state.hart.regs 10))
-          → ((k : ℕ) → is_offered (Enclave k) call ≡ false) → Same
-      by_entry call Host world_is_own is_allowed a_enters b_enters not_for_enclaves =
-          same_entry trap (register own_state.hart.regs 10) (a_enters world_is_own) (b_enters world_is_own)
-      by_entry call (Enclave k) world_is_own is_allowed a_enters b_enters not_for_enclaves =
-          let contradiction : true ≡ false = sym is_allowed ∙ ap (λ (w : World). is_offered w call) world_is_own ∙ not_for_enclaves k in
+      same_by_entry : (call : Call) (world : World) → hart_state.world ≡ world → is_offered hart_state.world call ≡ true
+          → (hart_state.world ≡ Host → EntersByCall hart machine stepped trap (register hart_state.hart.regs 10))
+          → (hart_state.world ≡ Host → EntersByCall hart machine other_stepped trap (register hart_state.hart.regs 10))
+          → ((slot : ℕ) → is_offered (Enclave slot) call ≡ false) → SameResult
+      same_by_entry call Host world_is is_allowed first_enters second_enters not_for_enclaves =
+          same_entry trap (register hart_state.hart.regs 10) (first_enters world_is) (second_enters world_is)
+      same_by_entry call (Enclave slot) world_is is_allowed first_enters second_enters not_for_enclaves =
+          let contradiction : true ≡ false = sym is_allowed ∙ ap (λ (world : World). is_offered world call) world_is ∙ not_for_enclaves slot in
           cc
 
       -- two results of a stop are equal
-      by_stop : (world : World) → own_state.world ≡ world → call_at hart machine ≡ Some Stop → Same
-      by_stop Host host requested =
-          let contradiction : true ≡ false = sym (offered Stop requested) ∙ ap (λ (w : World). is_offered w Stop) host in
+      same_by_stop : (world : World) → hart_state.world ≡ world → call_at hart machine ≡ Some Stop → SameResult
+      same_by_stop Host host requested =
+          let contradiction : true ≡ false = sym (offered Stop requested) ∙ ap (λ (world : World). is_offered world Stop) host in
           cc
-      by_stop (Enclave k) world_is_own requested =
-          with_saved_host k Same world_is_own
-          (λ host host_is_saved. same_by (answers_a.stops k host world_is_own host_is_saved requested)
-          (answers_b.stops k host world_is_own host_is_saved requested))
+      same_by_stop (Enclave slot) world_is requested =
+          with_saved_host slot SameResult world_is
+          (λ host host_is_saved. same_if_given (first_answers.stops slot host world_is host_is_saved requested)
+          (second_answers.stops slot host world_is host_is_saved requested))
 
       -- two results of an exit are equal
-      by_exit : (world : World) → own_state.world ≡ world → call_at hart machine ≡ Some Exit → Same
-      by_exit Host world_is_own requested =
-          let contradiction : true ≡ false = sym (offered Exit requested) ∙ ap (λ (w : World). is_offered w Exit) world_is_own in
+      same_by_exit : (world : World) → hart_state.world ≡ world → call_at hart machine ≡ Some Exit → SameResult
+      same_by_exit Host world_is requested =
+          let contradiction : true ≡ false = sym (offered Exit requested) ∙ ap (λ (world : World). is_offered world Exit) world_is in
           cc
-      by_exit (Enclave k) world_is_own requested =
-          with_saved_host k Same world_is_own
-          (λ host host_is_saved. same_by (answers_a.exits k host world_is_own host_is_saved requested)
-          (answers_b.exits k host world_is_own host_is_saved requested))
+      same_by_exit (Enclave slot) world_is requested =
+          with_saved_host slot SameResult world_is
+          (λ host host_is_saved. same_if_given (first_answers.exits slot host world_is host_is_saved requested)
+          (second_answers.exits slot host world_is host_is_saved requested))
 
       -- a call that the monitor does not offer to the running world has the status of an unknown call
       no_call : call_at hart machine ≡ None → status_at hart machine ≡ 0xFFFFFFFF
@@ -129,43 +142,48 @@ module _ (hart : ℕ) (machine : MonitoredMachine) (invariant : Invariant machin
       no_call requested = rw requested refl
 
       -- two results of a call with status 0 are equal
-      by_call : (o : Option Call) → call_at hart machine ≡ o → status_at hart machine ≡ 0 → Same
-      by_call None requested status_is_0 = absurd (unknown_status_not_zero (status_at hart machine) (no_call requested) status_is_0)
-      by_call (Some Create) requested status_is_0 = same_by (answers_a.creates requested status_is_0) (answers_b.creates requested status_is_0)
-      by_call (Some Destroy) requested status_is_0 = same_by (answers_a.destroys requested status_is_0) (answers_b.destroys requested status_is_0)
-      by_call (Some Measure) requested status_is_0 = same_by (answers_a.measures requested status_is_0) (answers_b.measures requested status_is_0)
-      by_call (Some Run) requested status_is_0 =
-          by_entry Run own_state.world refl (offered Run requested) (λ host. answers_a.runs host requested status_is_0)
-          (λ host. answers_b.runs host requested status_is_0) (λ k. refl)
-      by_call (Some Resume) requested status_is_0 =
-          by_entry Resume own_state.world refl (offered Resume requested) (λ host. answers_a.resumes host requested status_is_0)
-          (λ host. answers_b.resumes host requested status_is_0) (λ k. refl)
-      by_call (Some Stop) requested status_is_0 = by_stop own_state.world refl requested
-      by_call (Some Exit) requested status_is_0 = by_exit own_state.world refl requested
+      same_by_call : (maybe_call : Option Call) → call_at hart machine ≡ maybe_call → status_at hart machine ≡ 0 → SameResult
+      same_by_call None requested status_is_0 = absurd (unknown_status_not_zero (status_at hart machine) (no_call requested) status_is_0)
+      same_by_call (Some Create) requested status_is_0 =
+          same_if_given (first_answers.creates requested status_is_0) (second_answers.creates requested status_is_0)
+      same_by_call (Some Destroy) requested status_is_0 =
+          same_if_given (first_answers.destroys requested status_is_0) (second_answers.destroys requested status_is_0)
+      same_by_call (Some Measure) requested status_is_0 =
+          same_if_given (first_answers.measures requested status_is_0) (second_answers.measures requested status_is_0)
+      same_by_call (Some Run) requested status_is_0 =
+          same_by_entry Run hart_state.world refl (offered Run requested) (λ host. first_answers.runs host requested status_is_0)
+          (λ host. second_answers.runs host requested status_is_0) (λ slot. refl)
+      same_by_call (Some Resume) requested status_is_0 =
+          same_by_entry Resume hart_state.world refl (offered Resume requested) (λ host. first_answers.resumes host requested status_is_0)
+          (λ host. second_answers.resumes host requested status_is_0) (λ slot. refl)
+      same_by_call (Some Stop) requested status_is_0 = same_by_stop hart_state.world refl requested
+      same_by_call (Some Exit) requested status_is_0 = same_by_exit hart_state.world refl requested
 
       -- two results of an ecall from S are equal, whether the status is 0 or not
-      by_status : Same
-      by_status = elim (cases_eq (status_at hart machine) 0) [
-        | inl status_is_0 ↦ by_call (call_at hart machine) refl status_is_0
-        | inr refused ↦ same_by (answers_a.refuses refused) (answers_b.refuses refused)
+      same_by_status : SameResult
+      same_by_status = elim (cases_eq (status_at hart machine) 0) [
+        | inl status_is_0 ↦ same_by_call (call_at hart machine) refl status_is_0
+        | inr refused ↦ same_if_given (first_answers.refuses refused) (second_answers.refuses refused)
       ]
 
     -- two results of a trap are equal, whatever its cause
-    by_cause : (cause : Cause) → trap.cause ≡ cause → Same
-    by_cause (causes.Interrupt interrupt) cause_is = by_interrupt_of interrupt cause_is own_state.world refl
-    by_cause (causes.Exception EnvironmentCallFromS) cause_is =
-        by_status (a_obeys.answers trap traps cause_is) (b_obeys.answers trap traps_too cause_is)
-    by_cause (causes.Exception _) cause_is = by_redirection (ap is_redirected cause_is) own_state.world refl
+    same_by_cause : (cause : Cause) → trap.cause ≡ cause → SameResult
+    same_by_cause (causes.Interrupt interrupt) cause_is = same_by_interrupt interrupt cause_is hart_state.world refl
+    same_by_cause (causes.Exception EnvironmentCallFromS) cause_is =
+        same_by_status (first_obeys.answers trap traps cause_is) (second_obeys.answers trap other_traps cause_is)
+    same_by_cause (causes.Exception _) cause_is = same_by_redirection (ap is_redirected cause_is) hart_state.world refl
 
   -- two results of a step are equal, with or without a trap
-  by_trap : (o : Option Trap) → a.outcome.step.trap ≡ o → Same
-  by_trap None trapped =
-      same_by ((a_obeys.plain in_range).quiet trapped) ((b_obeys.plain in_range).quiet (sym (ap (λ (o : StepOutcome). o.trap) outcomes) ∙ trapped))
-  by_trap (Some trap) trapped = by_cause trap trapped (sym (ap (λ (o : StepOutcome). o.trap) outcomes) ∙ trapped) trap.cause refl
+  same_by_trap : (maybe_trap : Option Trap) → stepped.outcome.step.trap ≡ maybe_trap → SameResult
+  same_by_trap None trapped =
+      same_if_given ((first_obeys.plain in_range).quiet trapped) ((second_obeys.plain in_range).quiet
+      (sym (ap (λ (outcome : StepOutcome). outcome.trap) same_step_outcome) ∙ trapped))
+  same_by_trap (Some trap) trapped =
+      same_by_cause trap trapped (sym (ap (λ (outcome : StepOutcome). outcome.trap) same_step_outcome) ∙ trapped) trap.cause refl
 
   -- two results of one step that both obey the five laws are equal
-  pub same_steps : a ≡ b
-  same_steps = let same = by_trap a.outcome.step.trap refl in agree a b same.0 outcomes same.1
+  pub same_steps : stepped ≡ other_stepped
+  same_steps = let results = same_by_trap stepped.outcome.step.trap refl in results_equal stepped other_stepped results.0 same_step_outcome results.1
 
 -- proves that the five laws determine the step
 pub determined_law : DeterminedLaw

@@ -35,27 +35,34 @@ pub record SharedFor (slot : ℕ) (one other : Shared) : Type 0 where
 -- ---- what is accessible to an enclave is in its region or its window
 
 -- bytes that are accessible to an enclave are all in its region, or all in its window
-own_reach : (memory : List ℕ) (t : Slots) (slot : ℕ) (access : Access) (bytes : List ℕ) → is_accessible memory t (Enclave slot) access bytes ≡ true
-    → (list_all (has (region t slot)) bytes ≡ true) ⊎ (list_all (has (window t slot)) bytes ≡ true)
+accessible_in_region_or_window : (memory : List ℕ) (table : Slots) (slot : ℕ) (access : Access) (bytes : List ℕ)
+    → is_accessible memory table (Enclave slot) access bytes ≡ true
+    → (list_all (has (region table slot)) bytes ≡ true) ⊎ (list_all (has (window table slot)) bytes ≡ true)
 unfolding is_accessible
-own_reach memory t slot Fetch bytes reached = elim (or_cases _ _ reached) [ inl all_in_region ↦ inl all_in_region | inr contradiction ↦ cc ]
-own_reach memory t slot Read bytes reached = elim (or_cases _ _ reached) [
+accessible_in_region_or_window memory table slot Fetch bytes accessible =
+    elim (or_cases _ _ accessible) [ inl all_in_region ↦ inl all_in_region | inr contradiction ↦ cc ]
+accessible_in_region_or_window memory table slot Read bytes accessible = elim (or_cases _ _ accessible) [
   | inl all_in_region ↦ inl all_in_region
   | inr not_in_region ↦ elim (or_cases _ _ not_in_region) [ inl all_in_window ↦ inr all_in_window | inr contradiction ↦ cc ]
 ]
-own_reach memory t slot Write bytes reached = elim (or_cases _ _ reached) [
+accessible_in_region_or_window memory table slot Write bytes accessible = elim (or_cases _ _ accessible) [
   | inl all_in_region ↦ inl all_in_region
   | inr not_in_region ↦ elim (or_cases _ _ not_in_region) [ inl all_in_window ↦ inr all_in_window | inr contradiction ↦ cc ]
 ]
 
 -- each byte that is accessible to an enclave is in its region or window
-pub own_seen : (memory : List ℕ) (t : Slots) (slot : ℕ) (access : Access) (a n : ℕ)
-    → is_accessible memory t (Enclave slot) access (bytes_from a n) ≡ true
-    → IsSeen (is_beyond t slot) a n
-own_seen memory t slot access a n is_accessible_to_k b low high = elim (own_reach memory t slot access (bytes_from a n) is_accessible_to_k) [
-  | inl all_in_region ↦ not_from_true _ (or_left _ (has (window t slot) b) (each_from_all (has (region t slot)) a n all_in_region b low high))
-  | inr all_in_window ↦ not_from_true _ (or_right (has (region t slot) b) _ (each_from_all (has (window t slot)) a n all_in_window b low high))
-]
+pub own_seen : (memory : List ℕ) (table : Slots) (slot : ℕ) (access : Access) (start size : ℕ)
+    → is_accessible memory table (Enclave slot) access (bytes_from start size) ≡ true
+    → IsSeen (is_beyond table slot) start size
+own_seen memory table slot access start size is_accessible_to_slot byte from_start before_end =
+    elim (accessible_in_region_or_window memory table slot access (bytes_from start size) is_accessible_to_slot) [
+      | inl all_in_region ↦
+          let in_region = each_from_all (has (region table slot)) start size all_in_region byte from_start before_end in
+          not_from_true _ (or_left _ (has (window table slot) byte) in_region)
+      | inr all_in_window ↦
+          let in_window = each_from_all (has (window table slot)) start size all_in_window byte from_start before_end in
+          not_from_true _ (or_right (has (region table slot) byte) _ in_window)
+    ]
 
 -- ---- the bare step
 
@@ -65,15 +72,15 @@ module _ (slot : ℕ) (state : HartView) (view_invariant : HartViewInvariant sta
   accesses_own : (mode : Mode) (access : Access) (span : Span) → is_machine mode ≡ false → MayTouch (bare_machine state) mode access (Some span)
       → IsSeen (is_beyond state.shared.table slot) span.addr (bytes_in span.len)
   accesses_own mode access span mode_below_m may_touch =
-      let reached =
+      let accessible =
       sym (access_control_law state mode access span.addr span.len view_invariant (below_M mode mode_below_m) may_touch.0) ∙ may_touch.1 in
       own_seen state.shared.memory state.shared.table slot access span.addr (bytes_in span.len)
-      (subst (λ (w : World). is_accessible state.shared.memory state.shared.table w access
-      (bytes_from span.addr (bytes_in span.len)) ≡ true) runs_enclave reached)
+      (subst (λ (world : World). is_accessible state.shared.memory state.shared.table world access
+      (bytes_from span.addr (bytes_in span.len)) ≡ true) runs_enclave accessible)
 
   -- the bare step of the enclave has the same result over each memory with equal bytes in its region and window
-  memory_step : (n : List ℕ) → EqualOutside (is_beyond state.shared.table slot) state.shared.memory n
-      → StepAlike (is_beyond state.shared.table slot) (step (bare_machine state)) (step (record (bare_machine state) { memory = n }))
+  memory_step : (memory : List ℕ) → EqualOutside (is_beyond state.shared.table slot) state.shared.memory memory
+      → StepAlike (is_beyond state.shared.table slot) (step (bare_machine state)) (step (record (bare_machine state) { memory = memory }))
   memory_step = bare_step_alike (is_beyond state.shared.table slot) state view_invariant accesses_own
 
 -- ---- the trap handler
@@ -83,12 +90,13 @@ pub not_host : (P : Type 0) (slot : ℕ) (world : World) → world ≡ Enclave s
 not_host P slot world runs host = let contradiction : Host ≡ Enclave slot = sym host ∙ runs in cc
 
 -- a requested call is offered to the world that requests it
-asked_offered : (cause : Cause) (hart_state : HartState) (b : Bool) (call : Call) → is_call cause ≡ b → requested_by cause hart_state ≡ Some call
+asked_offered : (cause : Cause) (hart_state : HartState) (is_ecall : Bool) (call : Call) → is_call cause ≡ is_ecall
+    → requested_by cause hart_state ≡ Some call
     → is_offered hart_state.world call ≡ true
-asked_offered cause hart_state true call test_is requested =
-    let request_is : requested_call hart_state.world hart_state.hart.regs ≡ Some call = rw test_is at requested in
+asked_offered cause hart_state true call is_call_is requested =
+    let request_is : requested_call hart_state.world hart_state.hart.regs ≡ Some call = rw is_call_is at requested in
     (requested-is_offered hart_state.world hart_state.hart.regs call request_is).1
-asked_offered cause hart_state false call test_is requested = let contradiction : None ≡ Some call = rw test_is at requested in cc
+asked_offered cause hart_state false call is_call_is requested = let contradiction : None ≡ Some call = rw is_call_is at requested in cc
 
 -- create is offered to no enclave
 pub no_create : (P : Type 0) (slot : ℕ) (world : World) → world ≡ Enclave slot → is_offered world Create ≡ true → P
@@ -99,9 +107,9 @@ pub no_destroy : (P : Type 0) (slot : ℕ) (world : World) → world ≡ Enclave
 no_destroy P slot world runs offered = let contradiction : false ≡ true = rw runs at offered in cc
 
 -- no call that is offered to an enclave enters an enclave
-no_entering : (P : Type 0) (slot : ℕ) (cause : Cause) (hart_state : HartState) (o : Option Call) → hart_state.world ≡ Enclave slot
-    → requested_by cause hart_state ≡ o
-    → is_entering o ≡ true → P
+no_entering : (P : Type 0) (slot : ℕ) (cause : Cause) (hart_state : HartState) (maybe_call : Option Call) → hart_state.world ≡ Enclave slot
+    → requested_by cause hart_state ≡ maybe_call
+    → is_entering maybe_call ≡ true → P
 no_entering P slot cause hart_state None runs_enclave requested is_entry_call = cc
 no_entering P slot cause hart_state (Some call) runs_enclave requested is_entry_call =
     not_host P slot hart_state.world runs_enclave
@@ -113,28 +121,34 @@ pub record KeepsExtent (slot : ℕ) (before after : Slots) : Type 0 where
   pub window : window after slot ≡ window before slot
 
 -- a new state of `slot` changes neither the region nor the window of `slot`
-pub state_extent : (slots : Slots) (slot : ℕ) (o : Option SlotInfo) (state : EnclaveState) → length slots ≡ slot_count → slot_at slots slot ≡ o
-    → KeepsExtent slot slots (option_case o slots (λ info. with_slot slots slot (Some (record info { state = state }))))
-state_extent slots slot None state table_length slot_is = record { region = refl; window = refl }
-state_extent slots slot (Some info) state table_length slot_is =
-    let slot_in_range = live_in_range slots slot info table_length slot_is in
-    let at_k = at_written_slot slots slot (Some (record info { state = state })) (omega (arith, table_length, slot_in_range)) in
-    record { region = ap region_of at_k ∙ sym (ap region_of slot_is); window = ap window_of at_k ∙ sym (ap window_of slot_is) }
+pub state_extent : (same_context_count : Slots) (slot : ℕ) (maybe_info : Option SlotInfo) (state : EnclaveState)
+    → length same_context_count ≡ slot_count
+    → slot_at same_context_count slot ≡ maybe_info
+    → KeepsExtent slot same_context_count (option_case maybe_info same_context_count
+    (λ info. with_slot same_context_count slot (Some (record info { state = state }))))
+state_extent same_context_count slot None state table_length slot_is = record { region = refl; window = refl }
+state_extent same_context_count slot (Some info) state table_length slot_is =
+    let slot_in_range = live_in_range same_context_count slot info table_length slot_is in
+    let written_record =
+    at_written_slot same_context_count slot (Some (record info { state = state })) (omega (arith, table_length, slot_in_range)) in
+    record { region = ap region_of written_record ∙ sym (ap region_of slot_is); window = ap window_of written_record ∙ sym (ap window_of slot_is) }
 
 -- a new state of `slot` changes only the state in the record of `slot`
-pub state_slot : (slots : Slots) (slot : ℕ) (o : Option SlotInfo) (state : EnclaveState) → length slots ≡ slot_count → slot_at slots slot ≡ o
-    → slot_at (option_case o slots (λ info. with_slot slots slot (Some (record info { state = state })))) slot
-    ≡ option_case o None (λ info. Some (record info { state = state }))
-state_slot slots slot None state table_length slot_is = slot_is
-state_slot slots slot (Some info) state table_length slot_is =
-    let slot_in_range = live_in_range slots slot info table_length slot_is in
-    at_written_slot slots slot (Some (record info { state = state })) (omega (arith, table_length, slot_in_range))
+pub state_slot : (same_context_count : Slots) (slot : ℕ) (maybe_info : Option SlotInfo) (state : EnclaveState)
+    → length same_context_count ≡ slot_count
+    → slot_at same_context_count slot ≡ maybe_info
+    → slot_at (option_case maybe_info same_context_count (λ info. with_slot same_context_count slot (Some (record info { state = state })))) slot
+    ≡ option_case maybe_info None (λ info. Some (record info { state = state }))
+state_slot same_context_count slot None state table_length slot_is = slot_is
+state_slot same_context_count slot (Some info) state table_length slot_is =
+    let slot_in_range = live_in_range same_context_count slot info table_length slot_is in
+    at_written_slot same_context_count slot (Some (record info { state = state })) (omega (arith, table_length, slot_in_range))
 
 -- a write, successful or not, keeps the size of the memory
-pub put_size : (m : List ℕ) (address : ℕ) (bytes : List ℕ) (o : Option (List ℕ)) → write m address bytes ≡ o
-    → length (option_case o m (λ after. after)) ≡ length m
-put_size m address bytes None written = refl
-put_size m address bytes (Some after) written = length-write m address bytes after written
+pub put_size : (memory : List ℕ) (address : ℕ) (bytes : List ℕ) (maybe_bytes : Option (List ℕ)) → write memory address bytes ≡ maybe_bytes
+    → length (option_case maybe_bytes memory (λ after. after)) ≡ length memory
+put_size memory address bytes None written = refl
+put_size memory address bytes (Some after) written = length-write memory address bytes after written
 
 -- the hart runs enclave `slot`, and its step has this trap
 module _ (slot : ℕ) (hart_state : HartState) (runs_enclave : hart_state.world ≡ Enclave slot) (trap : Trap) where
@@ -142,7 +156,7 @@ module _ (slot : ℕ) (hart_state : HartState) (runs_enclave : hart_state.world 
   module _ (shared : Shared) (table_length : length shared.table ≡ slot_count) where
     -- the trap handler keeps the region and the window of `slot`, and the size of the memory
     abbrev Keeps : Handled → Type 0
-    Keeps h = KeepsExtent slot shared.table h.shared.table × (length h.shared.memory ≡ length shared.memory)
+    Keeps result = KeepsExtent slot shared.table result.shared.table × (length result.shared.memory ≡ length shared.memory)
 
     -- the trap handler on a hart that runs enclave `slot` keeps the region and window of `slot`, and the size of the memory
     pub handled_keeps : Keeps (handled hart_state shared trap)
@@ -158,8 +172,8 @@ module _ (slot : ℕ) (hart_state : HartState) (runs_enclave : hart_state.world 
       measures = λ requests no_refusal. (record { region = refl; window = refl }, put_size shared.memory _ _ (write shared.memory _ _) refl);
       enters = λ call requests is_entry_call from_host is_taken. not_host _ slot hart_state.world runs_enclave from_host;
       leaves =
-          let slot_is_k : running_slot hart_state.world ≡ slot = rw runs_enclave refl in
-          rw slot_is_k
+          let running_slot_is_slot : running_slot hart_state.world ≡ slot = rw runs_enclave refl in
+          rw running_slot_is_slot
           (state_extent shared.table slot (slot_at shared.table slot) (enclave_state_after trap.cause hart_state.hart.regs) table_length refl, refl);
       redirects = (record { region = refl; window = refl }, refl);
     })
@@ -167,11 +181,13 @@ module _ (slot : ℕ) (hart_state : HartState) (runs_enclave : hart_state.world 
   -- the trap handler on a hart that runs enclave `slot` reads the same from two shared states that are equal for `slot`
   handled_asked : (one other : Shared) → length one.contexts ≡ length other.contexts → SharedFor slot one other
       → SameRead hart_state trap.cause one other
-  handled_asked one other slots same_for_k = record {
-    table = same_for_k.table;
-    size = same_for_k.memory.size;
-    slots = slots;
-    measured = λ asked. no_create _ slot hart_state.world runs_enclave (asked_offered trap.cause hart_state (is_call trap.cause) Create refl asked);
+  handled_asked one other same_context_count same_for_slot = record {
+    table = same_for_slot.table;
+    size = same_for_slot.memory.size;
+    slots = same_context_count;
+    measured =
+        λ is_requested. no_create _ slot hart_state.world runs_enclave
+        (asked_offered trap.cause hart_state (is_call trap.cause) Create refl is_requested);
     entered = λ enters. no_entering _ slot trap.cause hart_state (requested_by trap.cause hart_state) runs_enclave refl enters;
   }
 
@@ -184,43 +200,48 @@ pub record OwnAlike (slot : ℕ) (one other : HartViewStepped) : Type 0 where
   pub shared : SharedFor slot one.state.shared other.state.shared
 
 -- a byte within the region or window of `slot` before is within them after, if `slot` keeps its region and window
-pub beyond_again : (slot : ℕ) (before after : Slots) (b : ℕ) → KeepsExtent slot before after → is_beyond after slot b ≡ false
-    → is_beyond before slot b ≡ false
-beyond_again slot old new b keeps byte_within =
-    ap₂ (λ (r w : Block). not (has r b || has w b)) (sym keeps.region) (sym keeps.window) ∙ byte_within
+pub beyond_again : (slot : ℕ) (before after : Slots) (byte : ℕ) → KeepsExtent slot before after → is_beyond after slot byte ≡ false
+    → is_beyond before slot byte ≡ false
+beyond_again slot before after byte keeps byte_within =
+    ap₂ (λ (region window : Block). not (has region byte || has window byte)) (sym keeps.region) (sym keeps.window) ∙ byte_within
 
 -- the end of the step, with or without a trap, is the same for both shared states
-trapped_own : (slot : ℕ) (outcome : StepOutcome) (o : Option Trap) (hart_state : HartState) (one other : Shared) → hart_state.world ≡ Enclave slot
+trapped_own : (slot : ℕ) (outcome : StepOutcome) (maybe_trap : Option Trap) (hart_state : HartState) (one other : Shared)
+    → hart_state.world ≡ Enclave slot
     → length one.table ≡ slot_count → length one.contexts ≡ length other.contexts → SharedFor slot one other
-    → OwnAlike slot (option_case o (unhandled outcome hart_state one) (λ trap. returned outcome (handled hart_state one trap)))
-    (option_case o (unhandled outcome hart_state other) (λ trap. returned outcome (handled hart_state other trap)))
-trapped_own slot outcome None hart_state one other runs_enclave count slots same_for_k = record {
+    → OwnAlike slot (option_case maybe_trap (unhandled outcome hart_state one) (λ trap. returned outcome (handled hart_state one trap)))
+    (option_case maybe_trap (unhandled outcome hart_state other) (λ trap. returned outcome (handled hart_state other trap)))
+trapped_own slot outcome None hart_state one other runs_enclave table_length same_context_count same_for_slot = record {
   outcome = refl;
   hart_state = refl;
-  shared = same_for_k;
+  shared = same_for_slot;
 }
-trapped_own slot outcome (Some trap) hart_state one other runs_enclave count slots same_for_k =
-    let work = handler_reads_law hart_state trap one other (handled_asked slot hart_state runs_enclave trap one other slots same_for_k) in
-    let keeps_one = handled_keeps slot hart_state runs_enclave trap one count in
-    let keeps_other = handled_keeps slot hart_state runs_enclave trap other (ap (λ (t : Slots). length t) (sym same_for_k.table) ∙ count) in
+trapped_own slot outcome (Some trap) hart_state one other runs_enclave table_length same_context_count same_for_slot =
+    let handler_results =
+    handler_reads_law hart_state trap one other (handled_asked slot hart_state runs_enclave trap one other same_context_count same_for_slot) in
+    let keeps_one = handled_keeps slot hart_state runs_enclave trap one table_length in
+    let keeps_other =
+    handled_keeps slot hart_state runs_enclave trap other (ap (λ (table : Slots). length table) (sym same_for_slot.table) ∙ table_length) in
     let returned_by : HartState → Next → HartState = λ hart_state next. record hart_state { hart = returned_to hart_state.hart next.pc next.mode } in
     let shows : Next → Outcome = λ next. record { step = outcome; entered = next.entered } in
     record {
-      outcome = ap shows work.next;
-      hart_state = ap₂ returned_by work.hart_state work.next;
+      outcome = ap shows handler_results.next;
+      hart_state = ap₂ returned_by handler_results.hart_state handler_results.next;
       shared = record {
-        table = work.shared.table;
+        table = handler_results.shared.table;
         memory = record {
-          size = keeps_one.1 ∙ same_for_k.memory.size ∙ sym keeps_other.1;
-          bytes = λ i not_hidden. work.shared.bytes i (same_for_k.memory.bytes i (beyond_again slot one.table _ _ keeps_one.0 not_hidden));
+          size = keeps_one.1 ∙ same_for_slot.memory.size ∙ sym keeps_other.1;
+          bytes =
+              λ index not_hidden. handler_results.shared.bytes index
+              (same_for_slot.memory.bytes index (beyond_again slot one.table _ _ keeps_one.0 not_hidden));
         };
-        context = work.shared.contexts slot same_for_k.context;
+        context = handler_results.shared.contexts slot same_for_slot.context;
       };
     }
 
 -- the view with this hart state and this shared state
-abbrev on : HartState → Shared → HartView
-on hart_state shared = record { hart_state = hart_state; shared = shared }
+abbrev view_of : HartState → Shared → HartView
+view_of hart_state shared = record { hart_state = hart_state; shared = shared }
 
 -- the bare step of the view
 abbrev stepped : HartState → Shared → Stepped
@@ -236,26 +257,27 @@ after_bare outcome hart_state shared =
     option_case outcome.trap (unhandled outcome hart_state shared) (λ trap. returned outcome (handled hart_state shared trap))
 
 -- a step of enclave `slot` has the same result on two shared states that are equal for `slot`
-pub step_own : (slot : ℕ) (hart_state : HartState) (one other : Shared) → HartViewInvariant (on hart_state one) → hart_state.world ≡ Enclave slot
+pub step_own : (slot : ℕ) (hart_state : HartState) (one other : Shared) → HartViewInvariant (view_of hart_state one) → hart_state.world ≡ Enclave slot
     → length one.contexts ≡ length other.contexts → SharedFor slot one other
-    → OwnAlike slot (monitored_step (on hart_state one)) (monitored_step (on hart_state other))
+    → OwnAlike slot (monitored_step (view_of hart_state one)) (monitored_step (view_of hart_state other))
 unfolding monitored_step
-step_own slot hart_state one other view_invariant_one runs_enclave slots same_for_k =
-    let bare_one = stepped hart_state one in
-    let bare_other = stepped hart_state other in
-    let alike = memory_step slot (on hart_state one) view_invariant_one runs_enclave other.memory same_for_k.memory in
+step_own slot hart_state one other view_invariant_one runs_enclave same_context_count same_for_slot =
+    let first_bare = stepped hart_state one in
+    let second_bare = stepped hart_state other in
+    let alike = memory_step slot (view_of hart_state one) view_invariant_one runs_enclave other.memory same_for_slot.memory in
     let shared : SharedFor slot (stored hart_state one) (stored hart_state other) =
-    record { table = same_for_k.table; memory = alike.memory; context = same_for_k.context } in
-    let base =
-    trapped_own slot bare_one.outcome bare_one.outcome.trap (record hart_state { hart = bare_one.state.hart }) (stored hart_state one)
+    record { table = same_for_slot.table; memory = alike.memory; context = same_for_slot.context } in
+    let ended =
+    trapped_own slot first_bare.outcome first_bare.outcome.trap (record hart_state { hart = first_bare.state.hart }) (stored hart_state one)
     (stored hart_state other) runs_enclave
-    view_invariant_one.valid.count slots shared in
-    let P : Hart → StepOutcome → Type 0 = λ hart outcome. OwnAlike slot
-    (after_bare bare_one.outcome (record hart_state { hart = bare_one.state.hart }) (stored hart_state one))
+    view_invariant_one.valid.count same_context_count shared in
+    let OwnAlikeFor : Hart → StepOutcome → Type 0 = λ hart outcome. OwnAlike slot
+    (after_bare first_bare.outcome (record hart_state { hart = first_bare.state.hart }) (stored hart_state one))
     (after_bare outcome (record hart_state { hart = hart }) (stored hart_state other)) in
-    subst (λ hart. P hart bare_other.outcome) (sym alike.hart) (subst (λ outcome. P bare_one.state.hart outcome) (sym alike.outcome) base)
+    subst (λ hart. OwnAlikeFor hart second_bare.outcome) (sym alike.hart)
+    (subst (λ outcome. OwnAlikeFor first_bare.state.hart outcome) (sym alike.outcome) ended)
 
 -- a world that passes the test `is_world_of slot` is not the host
 pub not_host_by : (slot : ℕ) (world : World) → is_world_of slot world ≡ true → is_host world ≡ false
 not_host_by slot Host runs_enclave = cc
-not_host_by slot (Enclave j) runs_enclave = refl
+not_host_by slot (Enclave other_slot) runs_enclave = refl

@@ -30,7 +30,7 @@ use Rattle.rv_monitor.proofs.EnclaveMemory.{handled_keeps, no_create, no_destroy
 
 -- the CSRs in the guest view, without those that a context switch replaces
 abbrev rest : CsrState → CsrState
-rest c = unswitched (guest_csrs c)
+rest csrs = unswitched (guest_csrs csrs)
 
 -- the saved context of the host, the CSRs that no context switch replaces, the table, the saved contexts and the size of memory are unchanged
 record StaysBehind (before : HartView) (after : HartViewStepped) : Type 0 where
@@ -41,21 +41,23 @@ record StaysBehind (before : HartView) (after : HartViewStepped) : Type 0 where
   size : length before.shared.memory ≡ length after.state.shared.memory
 
 -- the CSRs that no context switch replaces do not depend on what `machine_parts` leaves out
-rest_parts : (c : CsrState) → rest (machine_parts c) ≡ rest c
+rest_ignores_machine_parts : (csrs : CsrState) → rest (machine_parts csrs) ≡ rest csrs
 unfolding machine_parts
-rest_parts c = refl
+rest_ignores_machine_parts csrs = refl
 
 -- the hart of the view runs the enclave in `slot`
 module _ (slot : ℕ) (state : HartView) (view_invariant : HartViewInvariant state) (runs_enclave : state.hart_state.world ≡ Enclave slot) where
   -- a step of an enclave without a trap leaves unchanged what `StaysBehind` names
-  quiet_stays : (step (bare_machine state)).outcome.trap ≡ None → StaysBehind state (view_without_trap state)
-  quiet_stays no_trap =
+  stays_without_trap : (step (bare_machine state)).outcome.trap ≡ None → StaysBehind state (view_without_trap state)
+  stays_without_trap no_trap =
       let after = step (bare_machine state) in
-      let below = without_trap after.outcome.trap (StaysBelow state.hart_state.hart after.state.hart) no_trap
+      let parts_and_mode_kept = without_trap after.outcome.trap (StaysBelow state.hart_state.hart after.state.hart) no_trap
       (keeps_machine_parts (bare_machine state) view_invariant.hart.layout.mode view_invariant.hart.layout.mprv) in
       record {
         host = refl;
-        rest = sym (rest_parts state.hart_state.hart.csrs) ∙ ap rest (sym below.0) ∙ rest_parts after.state.hart.csrs;
+        rest =
+            sym (rest_ignores_machine_parts state.hart_state.hart.csrs) ∙ ap rest (sym parts_and_mode_kept.0)
+            ∙ rest_ignores_machine_parts after.state.hart.csrs;
         table = refl;
         contexts = refl;
         size = step_size (bare_machine state) after (confined (bare_machine state));
@@ -68,18 +70,18 @@ module _ (slot : ℕ) (state : HartView) (view_invariant : HartViewInvariant sta
     hart_state = hart_state_after state.hart_state trap
 
     -- if an enclave still runs after the trap handler, then what `StaysBehind` names is unchanged, except for the size of memory
-    abbrev Stays : Handled → Type 0
-    Stays h = is_host h.hart_state.world ≡ false
-        → (state.hart_state.host_context ≡ h.hart_state.host_context)
-        × (rest state.hart_state.hart.csrs ≡ rest (returned_to h.hart_state.hart h.next.pc h.next.mode).csrs)
-        × (state.shared.table ≡ h.shared.table) × (state.shared.contexts ≡ h.shared.contexts)
+    abbrev StaysIfRunning : Handled → Type 0
+    StaysIfRunning result = is_host result.hart_state.world ≡ false
+        → (state.hart_state.host_context ≡ result.hart_state.host_context)
+        × (rest state.hart_state.hart.csrs ≡ rest (returned_to result.hart_state.hart result.next.pc result.next.mode).csrs)
+        × (state.shared.table ≡ result.shared.table) × (state.shared.contexts ≡ result.shared.contexts)
 
     -- the result of the trap handler satisfies `Stays`
-    work_stays : Stays (handled hart_state state.shared trap)
+    handler_stays : StaysIfRunning (handled hart_state state.shared trap)
     unfolding measured left with_redirected_trap
-    work_stays =
+    handler_stays =
         let mprv = view_invariant.hart.layout.mprv in
-        handler_cases hart_state trap state.shared Stays (record {
+        handler_cases hart_state trap state.shared StaysIfRunning (record {
           answers = λ status result enclave_runs_after. (refl, rw mprv refl, refl, refl);
           creates =
               λ requests no_refusal. no_create _ slot hart_state.world runs_enclave
@@ -94,10 +96,10 @@ module _ (slot : ℕ) (state : HartView) (view_invariant : HartViewInvariant sta
         })
 
     -- a step with a trap after which an enclave still runs leaves unchanged what `StaysBehind` names
-    trapped_stays : is_host (returned outcome (handled hart_state state.shared trap)).state.hart_state.world ≡ false
+    stays_with_trap : is_host (returned outcome (handled hart_state state.shared trap)).state.hart_state.world ≡ false
         → StaysBehind state (returned outcome (handled hart_state state.shared trap))
-    trapped_stays enclave_runs_after =
-        let stays = work_stays enclave_runs_after in
+    stays_with_trap enclave_runs_after =
+        let stays = handler_stays enclave_runs_after in
         record {
           host = stays.0;
           rest = stays.1;
@@ -109,35 +111,35 @@ module _ (slot : ℕ) (state : HartView) (view_invariant : HartViewInvariant sta
   -- each step after which an enclave still runs leaves unchanged what `StaysBehind` names
   stays_behind : is_host (monitored_step state).state.hart_state.world ≡ false → StaysBehind state (monitored_step state)
   stays_behind = step_cases state (λ after. is_host after.state.hart_state.world ≡ false → StaysBehind state after)
-      (λ no_trap enclave_runs_after. quiet_stays no_trap) (λ trap trapped. trapped_stays trap (step (bare_machine state)).outcome)
+      (λ no_trap enclave_runs_after. stays_without_trap no_trap) (λ trap trapped. stays_with_trap trap (step (bare_machine state)).outcome)
 
   -- a byte is not both within the enclave's memory and beyond it
   not_within_and_beyond : (byte : ℕ) → is_beyond state.shared.table slot byte ≡ false → is_beyond state.shared.table slot byte ≡ true
-      → (P : Type 0) → P
-  not_within_and_beyond byte byte_within byte_beyond P = let contradiction : false ≡ true = sym byte_within ∙ byte_beyond in cc
+      → (Claim : Type 0) → Claim
+  not_within_and_beyond byte byte_within byte_beyond Claim = let contradiction : false ≡ true = sym byte_within ∙ byte_beyond in cc
 
   -- each byte that the enclave may write is in its region or window
-  writes_within : (address n byte : ℕ)
-      → is_accessible state.shared.memory state.shared.table state.hart_state.world Write (bytes_from address n) ≡ true
-      → address ≤ byte → byte < address + n → is_beyond state.shared.table slot byte ≡ false
-  writes_within address n byte may_write from_start before_end =
-      own_seen state.shared.memory state.shared.table slot Write address n
-      (subst (λ (w : World). is_accessible state.shared.memory state.shared.table w Write
-      (bytes_from address n) ≡ true) runs_enclave may_write) byte from_start before_end
+  writes_within : (address size byte : ℕ)
+      → is_accessible state.shared.memory state.shared.table state.hart_state.world Write (bytes_from address size) ≡ true
+      → address ≤ byte → byte < address + size → is_beyond state.shared.table slot byte ≡ false
+  writes_within address size byte may_write from_start before_end =
+      own_seen state.shared.memory state.shared.table slot Write address size
+      (subst (λ (world : World). is_accessible state.shared.memory state.shared.table world Write
+      (bytes_from address size) ≡ true) runs_enclave may_write) byte from_start before_end
 
   -- a byte that the step leaves unchanged, or changes as the enclave may, is unchanged if it is beyond the enclave's memory
   unchanged_beyond : (byte : ℕ) → is_beyond state.shared.table slot byte ≡ true
       → byte_at (monitored_step state).state.shared.memory byte ≡ byte_at state.shared.memory byte ⊎ IsChanged state (monitored_step state) byte
       → byte_at (monitored_step state).state.shared.memory byte ≡ byte_at state.shared.memory byte
-  unchanged_beyond byte byte_beyond (inl same) = same
+  unchanged_beyond byte byte_beyond (inl unchanged) = unchanged
   unchanged_beyond byte byte_beyond (inr (inl stored)) =
       not_within_and_beyond byte
       (writes_within stored.span.addr (bytes_in stored.span.len) byte stored.accessible stored.low stored.high) byte_beyond _
   unchanged_beyond byte byte_beyond (inr (inr call)) = elim call.change [
-    | inl cleared ↦
+    | inl destroyed ↦
         no_destroy _ slot state.hart_state.world runs_enclave
-        (requested-is_offered state.hart_state.world state.hart_state.hart.regs _ cleared.asked).1
-    | inr put ↦ not_within_and_beyond byte (writes_within byte 1 byte put.accessible (omega arith) (omega arith)) byte_beyond _
+        (requested-is_offered state.hart_state.world state.hart_state.hart.regs _ destroyed.asked).1
+    | inr measured ↦ not_within_and_beyond byte (writes_within byte 1 byte measured.accessible (omega arith) (omega arith)) byte_beyond _
   ]
 
   -- a step after which the enclave still runs changes no byte outside its region and window
@@ -150,7 +152,7 @@ module _ (slot : ℕ) (state : HartView) (view_invariant : HartViewInvariant sta
 -- the machine after the step differs only in the hart of the enclave and in the bytes of its region and window
 pub record Unchanged (enclave hart : ℕ) (before after : MonitoredMachine) : Type 0 where
   pub harts : count_of before ≡ count_of after
-  pub others : (j : ℕ) → j ≢ hart → hart_state_of j before ≡ hart_state_of j after
+  pub others : (other_hart : ℕ) → other_hart ≢ hart → hart_state_of other_hart before ≡ hart_state_of other_hart after
   pub behind : SameHostOn hart before after
   pub table : before.shared.table ≡ after.shared.table
   pub contexts : before.shared.contexts ≡ after.shared.contexts
@@ -165,56 +167,62 @@ one_unchanged enclave hart machine invariant runs_on_hart runs_after =
     let in_range = runs_inside enclave hart machine runs_on_hart in
     let state = hart_view hart machine in
     let view_invariant = hart_view_invariant hart machine invariant in_range in
-    let world = world_is_enclave enclave state.hart_state.world runs_on_hart in
+    let world_is = world_is_enclave enclave state.hart_state.world runs_on_hart in
     let step_is = step_of_view hart machine in_range in
     let after = monitored_step state in
     let enclave_runs_after : is_host after.state.hart_state.world ≡ false =
-    ap (λ (a : HartViewStepped). is_host a.state.hart_state.world) (sym step_is)
+    ap (λ (stepped : HartViewStepped). is_host stepped.state.hart_state.world) (sym step_is)
     ∙ not_host_by enclave (hart_state_of hart (step_of hart machine).state).world runs_after in
-    let stays = stays_behind enclave state view_invariant world enclave_runs_after in
-    let shared = ap (λ (a : HartViewStepped). a.state.shared) step_is in
-    let hart_state = ap (λ (a : HartViewStepped). a.state.hart_state) step_is in
-    let table = stays.table ∙ sym (ap (λ (s : Shared). s.table) shared) in
+    let stays = stays_behind enclave state view_invariant world_is enclave_runs_after in
+    let shared_is = ap (λ (stepped : HartViewStepped). stepped.state.shared) step_is in
+    let hart_state_is = ap (λ (stepped : HartViewStepped). stepped.state.hart_state) step_is in
+    let table_unchanged = stays.table ∙ sym (ap (λ (shared_is : Shared). shared_is.table) shared_is) in
     record {
       harts = sym (step_count hart machine);
       -- the table is unchanged, so a hart that the monitor reprograms for the table keeps its state
-      others = λ j distinct. elim (cases_lt j (count_of machine)) [
+      others = λ other_hart distinct. elim (cases_lt other_hart (count_of machine)) [
         | inl in_range ↦
-            sym (step_programmed hart j machine invariant distinct in_range ∙ ap (λ (t : Slots). reprogrammed t (hart_state_of j machine)) (sym table)
-            ∙ reprogramming_changes_nothing machine.shared.table (hart_state_of j machine) (invariant.hart_states j in_range))
+            sym (step_programmed hart other_hart machine invariant distinct in_range
+            ∙ ap (λ (table_unchanged : Slots). reprogrammed table_unchanged (hart_state_of other_hart machine)) (sym table_unchanged)
+            ∙ reprogramming_changes_nothing machine.shared.table (hart_state_of other_hart machine) (invariant.hart_states other_hart in_range))
         | inr past_last ↦
             let count = step_count hart machine in
-            past_hart_state machine.hart_states j past_last
-            ∙ sym (past_hart_state (step_of hart machine).state.hart_states j (omega (arith, count, past_last)))
+            past_hart_state machine.hart_states other_hart past_last
+            ∙ sym (past_hart_state (step_of hart machine).state.hart_states other_hart (omega (arith, count, past_last)))
       ];
       behind = record {
-        host = stays.host ∙ sym (ap (λ (s : HartState). s.host_context) hart_state);
-        rest = stays.rest ∙ sym (ap (λ (s : HartState). rest s.hart.csrs) hart_state);
+        host = stays.host ∙ sym (ap (λ (hart_state_is : HartState). hart_state_is.host_context) hart_state_is);
+        rest = stays.rest ∙ sym (ap (λ (hart_state_is : HartState). rest hart_state_is.hart.csrs) hart_state_is);
       };
-      table = table;
-      contexts = stays.contexts ∙ sym (ap (λ (s : Shared). s.contexts) shared);
-      size = stays.size ∙ sym (ap (λ (s : Shared). length s.memory) shared);
-      bytes = λ byte is_beyond_e. ap (λ (s : Shared). byte_at s.memory byte) shared ∙ own_bytes enclave state view_invariant world byte is_beyond_e;
+      table = table_unchanged;
+      contexts = stays.contexts ∙ sym (ap (λ (shared_is : Shared). shared_is.contexts) shared_is);
+      size = stays.size ∙ sym (ap (λ (shared_is : Shared). length shared_is.memory) shared_is);
+      bytes =
+          λ byte is_beyond_enclave. ap (λ (shared_is : Shared). byte_at shared_is.memory byte) shared_is
+          ∙ own_bytes enclave state view_invariant world_is byte is_beyond_enclave;
     }
 
 -- ---- bytes of equal memories
 
--- the byte at the address of index i is the byte at index i of the memory
-read_at : (m : List ℕ) (i : ℕ) → i < length m → byte_at m (ram_base + i) ≡ Some (slice_index m i)
-read_at m i in_range =
-    let inside : is_inside m (ram_base + i) 1 ≡ true =
-    and_from _ _ (le-leb ram_base (ram_base + i) (omega arith)) (le-leb (ram_base + i + 1) (ram_base + length m) (omega (arith, in_range))) in
-    let index_is : ram_base + i - ram_base ≡ i = omega arith in
-    byte_at-index m (ram_base + i) ∙ (rw (inside, index_is) refl)
+-- the byte at the address of an index is the byte of the memory at this index
+byte_at_index : (memory : List ℕ) (index : ℕ) → index < length memory → byte_at memory (ram_base + index) ≡ Some (slice_index memory index)
+byte_at_index memory index in_range =
+    let inside : is_inside memory (ram_base + index) 1 ≡ true =
+    and_from _ _ (le-leb ram_base (ram_base + index) (omega arith))
+    (le-leb (ram_base + index + 1) (ram_base + length memory) (omega (arith, in_range))) in
+    let index_is : ram_base + index - ram_base ≡ index = omega arith in
+    byte_at-index memory (ram_base + index) ∙ (rw (inside, index_is) refl)
 
--- two memories of the same size with equal bytes at the address of index i have equal bytes at index i
-pub index_same : (m n : List ℕ) (i : ℕ) → length m ≡ length n → byte_at n (ram_base + i) ≡ byte_at m (ram_base + i)
-    → slice_index m i ≡ slice_index n i
-index_same m n i same_length same = elim (cases_lt i (length m)) [
+-- two memories of the same size with equal bytes at the address of an index have equal bytes at this index
+pub index_same : (memory other_memory : List ℕ) (index : ℕ) → length memory ≡ length other_memory
+    → byte_at other_memory (ram_base + index) ≡ byte_at memory (ram_base + index)
+    → slice_index memory index ≡ slice_index other_memory index
+index_same memory other_memory index same_length bytes_equal = elim (cases_lt index (length memory)) [
   | inl in_range ↦
-      let equal : Some (slice_index n i) ≡ Some (slice_index m i) =
-      sym (read_at n i (omega (arith, same_length, in_range))) ∙ same ∙ read_at m i in_range in
-      let same_element : slice_index n i ≡ slice_index m i = cc in
+      let some_bytes_equal : Some (slice_index other_memory index) ≡ Some (slice_index memory index) =
+      sym (byte_at_index other_memory index (omega (arith, same_length, in_range))) ∙ bytes_equal ∙ byte_at_index memory index in_range in
+      let same_element : slice_index other_memory index ≡ slice_index memory index = cc in
       sym same_element
-  | inr past_last ↦ get_or_past {X = ℕ} m i 0 past_last ∙ sym (get_or_past {X = ℕ} n i 0 (omega (arith, same_length, past_last)))
+  | inr past_last ↦
+      get_or_past {X = ℕ} memory index 0 past_last ∙ sym (get_or_past {X = ℕ} other_memory index 0 (omega (arith, same_length, past_last)))
 ]

@@ -43,616 +43,704 @@ use Rattle.rv_monitor.proofs.Availability.{host_is}
 -- ---- the accesses that the PMP entries of an enclave permit
 
 -- Two results that are Ok under equal tests give the same value. Each case holds by computation, or has a false premise.
-same_value_by_tests : {A : Type 0} (b c : Bool) (f h : AccessFault) (x : A) → b ≡ c
-    → given (if b then Ok x else Err f) ≡ given (if c then Ok x else Err h)
-same_value_by_tests true true f h x same_tests = refl
-same_value_by_tests false false f h x same_tests = refl
-same_value_by_tests true false f h x same_tests = cc
-same_value_by_tests false true f h x same_tests = cc
+same_value_if_tests_agree : {A : Type 0} (test other_test : Bool) (fault other_fault : AccessFault) (value : A) → test ≡ other_test
+    → given (if test then Ok value else Err fault) ≡ given (if other_test then Ok value else Err other_fault)
+same_value_if_tests_agree true true fault other_fault value same_tests = refl
+same_value_if_tests_agree false false fault other_fault value same_tests = refl
+same_value_if_tests_agree true false fault other_fault value same_tests = cc
+same_value_if_tests_agree false true fault other_fault value same_tests = cc
 
--- two accesses whose verdicts agree give the same value
-same_value : {A : Type 0} (o : Option (List ℕ)) (v w : Verdict) (f : List ℕ → A) (e : AccessFault) → (is_some o ≡ true → permits v ≡ permits w)
-    → given (option_case o (Err e) (λ bytes. where_permitted v (f bytes))) ≡ given (option_case o (Err e) (λ bytes. where_permitted w (f bytes)))
-same_value None v w f e same_verdicts = refl
-same_value (Some bytes) v w f e same_verdicts = same_value_by_tests (permits v) (permits w) _ _ (f bytes) (same_verdicts refl)
+-- If two PMP verdicts agree on permission, then an access under both verdicts gives the same value. `maybe_bytes` is None outside memory.
+same_value_if_verdicts_agree : {A : Type 0} (maybe_bytes : Option (List ℕ)) (verdict other_verdict : Verdict) (result_of : List ℕ → A)
+    (fault : AccessFault)
+    → (is_some maybe_bytes ≡ true → permits verdict ≡ permits other_verdict)
+    → given (option_case maybe_bytes (Err fault) (λ bytes. where_permitted verdict (result_of bytes))) ≡ given
+    (option_case maybe_bytes (Err fault) (λ bytes. where_permitted other_verdict (result_of bytes)))
+same_value_if_verdicts_agree None verdict other_verdict result_of fault same_verdicts = refl
+same_value_if_verdicts_agree (Some bytes) verdict other_verdict result_of fault same_verdicts =
+    same_value_if_tests_agree (permits verdict) (permits other_verdict) _ _ (result_of bytes) (same_verdicts refl)
 
 -- the same bytes are accessible to the enclaves of two slots with equal records
-same_access : (memory : List ℕ) (t s : Slots) (i j : ℕ) (access : Access) (bytes : List ℕ) → slot_at t i ≡ slot_at s j
-    → is_accessible memory t (Enclave i) access bytes ≡ is_accessible memory s (Enclave j) access bytes
+same_accessibility : (memory : List ℕ) (table other_table : Slots) (slot other_slot : ℕ) (access : Access) (bytes : List ℕ)
+    → slot_at table slot ≡ slot_at other_table other_slot
+    → is_accessible memory table (Enclave slot) access bytes ≡ is_accessible memory other_table (Enclave other_slot) access bytes
 unfolding is_accessible
-same_access memory t s i j Fetch bytes same_slot = rw same_slot refl
-same_access memory t s i j Read bytes same_slot = rw same_slot refl
-same_access memory t s i j Write bytes same_slot = rw same_slot refl
+same_accessibility memory table other_table slot other_slot Fetch bytes same_slot = rw same_slot refl
+same_accessibility memory table other_table slot other_slot Read bytes same_slot = rw same_slot refl
+same_accessibility memory table other_table slot other_slot Write bytes same_slot = rw same_slot refl
 
--- two tests that are equal for each number hold for all numbers of the same lists
-list_all_same : (p q : ℕ → Bool) (xs : List ℕ) → ((x : ℕ) → p x ≡ q x) → list_all p xs ≡ list_all q xs
-list_all_same p q [] same_tests = refl
-list_all_same p q (x ∷ xs) same_tests = ap₂ (λ (a b : Bool). a && b) (same_tests x) (list_all_same p q xs same_tests)
+-- if two tests agree on each number, then they agree on whether all numbers of a list pass
+equal_tests_hold_alike : (test other_test : ℕ → Bool) (numbers : List ℕ) → ((value : ℕ) → test value ≡ other_test value)
+    → list_all test numbers ≡ list_all other_test numbers
+equal_tests_hold_alike test other_test [] same_tests = refl
+equal_tests_hold_alike test other_test (value ∷ numbers) same_tests =
+    ap₂ (λ (a test : Bool). a && test) (same_tests value) (equal_tests_hold_alike test other_test numbers same_tests)
 
 -- a read that returns bytes reads only bytes inside memory
-some_inside : (m : List ℕ) (address count : ℕ) → is_some (read m address count) ≡ true → is_inside m address count ≡ true
-some_inside m address count returns_bytes = elim (cases_Bool (is_inside m address count)) [
+read_is_inside : (memory : List ℕ) (address count : ℕ) → is_some (read memory address count) ≡ true → is_inside memory address count ≡ true
+read_is_inside memory address count returns_bytes = elim (cases_Bool (is_inside memory address count)) [
   | inl inside ↦ inside
   | inr outside ↦
-      let contradiction : false ≡ true = ap (λ (o : Option (List ℕ)). is_some o) (sym (read-none m address count outside)) ∙ returns_bytes in
+      let contradiction : false ≡ true =
+      ap (λ (maybe_bytes : Option (List ℕ)). is_some maybe_bytes) (sym (read-none memory address count outside)) ∙ returns_bytes in
       cc
 ]
 
 -- a write that succeeds writes only bytes inside memory
-write_inside : (m : List ℕ) (address : ℕ) (bytes : List ℕ) → is_some (write m address bytes) ≡ true → is_inside m address (length bytes) ≡ true
-write_inside m address bytes succeeds = elim (cases_Bool (is_inside m address (length bytes))) [
+write_is_inside : (memory : List ℕ) (address : ℕ) (bytes : List ℕ) → is_some (write memory address bytes) ≡ true
+    → is_inside memory address (length bytes) ≡ true
+write_is_inside memory address bytes succeeds = elim (cases_Bool (is_inside memory address (length bytes))) [
   | inl inside ↦ inside
   | inr outside ↦
-      let contradiction : false ≡ true = ap (λ (o : Option (List ℕ)). is_some o) (sym (write-none m address bytes outside)) ∙ succeeds in
+      let contradiction : false ≡ true =
+      ap (λ (maybe_bytes : Option (List ℕ)). is_some maybe_bytes) (sym (write-none memory address bytes outside)) ∙ succeeds in
       cc
 ]
 
 -- the view with this hart state and this shared state
-abbrev on : HartState → Shared → HartView
-on hart_state shared = record { hart_state = hart_state; shared = shared }
+abbrev view_of : HartState → Shared → HartView
+view_of hart_state shared = record { hart_state = hart_state; shared = shared }
 
--- the enclaves i and j run on two harts over equal memories, and have equal records and equal harts, as S and U see them
-record Alike (i j : ℕ) (a b : HartView) : Type 0 where
-  first : a.hart_state.world ≡ Enclave i
-  second : b.hart_state.world ≡ Enclave j
-  hart : below_m_hart a.hart_state.hart ≡ below_m_hart b.hart_state.hart
-  slot : slot_at a.shared.table i ≡ slot_at b.shared.table j
-  memory : a.shared.memory ≡ b.shared.memory
+-- The enclaves of two slots run on two harts over equal memories. Their records are equal, and their harts are equal as S and U see them.
+record Alike (first_slot second_slot : ℕ) (first_view second_view : HartView) : Type 0 where
+  first : first_view.hart_state.world ≡ Enclave first_slot
+  second : second_view.hart_state.world ≡ Enclave second_slot
+  hart : below_m_hart first_view.hart_state.hart ≡ below_m_hart second_view.hart_state.hart
+  slot : slot_at first_view.shared.table first_slot ≡ slot_at second_view.shared.table second_slot
+  memory : first_view.shared.memory ≡ second_view.shared.memory
 
--- the enclaves i and j run on two harts with equal memories, records and harts, as S and U see them
-module _ (i j : ℕ) (s t : HartState) (one two : Shared) (view_invariant_one : HartViewInvariant (on s one))
-    (view_invariant_two : HartViewInvariant (on t two))
-    (alike : Alike i j (on s one) (on t two)) where
+-- the enclaves of two slots run on two harts with equal memories and equal records, and with equal harts as S and U see them
+module _ (first_slot second_slot : ℕ) (first_state second_state : HartState) (first_shared second_shared : Shared)
+    (view_invariant_one : HartViewInvariant (view_of first_state first_shared))
+    (view_invariant_two : HartViewInvariant (view_of second_state second_shared))
+    (alike : Alike first_slot second_slot (view_of first_state first_shared) (view_of second_state second_shared)) where
   -- both harts are in the same mode
-  mode_is : s.hart.mode ≡ t.hart.mode
-  mode_is = ap (λ (x : Hart). x.mode) alike.hart
+  modes_equal : first_state.hart.mode ≡ second_state.hart.mode
+  modes_equal = ap (λ (hart : Hart). hart.mode) alike.hart
 
   -- both harts have the same pc
-  pc_is : s.hart.pc ≡ t.hart.pc
-  pc_is = ap (λ (x : Hart). x.pc) alike.hart
+  pcs_equal : first_state.hart.pc ≡ second_state.hart.pc
+  pcs_equal = ap (λ (hart : Hart). hart.pc) alike.hart
 
   -- the PMP entries of both harts permit the same accesses
-  permits_same : (mode : Mode) (access : Access) (address : ℕ) (width : Width) → is_machine mode ≡ false
-      → is_inside one.memory address (bytes_in width) ≡ true
-      → permits (verdict s.hart.csrs.pmp mode access (bytes_from address (bytes_in width)))
-      ≡ permits (verdict t.hart.csrs.pmp mode access (bytes_from address (bytes_in width)))
-  permits_same mode access address width mode_below_m inside =
+  same_permissions : (mode : Mode) (access : Access) (address : ℕ) (width : Width) → is_machine mode ≡ false
+      → is_inside first_shared.memory address (bytes_in width) ≡ true
+      → permits (verdict first_state.hart.csrs.pmp mode access (bytes_from address (bytes_in width)))
+      ≡ permits (verdict second_state.hart.csrs.pmp mode access (bytes_from address (bytes_in width)))
+  same_permissions mode access address width mode_below_m inside =
       let bytes = bytes_from address (bytes_in width) in
-      let inside_too : is_inside two.memory address (bytes_in width) ≡ true =
-      ap (λ (m : List ℕ). is_inside m address (bytes_in width)) (sym alike.memory) ∙ inside in
-      access_control_law (on s one) mode access address width view_invariant_one (below_M mode mode_below_m) inside
-      ∙ ap (λ (w : World). is_accessible one.memory one.table w access bytes) alike.first
-      ∙ same_access one.memory one.table two.table i j access bytes alike.slot
-      ∙ ap (λ (m : List ℕ). is_accessible m two.table (Enclave j) access bytes) alike.memory
-      ∙ ap (λ (w : World). is_accessible two.memory two.table w access bytes) (sym alike.second)
-      ∙ sym (access_control_law (on t two) mode access address width view_invariant_two (below_M mode mode_below_m) inside_too)
+      let inside_second : is_inside second_shared.memory address (bytes_in width) ≡ true =
+      ap (λ (memory : List ℕ). is_inside memory address (bytes_in width)) (sym alike.memory) ∙ inside in
+      access_control_law (view_of first_state first_shared) mode access address width view_invariant_one (below_M mode mode_below_m) inside
+      ∙ ap (λ (world : World). is_accessible first_shared.memory first_shared.table world access bytes) alike.first
+      ∙ same_accessibility first_shared.memory first_shared.table second_shared.table first_slot second_slot access bytes alike.slot
+      ∙ ap (λ (memory : List ℕ). is_accessible memory second_shared.table (Enclave second_slot) access bytes) alike.memory
+      ∙ ap (λ (world : World). is_accessible second_shared.memory second_shared.table world access bytes) (sym alike.second)
+      ∙ sym (access_control_law (view_of second_state second_shared) mode access address width view_invariant_two
+      (below_M mode mode_below_m) inside_second)
 
   -- the mode of the first hart is below M
-  below : is_machine s.hart.mode ≡ false
-  below = view_invariant_one.hart.layout.mode
+  first_below_m : is_machine first_state.hart.mode ≡ false
+  first_below_m = view_invariant_one.hart.layout.mode
 
   -- loads and stores of the first hart are in the mode of this hart
-  data_one : data_mode s.hart ≡ s.hart.mode
-  data_one = let mprv_is_0 = view_invariant_one.hart.layout.mprv in rw mprv_is_0 refl
+  first_data_mode : data_mode first_state.hart ≡ first_state.hart.mode
+  first_data_mode = let mprv_is_0 = view_invariant_one.hart.layout.mprv in rw mprv_is_0 refl
 
-  -- loads and stores of the second hart are in the same mode
-  data_two : data_mode t.hart ≡ s.hart.mode
-  data_two = let mprv_is_0 = view_invariant_two.hart.layout.mprv in let mode = mode_is in rw mprv_is_0 (sym mode)
+  -- loads and stores of the second hart are in the mode of the first hart
+  second_data_mode : data_mode second_state.hart ≡ first_state.hart.mode
+  second_data_mode = let mprv_is_0 = view_invariant_two.hart.layout.mprv in let mode = modes_equal in rw mprv_is_0 (sym mode)
 
   -- fetches, loads and stores of both machines have the same results
-  access_same : SameAccess (bare_machine (on s one)) (bare_machine (on t two))
-  access_same =
-      let entries_one = s.hart.csrs.pmp in
-      let entries_other = t.hart.csrs.pmp in
-      let mode = s.hart.mode in
+  same_access_results : SameAccess (bare_machine (view_of first_state first_shared)) (bare_machine (view_of second_state second_shared))
+  same_access_results =
+      let first_entries = first_state.hart.csrs.pmp in
+      let second_entries = second_state.hart.csrs.pmp in
+      let mode = first_state.hart.mode in
       record {
         -- only the timer interrupt is enabled, and both harts have the same timer line
-        pending = waits s.hart.csrs s.hart.mode below (view_invariant_one.hart.layout.mie ∙ ap mie_of alike.first)
-            ∙ ap (λ (x : Hart). timer_or_none x.csrs.timer) alike.hart
-            ∙ sym (waits t.hart.csrs t.hart.mode view_invariant_two.hart.layout.mode (view_invariant_two.hart.layout.mie ∙ ap mie_of alike.second));
+        pending = waits first_state.hart.csrs first_state.hart.mode first_below_m (view_invariant_one.hart.layout.mie ∙ ap mie_of alike.first)
+            ∙ ap (λ (hart : Hart). timer_or_none hart.csrs.timer) alike.hart
+            ∙ sym (waits second_state.hart.csrs second_state.hart.mode view_invariant_two.hart.layout.mode
+            (view_invariant_two.hart.layout.mie ∙ ap mie_of alike.second));
         -- both machines have the same permissions for the bytes of an access
         fetched =
-            let pc = s.hart.pc in
-            same_value (read one.memory pc (bytes_in Word)) (verdict entries_one mode Fetch (bytes_from pc (bytes_in Word)))
-            (verdict entries_other mode Fetch (bytes_from pc (bytes_in Word))) number_of_bytes _
-            (λ some_read. permits_same mode Fetch pc Word below (some_inside one.memory pc (bytes_in Word) some_read))
-            ∙ ap (λ (m : List ℕ). given (fetched m entries_other mode pc)) alike.memory
-            ∙ ap₂ (λ (o : Mode) (a : ℕ). given (fetched two.memory entries_other o a)) mode_is pc_is;
+            let pc = first_state.hart.pc in
+            same_value_if_verdicts_agree (read first_shared.memory pc (bytes_in Word))
+            (verdict first_entries mode Fetch (bytes_from pc (bytes_in Word)))
+            (verdict second_entries mode Fetch (bytes_from pc (bytes_in Word))) number_of_bytes _
+            (λ some_read. same_permissions mode Fetch pc Word first_below_m (read_is_inside first_shared.memory pc (bytes_in Word) some_read))
+            ∙ ap (λ (memory : List ℕ). given (fetched memory second_entries mode pc)) alike.memory
+            ∙ ap₂ (λ (o : Mode) (first_view : ℕ). given (fetched second_shared.memory second_entries o first_view)) modes_equal pcs_equal;
         loaded = λ address width.
-            ap (λ (o : Mode). given (loaded one.memory entries_one o address width)) data_one
-            ∙ same_value (read one.memory address (bytes_in width)) (verdict entries_one mode Read (bytes_from address (bytes_in width)))
-            (verdict entries_other mode Read (bytes_from address (bytes_in width))) number_of_bytes _
-            (λ some_read. permits_same mode Read address width below (some_inside one.memory address (bytes_in width) some_read))
-            ∙ ap (λ (m : List ℕ). given (loaded m entries_other mode address width)) alike.memory
-            ∙ ap (λ (o : Mode). given (loaded two.memory entries_other o address width)) (sym data_two);
+            ap (λ (mode : Mode). given (loaded first_shared.memory first_entries mode address width)) first_data_mode
+            ∙ same_value_if_verdicts_agree (read first_shared.memory address (bytes_in width))
+            (verdict first_entries mode Read (bytes_from address (bytes_in width)))
+            (verdict second_entries mode Read (bytes_from address (bytes_in width))) number_of_bytes _
+            (λ some_read. same_permissions mode Read address width first_below_m
+            (read_is_inside first_shared.memory address (bytes_in width) some_read))
+            ∙ ap (λ (memory : List ℕ). given (loaded memory second_entries mode address width)) alike.memory
+            ∙ ap (λ (mode : Mode). given (loaded second_shared.memory second_entries mode address width)) (sym second_data_mode);
         stored = λ address width value.
             let bytes = bytes_of (bytes_in width) value in
-            ap (λ (o : Mode). given (stored one.memory entries_one o address width value)) data_one
-            ∙ same_value (write one.memory address bytes) (verdict entries_one mode Write (bytes_from address (bytes_in width)))
-            (verdict entries_other mode Write (bytes_from address (bytes_in width))) (λ after. after) _
-            (λ some_write. permits_same mode Write address width below
-            (ap (λ (n : ℕ). is_inside one.memory address n) (sym (length-bytes_of width value)) ∙ write_inside one.memory address bytes some_write))
-            ∙ ap (λ (m : List ℕ). given (stored m entries_other mode address width value)) alike.memory
-            ∙ ap (λ (o : Mode). given (stored two.memory entries_other o address width value)) (sym data_two);
+            ap (λ (mode : Mode). given (stored first_shared.memory first_entries mode address width value)) first_data_mode
+            ∙ same_value_if_verdicts_agree (write first_shared.memory address bytes)
+            (verdict first_entries mode Write (bytes_from address (bytes_in width)))
+            (verdict second_entries mode Write (bytes_from address (bytes_in width))) (λ after. after) _
+            (λ some_write. same_permissions mode Write address width first_below_m
+            (ap (λ (n : ℕ). is_inside first_shared.memory address n) (sym (length-bytes_of width value))
+            ∙ write_is_inside first_shared.memory address bytes some_write))
+            ∙ ap (λ (memory : List ℕ). given (stored memory second_entries mode address width value)) alike.memory
+            ∙ ap (λ (mode : Mode). given (stored second_shared.memory second_entries mode address width value)) (sym second_data_mode);
       }
 
   -- the bare steps of both machines are equal, as S and U see them
-  bare_same : SameBelowM (step (bare_machine (on s one))) (step (bare_machine (on t two)))
-  bare_same =
-      depends_below_m (bare_machine (on s one))
-      (bare_machine (on t two)) below view_invariant_one.hart.layout.mprv alike.hart alike.memory access_same
+  bare_steps_alike : SameBelowM (step (bare_machine (view_of first_state first_shared))) (step (bare_machine (view_of second_state second_shared)))
+  bare_steps_alike =
+      depends_below_m (bare_machine (view_of first_state first_shared))
+      (bare_machine (view_of second_state second_shared)) first_below_m view_invariant_one.hart.layout.mprv alike.hart alike.memory
+      same_access_results
 
-  -- S may store the same bytes on both harts
-  may_same : (byte : ℕ) → may_store one.memory s.hart.csrs.pmp byte ≡ may_store one.memory t.hart.csrs.pmp byte
-  may_same byte = elim (cases_Bool (is_inside one.memory byte 1)) [
+  -- software in S may store the same bytes on both harts
+  same_may_store : (byte : ℕ) → may_store first_shared.memory first_state.hart.csrs.pmp byte
+      ≡ may_store first_shared.memory second_state.hart.csrs.pmp byte
+  same_may_store byte = elim (cases_Bool (is_inside first_shared.memory byte 1)) [
     | inl inside ↦
-        let permits_byte = permits_same S Write byte Byte refl inside in
-        ap (λ (b : Bool). is_inside one.memory byte 1 && b) permits_byte
+        let permits_byte = same_permissions S Write byte Byte refl inside in
+        ap (λ (second_view : Bool). is_inside first_shared.memory byte 1 && second_view) permits_byte
     | inr outside ↦ rw outside refl
   ]
 
-  -- S may store a measurement at the same addresses on both harts
-  may_all_same : (address : ℕ) → may_store_all one.memory s.hart.csrs.pmp address ≡ may_store_all two.memory t.hart.csrs.pmp address
+  -- software in S may store the 32 bytes of a measurement at the same addresses on both harts
+  same_may_store_all : (address : ℕ) → may_store_all first_shared.memory first_state.hart.csrs.pmp address
+      ≡ may_store_all second_shared.memory second_state.hart.csrs.pmp address
   unfolding may_store_all
-  may_all_same address =
-      list_all_same (may_store one.memory s.hart.csrs.pmp) (may_store one.memory t.hart.csrs.pmp) (range_with_len address 32) may_same
-      ∙ ap (λ (m : List ℕ). list_all (may_store m t.hart.csrs.pmp) (range_with_len address 32)) alike.memory
+  same_may_store_all address =
+      equal_tests_hold_alike (may_store first_shared.memory first_state.hart.csrs.pmp) (may_store first_shared.memory second_state.hart.csrs.pmp)
+      (range_with_len address 32) same_may_store
+      ∙ ap (λ (memory : List ℕ). list_all (may_store memory second_state.hart.csrs.pmp) (range_with_len address 32)) alike.memory
 
 -- ---- two steps of a hart: equal outcomes, and the same state again unless the enclaves exit
 
--- Two steps have equal outcomes. After them both harts run the host, or the enclaves i and j are alike.
-record StepAlike (i j : ℕ) (a b : HartViewStepped) : Type 0 where
-  outcome : a.outcome ≡ b.outcome
-  hosts : is_host a.state.hart_state.world ≡ is_host b.state.hart_state.world
-  runs : is_host a.state.hart_state.world ≡ false → Alike i j a.state b.state
+-- Two steps have equal outcomes. Afterwards both harts run the host, or their enclaves are alike.
+record StepAlike (first_slot second_slot : ℕ) (first_step second_step : HartViewStepped) : Type 0 where
+  outcome : first_step.outcome ≡ second_step.outcome
+  hosts : is_host first_step.state.hart_state.world ≡ is_host second_step.state.hart_state.world
+  runs : is_host first_step.state.hart_state.world ≡ false → Alike first_slot second_slot first_step.state second_step.state
 
 -- ---- the trap handler
 
--- the CSRs c with the parts of M-mode from d
+-- CSRs in which the parts that only M-mode uses come from the CSRs `m_csrs`
 abbrev with_m_csrs : CsrState → CsrState → CsrState
-with_m_csrs c d = record c {
-  mie = d.mie;
-  mtvec = d.mtvec;
-  mcountinhibit = d.mcountinhibit;
-  mscratch = d.mscratch;
-  software_pending = d.software_pending;
-  pmp = d.pmp;
-  mcycle = d.mcycle;
-  minstret = d.minstret;
+with_m_csrs csrs m_csrs = record csrs {
+  mie = m_csrs.mie;
+  mtvec = m_csrs.mtvec;
+  mcountinhibit = m_csrs.mcountinhibit;
+  mscratch = m_csrs.mscratch;
+  software_pending = m_csrs.software_pending;
+  pmp = m_csrs.pmp;
+  mcycle = m_csrs.mcycle;
+  minstret = m_csrs.minstret;
 }
 
--- the hart with the parts of M-mode from d, at another pc
+-- the hart with the M-mode parts of the CSRs `m_csrs`, at another pc
 abbrev with_m_parts : CsrState → ℕ → Hart → Hart
-with_m_parts d pc hart = record hart { csrs = with_m_csrs hart.csrs d; pc = pc }
+with_m_parts m_csrs pc hart = record hart { csrs = with_m_csrs hart.csrs m_csrs; pc = pc }
 
--- the state of a hart that runs enclave k, with this saved context of the host
+-- the state of a hart that runs the enclave of the slot, with this saved context of the host
 abbrev running : ℕ → Option Context → Hart → HartState
-running k host hart = record { hart = hart; host_context = host; world = Enclave k }
+running slot host hart = record { hart = hart; host_context = host; world = Enclave slot }
 
--- The enclaves i and j have the same trap on two harts. The second hart differs from `hart` in the parts of M-mode, which d has, and in the pc.
-module _ (i j : ℕ) (hart : Hart) (d : CsrState) (pc : ℕ) (g h : Option Context) (one two : Shared) (o : StepOutcome)
-    (mprv : hart.csrs.mstatus.mprv ≡ false) (slot : slot_at one.table i ≡ slot_at two.table j) (memory : one.memory ≡ two.memory)
-    (may_store_same : may_store_all one.memory hart.csrs.pmp (register hart.regs 11) ≡ may_store_all two.memory d.pmp (register hart.regs 11)) where
-  -- the first hart state at the trap, which runs enclave i
-  abbrev hart_state_i : HartState
-  hart_state_i = running i g hart
+-- The enclaves of two slots have the same trap on two harts. The first hart is `hart`. The second hart has the M-mode parts of `m_csrs`, and another
+-- pc.
+module _ (first_slot second_slot : ℕ) (hart : Hart) (m_csrs : CsrState) (pc : ℕ) (first_host second_host : Option Context)
+    (first_shared second_shared : Shared) (step_outcome : StepOutcome)
+    (mprv : hart.csrs.mstatus.mprv ≡ false) (records_equal : slot_at first_shared.table first_slot ≡ slot_at second_shared.table second_slot)
+    (memories_equal : first_shared.memory ≡ second_shared.memory)
+    (same_may_store : may_store_all first_shared.memory hart.csrs.pmp (register hart.regs 11)
+    ≡ may_store_all second_shared.memory m_csrs.pmp (register hart.regs 11)) where
+  -- the first hart state at the trap, which runs the enclave of the first slot
+  abbrev first_at_trap : HartState
+  first_at_trap = running first_slot first_host hart
 
-  -- the second hart state at the trap, which runs enclave j
-  abbrev hart_state_j : HartState
-  hart_state_j = running j h (with_m_parts d pc hart)
+  -- the second hart state at the trap, which runs the enclave of the second slot
+  abbrev second_at_trap : HartState
+  second_at_trap = running second_slot second_host (with_m_parts m_csrs pc hart)
 
   -- the returns from two results of the trap handler are alike
-  abbrev WorkAlike : Handled → Handled → Type 0
-  WorkAlike a b = StepAlike i j (returned o a) (returned o b)
+  abbrev ResultsAlike : Handled → Handled → Type 0
+  ResultsAlike result other_result = StepAlike first_slot second_slot (returned step_outcome result) (returned step_outcome other_result)
 
   -- a return to the caller is alike for both enclaves
-  answers : (x y : Shared) (status result : ℕ) → x.memory ≡ y.memory → slot_at x.table i ≡ slot_at y.table j
-      → WorkAlike (returned_to_caller hart_state_i x status result) (returned_to_caller hart_state_j y status result)
-  answers x y status result bytes slots = record {
+  returns_alike : (shared other_shared : Shared) (status result : ℕ) → shared.memory ≡ other_shared.memory
+      → slot_at shared.table first_slot ≡ slot_at other_shared.table second_slot
+      → ResultsAlike (returned_to_caller first_at_trap shared status result) (returned_to_caller second_at_trap other_shared status result)
+  returns_alike shared other_shared status result memories_after_equal records_after_equal = record {
     outcome = refl;
     hosts = refl;
-    runs = λ runs_after. record { first = refl; second = refl; hart = rw mprv refl; slot = slots; memory = bytes };
+    runs = λ runs_after. record { first = refl; second = refl; hart = rw mprv refl; slot = records_after_equal; memory = memories_after_equal };
   }
 
   -- a measure is alike for both enclaves
-  measures : WorkAlike (performed hart_state_i one Measure) (performed hart_state_j two Measure)
+  measure_alike : ResultsAlike (performed first_at_trap first_shared Measure) (performed second_at_trap second_shared Measure)
   unfolding performed measured
-  measures =
-      answers (measured one i (a1 hart_state_i)) (measured two j (a1 hart_state_i)) _ _
-      (ap₂ (λ (m : List ℕ) (x : Option SlotInfo). with_bytes_at m (a1 hart_state_i) (option_case x [] (λ info. info.measurement))) memory slot) slot
+  measure_alike =
+      returns_alike (measured first_shared first_slot (a1 first_at_trap)) (measured second_shared second_slot (a1 first_at_trap)) _ _
+      (ap₂ (λ (m : List ℕ) (maybe_info : Option SlotInfo). with_bytes_at m (a1 first_at_trap)
+      (option_case maybe_info [] (λ info. info.measurement))) memories_equal records_equal) records_equal
 
   -- a measure has the same refusals for both enclaves
-  measure_refusals_same : call_refusals hart_state_j two Measure ≡ call_refusals hart_state_i one Measure
+  same_measure_refusals : call_refusals second_at_trap second_shared Measure ≡ call_refusals first_at_trap first_shared Measure
   unfolding measure_refusals
-  measure_refusals_same =
-      ap₂ (λ (x : Option SlotInfo) (b : Bool). (not (is_some x), NoEnclave) ∷ (not b, BadAddress) ∷ []) (sym slot) (sym may_store_same)
+  same_measure_refusals =
+      ap₂ (λ (maybe_info : Option SlotInfo) (b : Bool). (not (is_some maybe_info), NoEnclave) ∷ (not b, BadAddress) ∷ []) (sym records_equal)
+      (sym same_may_store)
 
   -- a call, refused or not, is alike for both enclaves, if its effect is alike
-  refused_too : (x : Option Refusal) (a b : Handled) → WorkAlike a b
-      → WorkAlike (option_case x a (refused hart_state_i one)) (option_case x b (refused hart_state_j two))
-  refused_too None a b alike = alike
-  refused_too (Some refusal) a b alike = answers one two (status_of refusal) 0 memory slot
+  refusal_alike : (maybe_refusal : Option Refusal) (result other_result : Handled) → ResultsAlike result other_result
+      → ResultsAlike (option_case maybe_refusal result (refused first_at_trap first_shared))
+      (option_case maybe_refusal other_result (refused second_at_trap second_shared))
+  refusal_alike None result other_result alike = alike
+  refusal_alike (Some refusal) result other_result alike = returns_alike first_shared second_shared (status_of refusal) 0 memories_equal records_equal
 
   -- each call that is offered to an enclave is alike for both enclaves
-  called_too : (call : Call) → is_offered (Enclave i) call ≡ true → WorkAlike (called hart_state_i one call) (called hart_state_j two call)
+  call_alike : (call : Call) → is_offered (Enclave first_slot) call ≡ true
+      → ResultsAlike (called first_at_trap first_shared call) (called second_at_trap second_shared call)
   unfolding called performed left
-  called_too Measure offered =
-      let rows = measure_refusals_same in
+  call_alike Measure offered =
+      let rows = same_measure_refusals in
       rw rows
-      (refused_too (first_refusal (call_refusals hart_state_i one Measure)) (performed hart_state_i one Measure)
-      (performed hart_state_j two Measure) measures)
-  called_too Stop offered = record { outcome = refl; hosts = refl; runs = λ runs_after. cc }
-  called_too Exit offered = record { outcome = refl; hosts = refl; runs = λ runs_after. cc }
-  called_too _ offered = cc
+      (refusal_alike (first_refusal (call_refusals first_at_trap first_shared Measure)) (performed first_at_trap first_shared Measure)
+      (performed second_at_trap second_shared Measure) measure_alike)
+  call_alike Stop offered = record { outcome = refl; hosts = refl; runs = λ runs_after. cc }
+  call_alike Exit offered = record { outcome = refl; hosts = refl; runs = λ runs_after. cc }
+  call_alike _ offered = cc
 
   -- the requested call, if there is one, is alike for both enclaves
-  asked_too : (x : Option Call) → requested_call (Enclave i) hart.regs ≡ x
-      → WorkAlike (option_case x (refused hart_state_i one NotSupported) (called hart_state_i one))
-      (option_case x (refused hart_state_j two NotSupported) (called hart_state_j two))
-  asked_too None requested = answers one two (status_of NotSupported) 0 memory slot
-  asked_too (Some call) requested = called_too call (requested-is_offered (Enclave i) hart.regs call requested).1
+  requested_call_alike : (maybe_call : Option Call) → requested_call (Enclave first_slot) hart.regs ≡ maybe_call
+      → ResultsAlike (option_case maybe_call (refused first_at_trap first_shared NotSupported) (called first_at_trap first_shared))
+      (option_case maybe_call (refused second_at_trap second_shared NotSupported) (called second_at_trap second_shared))
+  requested_call_alike None requested = returns_alike first_shared second_shared (status_of NotSupported) 0 memories_equal records_equal
+  requested_call_alike (Some call) requested = call_alike call (requested-is_offered (Enclave first_slot) hart.regs call requested).1
 
   -- both enclaves request the same call
-  same_request : requested_call (Enclave i) hart.regs ≡ requested_call (Enclave j) hart.regs
+  same_request : requested_call (Enclave first_slot) hart.regs ≡ requested_call (Enclave second_slot) hart.regs
   unfolding call_requested
   same_request = refl
 
   -- the trap handler handles an exception alike for both enclaves
-  exception_too : (trap : Trap) (exception : Exception)
-      → WorkAlike (handled_exception hart_state_i one trap exception) (handled_exception hart_state_j two trap exception)
+  exception_alike : (trap : Trap) (exception : Exception)
+      → ResultsAlike (handled_exception first_at_trap first_shared trap exception) (handled_exception second_at_trap second_shared trap exception)
   unfolding call_handled with_redirected_trap
-  exception_too trap EnvironmentCallFromS =
-      let P : Option Call → Type 0 = λ x.
-      WorkAlike (option_case (requested_call (Enclave i) hart.regs) (refused hart_state_i one NotSupported) (called hart_state_i one))
-      (option_case x (refused hart_state_j two NotSupported) (called hart_state_j two)) in
-      subst P same_request (asked_too (requested_call (Enclave i) hart.regs) refl)
-  exception_too trap _ = record {
+  exception_alike trap EnvironmentCallFromS =
+      let P : Option Call → Type 0 = λ maybe_call.
+      ResultsAlike (option_case (requested_call (Enclave first_slot) hart.regs) (refused first_at_trap first_shared NotSupported)
+      (called first_at_trap first_shared))
+      (option_case maybe_call (refused second_at_trap second_shared NotSupported) (called second_at_trap second_shared)) in
+      subst P same_request (requested_call_alike (requested_call (Enclave first_slot) hart.regs) refl)
+  exception_alike trap _ = record {
     outcome = refl;
     hosts = refl;
-    runs = λ runs_after. record { first = refl; second = refl; hart = rw mprv refl; slot = slot; memory = memory };
+    runs = λ runs_after. record { first = refl; second = refl; hart = rw mprv refl; slot = records_equal; memory = memories_equal };
   }
 
   -- the trap handler handles each cause alike for both enclaves
-  cause_too : (trap : Trap) (cause : Cause) → WorkAlike (handled_cause hart_state_i one trap cause) (handled_cause hart_state_j two trap cause)
+  cause_alike : (trap : Trap) (cause : Cause)
+      → ResultsAlike (handled_cause first_at_trap first_shared trap cause) (handled_cause second_at_trap second_shared trap cause)
   unfolding timer_stopped left
-  cause_too trap (causes.Interrupt interrupt) = record { outcome = refl; hosts = refl; runs = λ runs_after. cc }
-  cause_too trap (causes.Exception exception) = exception_too trap exception
+  cause_alike trap (causes.Interrupt interrupt) = record { outcome = refl; hosts = refl; runs = λ runs_after. cc }
+  cause_alike trap (causes.Exception exception) = exception_alike trap exception
 
   -- the results of the trap handler are alike for both enclaves
-  handled_too : (trap : Trap) → WorkAlike (handled hart_state_i one trap) (handled hart_state_j two trap)
+  handler_alike : (trap : Trap) → ResultsAlike (handled first_at_trap first_shared trap) (handled second_at_trap second_shared trap)
   unfolding handled
-  handled_too trap =
-      let work = cause_too trap trap.cause in
+  handler_alike trap =
+      let cause_is_alike = cause_alike trap trap.cause in
       record {
-        outcome = work.outcome;
-        hosts = work.hosts;
+        outcome = cause_is_alike.outcome;
+        hosts = cause_is_alike.hosts;
         runs = λ runs_after.
-            let alike = work.runs runs_after in
+            let alike = cause_is_alike.runs runs_after in
             record { first = alike.first; second = alike.second; hart = alike.hart; slot = alike.slot; memory = alike.memory };
       }
 
 -- ---- the step of one hart
 
--- the hart x with the parts of M-mode from y
-abbrev put_parts : Hart → Hart → Hart
-put_parts y x = record x {
-  csrs = record x.csrs {
-    mstatus = record x.csrs.mstatus { mpie = y.csrs.mstatus.mpie; mpp = y.csrs.mstatus.mpp };
-    mie = y.csrs.mie;
-    mtvec = y.csrs.mtvec;
-    mcountinhibit = y.csrs.mcountinhibit;
-    mscratch = y.csrs.mscratch;
-    mepc = y.csrs.mepc;
-    mcause = y.csrs.mcause;
-    mtval = y.csrs.mtval;
-    software_pending = y.csrs.software_pending;
-    pmp = y.csrs.pmp;
-    mcycle = y.csrs.mcycle;
-    minstret = y.csrs.minstret;
+-- the hart `hart` with the M-mode parts of the hart `m_source`
+abbrev with_m_parts_of : Hart → Hart → Hart
+with_m_parts_of m_source hart = record hart {
+  csrs = record hart.csrs {
+    mstatus = record hart.csrs.mstatus { mpie = m_source.csrs.mstatus.mpie; mpp = m_source.csrs.mstatus.mpp };
+    mie = m_source.csrs.mie;
+    mtvec = m_source.csrs.mtvec;
+    mcountinhibit = m_source.csrs.mcountinhibit;
+    mscratch = m_source.csrs.mscratch;
+    mepc = m_source.csrs.mepc;
+    mcause = m_source.csrs.mcause;
+    mtval = m_source.csrs.mtval;
+    software_pending = m_source.csrs.software_pending;
+    pmp = m_source.csrs.pmp;
+    mcycle = m_source.csrs.mcycle;
+    minstret = m_source.csrs.minstret;
   };
 }
 
--- the enclaves i and j run on two harts with equal memories, records and harts, as S and U see them
-module _ (i j : ℕ) (s t : HartState) (one two : Shared) (view_invariant_one : HartViewInvariant (on s one))
-    (view_invariant_two : HartViewInvariant (on t two))
-    (alike : Alike i j (on s one) (on t two)) where
+-- the enclaves of two slots run on two harts with equal memories and equal records, and with equal harts as S and U see them
+module _ (first_slot second_slot : ℕ) (first_state second_state : HartState) (first_shared second_shared : Shared)
+    (view_invariant_one : HartViewInvariant (view_of first_state first_shared))
+    (view_invariant_two : HartViewInvariant (view_of second_state second_shared))
+    (alike : Alike first_slot second_slot (view_of first_state first_shared) (view_of second_state second_shared)) where
   -- the bare steps are equal, as S and U see them
-  abbrev bare : SameBelowM (step (bare_machine (on s one))) (step (bare_machine (on t two)))
-  bare = bare_same i j s t one two view_invariant_one view_invariant_two alike
+  abbrev bare : SameBelowM (step (bare_machine (view_of first_state first_shared))) (step (bare_machine (view_of second_state second_shared)))
+  bare = bare_steps_alike first_slot second_slot first_state second_state first_shared second_shared view_invariant_one view_invariant_two alike
 
   -- the second hart is the first one with the parts of M-mode from the second
-  parts : put_parts t.hart s.hart ≡ t.hart
-  parts = ap (put_parts t.hart) alike.hart
+  second_is_first_with_m_parts : with_m_parts_of second_state.hart first_state.hart ≡ second_state.hart
+  second_is_first_with_m_parts = ap (with_m_parts_of second_state.hart) alike.hart
 
   -- the second hart at the trap is the first one at the trap, with the parts of M-mode from the second
-  after_is : (trap : Trap) → hart_after t.hart trap ≡ with_m_parts (hart_after t.hart trap).csrs (hart_after t.hart trap).pc (hart_after s.hart trap)
-  after_is trap =
-      let F : Hart → Hart = λ x. with_m_parts (hart_after x trap).csrs (hart_after x trap).pc (hart_after s.hart trap) in
-      let parts_after : hart_after (put_parts t.hart s.hart) trap ≡ F (put_parts t.hart s.hart) = refl in
-      sym (ap (λ (x : Hart). hart_after x trap) parts) ∙ parts_after ∙ ap F parts
+  second_hart_after_trap : (trap : Trap) → hart_after second_state.hart trap ≡ with_m_parts (hart_after second_state.hart trap).csrs
+      (hart_after second_state.hart trap).pc (hart_after first_state.hart trap)
+  second_hart_after_trap trap =
+      let with_m_parts_at_trap : Hart → Hart =
+      λ some_hart. with_m_parts (hart_after some_hart trap).csrs (hart_after some_hart trap).pc (hart_after first_state.hart trap) in
+      let trap_keeps_m_parts : hart_after (with_m_parts_of second_state.hart first_state.hart) trap
+      ≡ with_m_parts_at_trap (with_m_parts_of second_state.hart first_state.hart) = refl in
+      sym (ap (λ (hart : Hart). hart_after hart trap) second_is_first_with_m_parts) ∙ trap_keeps_m_parts
+      ∙ ap with_m_parts_at_trap second_is_first_with_m_parts
 
   -- the steps of both views with a trap are alike
-  trapped_alike : (trap : Trap) → StepAlike i j (view_after_trap (on s one) trap) (view_after_trap (on t two) trap)
+  trapped_alike : (trap : Trap) → StepAlike first_slot second_slot (view_after_trap (view_of first_state first_shared) trap)
+      (view_after_trap (view_of second_state second_shared) trap)
   trapped_alike trap =
-      let bare_outcome = (step (bare_machine (on s one))).outcome in
-      let put : Option Context → Hart → World → HartState = λ host hart world. record { hart = hart; host_context = host; world = world } in
-      let first : hart_state_after s trap ≡ running i s.host_context (hart_after s.hart trap) =
-      ap (put s.host_context (hart_after s.hart trap)) alike.first in
-      let second : hart_state_after t trap
-      ≡ running j t.host_context (with_m_parts (hart_after t.hart trap).csrs (hart_after t.hart trap).pc (hart_after s.hart trap)) =
-      ap₂ (put t.host_context) (after_is trap) alike.second in
-      let a1_is = ap (λ (x : Hart). register x.regs 11) alike.hart in
-      let P : StepOutcome → HartState → HartState → Type 0 =
-      λ p x y. StepAlike i j (returned bare_outcome (handled x one trap)) (returned p (handled y two trap)) in
-      subst (λ (p : StepOutcome). P p (hart_state_after s trap) (hart_state_after t trap)) bare.outcome
-      (subst (λ (x : HartState). P bare_outcome x (hart_state_after t trap)) (sym first)
-      (subst (λ (y : HartState). P bare_outcome (running i s.host_context (hart_after s.hart trap)) y) (sym second)
-      (handled_too i j (hart_after s.hart trap) (hart_after t.hart trap).csrs
-      (hart_after t.hart trap).pc s.host_context t.host_context one two bare_outcome
+      let bare_outcome = (step (bare_machine (view_of first_state first_shared))).outcome in
+      let state_with : Option Context → Hart → World → HartState = λ host hart world. record { hart = hart; host_context = host; world = world } in
+      let first : hart_state_after first_state trap ≡ running first_slot first_state.host_context (hart_after first_state.hart trap) =
+      ap (state_with first_state.host_context (hart_after first_state.hart trap)) alike.first in
+      let second : hart_state_after second_state trap
+      ≡ running second_slot second_state.host_context (with_m_parts (hart_after second_state.hart trap).csrs (hart_after second_state.hart trap).pc
+      (hart_after first_state.hart trap)) =
+      ap₂ (state_with second_state.host_context) (second_hart_after_trap trap) alike.second in
+      let same_a1 = ap (λ (hart : Hart). register hart.regs 11) alike.hart in
+      let StepAlikeFor : StepOutcome → HartState → HartState → Type 0 =
+      λ outcome some_hart other_state. StepAlike first_slot second_slot (returned bare_outcome (handled some_hart first_shared trap))
+      (returned outcome (handled other_state second_shared trap)) in
+      subst (λ (outcome : StepOutcome). StepAlikeFor outcome (hart_state_after first_state trap) (hart_state_after second_state trap)) bare.outcome
+      (subst (λ (hart_state : HartState). StepAlikeFor bare_outcome hart_state (hart_state_after second_state trap)) (sym first)
+      (subst (λ (hart_state : HartState). StepAlikeFor bare_outcome
+      (running first_slot first_state.host_context (hart_after first_state.hart trap)) hart_state) (sym second)
+      (handler_alike first_slot second_slot (hart_after first_state.hart trap) (hart_after second_state.hart trap).csrs
+      (hart_after second_state.hart trap).pc first_state.host_context second_state.host_context first_shared second_shared bare_outcome
       view_invariant_one.hart.layout.mprv alike.slot alike.memory
-      (may_all_same i j s t one two view_invariant_one view_invariant_two alike (register s.hart.regs 11)) trap)))
+      (same_may_store_all first_slot second_slot first_state second_state first_shared second_shared view_invariant_one view_invariant_two alike
+      (register first_state.hart.regs 11)) trap)))
 
   -- the steps of both views without a trap are alike
-  untrapped_alike : (step (bare_machine (on s one))).outcome.trap ≡ None → StepAlike i j (view_without_trap (on s one)) (view_without_trap (on t two))
+  untrapped_alike : (step (bare_machine (view_of first_state first_shared))).outcome.trap ≡ None
+      → StepAlike first_slot second_slot (view_without_trap (view_of first_state first_shared))
+      (view_without_trap (view_of second_state second_shared))
   untrapped_alike no_trap = record {
-    outcome = ap (λ (x : StepOutcome). let o : Outcome = record { step = x; entered = None } in o) bare.outcome;
+    outcome = ap (λ (outcome : StepOutcome). let monitored : Outcome = record { step = outcome; entered = None } in monitored) bare.outcome;
     hosts = ap is_host alike.first ∙ sym (ap is_host alike.second);
     runs = λ runs_after. record { first = alike.first; second = alike.second; hart = bare.hart no_trap; slot = alike.slot; memory = bare.memory };
   }
 
   -- the steps of both views are alike
-  step_alike : StepAlike i j (monitored_step (on s one)) (monitored_step (on t two))
+  step_alike : StepAlike first_slot second_slot (monitored_step (view_of first_state first_shared))
+      (monitored_step (view_of second_state second_shared))
   step_alike =
-      let traps = ap (λ (o : StepOutcome). o.trap) bare.outcome in
-      step_cases (on s one) (λ after. StepAlike i j after (monitored_step (on t two)))
-      (λ no_trap. step_cases (on t two) (λ after. StepAlike i j (view_without_trap (on s one)) after) (λ no_trap_too. untrapped_alike no_trap)
-      (λ trap trapped. let contradiction : None ≡ Some trap = sym no_trap ∙ traps ∙ trapped in cc))
-      (λ trap trapped. step_cases (on t two) (λ after. StepAlike i j (view_after_trap (on s one) trap) after)
-      (λ no_trap. let contradiction : Some trap ≡ None = sym trapped ∙ traps ∙ no_trap in cc)
-      (λ trap_too trapped_too.
-      let equal : Some trap ≡ Some trap_too = sym trapped ∙ traps ∙ trapped_too in
-      let same_trap : trap ≡ trap_too = cc in
-      subst (λ (x : Trap). StepAlike i j (view_after_trap (on s one) trap) (view_after_trap (on t two) x)) same_trap (trapped_alike trap)))
+      let same_traps = ap (λ (outcome : StepOutcome). outcome.trap) bare.outcome in
+      step_cases (view_of first_state first_shared) (λ after. StepAlike first_slot second_slot after
+      (monitored_step (view_of second_state second_shared)))
+      (λ no_trap. step_cases (view_of second_state second_shared)
+      (λ after. StepAlike first_slot second_slot (view_without_trap (view_of first_state first_shared)) after)
+      (λ no_second_trap. untrapped_alike no_trap)
+      (λ trap trapped. let contradiction : None ≡ Some trap = sym no_trap ∙ same_traps ∙ trapped in cc))
+      (λ trap trapped. step_cases (view_of second_state second_shared)
+      (λ after. StepAlike first_slot second_slot (view_after_trap (view_of first_state first_shared) trap) after)
+      (λ no_trap. let contradiction : Some trap ≡ None = sym trapped ∙ same_traps ∙ no_trap in cc)
+      (λ second_trap second_trapped.
+      let some_traps_equal : Some trap ≡ Some second_trap = sym trapped ∙ same_traps ∙ second_trapped in
+      let traps_equal : trap ≡ second_trap = cc in
+      subst (λ (some_hart : Trap). StepAlike first_slot second_slot (view_after_trap (view_of first_state first_shared) trap)
+      (view_after_trap (view_of second_state second_shared) some_hart)) traps_equal (trapped_alike trap)))
 
 -- ---- the exit of an enclave
 
 -- the record with another state, if there is a record
 abbrev with_its_state : EnclaveState → Option SlotInfo → Option SlotInfo
-with_its_state state o = option_case o None (λ info. Some (record info { state = state }))
+with_its_state state maybe_info = option_case maybe_info None (λ info. Some (record info { state = state }))
 
 -- the enclave has exited: the host received the reason and the value, and the record and the saved context are those after the trap
-pub record HasExited (p : Place) (cause : Cause) (before after : MonitoredMachine) : Type 0 where
-  pub returned : (let regs = (hart_state_of p.hart before).hart.regs in HasReturned (reason cause regs) (value cause regs) p.hart after)
-  pub slot : slot_at after.shared.table p.slot
-      ≡ with_its_state (enclave_state_after cause (hart_state_of p.hart before).hart.regs) (slot_at before.shared.table p.slot)
-  pub context : context_at after.shared.contexts p.slot ≡ Some (saved_after cause (hart_state_of p.hart before).hart)
+pub record HasExited (place : Place) (cause : Cause) (before after : MonitoredMachine) : Type 0 where
+  pub returned : (let regs = (hart_state_of place.hart before).hart.regs in HasReturned (reason cause regs) (value cause regs) place.hart after)
+  pub slot : slot_at after.shared.table place.slot
+      ≡ with_its_state (enclave_state_after cause (hart_state_of place.hart before).hart.regs) (slot_at before.shared.table place.slot)
+  pub context : context_at after.shared.contexts place.slot ≡ Some (saved_after cause (hart_state_of place.hart before).hart)
   pub memory : after.shared.memory ≡ before.shared.memory
-  pub extent : KeepsExtent p.slot before.shared.table after.shared.table
+  pub extent : KeepsExtent place.slot before.shared.table after.shared.table
 
 -- after a trap of an enclave after which the host runs, the enclave has exited
-pub exited : (p : Place) (machine : MonitoredMachine) (trap : Trap) → Invariant machine → runs_at p machine ≡ true
-    → (step_at p machine).outcome.step.trap ≡ Some trap → (hart_state_of p.hart (step_at p machine).state).world ≡ Host
-    → (saved_host : Option Context) → (hart_state_of p.hart machine).host_context ≡ saved_host
-    → HasExited p trap.cause machine (step_at p machine).state
+pub exited : (place : Place) (machine : MonitoredMachine) (trap : Trap) → Invariant machine → runs_at place machine ≡ true
+    → (step_at place machine).outcome.step.trap ≡ Some trap → (hart_state_of place.hart (step_at place machine).state).world ≡ Host
+    → (saved_host : Option Context) → (hart_state_of place.hart machine).host_context ≡ saved_host
+    → HasExited place trap.cause machine (step_at place machine).state
 -- a hart that runs an enclave has a saved context of the host
-exited p machine trap invariant runs trapped host_runs_after None host_context_is =
-    let in_range = runs_inside p.slot p.hart machine runs in
-    let world = world_is_enclave p.slot (hart_state_of p.hart machine).world runs in
+exited place machine trap invariant runs trapped host_runs_after None host_context_is =
+    let in_range = runs_inside place.slot place.hart machine runs in
+    let world = world_is_enclave place.slot (hart_state_of place.hart machine).world runs in
     let contradiction : false ≡ true =
-    ap (λ (o : Option Context). is_some o) (sym host_context_is) ∙ (invariant.hart_states p.hart in_range).host.kept
-    ∙ ap (λ (w : World). not (is_host w)) world in
+    ap (λ (maybe_context : Option Context). is_some maybe_context) (sym host_context_is) ∙ (invariant.hart_states place.hart in_range).host.kept
+    ∙ ap (λ (world : World). not (is_host world)) world in
     absurd (false≢true contradiction)
 -- the machine after the step is the machine that `leave_law` gives
-exited p machine trap invariant runs trapped host_runs_after (Some host) host_context_is =
-    let in_range = runs_inside p.slot p.hart machine runs in
-    let world = world_is_enclave p.slot (hart_state_of p.hart machine).world runs in
-    let hart = (hart_state_of p.hart machine).hart in
+exited place machine trap invariant runs trapped host_runs_after (Some host) host_context_is =
+    let in_range = runs_inside place.slot place.hart machine runs in
+    let world = world_is_enclave place.slot (hart_state_of place.hart machine).world runs in
+    let hart = (hart_state_of place.hart machine).hart in
     let table = machine.shared.table in
-    let slot = slot_at table p.slot in
+    let slot = slot_at table place.slot in
     let after = enclave_state_after trap.cause hart.regs in
     let count = invariant.shared.valid.count in
     let contexts = invariant.shared.contexts.count in
-    let left = (leave_law p.hart machine invariant p.slot host trap world host_context_is trapped host_runs_after).0 in
-    let hart_state_is = left_hart_state p.hart machine p.slot trap host in_range in
-    let live = running_is_live p.slot p.hart machine invariant runs in
-    let slot_in_range = live_slot_in_range table p.slot slot count refl live in
+    let left = (leave_law place.hart machine invariant place.slot host trap world host_context_is trapped host_runs_after).0 in
+    let hart_state_is = left_hart_state place.hart machine place.slot trap host in_range in
+    let live = running_is_live place.slot place.hart machine invariant runs in
+    let slot_in_range = live_slot_in_range table place.slot slot count refl live in
     rw left (record {
       returned = record {
-        world = ap (λ (s : HartState). s.world) hart_state_is;
+        world = ap (λ (hart_state : HartState). hart_state.world) hart_state_is;
         host = host.regs;
-        regs = ap (λ (s : HartState). s.hart.regs) hart_state_is;
+        regs = ap (λ (hart_state : HartState). hart_state.hart.regs) hart_state_is;
       };
-      slot = state_slot table p.slot slot after count refl;
-      context = at_written_slot machine.shared.contexts p.slot (Some (saved_after trap.cause hart)) (omega (arith, slot_in_range, contexts));
+      slot = state_slot table place.slot slot after count refl;
+      context = at_written_slot machine.shared.contexts place.slot (Some (saved_after trap.cause hart)) (omega (arith, slot_in_range, contexts));
       memory = refl;
-      extent = state_extent table p.slot slot after count refl;
+      extent = state_extent table place.slot slot after count refl;
     })
 
--- the context that an exit saves has nothing of M-mode
-saved_same : (cause : Cause) (hart : Hart) → saved_after cause (below_m_hart hart) ≡ saved_after cause hart
-saved_same (causes.Interrupt interrupt) hart = refl
-saved_same (causes.Exception exception) hart = refl
+-- the context that an exit saves does not depend on the M-mode parts of the hart
+exit_saves_no_m_parts : (cause : Cause) (hart : Hart) → saved_after cause (below_m_hart hart) ≡ saved_after cause hart
+exit_saves_no_m_parts (causes.Interrupt interrupt) hart = refl
+exit_saves_no_m_parts (causes.Exception exception) hart = refl
 
 -- ---- the step of the machine
 
 -- two slots with equal records have the same bytes beyond their region and window
-beyond_same : (t s : Slots) (i j byte : ℕ) → slot_at t i ≡ slot_at s j → is_beyond t i byte ≡ is_beyond s j byte
-beyond_same t s i j byte same_slot = ap (λ (o : Option SlotInfo). not (has (region_of o) byte || has (window_of o) byte)) same_slot
+same_bytes_beyond : (table other_table : Slots) (slot other_slot byte : ℕ) → slot_at table slot ≡ slot_at other_table other_slot
+    → is_beyond table slot byte ≡ is_beyond other_table other_slot byte
+same_bytes_beyond table other_table slot other_slot byte same_slot =
+    ap (λ (maybe_info : Option SlotInfo). not (has (region_of maybe_info) byte || has (window_of maybe_info) byte)) same_slot
 
--- the enclaves of the places p and q have the same state in two machines
-module _ (p q : Place) (one other : MonitoredMachine) (invariant_one : Invariant one) (invariant_other : Invariant other)
-    (same_enclave : SameEnclave p q one other) where
-  -- The second machine with the memory of the first one. Below, this machine is called the machine in between.
-  abbrev mid : MonitoredMachine
-  mid = record other { shared = record other.shared { memory = one.shared.memory } }
+-- the enclaves of two places have the same state in two machines
+module _ (place other_place : Place) (one other : MonitoredMachine) (invariant_one : Invariant one) (invariant_other : Invariant other)
+    (same_enclave : SameEnclave place other_place one other) where
+  -- The mixed machine: the second machine with the memory of the first one.
+  abbrev mixed : MonitoredMachine
+  mixed = record other { shared = record other.shared { memory = one.shared.memory } }
 
-  -- the machine in between has the invariant
-  mid_kept : Invariant mid
-  mid_kept = invariant_by_size other one.shared.memory invariant_other (sym same_enclave.memory.size)
+  -- the mixed machine has the invariant
+  mixed_invariant : Invariant mixed
+  mixed_invariant = invariant_by_size other one.shared.memory invariant_other (sym same_enclave.memory.size)
 
-  -- the hart of place p is a hart of the first machine, because an enclave runs on it
-  pub has_one : p.hart < count_of one
-  has_one = runs_inside p.slot p.hart one same_enclave.first
+  -- the first machine has the hart of the first place, because an enclave runs on this hart
+  pub has_one : place.hart < count_of one
+  has_one = runs_inside place.slot place.hart one same_enclave.first
 
-  -- the hart of place q is a hart of the second machine, because an enclave runs on it
-  pub has_other : q.hart < count_of other
-  has_other = runs_inside q.slot q.hart other same_enclave.second
+  -- the second machine has the hart of the second place, because an enclave runs on this hart
+  pub has_other : other_place.hart < count_of other
+  has_other = runs_inside other_place.slot other_place.hart other same_enclave.second
 
-  -- the hart of place p runs the enclave of place p in the first machine
-  pub world_one : (hart_state_of p.hart one).world ≡ Enclave p.slot
-  world_one = world_is_enclave p.slot (hart_state_of p.hart one).world same_enclave.first
+  -- the hart of the first place runs the enclave of the first place
+  pub world_one : (hart_state_of place.hart one).world ≡ Enclave place.slot
+  world_one = world_is_enclave place.slot (hart_state_of place.hart one).world same_enclave.first
 
-  -- the hart of place q runs the enclave of place q in the second machine
-  pub world_other : (hart_state_of q.hart other).world ≡ Enclave q.slot
-  world_other = world_is_enclave q.slot (hart_state_of q.hart other).world same_enclave.second
+  -- the hart of the second place runs the enclave of the second place
+  pub world_other : (hart_state_of other_place.hart other).world ≡ Enclave other_place.slot
+  world_other = world_is_enclave other_place.slot (hart_state_of other_place.hart other).world same_enclave.second
 
-  -- the steps of the first machine and of the machine in between are alike
-  first : StepAlike p.slot q.slot (monitored_step (hart_view p.hart one)) (monitored_step (hart_view q.hart mid))
-  first =
-      step_alike p.slot q.slot (hart_state_of p.hart one) (hart_state_of q.hart other) one.shared mid.shared
-      (hart_view_invariant p.hart one invariant_one has_one)
-      (hart_view_invariant q.hart mid mid_kept has_other)
+  -- the steps of the first machine and of the mixed machine are alike
+  first_steps_alike : StepAlike place.slot other_place.slot (monitored_step (hart_view place.hart one))
+      (monitored_step (hart_view other_place.hart mixed))
+  first_steps_alike =
+      step_alike place.slot other_place.slot (hart_state_of place.hart one) (hart_state_of other_place.hart other) one.shared mixed.shared
+      (hart_view_invariant place.hart one invariant_one has_one)
+      (hart_view_invariant other_place.hart mixed mixed_invariant has_other)
       (record { first = world_one; second = world_other; hart = same_enclave.hart; slot = same_enclave.slot; memory = refl })
 
-  -- the steps of the machine in between and of the second machine are equal for the enclave
-  own : OwnAlike q.slot (monitored_step (hart_view q.hart mid)) (monitored_step (hart_view q.hart other))
-  own =
-      step_own q.slot (hart_state_of q.hart other) mid.shared other.shared (hart_view_invariant q.hart mid mid_kept has_other) world_other refl
+  -- the steps of the mixed machine and of the second machine are equal for the enclave
+  own_steps_alike : OwnAlike other_place.slot (monitored_step (hart_view other_place.hart mixed)) (monitored_step (hart_view other_place.hart other))
+  own_steps_alike =
+      step_own other_place.slot (hart_state_of other_place.hart other) mixed.shared other.shared
+      (hart_view_invariant other_place.hart mixed mixed_invariant has_other) world_other refl
       (record {
         table = refl;
         memory = record {
           size = same_enclave.memory.size;
           bytes =
-              λ n shown. same_enclave.memory.bytes n
-              (beyond_same one.shared.table other.shared.table p.slot q.slot (ram_base + n) same_enclave.slot ∙ shown);
+              λ index shown. same_enclave.memory.bytes index
+              (same_bytes_beyond one.shared.table other.shared.table place.slot other_place.slot (ram_base + index) same_enclave.slot ∙ shown);
         };
         context = refl;
       })
 
   -- the state of the first hart after the step of the machine is its state after the step of the view
-  seen_one : hart_state_of p.hart (step_at p one).state ≡ (monitored_step (hart_view p.hart one)).state.hart_state
-  seen_one = ap (λ (a : HartViewStepped). a.state.hart_state) (step_of_view p.hart one has_one)
+  first_state_of_view : hart_state_of place.hart (step_at place one).state ≡ (monitored_step (hart_view place.hart one)).state.hart_state
+  first_state_of_view = ap (λ (stepped : HartViewStepped). stepped.state.hart_state) (step_of_view place.hart one has_one)
 
-  -- the state of the second hart after the step of the machine is its state after the step of the machine in between
-  seen_other : (monitored_step (hart_view q.hart mid)).state.hart_state ≡ hart_state_of q.hart (step_at q other).state
-  seen_other = own.hart_state ∙ sym (ap (λ (a : HartViewStepped). a.state.hart_state) (step_of_view q.hart other has_other))
+  -- the state of the second hart after the step of the machine is its state after the step of the mixed machine
+  second_state_of_mixed_view : (monitored_step (hart_view other_place.hart mixed)).state.hart_state ≡ hart_state_of other_place.hart
+      (step_at other_place other).state
+  second_state_of_mixed_view =
+      own_steps_alike.hart_state ∙ sym (ap (λ (stepped : HartViewStepped). stepped.state.hart_state) (step_of_view other_place.hart other has_other))
 
   -- the steps of both machines have equal outcomes
-  same_outcome : (step_at p one).outcome ≡ (step_at q other).outcome
+  same_outcome : (step_at place one).outcome ≡ (step_at other_place other).outcome
   same_outcome =
-      ap (λ (a : HartViewStepped). a.outcome) (step_of_view p.hart one has_one) ∙ first.outcome ∙ own.outcome
-      ∙ sym (ap (λ (a : HartViewStepped). a.outcome) (step_of_view q.hart other has_other))
+      ap (λ (stepped : HartViewStepped). stepped.outcome) (step_of_view place.hart one has_one) ∙ first_steps_alike.outcome ∙ own_steps_alike.outcome
+      ∙ sym (ap (λ (stepped : HartViewStepped). stepped.outcome) (step_of_view other_place.hart other has_other))
 
   -- if the first enclave still runs after the step, then both enclaves have the same state after the step
-  still_runs : runs_at p (step_at p one).state ≡ true → SameEnclave p q (step_at p one).state (step_at q other).state
+  still_runs : runs_at place (step_at place one).state ≡ true
+      → SameEnclave place other_place (step_at place one).state (step_at other_place other).state
   still_runs runs_after =
-      let after_one = (monitored_step (hart_view p.hart one)).state in
-      let after_mid = (monitored_step (hart_view q.hart mid)).state in
-      let shared_one = ap (λ (x : HartViewStepped). x.state.shared) (step_of_view p.hart one has_one) in
-      let shared_other = ap (λ (x : HartViewStepped). x.state.shared) (step_of_view q.hart other has_other) in
-      let alike = first.runs (sym (ap (λ (x : HartState). is_host x.world) seen_one)
-      ∙ not_host_by p.slot (hart_state_of p.hart (step_at p one).state).world runs_after) in
-      let bytes : EqualOutside (is_beyond after_one.shared.table p.slot) after_one.shared.memory
-      (monitored_step (hart_view q.hart other)).state.shared.memory =
+      let after_one = (monitored_step (hart_view place.hart one)).state in
+      let after_mixed = (monitored_step (hart_view other_place.hart mixed)).state in
+      let shared_one = ap (λ (stepped : HartViewStepped). stepped.state.shared) (step_of_view place.hart one has_one) in
+      let shared_other = ap (λ (stepped : HartViewStepped). stepped.state.shared) (step_of_view other_place.hart other has_other) in
+      let alike = first_steps_alike.runs (sym (ap (λ (hart_state : HartState). is_host hart_state.world) first_state_of_view)
+      ∙ not_host_by place.slot (hart_state_of place.hart (step_at place one).state).world runs_after) in
+      let bytes : EqualOutside (is_beyond after_one.shared.table place.slot) after_one.shared.memory
+      (monitored_step (hart_view other_place.hart other)).state.shared.memory =
       record {
-        size = ap (λ (m : List ℕ). length m) alike.memory ∙ own.shared.memory.size;
-        bytes = λ n not_hidden.
-            ap (λ (m : List ℕ). slice_index m n) alike.memory
-            ∙ own.shared.memory.bytes n
-            (sym (beyond_same after_one.shared.table after_mid.shared.table p.slot q.slot (ram_base + n) alike.slot) ∙ not_hidden);
+        size = ap (λ (memory : List ℕ). length memory) alike.memory ∙ own_steps_alike.shared.memory.size;
+        bytes = λ index not_hidden.
+            ap (λ (memory : List ℕ). slice_index memory index) alike.memory
+            ∙ own_steps_alike.shared.memory.bytes index
+            (sym (same_bytes_beyond after_one.shared.table after_mixed.shared.table place.slot other_place.slot (ram_base + index) alike.slot)
+            ∙ not_hidden);
       } in
       record {
         first = runs_after;
         second =
-            ap (λ (x : HartState). is_world_of q.slot x.world) (sym seen_other) ∙ ap (is_world_of q.slot) alike.second ∙ eq-eqb q.slot q.slot refl;
-        hart = ap (λ (x : HartState). below_m_hart x.hart) seen_one ∙ alike.hart ∙ ap (λ (x : HartState). below_m_hart x.hart) seen_other;
-        slot = ap (λ (x : Shared). slot_at x.table p.slot) shared_one ∙ alike.slot ∙ ap (λ (t : Slots). slot_at t q.slot) own.shared.table
-            ∙ sym (ap (λ (x : Shared). slot_at x.table q.slot) shared_other);
-        memory = subst (λ (x : Shared). EqualOutside (is_beyond x.table p.slot) x.memory (step_at q other).state.shared.memory) (sym shared_one)
-            (subst (λ (x : Shared). EqualOutside (is_beyond after_one.shared.table p.slot) after_one.shared.memory x.memory)
+            ap (λ (hart_state : HartState). is_world_of other_place.slot hart_state.world) (sym second_state_of_mixed_view)
+            ∙ ap (is_world_of other_place.slot) alike.second
+            ∙ eq-eqb other_place.slot other_place.slot refl;
+        hart =
+            ap (λ (hart_state : HartState). below_m_hart hart_state.hart) first_state_of_view ∙ alike.hart
+            ∙ ap (λ (hart_state : HartState). below_m_hart hart_state.hart) second_state_of_mixed_view;
+        slot =
+            ap (λ (shared : Shared). slot_at shared.table place.slot) shared_one ∙ alike.slot
+            ∙ ap (λ (table : Slots). slot_at table other_place.slot) own_steps_alike.shared.table
+            ∙ sym (ap (λ (shared : Shared). slot_at shared.table other_place.slot) shared_other);
+        memory =
+            subst (λ (shared : Shared). EqualOutside (is_beyond shared.table place.slot) shared.memory
+            (step_at other_place other).state.shared.memory)
+            (sym shared_one)
+            (subst (λ (shared : Shared). EqualOutside (is_beyond after_one.shared.table place.slot) after_one.shared.memory shared.memory)
             (sym shared_other) bytes);
       }
 
   -- if the first enclave does not run after the step, then its hart runs the host
-  gone_one : runs_at p (step_at p one).state ≡ false → (hart_state_of p.hart (step_at p one).state).world ≡ Host
-  gone_one not_running = elim (cases_Bool (is_host (monitored_step (hart_view p.hart one)).state.hart_state.world)) [
-    | inl host_runs_after ↦ host_is _ (ap (λ (x : HartState). is_host x.world) seen_one ∙ host_runs_after)
+  first_runs_host : runs_at place (step_at place one).state ≡ false → (hart_state_of place.hart (step_at place one).state).world ≡ Host
+  first_runs_host not_running = elim (cases_Bool (is_host (monitored_step (hart_view place.hart one)).state.hart_state.world)) [
+    | inl host_runs_after ↦ host_is _ (ap (λ (hart_state : HartState). is_host hart_state.world) first_state_of_view ∙ host_runs_after)
     | inr enclave_runs_after ↦
-        let runs = ap (λ (x : HartState). is_world_of p.slot x.world) seen_one ∙ ap (is_world_of p.slot) (first.runs enclave_runs_after).first
-        ∙ eq-eqb p.slot p.slot refl in
+        let runs =
+        ap (λ (hart_state : HartState). is_world_of place.slot hart_state.world) first_state_of_view
+        ∙ ap (is_world_of place.slot) (first_steps_alike.runs enclave_runs_after).first
+        ∙ eq-eqb place.slot place.slot refl in
         absurd (both_ways _ not_running runs)
   ]
 
-  -- if the first enclave exits, then so does the second one
-  gone_other : (hart_state_of p.hart (step_at p one).state).world ≡ Host → (hart_state_of q.hart (step_at q other).state).world ≡ Host
-  gone_other host_runs_after =
-      host_is _ (ap (λ (x : HartState). is_host x.world) (sym seen_other) ∙ sym first.hosts ∙ sym (ap (λ (x : HartState). is_host x.world) seen_one)
+  -- if the hart of the first enclave runs the host after the step, then so does the hart of the second enclave
+  second_runs_host : (hart_state_of place.hart (step_at place one).state).world ≡ Host
+      → (hart_state_of other_place.hart (step_at other_place other).state).world ≡ Host
+  second_runs_host host_runs_after =
+      host_is _ (ap (λ (hart_state : HartState). is_host hart_state.world) (sym second_state_of_mixed_view) ∙ sym first_steps_alike.hosts
+      ∙ sym (ap (λ (hart_state : HartState). is_host hart_state.world) first_state_of_view)
       ∙ ap is_host host_runs_after)
 
   -- if both enclaves exit, then they exit alike
-  exits_by : (o : Option Trap) → (step_at p one).outcome.step.trap ≡ o → (hart_state_of p.hart (step_at p one).state).world ≡ Host
-      → SameExit p q (step_at p one).state (step_at q other).state
-  exits_by None no_trap host_runs_after = not_host _ p.slot _ ((exits_law p.hart one invariant_one p.slot world_one).quiet no_trap) host_runs_after
-  exits_by (Some trap) trapped host_runs_after =
-      let traps_too = sym (ap (λ (x : Outcome). x.step.trap) same_outcome) ∙ trapped in
-      let exited_one = exited p one trap invariant_one same_enclave.first trapped host_runs_after (hart_state_of p.hart one).host_context refl in
+  exits_alike : (maybe_trap : Option Trap) → (step_at place one).outcome.step.trap ≡ maybe_trap
+      → (hart_state_of place.hart (step_at place one).state).world ≡ Host
+      → SameExit place other_place (step_at place one).state (step_at other_place other).state
+  exits_alike None no_trap host_runs_after =
+      not_host _ place.slot _ ((exits_law place.hart one invariant_one place.slot world_one).quiet no_trap) host_runs_after
+  exits_alike (Some trap) trapped host_runs_after =
+      let second_traps = sym (ap (λ (outcome : Outcome). outcome.step.trap) same_outcome) ∙ trapped in
+      let exited_one =
+      exited place one trap invariant_one same_enclave.first trapped host_runs_after (hart_state_of place.hart one).host_context refl in
       let exited_other =
-      exited q other trap invariant_other same_enclave.second traps_too (gone_other host_runs_after) (hart_state_of q.hart other).host_context refl in
+      exited other_place other trap invariant_other same_enclave.second second_traps (second_runs_host host_runs_after)
+      (hart_state_of other_place.hart other).host_context refl in
       let cause = trap.cause in
-      let hart_one = (hart_state_of p.hart one).hart in
-      let hart_other = (hart_state_of q.hart other).hart in
-      let regs : hart_one.regs ≡ hart_other.regs = ap (λ (x : Hart). x.regs) same_enclave.hart in
-      let saved = sym (saved_same cause hart_one) ∙ ap (saved_after cause) same_enclave.hart ∙ saved_same cause hart_other in
-      let some : Context → Option Context = λ context. Some context in
-      -- both enclaves hand over what c and the registers of the first enclave determine
+      let hart_one = (hart_state_of place.hart one).hart in
+      let hart_other = (hart_state_of other_place.hart other).hart in
+      let regs : hart_one.regs ≡ hart_other.regs = ap (λ (hart : Hart). hart.regs) same_enclave.hart in
+      let saved_contexts_equal =
+      sym (exit_saves_no_m_parts cause hart_one) ∙ ap (saved_after cause) same_enclave.hart ∙ exit_saves_no_m_parts cause hart_other in
+      let some_context : Context → Option Context = λ context. Some context in
+      -- the cause of the trap and the registers of the first enclave determine what both enclaves hand over
       record {
         reason = reason cause hart_one.regs;
         value = value cause hart_one.regs;
         first = exited_one.returned;
-        second = subst (λ (x : List ℕ). HasReturned (reason cause x) (value cause x) q.hart (step_at q other).state) (sym regs) exited_other.returned;
+        second =
+            subst (λ (regs : List ℕ). HasReturned (reason cause regs) (value cause regs) other_place.hart (step_at other_place other).state)
+            (sym regs) exited_other.returned;
         saved = record {
           context = saved_after cause hart_one;
           first = exited_one.context;
-          second = exited_other.context ∙ ap some (sym saved);
+          second = exited_other.context ∙ ap some_context (sym saved_contexts_equal);
           slot =
-              exited_one.slot ∙ ap₂ (λ (x : List ℕ) (o : Option SlotInfo). with_its_state (enclave_state_after cause x) o) regs same_enclave.slot
+              exited_one.slot ∙ ap₂ (λ (regs : List ℕ) (maybe_info : Option SlotInfo). with_its_state
+              (enclave_state_after cause regs) maybe_info) regs same_enclave.slot
               ∙ sym exited_other.slot;
           memory = record {
             size =
-                ap (λ (m : List ℕ). length m) exited_one.memory ∙ same_enclave.memory.size ∙ sym (ap (λ (m : List ℕ). length m) exited_other.memory);
+                ap (λ (memory : List ℕ). length memory) exited_one.memory ∙ same_enclave.memory.size
+                ∙ sym (ap (λ (memory : List ℕ). length memory) exited_other.memory);
             bytes =
-                λ n shown. ap (λ (m : List ℕ). slice_index m n) exited_one.memory
-                ∙ same_enclave.memory.bytes n (beyond_again p.slot _ _ (ram_base + n) exited_one.extent shown)
-                ∙ sym (ap (λ (m : List ℕ). slice_index m n) exited_other.memory);
+                λ index shown. ap (λ (memory : List ℕ). slice_index memory index) exited_one.memory
+                ∙ same_enclave.memory.bytes index (beyond_again place.slot _ _ (ram_base + index) exited_one.extent shown)
+                ∙ sym (ap (λ (memory : List ℕ). slice_index memory index) exited_other.memory);
           };
         };
       }
 
   -- one step of two enclaves with the same state has equal outcomes, and leaves them in the same state or both exited
-  pub enclave_step : SameEnclaveStep p q (step_at p one) (step_at q other)
+  pub enclave_step : SameEnclaveStep place other_place (step_at place one) (step_at other_place other)
   enclave_step = record {
     outcome = same_outcome;
-    state = record { runs = still_runs; exits = λ not_running. exits_by (step_at p one).outcome.step.trap refl (gone_one not_running) };
+    state = record { runs = still_runs; exits = λ not_running. exits_alike (step_at place one).outcome.step.trap refl (first_runs_host not_running) };
   }
 
 -- proves that a step of an enclave depends only on the state of the enclave
 pub enclave_step_law : (hart : ℕ) (machine : MonitoredMachine) → Invariant machine → DependsOnEnclave hart machine (step_of hart machine)
-enclave_step_law hart machine invariant k q other invariant_other same =
-    enclave_step (record { slot = k; hart = hart }) q machine other invariant invariant_other same
+enclave_step_law hart machine invariant slot other_place other invariant_other same_enclave =
+    enclave_step (record { slot = slot; hart = hart }) other_place machine other invariant invariant_other same_enclave
 
 -- ---- many steps
 
 -- proves the law of many steps of an enclave, by induction on the number of steps
 pub enclave_run_law : EnclaveRunLaw
-enclave_run_law p q zero one two _ _ same high =
-    record { outcomes = refl; state = record { runs = λ runs. same; exits = λ not_running. absurd (both_ways _ not_running same.first) } }
-enclave_run_law p q (suc zero) one two invariant_one invariant_two same high =
-    let step = enclave_step p q one two invariant_one invariant_two same in
-    record { outcomes = ap (λ (o : Outcome). o ∷ []) step.outcome; state = step.state }
-enclave_run_law p q (suc (suc more)) one two invariant_one invariant_two same high =
-    let step = enclave_step p q one two invariant_one invariant_two same in
-    let rest =
-    enclave_run_law p q (suc more) (step_at p one).state (step_at q two).state (invariant_law p.hart one invariant_one)
-    (invariant_law q.hart two invariant_two)
-    (step.state.runs high.1.0) high.1 in
-    record { outcomes = ap₂ (λ (o : Outcome) (os : List Outcome). o ∷ os) step.outcome rest.outcomes; state = rest.state }
+enclave_run_law place other_place zero one other _ _ same_enclave are_high_steps =
+    record {
+      outcomes = refl;
+      state = record { runs = λ runs. same_enclave; exits = λ not_running. absurd (both_ways _ not_running same_enclave.first) };
+    }
+enclave_run_law place other_place (suc zero) one other invariant_one invariant_other same_enclave are_high_steps =
+    let step = enclave_step place other_place one other invariant_one invariant_other same_enclave in
+    record { outcomes = ap (λ (outcome : Outcome). outcome ∷ []) step.outcome; state = step.state }
+enclave_run_law place other_place (suc (suc count)) one other invariant_one invariant_other same_enclave are_high_steps =
+    let step = enclave_step place other_place one other invariant_one invariant_other same_enclave in
+    let remaining =
+    enclave_run_law place other_place (suc count) (step_at place one).state (step_at other_place other).state
+    (invariant_law place.hart one invariant_one)
+    (invariant_law other_place.hart other invariant_other)
+    (step.state.runs are_high_steps.1.0) are_high_steps.1 in
+    record {
+      outcomes = ap₂ (λ (outcome : Outcome) (outcomes : List Outcome). outcome ∷ outcomes) step.outcome remaining.outcomes;
+      state = remaining.state;
+    }

@@ -30,7 +30,7 @@ module _ (before : HartView) (slot : ℕ) (context : Context) (from_host : befor
 
   -- the trap handler continues the host, or enters the slot in a0
   abbrev HostOrEntry : Handled → Type 0
-  HostOrEntry h = (h.hart_state.world ≡ Host) ⊎ (h ≡ with_reprogrammed_hart entering_now)
+  HostOrEntry result = (result.hart_state.world ≡ Host) ⊎ (result ≡ with_reprogrammed_hart entering_now)
 
   -- the trap handler continues the host, or enters the slot in a0
   handled_host_or_entry : HostOrEntry (handled hart_state before.shared trap)
@@ -69,28 +69,29 @@ module _ (before : HartView) (slot : ℕ) (context : Context) (from_host : befor
   returned_entered : (outcome : StepOutcome) → HartViewInvariant before → can_go_on context ≡ true → a0 hart_state ≡ slot
       → Entered (returned outcome (with_reprogrammed_hart entering_now))
   unfolding entered_slot
-  returned_entered outcome view_invariant can_continue named =
+  returned_entered outcome view_invariant can_continue a0_is_slot =
       let aligned = aligned_again context.mode context.pc can_continue in
       let mprv = view_invariant.hart.layout.mprv in
-      rw (named, has_context, aligned, or-false (is_set before.hart_state.hart.csrs.mcountinhibit 0), mprv) (refl, refl)
+      rw (a0_is_slot, has_context, aligned, or-false (is_set before.hart_state.hart.csrs.mcountinhibit 0), mprv) (refl, refl)
 
   -- if an entry leaves the hart in `slot`, then a0 names `slot`
-  a0_names_k : (h : Handled) → h ≡ with_reprogrammed_hart entering_now → h.hart_state.world ≡ Enclave slot → a0 hart_state ≡ slot
+  a0_names_slot : (result : Handled) → result ≡ with_reprogrammed_hart entering_now → result.hart_state.world ≡ Enclave slot → a0 hart_state ≡ slot
   unfolding entered_slot
-  a0_names_k h same enclave_runs_after =
-      let worlds : Enclave (a0 hart_state) ≡ Enclave slot = sym (ap (λ (x : Handled). x.hart_state.world) same) ∙ enclave_runs_after in
-      let slots : a0 hart_state ≡ slot = cc in
-      slots
+  a0_names_slot result is_entry_result enclave_runs_after =
+      let worlds_equal : Enclave (a0 hart_state) ≡ Enclave slot =
+      sym (ap (λ (some_result : Handled). some_result.hart_state.world) is_entry_result) ∙ enclave_runs_after in
+      let slots_equal : a0 hart_state ≡ slot = cc in
+      slots_equal
 
   -- if the result of the trap handler is in `slot`, then the return from it gives the view after the entry
-  entered_or_not : (outcome : StepOutcome) (h : Handled) → HartViewInvariant before → can_go_on context ≡ true → HostOrEntry h
-      → h.hart_state.world ≡ Enclave slot
-      → Entered (returned outcome h)
-  entered_or_not outcome h view_invariant can_continue (inl host_stays) enclave_runs_after =
+  entry_if_in_slot : (outcome : StepOutcome) (result : Handled) → HartViewInvariant before → can_go_on context ≡ true → HostOrEntry result
+      → result.hart_state.world ≡ Enclave slot
+      → Entered (returned outcome result)
+  entry_if_in_slot outcome result view_invariant can_continue (inl host_stays) enclave_runs_after =
       let contradiction : Host ≡ Enclave slot = sym host_stays ∙ enclave_runs_after in cc
-  entered_or_not outcome h view_invariant can_continue (inr is_entry) enclave_runs_after =
-      subst (λ (x : Handled). Entered (returned outcome x)) (sym is_entry)
-      (returned_entered outcome view_invariant can_continue (a0_names_k h is_entry enclave_runs_after))
+  entry_if_in_slot outcome result view_invariant can_continue (inr is_entry) enclave_runs_after =
+      subst (λ (some_result : Handled). Entered (returned outcome some_result)) (sym is_entry)
+      (returned_entered outcome view_invariant can_continue (a0_names_slot result is_entry enclave_runs_after))
 
   -- a step with a trap after which the hart is in `slot` is an entry of `slot`
   step_is_entry : HartViewInvariant before → can_go_on context ≡ true → (monitored_step before).outcome.step.trap ≡ Some trap
@@ -99,7 +100,7 @@ module _ (before : HartView) (slot : ℕ) (context : Context) (from_host : befor
       let step_is = trapped_step before trap trapped in
       let handled_enclave = subst (λ (after : HartViewStepped). after.state.hart_state.world ≡ Enclave slot) step_is enclave_runs_after in
       subst Entered (sym step_is)
-      (entered_or_not (step (bare_machine before)).outcome _ view_invariant can_continue handled_host_or_entry handled_enclave)
+      (entry_if_in_slot (step (bare_machine before)).outcome _ view_invariant can_continue handled_host_or_entry handled_enclave)
 
 -- ---- an entry is a trap, and the slot had a saved context
 
@@ -107,19 +108,20 @@ module _ (before : HartView) (slot : ℕ) (context : Context) (from_host : befor
 module _ (before : HartView) (saves : SavedContextsInvariant before.shared) (runs : before.hart_state.world ≡ Host) (trap : Trap) where
   -- each slot that runs after the trap handler had a saved context before it
   abbrev HadContext : Handled → Type 0
-  HadContext h = (slot : ℕ) → h.hart_state.world ≡ Enclave slot → is_some (context_at before.shared.contexts slot) ≡ true
+  HadContext result = (slot : ℕ) → result.hart_state.world ≡ Enclave slot → is_some (context_at before.shared.contexts slot) ≡ true
 
   -- the host is not an enclave, so nothing is to show for a result in which the host runs
   no_entry : (world : World) → world ≡ Host → (slot : ℕ) → world ≡ Enclave slot → is_some (context_at before.shared.contexts slot) ≡ true
   no_entry world from_host slot enclave_runs_after = let contradiction : Host ≡ Enclave slot = sym from_host ∙ enclave_runs_after in cc
 
   -- a slot with an enclave in a state that the call accepts has a saved context
-  named_had : (call : Call) (j : ℕ) → SlotIsAccepted before.shared.table call j → (slot : ℕ) → Enclave j ≡ Enclave slot
+  accepted_slot_has_context : (call : Call) (named_slot : ℕ) → SlotIsAccepted before.shared.table call named_slot → (slot : ℕ)
+      → Enclave named_slot ≡ Enclave slot
       → is_some (context_at before.shared.contexts slot) ≡ true
-  named_had call j is_taken slot same_enclave =
-      let same : j ≡ slot = cc in
-      subst (λ (i : ℕ). is_some (context_at before.shared.contexts i) ≡ true) same
-      (saves.kept j ∙ ap is_held is_taken.is ∙ ap not (takes_rests call is_taken.info.state is_taken.taken))
+  accepted_slot_has_context call named_slot is_taken slot same_enclave =
+      let slots_equal : named_slot ≡ slot = cc in
+      subst (λ (some_slot : ℕ). is_some (context_at before.shared.contexts some_slot) ≡ true) slots_equal
+      (saves.kept named_slot ∙ ap is_held is_taken.is ∙ ap not (takes_rests call is_taken.info.state is_taken.taken))
 
   -- the trap handler enters only a slot with a saved context
   handled_had_context : HadContext (handled (hart_state_after before.hart_state trap) before.shared trap)
@@ -129,7 +131,7 @@ module _ (before : HartView) (saves : SavedContextsInvariant before.shared) (run
     creates = λ requests no_refusal. no_entry _ runs;
     destroys = λ requests is_taken. no_entry _ runs;
     measures = λ requests no_refusal. no_entry _ runs;
-    enters = λ call requests is_entry_call from_host is_taken. named_had call (a0 (hart_state_after before.hart_state trap)) is_taken;
+    enters = λ call requests is_entry_call from_host is_taken. accepted_slot_has_context call (a0 (hart_state_after before.hart_state trap)) is_taken;
     leaves = no_entry Host refl;
     redirects = no_entry _ runs;
   })
@@ -148,55 +150,57 @@ enters_from : (hart : ℕ) (machine : MonitoredMachine) → Invariant machine �
     → (hart_state_of hart machine).world ≡ Host → context_at machine.shared.contexts slot ≡ Some context
     → (step_of hart machine).outcome.step.trap ≡ Some trap → (hart_state_of hart (step_of hart machine).state).world ≡ Enclave slot
     → ((step_of hart machine).state ≡ entered_by_call hart machine slot trap context) × ((step_of hart machine).outcome.entered ≡ Some slot)
-enters_from hart machine invariant slot context trap from_host kept_one trapped enclave_runs_after =
+enters_from hart machine invariant slot context trap from_host has_context trapped enclave_runs_after =
     let trapping = is_trapping hart machine trap trapped in
-    let view_ends_in_k =
+    let view_ends_in_slot =
     sym (ap (λ (after : HartViewStepped). after.state.hart_state.world) (step_of_view hart machine trapping.has)) ∙ enclave_runs_after in
-    let P : Option Context → Type 0 = λ o. IfSome o (λ c. can_go_on c ≡ true) in
-    let can_continue : can_go_on context ≡ true = subst P kept_one (invariant.shared.contexts.held slot) in
+    let CanGoOnIfSome : Option Context → Type 0 = λ maybe_context. IfSome maybe_context (λ some_context. can_go_on some_context ≡ true) in
+    let can_continue : can_go_on context ≡ true = subst CanGoOnIfSome has_context (invariant.shared.contexts.held slot) in
     let view_enters =
-    step_is_entry (hart_view hart machine) slot context from_host kept_one trap
-    (hart_view_invariant hart machine invariant trapping.has) can_continue trapping.trapped view_ends_in_k in
+    step_is_entry (hart_view hart machine) slot context from_host has_context trap
+    (hart_view_invariant hart machine invariant trapping.has) can_continue trapping.trapped view_ends_in_slot in
     (trapping.state ∙ ap (programmed_by hart machine) view_enters.0, ap (λ (outcome : Outcome). outcome.entered) trapping.outcome ∙ view_enters.1)
 
 -- the hart runs the host before its step, and enclave `slot` after it
 module _ (hart slot : ℕ) (machine : MonitoredMachine) (invariant : Invariant machine) (from_host : (hart_state_of hart machine).world ≡ Host)
     (enclave_runs_after : (hart_state_of hart (step_of hart machine).state).world ≡ Enclave slot) where
   -- the step of the hart's view ends in `slot`
-  view_ends_in_k : hart < count_of machine → (monitored_step (hart_view hart machine)).state.hart_state.world ≡ Enclave slot
-  view_ends_in_k in_range =
+  view_ends_in_slot : hart < count_of machine → (monitored_step (hart_view hart machine)).state.hart_state.world ≡ Enclave slot
+  view_ends_in_slot in_range =
       sym (ap (λ (after : HartViewStepped). after.state.hart_state.world) (step_of_view hart machine in_range)) ∙ enclave_runs_after
 
   -- if a step without a trap ended in `slot`, then the host would be an enclave
-  never_quiet : (step_of hart machine).outcome.step.trap ≡ None → Host ≡ Enclave slot
-  never_quiet no_trap = elim (cases_lt hart (count_of machine)) [
+  has_trap : (step_of hart machine).outcome.step.trap ≡ None → Host ≡ Enclave slot
+  has_trap no_trap = elim (cases_lt hart (count_of machine)) [
     | inr past_last ↦
         sym (ap (λ (after : MonitoredStepped). (hart_state_of hart after.state).world) (outside hart machine past_last) ∙ from_host)
         ∙ enclave_runs_after
     | inl in_range ↦
         let view_step = step_of_view hart machine in_range in
-        let quiet = sym (ap (λ (after : HartViewStepped). after.outcome.step.trap) view_step) ∙ no_trap in
-        sym from_host ∙ sym (quiet_world (hart_view hart machine) quiet) ∙ view_ends_in_k in_range
+        let view_untrapped = sym (ap (λ (after : HartViewStepped). after.outcome.step.trap) view_step) ∙ no_trap in
+        sym from_host ∙ sym (quiet_world (hart_view hart machine) view_untrapped) ∙ view_ends_in_slot in_range
   ]
 
   -- a step with a trap that ends in `slot` enters `slot` with the saved context of `slot`
-  entered_with : (trap : Trap) → (step_of hart machine).outcome.step.trap ≡ Some trap → (o : Option Context)
-      → context_at machine.shared.contexts slot ≡ o → HasEntered hart slot machine (step_of hart machine)
-  entered_with trap trapped None no_context =
+  entry_with_context : (trap : Trap) → (step_of hart machine).outcome.step.trap ≡ Some trap → (maybe_context : Option Context)
+      → context_at machine.shared.contexts slot ≡ maybe_context → HasEntered hart slot machine (step_of hart machine)
+  entry_with_context trap trapped None no_context =
       let trapping = is_trapping hart machine trap trapped in
-      let had = had_context (hart_view hart machine) invariant.shared.contexts from_host trap trapping.trapped slot (view_ends_in_k trapping.has) in
-      let contradiction : false ≡ true = ap (λ (o : Option Context). is_some o) (sym no_context) ∙ had in
+      let slot_has_context =
+      had_context (hart_view hart machine) invariant.shared.contexts from_host trap trapping.trapped slot (view_ends_in_slot trapping.has) in
+      let contradiction : false ≡ true = ap (λ (maybe_context : Option Context). is_some maybe_context) (sym no_context) ∙ slot_has_context in
       cc
-  entered_with trap is (Some context) has_context =
-      let entered_both = enters_from hart machine invariant slot context trap from_host has_context is enclave_runs_after in
-      record { trap = trap; trapped = is; call = record { context = context; kept = has_context; state = entered_both.0; entered = entered_both.1 } }
+  entry_with_context trap trapped (Some context) has_context =
+      let entry_is = enters_from hart machine invariant slot context trap from_host has_context trapped enclave_runs_after in
+      record { trap = trap; trapped = trapped; call = record { context = context; kept = has_context; state = entry_is.0; entered = entry_is.1 } }
 
   -- a step that ends in `slot` has a trap, and enters `slot` with its saved context
-  entered_by : (o : Option Trap) → (step_of hart machine).outcome.step.trap ≡ o → HasEntered hart slot machine (step_of hart machine)
-  entered_by None no_trap = let contradiction = never_quiet no_trap in cc
-  entered_by (Some trap) trapped = entered_with trap trapped (context_at machine.shared.contexts slot) refl
+  entry_by_trap : (maybe_trap : Option Trap) → (step_of hart machine).outcome.step.trap ≡ maybe_trap
+      → HasEntered hart slot machine (step_of hart machine)
+  entry_by_trap None no_trap = let contradiction = has_trap no_trap in cc
+  entry_by_trap (Some trap) trapped = entry_with_context trap trapped (context_at machine.shared.contexts slot) refl
 
 -- proves that a hart which enters an enclave continues with exactly the saved context of this enclave
 pub enter_law : (hart : ℕ) (machine : MonitoredMachine) → Invariant machine → EntersOnly hart machine (step_of hart machine)
 enter_law hart machine invariant slot from_host enclave_runs_after =
-    entered_by hart slot machine invariant from_host enclave_runs_after (step_of hart machine).outcome.step.trap refl
+    entry_by_trap hart slot machine invariant from_host enclave_runs_after (step_of hart machine).outcome.step.trap refl

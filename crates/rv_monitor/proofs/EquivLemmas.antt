@@ -6,18 +6,22 @@ use Rattle.rv_monitor.proofs.InvariantLemmas.{past_as_is}
 use Rattle.rv_monitor.proofs.HartCases.{hart_cases_of_both}
 
 -- hart states are equivalent except `enclave`, if they are equal to hart states that are equivalent except `enclave`
-pub hart_states_equiv : (enclave : ℕ) (a b c d : HartState) → a ≡ b → c ≡ d → HartStatesEquivExcept enclave b d → HartStatesEquivExcept enclave a c
-hart_states_equiv enclave a b c d a_is_b c_is_d equiv =
-    subst (λ (s : HartState). HartStatesEquivExcept enclave s c) (sym a_is_b) (subst (HartStatesEquivExcept enclave b) (sym c_is_d) equiv)
+pub hart_states_equiv : (enclave : ℕ) (one one_equal other other_equal : HartState) → one ≡ one_equal → other ≡ other_equal
+    → HartStatesEquivExcept enclave one_equal other_equal
+    → HartStatesEquivExcept enclave one other
+hart_states_equiv enclave one one_equal other other_equal one_is other_is equiv =
+    subst (λ (hart_state : HartState). HartStatesEquivExcept enclave hart_state other) (sym one_is)
+    (subst (HartStatesEquivExcept enclave one_equal) (sym other_is) equiv)
 
 -- equal hart states are equivalent except `enclave`
 pub same_hart_states : (enclave : ℕ) (one other : HartState) → one ≡ other → HartStatesEquivExcept enclave one other
-same_hart_states enclave one other one_is = record { world = ap (λ (s : HartState). s.world) one_is; same = λ not_running. one_is }
+same_hart_states enclave one other one_is = record { world = ap (λ (hart_state : HartState). hart_state.world) one_is; same = λ not_running. one_is }
 
 -- two equivalent machines stay equivalent if both get shared states that are equivalent except `enclave`
-pub shared_equiv : (enclave : ℕ) (one other : MonitoredMachine) (x y : Shared) → EquivExcept enclave one other → SharedEquivExcept enclave x y
-    → EquivExcept enclave (record one { shared = x }) (record other { shared = y })
-shared_equiv enclave one other x y equiv shared = record { harts = equiv.harts; hart_states = equiv.hart_states; shared = shared }
+pub shared_equiv : (enclave : ℕ) (one other : MonitoredMachine) (one_shared other_shared : Shared) → EquivExcept enclave one other
+    → SharedEquivExcept enclave one_shared other_shared
+    → EquivExcept enclave (record one { shared = one_shared }) (record other { shared = other_shared })
+shared_equiv enclave one other one_shared other_shared equiv shared = record { harts = equiv.harts; hart_states = equiv.hart_states; shared = shared }
 
 -- a machine is equivalent except `enclave` to itself, if its shared state is
 pub equiv_itself : (enclave : ℕ) (machine : MonitoredMachine) → SharedEquivExcept enclave machine.shared machine.shared
@@ -25,23 +29,23 @@ pub equiv_itself : (enclave : ℕ) (machine : MonitoredMachine) → SharedEquivE
 equiv_itself enclave machine shared =
     record { harts = refl; hart_states = λ hart. record { world = refl; same = λ not_running. refl }; shared = shared }
 
--- the same change of a hart of two equivalent machines leaves them equivalent, if the change keeps the world of the hart
-changed_in : (enclave hart : ℕ) (change : HartState → HartState) (one other : MonitoredMachine)
+-- the same change of a hart of two equivalent machines leaves these machines equivalent, if the change keeps the world of the hart
+changed_in_range : (enclave hart : ℕ) (change : HartState → HartState) (one other : MonitoredMachine)
     → ((hart_state : HartState) → (change hart_state).world ≡ hart_state.world)
     → hart < count_of one → EquivExcept enclave one other → EquivExcept enclave (changed hart change one) (changed hart change other)
-changed_in enclave hart change one other keeps_world in_range equiv =
-    let changed_one = change (hart_state_of hart one) in
-    let changed_other = change (hart_state_of hart other) in
+changed_in_range enclave hart change one other keeps_world in_range equiv =
+    let first_changed = change (hart_state_of hart one) in
+    let second_changed = change (hart_state_of hart other) in
     let same_harts = equiv.harts in
     let same_hart = equiv.hart_states hart in
     record {
-      harts = length-set one.hart_states hart changed_one ∙ equiv.harts ∙ sym (length-set other.hart_states hart changed_other);
+      harts = length-set one.hart_states hart first_changed ∙ equiv.harts ∙ sym (length-set other.hart_states hart second_changed);
       hart_states =
-          hart_cases_of_both one.hart_states other.hart_states hart changed_one changed_other
-          (λ j s t. HartStatesEquivExcept enclave s t) same_harts in_range (record {
+          hart_cases_of_both one.hart_states other.hart_states hart first_changed second_changed
+          (λ some_hart first_state second_state. HartStatesEquivExcept enclave first_state second_state) same_harts in_range (record {
             world = keeps_world (hart_state_of hart one) ∙ same_hart.world ∙ sym (keeps_world (hart_state_of hart other));
             same = λ not_running. ap change (same_hart.same (sym (ap (is_world_of enclave) (keeps_world (hart_state_of hart one))) ∙ not_running));
-          }) (λ j distinct. equiv.hart_states j);
+          }) (λ hart distinct. equiv.hart_states hart);
       shared = equiv.shared;
     }
 
@@ -50,7 +54,7 @@ pub changed_equiv : (enclave hart : ℕ) (change : HartState → HartState) (one
     → ((hart_state : HartState) → (change hart_state).world ≡ hart_state.world)
     → EquivExcept enclave one other → EquivExcept enclave (changed hart change one) (changed hart change other)
 changed_equiv enclave hart change one other keeps_world equiv = elim (cases_lt hart (count_of one)) [
-  | inl in_range ↦ changed_in enclave hart change one other keeps_world in_range equiv
+  | inl in_range ↦ changed_in_range enclave hart change one other keeps_world in_range equiv
   | inr past_last ↦
       let same_harts = equiv.harts in
       let one_unchanged = past_as_is hart (change (hart_state_of hart one)) one past_last in

@@ -32,7 +32,7 @@ event_invariant (LineOf hart raised) machine invariant = line_invariant hart rai
 -- proves that every list of events preserves the invariant
 pub events_invariant : EventInvariantLaw
 events_invariant [] machine invariant = invariant
-events_invariant (event ∷ more) machine invariant = events_invariant more (event_of event machine).state (event_invariant event machine invariant)
+events_invariant (event ∷ events) machine invariant = events_invariant events (event_of event machine).state (event_invariant event machine invariant)
 
 -- ---- noninterference
 
@@ -41,20 +41,22 @@ module _ (enclave hart : ℕ) (raised : Bool) (one other : MonitoredMachine) whe
   -- the same change of a timer line leaves equivalent machines equivalent
   line_equiv : EquivExcept enclave one other → EquivExcept enclave (with_timer hart one raised) (with_timer hart other raised)
   line_equiv equiv =
-      let changed_one = timer_line_set raised (hart_state_of hart one) in
-      let changed_other = timer_line_set raised (hart_state_of hart other) in
+      let first_changed = timer_line_set raised (hart_state_of hart one) in
+      let second_changed = timer_line_set raised (hart_state_of hart other) in
       let same_harts = equiv.harts in
       let same_hart = equiv.hart_states hart in
       elim (cases_lt hart (count_of one)) [
         | inl in_range ↦ record {
-          harts = length-set one.hart_states hart changed_one ∙ same_harts ∙ sym (length-set other.hart_states hart changed_other);
+          harts = length-set one.hart_states hart first_changed ∙ same_harts ∙ sym (length-set other.hart_states hart second_changed);
           hart_states =
-              hart_cases_of_both one.hart_states other.hart_states hart changed_one changed_other
-              (λ j s t. HartStatesEquivExcept enclave s t) same_harts in_range
-              (record { world = same_hart.world; same = λ low. ap (timer_line_set raised) (same_hart.same low) }) (λ j distinct. equiv.hart_states j);
+              hart_cases_of_both one.hart_states other.hart_states hart first_changed second_changed
+              (λ some_hart first_state second_state. HartStatesEquivExcept enclave first_state second_state) same_harts in_range
+              (record { world = same_hart.world; same = λ low. ap (timer_line_set raised) (same_hart.same low) })
+              (λ some_hart distinct. equiv.hart_states some_hart);
           shared = equiv.shared;
         }
-        | inr past ↦ rw (past_as_is hart changed_one one past, past_as_is hart changed_other other (omega (arith, same_harts, past))) equiv
+        | inr past_last ↦
+            rw (past_as_is hart first_changed one past_last, past_as_is hart second_changed other (omega (arith, same_harts, past_last))) equiv
       ]
 
   -- the same change of a timer line leaves related machines related
@@ -62,117 +64,133 @@ module _ (enclave hart : ℕ) (raised : Bool) (one other : MonitoredMachine) whe
   line_related related = changed_related enclave hart (timer_line_set raised) (timer_line_set raised) one other related (record {
     world = refl;
     state = λ parts. record { world = parts.world; same = λ low. ap (timer_line_set raised) (parts.same low) };
-    host = λ parts. record { host = parts.host; rest = ap (λ (c : CsrState). record c { timer = raised }) parts.rest };
+    host = λ parts. record { host = parts.host; rest = ap (λ (csrs : CsrState). record csrs { timer = raised }) parts.rest };
   })
 
 -- proves the noninterference law for events, by induction on the list
 pub event_law : EventLaw
 event_law enclave [] one other invariant_one invariant_other equiv low_steps = record { outcomes = refl; state = equiv }
-event_law enclave (StepOf hart ∷ more) one other invariant_one invariant_other equiv low_steps =
-    let first = noninterference hart one invariant_one enclave other invariant_other equiv low_steps.0 in
-    let rest =
-    event_law enclave more (step_of hart one).state (step_of hart other).state (invariant_law hart one invariant_one)
+event_law enclave (StepOf hart ∷ rest_events) one other invariant_one invariant_other equiv low_steps =
+    let first_step = noninterference hart one invariant_one enclave other invariant_other equiv low_steps.0 in
+    let remaining =
+    event_law enclave rest_events (step_of hart one).state (step_of hart other).state (invariant_law hart one invariant_one)
     (invariant_law hart other invariant_other)
-    first.state low_steps.1 in
-    record { outcomes = ap₂ (λ (x : Outcome) (xs : List Outcome). x ∷ xs) first.outcome rest.outcomes; state = rest.state }
-event_law enclave (LineOf hart raised ∷ more) one other invariant_one invariant_other equiv low_steps =
-    let rest = event_law enclave more (with_timer hart one raised) (with_timer hart other raised) (line_invariant hart raised one invariant_one)
+    first_step.state low_steps.1 in
+    record {
+      outcomes = ap₂ (λ (outcome : Outcome) (outcomes : List Outcome). outcome ∷ outcomes) first_step.outcome remaining.outcomes;
+      state = remaining.state;
+    }
+event_law enclave (LineOf hart raised ∷ rest_events) one other invariant_one invariant_other equiv low_steps =
+    let remaining =
+    event_law enclave rest_events (with_timer hart one raised) (with_timer hart other raised) (line_invariant hart raised one invariant_one)
     (line_invariant hart raised other invariant_other) (line_equiv enclave hart raised one other equiv) low_steps.1 in
-    record { outcomes = ap (λ (xs : List Outcome). (event_of (LineOf hart raised) one).outcome ∷ xs) rest.outcomes; state = rest.state }
+    record {
+      outcomes = ap (λ (outcomes : List Outcome). (event_of (LineOf hart raised) one).outcome ∷ outcomes) remaining.outcomes;
+      state = remaining.state;
+    }
 
 -- ---- integrity
 
 -- if two changes of the machine in turn leave the enclave untouched except for the timer line, then so do both together
-but_line_twice : (k : ℕ) (before between after : MonitoredMachine) → IsUntouchedButLine k before between → IsUntouchedButLine k between after
-    → IsUntouchedButLine k before after
-but_line_twice k before between after first last = record {
-  preserved = preserved_twice k before.shared between.shared after.shared first.preserved last.preserved;
+but_line_twice : (slot : ℕ) (before middle after : MonitoredMachine) → IsUntouchedButLine slot before middle → IsUntouchedButLine slot middle after
+    → IsUntouchedButLine slot before after
+but_line_twice slot before middle after first_change second_change = record {
+  preserved = preserved_twice slot before.shared middle.shared after.shared first_change.preserved second_change.preserved;
   hart_state = λ hart runs.
-      let state_between = first.hart_state hart runs in
-      last.hart_state hart (ap (λ (s : HartState). is_world_of k s.world) state_between ∙ runs) ∙ ap (reprogrammed after.shared.table) state_between;
+      let middle_state_is = first_change.hart_state hart runs in
+      second_change.hart_state hart (ap (λ (hart_state : HartState). is_world_of slot hart_state.world) middle_state_is ∙ runs)
+      ∙ ap (reprogrammed after.shared.table) middle_state_is;
 }
 
 -- a change of a timer line leaves each enclave untouched except for the timer line
-pub line_only : (k hart : ℕ) (raised : Bool) (machine : MonitoredMachine) → Invariant machine
-    → IsUntouchedButLine k machine (with_timer hart machine raised)
-line_only k hart raised machine invariant = record {
+pub line_only : (slot hart : ℕ) (raised : Bool) (machine : MonitoredMachine) → Invariant machine
+    → IsUntouchedButLine slot machine (with_timer hart machine raised)
+line_only slot hart raised machine invariant = record {
   preserved = record { slot = refl; bytes = λ byte in_region. refl; context = refl };
-  hart_state = λ j runs.
-      change_preserves (timer_line_set false) (timer_line_set raised) (λ s. refl) hart j machine
+  hart_state = λ other_hart runs.
+      change_preserves (timer_line_set false) (timer_line_set raised) (λ hart_state. refl) hart other_hart machine
       ∙ ap (timer_line_set false)
-      (sym (reprogramming_changes_nothing machine.shared.table (hart_state_of j machine) (invariant.hart_states j (runs_inside k j machine runs))));
+      (sym (reprogramming_changes_nothing machine.shared.table (hart_state_of other_hart machine)
+      (invariant.hart_states other_hart (runs_inside slot other_hart machine runs))));
 }
 
 -- an enclave that is untouched is untouched except for the timer line
-untouched_but_line : (k : ℕ) (before after : MonitoredMachine) → IsUntouched k before after → IsUntouchedButLine k before after
-untouched_but_line k before after untouched =
+untouched_but_line : (slot : ℕ) (before after : MonitoredMachine) → IsUntouched slot before after → IsUntouchedButLine slot before after
+untouched_but_line slot before after untouched =
     record { preserved = untouched.preserved; hart_state = λ hart runs. ap (timer_line_set false) (untouched.hart_state hart runs) }
 
 -- an enclave that a list of events leaves undisturbed is live before these events
-undisturbed_live : (k : ℕ) (list : List Event) (machine : MonitoredMachine) → AreUndisturbing k list machine → is_live machine.shared.table k ≡ true
-undisturbed_live k [] machine undisturbed = undisturbed
-undisturbed_live k (event ∷ more) machine undisturbed = undisturbed.0
+undisturbed_live : (slot : ℕ) (events : List Event) (machine : MonitoredMachine) → AreUndisturbing slot events machine
+    → is_live machine.shared.table slot ≡ true
+undisturbed_live slot [] machine undisturbed = undisturbed
+undisturbed_live slot (event ∷ rest_events) machine undisturbed = undisturbed.0
 
 -- proves the integrity law for events, by induction on the list
 pub event_integrity : EventIntegrityLaw
-event_integrity k [] machine invariant undisturbed = record {
+event_integrity slot [] machine invariant undisturbed = record {
   preserved = record { slot = refl; bytes = λ byte in_region. refl; context = refl };
-  hart_state = λ j runs.
+  hart_state = λ hart runs.
       ap (timer_line_set false)
-      (sym (reprogramming_changes_nothing machine.shared.table (hart_state_of j machine) (invariant.hart_states j (runs_inside k j machine runs))));
+      (sym (reprogramming_changes_nothing machine.shared.table (hart_state_of hart machine)
+      (invariant.hart_states hart (runs_inside slot hart machine runs))));
 }
-event_integrity k (StepOf hart ∷ more) machine invariant undisturbed =
+event_integrity slot (StepOf hart ∷ rest_events) machine invariant undisturbed =
     let after = (step_of hart machine).state in
-    but_line_twice k machine after (events more after).state
-    (untouched_but_line k machine after
-    (integrity hart machine invariant k undisturbed.1.0 undisturbed.0 undisturbed.1.1 (undisturbed_live k more after undisturbed.2)))
-    (event_integrity k more after (invariant_law hart machine invariant) undisturbed.2)
-event_integrity k (LineOf hart raised ∷ more) machine invariant undisturbed =
+    but_line_twice slot machine after (events rest_events after).state
+    (untouched_but_line slot machine after
+    (integrity hart machine invariant slot undisturbed.1.0 undisturbed.0 undisturbed.1.1 (undisturbed_live slot rest_events after undisturbed.2)))
+    (event_integrity slot rest_events after (invariant_law hart machine invariant) undisturbed.2)
+event_integrity slot (LineOf hart raised ∷ rest_events) machine invariant undisturbed =
     let after = with_timer hart machine raised in
-    but_line_twice k machine after (events more after).state (line_only k hart raised machine invariant)
-    (event_integrity k more after (line_invariant hart raised machine invariant) undisturbed.2)
+    but_line_twice slot machine after (events rest_events after).state (line_only slot hart raised machine invariant)
+    (event_integrity slot rest_events after (line_invariant hart raised machine invariant) undisturbed.2)
 
 -- ---- the other harts and every timer line leave a running enclave undisturbed
 
 -- a change of a timer line does not change which enclave runs on which hart
-pub line_worlds : (k hart j : ℕ) (raised : Bool) (machine : MonitoredMachine) → runs_on k j (with_timer hart machine raised) ≡ runs_on k j machine
-line_worlds k hart j raised machine = change_preserves (λ (s : HartState). is_world_of k s.world) (timer_line_set raised) (λ s. refl) hart j machine
+pub line_worlds : (slot hart other_hart : ℕ) (raised : Bool) (machine : MonitoredMachine)
+    → runs_on slot other_hart (with_timer hart machine raised) ≡ runs_on slot other_hart machine
+line_worlds slot hart other_hart raised machine =
+    change_preserves (λ (hart_state : HartState). is_world_of slot hart_state.world) (timer_line_set raised)
+    (λ hart_state. refl) hart other_hart machine
 
 -- if no event of a list steps a hart that runs the enclave, then this also holds after a change of a timer line
-none_after_line : (k hart : ℕ) (raised : Bool) (list : List Event) (machine : MonitoredMachine) → StepsNone k list machine
-    → StepsNone k list (with_timer hart machine raised)
-none_after_line k hart raised [] machine steps_none = tt
-none_after_line k hart raised (StepOf own_hart ∷ more) machine steps_none =
-    (line_worlds k hart own_hart raised machine ∙ steps_none.0, none_after_line k hart raised more machine steps_none.1)
-none_after_line k hart raised (LineOf own_hart level ∷ more) machine steps_none = none_after_line k hart raised more machine steps_none
+none_after_line : (slot hart : ℕ) (raised : Bool) (events : List Event) (machine : MonitoredMachine) → StepsNone slot events machine
+    → StepsNone slot events (with_timer hart machine raised)
+none_after_line slot hart raised [] machine steps_none = tt
+none_after_line slot hart raised (StepOf running_hart ∷ rest_events) machine steps_none =
+    (line_worlds slot hart running_hart raised machine ∙ steps_none.0, none_after_line slot hart raised rest_events machine steps_none.1)
+none_after_line slot hart raised (LineOf running_hart is_raised ∷ rest_events) machine steps_none =
+    none_after_line slot hart raised rest_events machine steps_none
 
 -- if no event of a list steps a hart that runs the enclave, then this also holds after a step that does not enter the enclave
-none_after_step : (k hart : ℕ) (list : List Event) (machine : MonitoredMachine) → StepsNone k list machine
-    → enters k (step_of hart machine).outcome.entered ≡ false → StepsNone k list (step_of hart machine).state
-none_after_step k hart [] machine steps_none not_entered = tt
-none_after_step k hart (StepOf own_hart ∷ more) machine steps_none not_entered =
-    (entry_law k hart own_hart machine steps_none.0 not_entered, none_after_step k hart more machine steps_none.1 not_entered)
-none_after_step k hart (LineOf own_hart level ∷ more) machine steps_none not_entered = none_after_step k hart more machine steps_none not_entered
+none_after_step : (slot hart : ℕ) (events : List Event) (machine : MonitoredMachine) → StepsNone slot events machine
+    → enters slot (step_of hart machine).outcome.entered ≡ false → StepsNone slot events (step_of hart machine).state
+none_after_step slot hart [] machine steps_none not_entered = tt
+none_after_step slot hart (StepOf running_hart ∷ rest_events) machine steps_none not_entered =
+    (entry_law slot hart running_hart machine steps_none.0 not_entered, none_after_step slot hart rest_events machine steps_none.1 not_entered)
+none_after_step slot hart (LineOf running_hart is_raised ∷ rest_events) machine steps_none not_entered =
+    none_after_step slot hart rest_events machine steps_none not_entered
 
 -- proves that events of other harts leave a running enclave undisturbed
 pub running_events : RunningEventLaw
-running_events k own_hart [] machine invariant runs_on_own steps_none = running_is_live k own_hart machine invariant runs_on_own
-running_events k own_hart (StepOf hart ∷ more) machine invariant runs_on_own steps_none =
+running_events slot running_hart [] machine invariant runs_on_hart steps_none = running_is_live slot running_hart machine invariant runs_on_hart
+running_events slot running_hart (StepOf hart ∷ rest_events) machine invariant runs_on_hart steps_none =
     let after = (step_of hart machine).state in
-    let live = running_is_live k own_hart machine invariant runs_on_own in
-    let continues = go_on_law hart machine invariant k own_hart runs_on_own steps_none.0 in
-    let preserved = integrity hart machine invariant k steps_none.0 live continues.passes continues.live in
-    let runs_after : runs_on k own_hart after ≡ true =
-    ap (λ (s : HartState). is_world_of k s.world) (preserved.hart_state own_hart runs_on_own) ∙ runs_on_own in (
+    let live = running_is_live slot running_hart machine invariant runs_on_hart in
+    let continues = go_on_law hart machine invariant slot running_hart runs_on_hart steps_none.0 in
+    let preserved = integrity hart machine invariant slot steps_none.0 live continues.passes continues.live in
+    let runs_after : runs_on slot running_hart after ≡ true =
+    ap (λ (hart_state : HartState). is_world_of slot hart_state.world) (preserved.hart_state running_hart runs_on_hart) ∙ runs_on_hart in (
       live,
       (steps_none.0, continues.passes),
-      running_events k own_hart more after (invariant_law hart machine invariant) runs_after
-          (none_after_step k hart more machine steps_none.1 continues.passes),
+      running_events slot running_hart rest_events after (invariant_law hart machine invariant) runs_after
+          (none_after_step slot hart rest_events machine steps_none.1 continues.passes),
     )
-running_events k own_hart (LineOf hart raised ∷ more) machine invariant runs_on_own steps_none = (
-  running_is_live k own_hart machine invariant runs_on_own,
+running_events slot running_hart (LineOf hart raised ∷ rest_events) machine invariant runs_on_hart steps_none = (
+  running_is_live slot running_hart machine invariant runs_on_hart,
   tt,
-  running_events k own_hart more (with_timer hart machine raised) (line_invariant hart raised machine invariant)
-      (line_worlds k hart own_hart raised machine ∙ runs_on_own)
-      (none_after_line k hart raised more machine steps_none),
+  running_events slot running_hart rest_events (with_timer hart machine raised) (line_invariant hart raised machine invariant)
+      (line_worlds slot hart running_hart raised machine ∙ runs_on_hart)
+      (none_after_line slot hart raised rest_events machine steps_none),
 )

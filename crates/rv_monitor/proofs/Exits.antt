@@ -30,50 +30,52 @@ use Rattle.rv_monitor.proofs.Alignment.{aligned_twice}
 -- the hart runs the enclave in `slot` at the trap
 module _ (slot : ℕ) (hart_state : HartState) (shared : Shared) (runs_enclave : hart_state.world ≡ Enclave slot) where
   -- an enclave still runs after a measure, refused or not
-  measure_stays : (o : Option Refusal) (call : Call)
-      → is_host (option_case o (performed hart_state shared Measure) (refused hart_state shared)).hart_state.world ≡ false
+  measure_stays : (maybe_refusal : Option Refusal) (call : Call)
+      → is_host (option_case maybe_refusal (performed hart_state shared Measure) (refused hart_state shared)).hart_state.world ≡ false
   unfolding performed
   measure_stays None call = ap is_host runs_enclave
   measure_stays (Some refusal) call = ap is_host runs_enclave
 
   -- a claim about a call that is not offered to the enclave holds, because such a call is not requested
-  not_offered : (P : Type 0) (call : Call) → is_offered (Enclave slot) call ≡ false → is_offered hart_state.world call ≡ true → P
-  not_offered P call not_offered_here offered =
-      let offered_here : is_offered (Enclave slot) call ≡ true = sym (ap (λ (w : World). is_offered w call) runs_enclave) ∙ offered in
-      let contradiction : false ≡ true = sym not_offered_here ∙ offered_here in
+  not_offered : (Claim : Type 0) (call : Call) → is_offered (Enclave slot) call ≡ false → is_offered hart_state.world call ≡ true → Claim
+  not_offered Claim call is_not_offered offered =
+      let offered_to_enclave : is_offered (Enclave slot) call ≡ true = sym (ap (λ (world : World). is_offered world call) runs_enclave) ∙ offered in
+      let contradiction : false ≡ true = sym is_not_offered ∙ offered_to_enclave in
       cc
 
   -- after a call that is offered to the enclave, the host runs if and only if the call is stop or exit
-  by_call : (call : Call) → is_offered hart_state.world call ≡ true
+  exits_by_call : (call : Call) → is_offered hart_state.world call ≡ true
       → is_host (called hart_state shared call).hart_state.world ≡ is_exit_call (Some call)
   unfolding called performed left
-  by_call Stop offered = refl
-  by_call Exit offered = refl
-  by_call Measure offered = measure_stays (first_refusal (call_refusals hart_state shared Measure)) Measure
-  by_call Create offered = not_offered _ Create refl offered
-  by_call Destroy offered = not_offered _ Destroy refl offered
-  by_call Run offered = not_offered _ Run refl offered
-  by_call Resume offered = not_offered _ Resume refl offered
+  exits_by_call Stop offered = refl
+  exits_by_call Exit offered = refl
+  exits_by_call Measure offered = measure_stays (first_refusal (call_refusals hart_state shared Measure)) Measure
+  exits_by_call Create offered = not_offered _ Create refl offered
+  exits_by_call Destroy offered = not_offered _ Destroy refl offered
+  exits_by_call Run offered = not_offered _ Run refl offered
+  exits_by_call Resume offered = not_offered _ Resume refl offered
 
   -- after the requested call, if there is one, the host runs if and only if the call is stop or exit
-  by_asked : (o : Option Call) → requested_call hart_state.world hart_state.hart.regs ≡ o
-      → is_host (option_case o (refused hart_state shared NotSupported) (called hart_state shared)).hart_state.world ≡ is_exit_call o
-  by_asked None requested = ap is_host runs_enclave
-  by_asked (Some call) requested = by_call call (requested-is_offered hart_state.world hart_state.hart.regs call requested).1
+  exits_by_requested_call : (maybe_call : Option Call) → requested_call hart_state.world hart_state.hart.regs ≡ maybe_call
+      → is_host (option_case maybe_call (refused hart_state shared NotSupported) (called hart_state shared)).hart_state.world
+      ≡ is_exit_call maybe_call
+  exits_by_requested_call None requested = ap is_host runs_enclave
+  exits_by_requested_call (Some call) requested = exits_by_call call (requested-is_offered hart_state.world hart_state.hart.regs call requested).1
 
   -- after an exception, the host runs if and only if the exception is an ecall that requests stop or exit
-  by_exception : (trap : Trap) (exception : Exception)
+  exits_by_exception : (trap : Trap) (exception : Exception)
       → is_host (handled_cause hart_state shared trap (causes.Exception exception)).hart_state.world
       ≡ causes_exit hart_state (causes.Exception exception)
   unfolding call_handled
-  by_exception trap EnvironmentCallFromS = by_asked (requested_call hart_state.world hart_state.hart.regs) refl
-  by_exception trap _ = ap is_host runs_enclave
+  exits_by_exception trap EnvironmentCallFromS = exits_by_requested_call (requested_call hart_state.world hart_state.hart.regs) refl
+  exits_by_exception trap _ = ap is_host runs_enclave
 
   -- after a trap, the host runs if and only if the cause is one that exits
-  by_cause : (trap : Trap) (cause : Cause) → is_host (handled_cause hart_state shared trap cause).hart_state.world ≡ causes_exit hart_state cause
+  exits_by_cause_of_trap : (trap : Trap) (cause : Cause)
+      → is_host (handled_cause hart_state shared trap cause).hart_state.world ≡ causes_exit hart_state cause
   unfolding timer_stopped left
-  by_cause trap (causes.Interrupt interrupt) = refl
-  by_cause trap (causes.Exception exception) = by_exception trap exception
+  exits_by_cause_of_trap trap (causes.Interrupt interrupt) = refl
+  exits_by_cause_of_trap trap (causes.Exception exception) = exits_by_exception trap exception
 
 -- ---- redirection
 
@@ -112,17 +114,17 @@ module _ (state : HartView) (view_invariant : HartViewInvariant state) (trap : T
   IsRedirectedTo after = (after.state ≡ redirected_view) × (after.outcome.entered ≡ None)
 
   -- the return from the trap handler after a redirected exception gives the view after a redirected trap
-  redirected_at : (outcome : StepOutcome) → is_redirected trap.cause ≡ true
+  handler_redirects : (outcome : StepOutcome) → is_redirected trap.cause ≡ true
       → IsRedirectedTo (returned outcome (handled (hart_state_after state.hart_state trap) state.shared trap))
   unfolding handled
-  redirected_at outcome is_redirection =
+  handler_redirects outcome is_redirection =
       let result = cause_is_redirected (hart_state_after state.hart_state trap) state.shared trap trap.cause is_redirection in
       rw result (returned_redirected outcome, refl)
 
   -- a step with a redirected exception leads to the view after a redirected trap
   step_is_redirected : (monitored_step state).outcome.step.trap ≡ Some trap → is_redirected trap.cause ≡ true → IsRedirectedTo (monitored_step state)
   step_is_redirected trapped is_redirection =
-      subst IsRedirectedTo (sym (trapped_step state trap trapped)) (redirected_at (step (bare_machine state)).outcome is_redirection)
+      subst IsRedirectedTo (sym (trapped_step state trap trapped)) (handler_redirects (step (bare_machine state)).outcome is_redirection)
 
 -- a step of the host or of an enclave with a redirected exception leads to the machine after a redirected trap
 pub redirects_step : (hart : ℕ) (machine : MonitoredMachine) → Invariant machine → (trap : Trap)
@@ -148,7 +150,8 @@ module _ (slot : ℕ) (state : HartView) (runs_enclave : state.hart_state.world 
       → is_host (monitored_step state).state.hart_state.world ≡ causes_exit state.hart_state trap.cause
   unfolding handled
   exits_by_cause trapped = subst (λ (after : HartViewStepped). is_host after.state.hart_state.world ≡ causes_exit state.hart_state trap.cause)
-      (sym (trapped_step state trap trapped)) (by_cause slot (hart_state_after state.hart_state trap) state.shared runs_enclave trap trap.cause)
+      (sym (trapped_step state trap trapped)) (exits_by_cause_of_trap slot
+      (hart_state_after state.hart_state trap) state.shared runs_enclave trap trap.cause)
 
 -- ---- the interrupt that the hart of an enclave takes
 
@@ -156,26 +159,29 @@ module _ (slot : ℕ) (state : HartView) (runs_enclave : state.hart_state.world 
 abbrev pub timer_or_none : Bool → Option Interrupt
 timer_or_none timer_set = if timer_set then Some MachineTimer else None
 
--- if only the timer interrupt is enabled, then the highest pending interrupt is the timer interrupt if its bit t is set, or else there is none
-find_timer : (a b t x y z : Bool)
-    → (if a && false then Some MachineExternal else (if b && false then Some MachineSoftware else (if t && true then Some MachineTimer
-    else
-    (if x && false then Some SupervisorExternal else
-    (if y && false then Some SupervisorSoftware else (if z && false then Some SupervisorTimer else None))))))
-    ≡ timer_or_none t
-find_timer a b t x y z = rw (and-false a, and-false b, and-true t, and-false x, and-false y, and-false z) refl
+-- Let only the timer interrupt be enabled. The highest pending interrupt is the timer interrupt if its bit in mip is set. Otherwise there is none.
+find_timer : (is_external is_software is_timer is_s_external is_s_software is_s_timer : Bool)
+    → (if is_external && false then Some MachineExternal else
+    (if is_software && false then Some MachineSoftware else
+    (if is_timer && true then Some MachineTimer else
+    (if is_s_external && false then Some SupervisorExternal else
+    (if is_s_software && false then Some SupervisorSoftware else (if is_s_timer && false then Some SupervisorTimer else None))))))
+    ≡ timer_or_none is_timer
+find_timer is_external is_software is_timer is_s_external is_s_software is_s_timer =
+    rw (and-false is_external, and-false is_software, and-true is_timer) (
+    rw (and-false is_s_external, and-false is_s_software, and-false is_s_timer) refl)
 
 -- if mie enables only the timer interrupt, then a hart below M has a pending interrupt if and only if its timer line is set
-pub waits : (c : CsrState) (mode : Mode) → is_machine mode ≡ false → c.mie ≡ 0x80 → pending c mode ≡ timer_or_none c.timer
-waits c mode mode_below_m enabled =
-    let mip = mip_word c in
-    let bit : is_set mip 7 ≡ c.timer = timer_part c.software_pending c.timer in
+pub waits : (csrs : CsrState) (mode : Mode) → is_machine mode ≡ false → csrs.mie ≡ 0x80 → pending csrs mode ≡ timer_or_none csrs.timer
+waits csrs mode mode_below_m enabled =
+    let mip = mip_word csrs in
+    let timer_bit_is_line : is_set mip 7 ≡ csrs.timer = timer_part csrs.software_pending csrs.timer in
     rw (mode_below_m, enabled)
-    (find_timer (is_set mip 11) (is_set mip 3) (is_set mip 7) (is_set mip 9) (is_set mip 1) (is_set mip 5) ∙ ap timer_or_none bit)
+    (find_timer (is_set mip 11) (is_set mip 3) (is_set mip 7) (is_set mip 9) (is_set mip 1) (is_set mip 5) ∙ ap timer_or_none timer_bit_is_line)
 
 -- if `timer_or_none` gives an interrupt, then this is the timer interrupt, and the timer line is set
-timer_only : (b : Bool) (interrupt : Interrupt) → timer_or_none b ≡ Some interrupt → (interrupt ≡ MachineTimer) × (b ≡ true)
-timer_only true interrupt timer_or_none_is = let is_timer : MachineTimer ≡ interrupt = cc in (sym is_timer, refl)
+timer_only : (timer_set : Bool) (interrupt : Interrupt) → timer_or_none timer_set ≡ Some interrupt → (interrupt ≡ MachineTimer) × (timer_set ≡ true)
+timer_only true interrupt timer_or_none_is = let same_interrupt : MachineTimer ≡ interrupt = cc in (sym same_interrupt, refl)
 timer_only false interrupt timer_or_none_is = cc
 
 -- ---- the step
@@ -185,30 +191,30 @@ pub runs_here : (slot hart : ℕ) (machine : MonitoredMachine) → (hart_state_o
 runs_here slot hart machine runs = runs_inside slot hart machine (ap (is_world_of slot) runs ∙ eq-eqb slot slot refl)
 
 -- the world of the hart after the step is the world in the hart's view after its step
-seen_world : (hart : ℕ) (machine : MonitoredMachine) → hart < count_of machine
+world_of_view : (hart : ℕ) (machine : MonitoredMachine) → hart < count_of machine
     → (hart_state_of hart (step_of hart machine).state).world ≡ (monitored_step (hart_view hart machine)).state.hart_state.world
-seen_world hart machine in_range = ap (λ (after : HartViewStepped). after.state.hart_state.world) (step_of_view hart machine in_range)
+world_of_view hart machine in_range = ap (λ (after : HartViewStepped). after.state.hart_state.world) (step_of_view hart machine in_range)
 
 -- proves that an enclave exits only by stop, by exit or by the timer interrupt
 pub exits_law : (hart : ℕ) (machine : MonitoredMachine) → Invariant machine → ExitsOnRequest hart machine (step_of hart machine)
 exits_law hart machine invariant slot runs = record {
   quiet = λ no_trap.
       let in_range = runs_here slot hart machine runs in
-      seen_world hart machine in_range
+      world_of_view hart machine in_range
       ∙ quiet_world (hart_view hart machine)
       (sym (ap (λ (after : HartViewStepped). after.outcome.step.trap) (step_of_view hart machine in_range)) ∙ no_trap) ∙ runs;
   exits = λ trap trapped.
       let trapping = is_trapping hart machine trap trapped in
       let state = hart_view hart machine in
-      ap is_host (seen_world hart machine trapping.has)
+      ap is_host (world_of_view hart machine trapping.has)
       ∙ exits_by_cause slot state runs trap trapping.trapped;
   timer = λ trap interrupt trapped cause_is.
       let trapping = is_trapping hart machine trap trapped in
       let state = hart_view hart machine in
       let view_invariant = hart_view_invariant hart machine invariant trapping.has in
-      let bare : (step (bare_machine state)).outcome.trap ≡ Some trap =
-      sym (ap (λ (o : StepOutcome). o.trap) (same_outcome state)) ∙ trapping.trapped in
-      let pending_timer = takes_pending (bare_machine state) trap interrupt bare cause_is in
+      let bare_step_traps : (step (bare_machine state)).outcome.trap ≡ Some trap =
+      sym (ap (λ (outcome : StepOutcome). outcome.trap) (same_outcome state)) ∙ trapping.trapped in
+      let pending_timer = takes_pending (bare_machine state) trap interrupt bare_step_traps cause_is in
       timer_only state.hart_state.hart.csrs.timer interrupt
       (sym (waits state.hart_state.hart.csrs state.hart_state.hart.mode view_invariant.hart.layout.mode
       (view_invariant.hart.layout.mie ∙ ap mie_of runs)) ∙ pending_timer);

@@ -20,71 +20,76 @@ use Rattle.rv_monitor.proofs.TrapSteps.{step_cases, hart_state_after, view_after
 -- ---- the trap handler does not depend on the counters
 
 -- the hart state with these values of mcycle and minstret
-abbrev counted : ℕ → ℕ → HartState → HartState
-counted mcycle minstret hart_state = record hart_state {
+abbrev with_counters : ℕ → ℕ → HartState → HartState
+with_counters mcycle minstret hart_state = record hart_state {
   hart = record hart_state.hart { csrs = record hart_state.hart.csrs { mcycle = mcycle; minstret = minstret } };
 }
 
 -- the result of the trap handler with these values of mcycle and minstret
-abbrev counted_work : ℕ → ℕ → Handled → Handled
-counted_work mcycle minstret h = record h { hart_state = counted mcycle minstret h.hart_state }
+abbrev result_with_counters : ℕ → ℕ → Handled → Handled
+result_with_counters mcycle minstret result = record result { hart_state = with_counters mcycle minstret result.hart_state }
 
 -- the hart state with its own counters, and with other values of the counters
 module _ (mcycle minstret : ℕ) (hart_state : HartState) (shared : Shared) where
   -- the hart state with the other values of the counters
-  abbrev counted_state : HartState
-  counted_state = counted mcycle minstret hart_state
+  abbrev state_with_counters : HartState
+  state_with_counters = with_counters mcycle minstret hart_state
 
   -- The refusals of a call do not depend on the counters. Each case holds by computation.
-  same_refusals : (call : Call) → call_refusals counted_state shared call ≡ call_refusals hart_state shared call
+  same_refusals : (call : Call) → call_refusals state_with_counters shared call ≡ call_refusals hart_state shared call
   same_refusals Create = refl
   same_refusals _ = refl
 
   -- The effect of a call does not depend on the counters. Each case holds by computation.
-  performed_too : (call : Call) → performed counted_state shared call ≡ counted_work mcycle minstret (performed hart_state shared call)
+  same_performed : (call : Call) → performed state_with_counters shared call ≡ result_with_counters mcycle minstret (performed hart_state shared call)
   unfolding performed entered_slot left
-  performed_too Create = refl
-  performed_too _ = refl
+  same_performed Create = refl
+  same_performed _ = refl
 
   -- a call, refused or not, has the same result with other counters, if its effect has
-  refused_too : (o : Option Refusal) (done done_too : Handled) → done_too ≡ counted_work mcycle minstret done
-      → option_case o done_too (refused counted_state shared) ≡ counted_work mcycle minstret (option_case o done (refused hart_state shared))
-  refused_too None done done_too done_too_is = done_too_is
-  refused_too (Some refusal) done done_too done_too_is = refl
+  same_refused : (maybe_refusal : Option Refusal) (result other_result : Handled) → other_result ≡ result_with_counters mcycle minstret result
+      → option_case maybe_refusal other_result (refused state_with_counters shared) ≡ result_with_counters mcycle minstret
+      (option_case maybe_refusal result (refused hart_state shared))
+  same_refused None result other_result results_alike = results_alike
+  same_refused (Some refusal) result other_result results_alike = refl
 
   -- a call with its refusals has the same result with other counters
-  called_too : (call : Call) → called counted_state shared call ≡ counted_work mcycle minstret (called hart_state shared call)
+  same_called : (call : Call) → called state_with_counters shared call ≡ result_with_counters mcycle minstret (called hart_state shared call)
   unfolding called
-  called_too call =
-      ap (λ (rows : List (Bool × Refusal)). option_case (first_refusal rows) (performed counted_state shared call) (refused counted_state shared))
+  same_called call =
+      ap (λ (rows : List (Bool × Refusal)). option_case (first_refusal rows) (performed state_with_counters shared call)
+      (refused state_with_counters shared))
       (same_refusals call)
-      ∙ refused_too (first_refusal (call_refusals hart_state shared call)) (performed hart_state shared call) (performed counted_state shared call)
-      (performed_too call)
+      ∙ same_refused (first_refusal (call_refusals hart_state shared call)) (performed hart_state shared call)
+      (performed state_with_counters shared call)
+      (same_performed call)
 
   -- the requested call, if there is one, has the same result with other counters
-  asked_too : (o : Option Call) → option_case o (refused counted_state shared NotSupported) (called counted_state shared)
-      ≡ counted_work mcycle minstret (option_case o (refused hart_state shared NotSupported) (called hart_state shared))
-  asked_too None = refl
-  asked_too (Some call) = called_too call
+  same_requested : (maybe_call : Option Call)
+      → option_case maybe_call (refused state_with_counters shared NotSupported) (called state_with_counters shared)
+      ≡ result_with_counters mcycle minstret (option_case maybe_call (refused hart_state shared NotSupported) (called hart_state shared))
+  same_requested None = refl
+  same_requested (Some call) = same_called call
 
   -- the handling of an exception has the same result with other counters
-  exception_too : (trap : Trap) (exception : Exception)
-      → handled_exception counted_state shared trap exception ≡ counted_work mcycle minstret (handled_exception hart_state shared trap exception)
+  same_exception : (trap : Trap) (exception : Exception)
+      → handled_exception state_with_counters shared trap exception ≡ result_with_counters mcycle minstret
+      (handled_exception hart_state shared trap exception)
   unfolding call_handled with_redirected_trap
-  exception_too trap EnvironmentCallFromS = asked_too (requested_call hart_state.world hart_state.hart.regs)
-  exception_too trap _ = refl
+  same_exception trap EnvironmentCallFromS = same_requested (requested_call hart_state.world hart_state.hart.regs)
+  same_exception trap _ = refl
 
   -- the handling of a cause has the same result with other counters
-  cause_too : (trap : Trap) (cause : Cause)
-      → handled_cause counted_state shared trap cause ≡ counted_work mcycle minstret (handled_cause hart_state shared trap cause)
+  same_cause : (trap : Trap) (cause : Cause)
+      → handled_cause state_with_counters shared trap cause ≡ result_with_counters mcycle minstret (handled_cause hart_state shared trap cause)
   unfolding timer_stopped left
-  cause_too trap (causes.Interrupt interrupt) = refl
-  cause_too trap (causes.Exception exception) = exception_too trap exception
+  same_cause trap (causes.Interrupt interrupt) = refl
+  same_cause trap (causes.Exception exception) = same_exception trap exception
 
   -- the trap handler has the same result with other counters
-  handled_too : (trap : Trap) → handled counted_state shared trap ≡ counted_work mcycle minstret (handled hart_state shared trap)
+  same_handled : (trap : Trap) → handled state_with_counters shared trap ≡ result_with_counters mcycle minstret (handled hart_state shared trap)
   unfolding handled
-  handled_too trap = ap with_reprogrammed_hart (cause_too trap trap.cause)
+  same_handled trap = ap with_reprogrammed_hart (same_cause trap trap.cause)
 
 -- ---- the step of one hart
 
@@ -95,26 +100,26 @@ record SameShown (one other : HartViewStepped) : Type 0 where
   hart_state : guest_state one.state.hart_state ≡ guest_state other.state.hart_state
 
 -- the return from the trap handler with other counters is the same to guests
-returned_too : (outcome : StepOutcome) (h : Handled) (mcycle minstret : ℕ)
-    → SameShown (returned outcome h) (returned outcome (counted_work mcycle minstret h))
-returned_too outcome h mcycle minstret = record { outcome = refl; shared = refl; hart_state = refl }
+same_returned : (outcome : StepOutcome) (result : Handled) (mcycle minstret : ℕ)
+    → SameShown (returned outcome result) (returned outcome (result_with_counters mcycle minstret result))
+same_returned outcome result mcycle minstret = record { outcome = refl; shared = refl; hart_state = refl }
 
 -- the bare steps of the view and of the view with the guest state are the same to guests
 module _ (state : HartView) (alike : SameToGuests (step (bare_machine state)) (step (guest_machine (bare_machine state)))) where
   -- the view with the guest state of the hart
-  abbrev other : HartView
-  other = record state { hart_state = guest_state state.hart_state }
+  abbrev guest_state_view : HartView
+  guest_state_view = record state { hart_state = guest_state state.hart_state }
 
   -- a step without a trap is the same to guests from the view and from the view with the guest state
-  untrapped_same : SameShown (view_without_trap state) (view_without_trap other)
+  untrapped_same : SameShown (view_without_trap state) (view_without_trap guest_state_view)
   untrapped_same = record {
-    outcome = ap (λ (o : StepOutcome). let shown : Outcome = record { step = o; entered = None } in shown) alike.outcome;
-    shared = ap (λ (m : List ℕ). record state.shared { memory = m }) alike.memory;
-    hart_state = ap (λ (h : Hart). record state.hart_state { hart = h }) alike.hart;
+    outcome = ap (λ (outcome : StepOutcome). let shown : Outcome = record { step = outcome; entered = None } in shown) alike.outcome;
+    shared = ap (λ (memory : List ℕ). record state.shared { memory = memory }) alike.memory;
+    hart_state = ap (λ (hart : Hart). record state.hart_state { hart = hart }) alike.hart;
   }
 
   -- a step with a trap is the same to guests from the view and from the view with the guest state
-  trapped_same : (trap : Trap) → SameShown (view_after_trap state trap) (view_after_trap other trap)
+  trapped_same : (trap : Trap) → SameShown (view_after_trap state trap) (view_after_trap guest_state_view trap)
   trapped_same trap =
       let hart_state = hart_state_after state.hart_state trap in
       let guest_at_trap = hart_state_after (guest_state state.hart_state) trap in
@@ -122,24 +127,26 @@ module _ (state : HartView) (alike : SameToGuests (step (bare_machine state)) (s
       let minstret = guest_at_trap.hart.csrs.minstret in
       let handled_state = handled hart_state state.shared trap in
       let bare_outcome = (step (bare_machine state)).outcome in
-      let P : StepOutcome → Handled → Type 0 = λ o h. SameShown (returned bare_outcome handled_state) (returned o h) in
-      subst (λ (o : StepOutcome). P o (handled guest_at_trap state.shared trap)) alike.outcome
-      (subst (P bare_outcome) (sym (handled_too mcycle minstret hart_state state.shared trap))
-      (returned_too bare_outcome handled_state mcycle minstret))
+      let SameShownFor : StepOutcome → Handled → Type 0 =
+      λ outcome result. SameShown (returned bare_outcome handled_state) (returned outcome result) in
+      subst (λ (outcome : StepOutcome). SameShownFor outcome (handled guest_at_trap state.shared trap)) alike.outcome
+      (subst (SameShownFor bare_outcome) (sym (same_handled mcycle minstret hart_state state.shared trap))
+      (same_returned bare_outcome handled_state mcycle minstret))
 
   -- a step is the same to guests from the view and from the view with the guest state
-  same_shown : SameShown (monitored_step state) (monitored_step other)
+  same_shown : SameShown (monitored_step state) (monitored_step guest_state_view)
   same_shown =
-      let traps = ap (λ (o : StepOutcome). o.trap) alike.outcome in
-      step_cases state (λ after. SameShown after (monitored_step other))
-      (λ no_trap. step_cases other (λ after. SameShown (view_without_trap state) after) (λ no_trap_too. untrapped_same)
+      let traps = ap (λ (outcome : StepOutcome). outcome.trap) alike.outcome in
+      step_cases state (λ after. SameShown after (monitored_step guest_state_view))
+      (λ no_trap. step_cases guest_state_view (λ after. SameShown (view_without_trap state) after) (λ no_second_trap. untrapped_same)
       (λ trap trapped. let contradiction : None ≡ Some trap = sym no_trap ∙ traps ∙ trapped in cc))
-      (λ trap trapped. step_cases other (λ after. SameShown (view_after_trap state trap) after)
+      (λ trap trapped. step_cases guest_state_view (λ after. SameShown (view_after_trap state trap) after)
       (λ no_trap. let contradiction : Some trap ≡ None = sym trapped ∙ traps ∙ no_trap in cc)
-      (λ trap_too trapped_too.
-      let equal : Some trap ≡ Some trap_too = sym trapped ∙ traps ∙ trapped_too in
-      let same : trap ≡ trap_too = cc in
-      subst (λ (t : Trap). SameShown (view_after_trap state trap) (view_after_trap other t)) same (trapped_same trap)))
+      (λ second_trap second_trapped.
+      let some_traps_equal : Some trap ≡ Some second_trap = sym trapped ∙ traps ∙ second_trapped in
+      let traps_equal : trap ≡ second_trap = cc in
+      subst (λ (some_trap : Trap). SameShown (view_after_trap state trap) (view_after_trap guest_state_view some_trap)) traps_equal
+      (trapped_same trap)))
 
 -- ---- the step of the machine
 
@@ -158,36 +165,40 @@ guest_states_twice : (hart_states : List HartState) → map guest_state hart_sta
 guest_states_twice hart_states = sym (map-map guest_state guest_state hart_states)
 
 -- reprogramming after a trap leaves the same guest states from the hart states and from their guest states
-reprogrammed_same : (o : Option Trap) (slots : Slots) (hart_states : List HartState)
-    → map guest_state (hart_states_reprogrammed o slots hart_states)
-    ≡ map guest_state (hart_states_reprogrammed o slots (map guest_state hart_states))
+reprogrammed_same : (maybe_trap : Option Trap) (slots : Slots) (hart_states : List HartState)
+    → map guest_state (hart_states_reprogrammed maybe_trap slots hart_states)
+    ≡ map guest_state (hart_states_reprogrammed maybe_trap slots (map guest_state hart_states))
 reprogrammed_same None slots hart_states = guest_states_twice hart_states
 reprogrammed_same (Some trap) slots hart_states =
     map-map guest_state (reprogrammed slots) hart_states
     ∙ sym
     (map-map guest_state (reprogrammed slots) (map guest_state hart_states)
-    ∙ map-map (λ (s : HartState). guest_state (reprogrammed slots s)) guest_state hart_states)
+    ∙ map-map (λ (hart_state : HartState). guest_state (reprogrammed slots hart_state)) guest_state hart_states)
 
 -- if two views after a step are the same to guests, then so are the machines after the step
-stepped_same : (hart : ℕ) (machine : MonitoredMachine) (a b : HartViewStepped) → SameShown a b
-    → guest_view (stepped_by hart machine a).state ≡ guest_view (stepped_by hart (guest_view machine) b).state
-stepped_same hart machine a b same =
+stepped_same : (hart : ℕ) (machine : MonitoredMachine) (stepped other_stepped : HartViewStepped) → SameShown stepped other_stepped
+    → guest_view (stepped_by hart machine stepped).state ≡ guest_view (stepped_by hart (guest_view machine) other_stepped).state
+stepped_same hart machine stepped other_stepped same_shown_after =
     let hart_states = machine.hart_states in
     let guest_states = (guest_view machine).hart_states in
-    let trap_a = a.outcome.step.trap in
-    let table_a = a.state.shared.table in
-    let trap = ap (λ (o : Outcome). o.step.trap) same.outcome in
-    let table = ap (λ (s : Shared). s.table) same.shared in
-    let put : List HartState → Shared → MonitoredMachine = λ hart_states shared. record { hart_states = hart_states; shared = shared } in
-    let states_one = map-set guest_state (hart_states_reprogrammed trap_a table_a hart_states) hart a.state.hart_state in
-    let states_other = map-set guest_state (hart_states_reprogrammed b.outcome.step.trap b.state.shared.table guest_states) hart b.state.hart_state in
-    let reprogrammed_alike : map guest_state (hart_states_reprogrammed trap_a table_a hart_states) ≡ map guest_state
-    (hart_states_reprogrammed b.outcome.step.trap b.state.shared.table guest_states) =
-    reprogrammed_same trap_a table_a hart_states
-    ∙ ap₂ (λ (o : Option Trap) (t : Slots). map guest_state (hart_states_reprogrammed o t guest_states)) trap table in
-    ap₂ put
-    (states_one ∙ ap₂ (λ (ss : List HartState) (s : HartState). slice_set ss hart s) reprogrammed_alike same.hart_state
-    ∙ sym states_other) same.shared
+    let first_trap = stepped.outcome.step.trap in
+    let first_table = stepped.state.shared.table in
+    let same_trap = ap (λ (outcome : Outcome). outcome.step.trap) same_shown_after.outcome in
+    let same_table = ap (λ (shared : Shared). shared.table) same_shown_after.shared in
+    let machine_of : List HartState → Shared → MonitoredMachine = λ hart_states shared. record { hart_states = hart_states; shared = shared } in
+    let first_states = map-set guest_state (hart_states_reprogrammed first_trap first_table hart_states) hart stepped.state.hart_state in
+    let second_states =
+    map-set guest_state (hart_states_reprogrammed other_stepped.outcome.step.trap other_stepped.state.shared.table guest_states) hart
+    other_stepped.state.hart_state in
+    let reprogrammed_alike : map guest_state (hart_states_reprogrammed first_trap first_table hart_states) ≡ map guest_state
+    (hart_states_reprogrammed other_stepped.outcome.step.trap other_stepped.state.shared.table guest_states) =
+    reprogrammed_same first_trap first_table hart_states
+    ∙ ap₂ (λ (maybe_trap : Option Trap) (table : Slots). map guest_state
+    (hart_states_reprogrammed maybe_trap table guest_states)) same_trap same_table in
+    ap₂ machine_of
+    (first_states ∙ ap₂ (λ (hart_states : List HartState) (hart_state : HartState). slice_set hart_states hart hart_state) reprogrammed_alike
+    same_shown_after.hart_state
+    ∙ sym second_states) same_shown_after.shared
 
 -- a step of a machine and a step of its guest view have the same outcome, and leave the same guest view
 pub guest_step_of : (hart : ℕ) (machine : MonitoredMachine) → Invariant machine
@@ -195,8 +206,8 @@ pub guest_step_of : (hart : ℕ) (machine : MonitoredMachine) → Invariant mach
 guest_step_of hart machine invariant = elim (cases_lt hart (count_of machine)) [
   | inr past_last ↦
       let same_length = length-map machine.hart_states guest_state in
-      let past_too = outside hart (guest_view machine) (omega (arith, same_length, past_last)) in
-      rw (outside hart machine past_last, past_too)
+      let guest_outside = outside hart (guest_view machine) (omega (arith, same_length, past_last)) in
+      rw (outside hart machine past_last, guest_outside)
       (record {
         outcome = refl;
         state = ap (λ (hart_states : List HartState). record machine { hart_states = hart_states }) (guest_states_twice machine.hart_states);
@@ -206,12 +217,13 @@ guest_step_of hart machine invariant = elim (cases_lt hart (count_of machine)) [
       let state = hart_view hart machine in
       let view_invariant = hart_view_invariant hart machine invariant in_range in
       let alike = guest_step (bare_machine state) view_invariant.hart.layout.mode view_invariant.hart.layout.mprv in
-      let on : HartState → HartView = λ hart_state. record { hart_state = hart_state; shared = machine.shared } in
+      let view_with : HartState → HartView = λ hart_state. record { hart_state = hart_state; shared = machine.shared } in
       let same_to_guests : SameShown (monitored_step state) (monitored_step (hart_view hart (guest_view machine))) =
-      subst (λ (s : HartState). SameShown (monitored_step state) (monitored_step (on s))) (sym (guest_hart_state hart machine))
+      subst (λ (hart_state : HartState). SameShown (monitored_step state) (monitored_step (view_with hart_state)))
+      (sym (guest_hart_state hart machine))
       (same_shown state alike) in
-      let inside_too = inside hart (guest_view machine) (omega (arith, size, in_range)) in
-      rw (inside hart machine in_range, inside_too) (record {
+      let guest_inside = inside hart (guest_view machine) (omega (arith, size, in_range)) in
+      rw (inside hart machine in_range, guest_inside) (record {
         outcome = same_to_guests.outcome;
         state = stepped_same hart machine (monitored_step state) (monitored_step (hart_view hart (guest_view machine))) same_to_guests;
       })
@@ -219,10 +231,14 @@ guest_step_of hart machine invariant = elim (cases_lt hart (count_of machine)) [
 
 -- proves that a step depends only on the guest view of the machine
 pub guest_law : (hart : ℕ) (machine : MonitoredMachine) → Invariant machine → DependsOnGuestView hart machine (step_of hart machine)
-guest_law hart machine invariant other invariant_other same =
-    let guest_step_a = guest_step_of hart machine invariant in
-    let guest_step_b = guest_step_of hart other invariant_other in
+guest_law hart machine invariant other invariant_other same_guest_view =
+    let first_guest_step = guest_step_of hart machine invariant in
+    let second_guest_step = guest_step_of hart other invariant_other in
     record {
-      outcome = guest_step_a.outcome ∙ ap (λ (m : MonitoredMachine). (step_of hart m).outcome) same ∙ sym guest_step_b.outcome;
-      state = guest_step_a.state ∙ ap (λ (m : MonitoredMachine). guest_view (step_of hart m).state) same ∙ sym guest_step_b.state;
+      outcome =
+          first_guest_step.outcome ∙ ap (λ (machine : MonitoredMachine). (step_of hart machine).outcome) same_guest_view
+          ∙ sym second_guest_step.outcome;
+      state =
+          first_guest_step.state ∙ ap (λ (machine : MonitoredMachine). guest_view (step_of hart machine).state) same_guest_view
+          ∙ sym second_guest_step.state;
     }

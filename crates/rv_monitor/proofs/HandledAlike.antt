@@ -1,6 +1,5 @@
 -- The trap handler of one hart, over two shared states that are equivalent except `enclave`, gives results that are equivalent except `enclave`. If
--- the trap handler
--- enters `enclave`, then the results are equivalent except for the hart that runs `enclave`.
+-- the trap handler enters `enclave`, then the results are equivalent except for the hart that runs `enclave`.
 use Rattle.std.proofs.Common.{◌≡◌, ℕ, List, length, Some, None, refl, sym, ap, subst, inl, inr}
 use Rattle.rv_enclaves.specs.declared.slot_info.EnclaveState.TheVariants as states
 use Rattle.rv_enclaves.proofs.WorksAlike.{WorksAlike, works_alike}
@@ -13,16 +12,16 @@ use Rattle.rv_monitor.proofs.HandlerCases.{handler_cases_of_both, entering, cont
 -- ---- the trap handler
 
 -- each effect of the trap handler leaves the two shared states equivalent except `enclave`
-module _ (enclave : ℕ) (table : Slots) (m n : List ℕ) (contexts_m contexts_n : Contexts)
-    (cases : WorksAlike enclave (over table m contexts_m) (over table n contexts_n))
+module _ (enclave : ℕ) (table : Slots) (memory other_memory : List ℕ) (contexts other_contexts : Contexts)
+    (cases : WorksAlike enclave (over table memory contexts) (over table other_memory other_contexts))
     (hart_state : HartState) (trap : Trap) where
-  -- the shared state with the memory m and the saved contexts `contexts_m`
-  abbrev shared_m : Shared
-  shared_m = over table m contexts_m
+  -- the shared state with the first memory and the first saved contexts
+  abbrev first_shared : Shared
+  first_shared = over table memory contexts
 
-  -- the shared state with the memory n and the saved contexts `contexts_n`
-  abbrev shared_n : Shared
-  shared_n = over table n contexts_n
+  -- the shared state with the second memory and the second saved contexts
+  abbrev second_shared : Shared
+  second_shared = over table other_memory other_contexts
 
   -- a return to the caller gives equivalent results, if the shared states after the call are equivalent except `enclave`
   returned_alike : (one other : Shared) (status result : ℕ) → SharedEquivExcept enclave one other
@@ -40,34 +39,35 @@ module _ (enclave : ℕ) (table : Slots) (m n : List ℕ) (contexts_m contexts_n
   }
 
   -- an entry of a slot other than `enclave` gives equivalent results
-  enters_other : (a0 hart_state ≡ enclave → ⊥)
-      → HandledAlike enclave (with_reprogrammed_hart (entering hart_state shared_m)) (with_reprogrammed_hart (entering hart_state shared_n))
+  other_entry_alike : (a0 hart_state ≡ enclave → ⊥)
+      → HandledAlike enclave (with_reprogrammed_hart (entering hart_state first_shared)) (with_reprogrammed_hart (entering hart_state second_shared))
   unfolding entered_slot
-  enters_other a0_is_not_e =
-      let same = cases.contexts (a0 hart_state) a0_is_not_e in
-      rw (← same) (record {
+  other_entry_alike a0_is_other =
+      let contexts_equal = cases.contexts (a0 hart_state) a0_is_other in
+      rw (← contexts_equal) (record {
         entered = refl;
         hart_state = record { world = refl; same = λ not_running. refl };
         shared = cases.switches (a0 hart_state) states.Running None;
       })
 
   -- an entry of `enclave` gives equivalent results
-  enters_own : a0 hart_state ≡ enclave
-      → HandledAlike enclave (with_reprogrammed_hart (entering hart_state shared_m)) (with_reprogrammed_hart (entering hart_state shared_n))
+  own_entry_alike : a0 hart_state ≡ enclave
+      → HandledAlike enclave (with_reprogrammed_hart (entering hart_state first_shared)) (with_reprogrammed_hart (entering hart_state second_shared))
   unfolding entered_slot
-  enters_own a0_is_e = record {
+  own_entry_alike a0_is_enclave = record {
     entered = refl;
-    hart_state = record { world = refl; same = λ not_running. absurd (both_ways _ not_running (eq-eqb (a0 hart_state) enclave a0_is_e)) };
+    hart_state = record { world = refl; same = λ not_running. absurd (both_ways _ not_running (eq-eqb (a0 hart_state) enclave a0_is_enclave)) };
     shared = cases.switches (a0 hart_state) states.Running None;
   }
 
   -- an entry of the slot in a0 gives equivalent results
-  enters_alike : HandledAlike enclave (with_reprogrammed_hart (entering hart_state shared_m)) (with_reprogrammed_hart (entering hart_state shared_n))
-  enters_alike = elim (cases_eq (a0 hart_state) enclave) [ inl own ↦ enters_own own | inr other ↦ enters_other other ]
+  enters_alike : HandledAlike enclave (with_reprogrammed_hart (entering hart_state first_shared))
+      (with_reprogrammed_hart (entering hart_state second_shared))
+  enters_alike = elim (cases_eq (a0 hart_state) enclave) [ inl is_enclave ↦ own_entry_alike is_enclave | inr is_other ↦ other_entry_alike is_other ]
 
   -- an exit of the running enclave gives equivalent results
-  leaves_alike : HandledAlike enclave (with_reprogrammed_hart (leaving trap.cause hart_state shared_m))
-      (with_reprogrammed_hart (leaving trap.cause hart_state shared_n))
+  leaves_alike : HandledAlike enclave (with_reprogrammed_hart (leaving trap.cause hart_state first_shared))
+      (with_reprogrammed_hart (leaving trap.cause hart_state second_shared))
   unfolding left
   leaves_alike = record {
     entered = refl;
@@ -78,9 +78,10 @@ module _ (enclave : ℕ) (table : Slots) (m n : List ℕ) (contexts_m contexts_n
   }
 
   -- the trap handler gives equivalent results over both shared states
-  handled_alike : length m ≡ length n → HandledAlike enclave (handled hart_state shared_m trap) (handled hart_state shared_n trap)
-  handled_alike = handler_cases_of_both hart_state trap table m n contexts_m contexts_n (HandledAlike enclave) (record {
-    answers = λ status result. returned_alike shared_m shared_n status result cases.before;
+  handled_alike : length memory ≡ length other_memory
+      → HandledAlike enclave (handled hart_state first_shared trap) (handled hart_state second_shared trap)
+  handled_alike = handler_cases_of_both hart_state trap table memory other_memory contexts other_contexts (HandledAlike enclave) (record {
+    answers = λ status result. returned_alike first_shared second_shared status result cases.before;
     creates = λ requests no_refusal. returned_alike _ _ 0 (new_slot table) (cases.creates (create_args_of hart_state.hart.regs) no_refusal);
     destroys = λ requests is_taken. returned_alike _ _ 0 0 (cases.destroys (a0 hart_state) is_taken);
     measures = λ requests no_refusal. returned_alike _ _ 0 0 (cases.measures (measured_slot hart_state.world (a0 hart_state)) (a1 hart_state));
@@ -92,8 +93,9 @@ module _ (enclave : ℕ) (table : Slots) (m n : List ℕ) (contexts_m contexts_n
 -- proves the noninterference of the trap handler, by case analysis
 pub handler_law : HandlerLaw
 handler_law enclave worlds hart_state one other trap shared_invariant_one shared_invariant_other not_running equiv =
-    let tables = equiv.table in
+    let tables_equal = equiv.table in
     let cases = works_alike enclave one other worlds shared_invariant_one shared_invariant_other equiv in
-    let cases_over_table = subst (λ (t : Slots). WorksAlike enclave one (over t other.memory other.contexts)) (sym tables) cases in
-    subst (λ (t : Slots). HandledAlike enclave (handled hart_state one trap) (handled hart_state (over t other.memory other.contexts) trap)) tables
+    let cases_over_table = subst (λ (table : Slots). WorksAlike enclave one (over table other.memory other.contexts)) (sym tables_equal) cases in
+    subst (λ (table : Slots). HandledAlike enclave (handled hart_state one trap)
+    (handled hart_state (over table other.memory other.contexts) trap)) tables_equal
     (handled_alike enclave one.table one.memory other.memory one.contexts other.contexts cases_over_table hart_state trap equiv.memory.size)

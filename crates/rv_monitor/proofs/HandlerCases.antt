@@ -18,25 +18,26 @@ use Rattle.rv_monitor.proofs.Prelude.{enclave_state_after, stopped_context, time
 -- ---- the requested call
 
 -- the element that a search finds passes the test
-find-passes : {X : Type 0} (p : X → Bool) (xs : List X) (x : X) → find p xs ≡ Some x → p x ≡ true
-find-passes p [] x found = cc
-find-passes {X} p (y ∷ ys) x found = elim (cases_Bool (p y)) [
+find-passes : {X : Type 0} (test : X → Bool) (xs : List X) (value : X) → find test xs ≡ Some value → test value ≡ true
+find-passes test [] value found = cc
+find-passes {X} test (first ∷ rest) value found = elim (cases_Bool (test first)) [
   | inl holds ↦
-      let some_is : Some y ≡ Some x = sym (cond-true (p y) _ _ holds) ∙ found in
-      let same : y ≡ x = cc in
-      subst (λ (z : X). p z ≡ true) same holds
+      let found_in_rest : Some first ≡ Some value = sym (cond-true (test first) _ _ holds) ∙ found in
+      let same : first ≡ value = cc in
+      subst (λ (z : X). test z ≡ true) same holds
   | inr fails ↦
-      let some_is : find p ys ≡ Some x = sym (cond-false (p y) _ _ fails) ∙ found in
-      find-passes p ys x some_is
+      let found_in_rest : find test rest ≡ Some value = sym (cond-false (test first) _ _ fails) ∙ found in
+      find-passes test rest value found_in_rest
 ]
 
 -- a call that the search for the call number finds has this number, and is offered to the world
 found-call : (world : World) (a7 a6 : ℕ) (key : Bool) (call : Call)
-    → (if key then find (λ c. call_number c == a6 && is_offered world c) calls else None) ≡ Some call
+    → (if key then find (λ some_call. call_number some_call == a6 && is_offered world some_call) calls else None) ≡ Some call
     → ((call_number call == a6) ≡ true) × (is_offered world call ≡ true)
-found-call world a7 a6 true call test_is =
-    and_parts (call_number call == a6) (is_offered world call) (find-passes (λ c. call_number c == a6 && is_offered world c) calls call test_is)
-found-call world a7 a6 false call test_is = cc
+found-call world a7 a6 true call found =
+    and_parts (call_number call == a6) (is_offered world call)
+    (find-passes (λ some_call. call_number some_call == a6 && is_offered world some_call) calls call found)
+found-call world a7 a6 false call found = cc
 
 -- a requested call has its number in a6, and is offered to the world
 pub requested-is_offered : (world : World) (regs : List ℕ) (call : Call) → requested_call world regs ≡ Some call
@@ -52,12 +53,12 @@ entered-by-host (Enclave slot) Resume is_entry_call offered = cc
 entered-by-host (Enclave slot) _ is_entry_call offered = cc
 
 -- if a6 has the number of stop, then a6 does not have the number of exit
-not_exit : (a6 : ℕ) → (call_number Stop == a6) ≡ true → (a6 == call_number Exit) ≡ false
-not_exit a6 is_stop = grind (arith, nat_tests)
+stop_is_not_exit : (a6 : ℕ) → (call_number Stop == a6) ≡ true → (a6 == call_number Exit) ≡ false
+stop_is_not_exit a6 is_stop = grind (arith, nat_tests)
 
 -- if the number of exit is in a6, then a6 has the number of exit
-is_exit : (a6 : ℕ) → (call_number Exit == a6) ≡ true → (a6 == call_number Exit) ≡ true
-is_exit a6 number_is_exit = grind (arith, nat_tests)
+exit_is_exit : (a6 : ℕ) → (call_number Exit == a6) ≡ true → (a6 == call_number Exit) ≡ true
+exit_is_exit a6 number_is_exit = grind (arith, nat_tests)
 
 -- ---- the cases
 
@@ -98,91 +99,102 @@ leaving cause hart_state shared = left (lowered_by cause hart_state) shared (enc
 abbrev pub entering : HartState → Shared → Handled
 entering hart_state shared = entered_slot hart_state shared (a0 hart_state) (saved_context shared.contexts (a0 hart_state)) (past_call hart_state)
 
--- the claim P about the trap handler on two shared states with the same table
-module _ (hart_state : HartState) (trap : Trap) (table : Slots) (m n : List ℕ) (contexts_m contexts_n : Contexts)
-    (P : Handled → Handled → Type 0) where
-  -- the shared state with the memory m and the saved contexts `contexts_m`
-  abbrev shared_m : Shared
-  shared_m = over table m contexts_m
+-- A proof by cases of a claim about the results of the trap handler on two shared states with the same table.
+module _ (hart_state : HartState) (trap : Trap) (table : Slots) (memory other_memory : List ℕ) (contexts other_contexts : Contexts)
+    (Claim : Handled → Handled → Type 0) where
+  -- the shared state with the first memory and the first saved contexts
+  abbrev first_shared : Shared
+  first_shared = over table memory contexts
 
-  -- the shared state with the memory n and the saved contexts `contexts_n`
-  abbrev shared_n : Shared
-  shared_n = over table n contexts_n
+  -- the shared state with the second memory and the second saved contexts
+  abbrev second_shared : Shared
+  second_shared = over table other_memory other_contexts
 
-  -- the claim P about one case, for both shared states
+  -- the claim holds for the results of one case of the trap handler on both shared states
   abbrev HoldsForBoth : (Shared → Handled) → Type 0
-  HoldsForBoth work = P (work shared_m) (work shared_n)
+  HoldsForBoth case_result = Claim (case_result first_shared) (case_result second_shared)
 
-  -- the proof obligations of a proof by cases: the claim P for each case of the trap handler on both shared states
+  -- the proof obligations of a proof by cases: the claim for each case of the trap handler on both shared states
   pub record CauseCases : Type 0 where
     -- a refusal, or a call that changes nothing in the shared state
     pub answers : (status result : ℕ) → HoldsForBoth (λ shared. returned_to_caller hart_state shared status result)
-    pub creates : Requests hart_state trap.cause Create → MayCreate shared_m (create_args_of hart_state.hart.regs)
+    -- an accepted create returns 0 and the slot of the new enclave
+    pub creates : Requests hart_state trap.cause Create → MayCreate first_shared (create_args_of hart_state.hart.regs)
         → HoldsForBoth (λ shared. returned_to_caller hart_state (created shared (create_args_of hart_state.hart.regs)) 0 (new_slot shared.table))
+    -- an accepted destroy returns 0
     pub destroys : Requests hart_state trap.cause Destroy → SlotIsAccepted table Destroy (a0 hart_state)
         → HoldsForBoth (λ shared. returned_to_caller hart_state (destroyed shared (a0 hart_state)) 0 0)
+    -- an accepted measure returns 0
     pub measures : Requests hart_state trap.cause Measure
-        → MayMeasure shared_m hart_state.hart.csrs.pmp (measured_slot hart_state.world (a0 hart_state)) (a1 hart_state)
+        → MayMeasure first_shared hart_state.hart.csrs.pmp (measured_slot hart_state.world (a0 hart_state)) (a1 hart_state)
         → HoldsForBoth (λ shared.
         returned_to_caller hart_state (measured shared (measured_slot hart_state.world (a0 hart_state)) (a1 hart_state)) 0 0)
+    -- an accepted run or resume of the host enters the enclave that a0 names
     pub enters : (call : Call) → Requests hart_state trap.cause call → is_entering (Some call) ≡ true → hart_state.world ≡ Host
         → SlotIsAccepted table call (a0 hart_state)
         → HoldsForBoth (entering hart_state)
+    -- the running enclave exits by stop, by exit or by the timer interrupt
     pub leaves : HoldsForBoth (leaving trap.cause hart_state)
+    -- an exception other than an ecall from S continues at stvec
     pub redirects : HoldsForBoth (λ shared. redirected hart_state shared trap)
 
-  -- the claim P holds in each case, and the memories have the same size
-  module _ (cases : CauseCases) (same_length : length m ≡ length n) where
+  -- the claim holds in each case, and the memories have the same size
+  module _ (cases : CauseCases) (same_length : length memory ≡ length other_memory) where
     -- the claim holds for an exit by each cause
     by-leaving : (cause : Cause) → trap.cause ≡ cause → HoldsForBoth (leaving cause hart_state)
-    by-leaving cause cause_is = subst (λ (c : Cause). HoldsForBoth (leaving c hart_state)) cause_is cases.leaves
+    by-leaving cause cause_is = subst (λ (cause : Cause). HoldsForBoth (leaving cause hart_state)) cause_is cases.leaves
 
     -- the claim holds for each requested call that is not refused
-    by-accepted : (call : Call) → Requests hart_state trap.cause call → first_refusal (call_refusals hart_state shared_m call) ≡ None
+    by-accepted : (call : Call) → Requests hart_state trap.cause call → first_refusal (call_refusals hart_state first_shared call) ≡ None
         → HoldsForBoth (λ shared. performed hart_state shared call)
     unfolding performed
-    by-accepted Create requests no_refusal = cases.creates requests (may_create shared_m (create_args_of hart_state.hart.regs) no_refusal)
+    by-accepted Create requests no_refusal = cases.creates requests (may_create first_shared (create_args_of hart_state.hart.regs) no_refusal)
     by-accepted Destroy requests no_refusal = cases.destroys requests (may_take table Destroy (a0 hart_state) no_refusal)
     by-accepted Run requests no_refusal =
-        let asked = requested-is_offered hart_state.world hart_state.hart.regs Run requests.asked in
-        cases.enters Run requests refl (entered-by-host hart_state.world Run refl asked.1) (may_take table Run (a0 hart_state) no_refusal)
+        let is_offered_call = requested-is_offered hart_state.world hart_state.hart.regs Run requests.asked in
+        cases.enters Run requests refl (entered-by-host hart_state.world Run refl is_offered_call.1) (may_take table Run (a0 hart_state) no_refusal)
     by-accepted Resume requests no_refusal =
-        let asked = requested-is_offered hart_state.world hart_state.hart.regs Resume requests.asked in
-        cases.enters Resume requests refl (entered-by-host hart_state.world Resume refl asked.1) (may_take table Resume (a0 hart_state) no_refusal)
+        let is_offered_call = requested-is_offered hart_state.world hart_state.hart.regs Resume requests.asked in
+        cases.enters Resume requests refl (entered-by-host hart_state.world Resume refl is_offered_call.1)
+        (may_take table Resume (a0 hart_state) no_refusal)
     by-accepted Measure requests no_refusal =
         cases.measures requests
-        (may_measure shared_m hart_state.hart.csrs.pmp (measured_slot hart_state.world (a0 hart_state)) (a1 hart_state) no_refusal)
+        (may_measure first_shared hart_state.hart.csrs.pmp (measured_slot hart_state.world (a0 hart_state)) (a1 hart_state) no_refusal)
     by-accepted Stop requests no_refusal =
-        let test = not_exit (register hart_state.hart.regs 16) (requested-is_offered hart_state.world hart_state.hart.regs Stop requests.asked).0 in
-        rw test at (by-leaving (causes.Exception EnvironmentCallFromS) requests.is_call)
+        let a6_test =
+        stop_is_not_exit (register hart_state.hart.regs 16) (requested-is_offered hart_state.world hart_state.hart.regs Stop requests.asked).0 in
+        rw a6_test at (by-leaving (causes.Exception EnvironmentCallFromS) requests.is_call)
     by-accepted Exit requests no_refusal =
-        let test = is_exit (register hart_state.hart.regs 16) (requested-is_offered hart_state.world hart_state.hart.regs Exit requests.asked).0 in
-        rw test at (by-leaving (causes.Exception EnvironmentCallFromS) requests.is_call)
+        let a6_test =
+        exit_is_exit (register hart_state.hart.regs 16) (requested-is_offered hart_state.world hart_state.hart.regs Exit requests.asked).0 in
+        rw a6_test at (by-leaving (causes.Exception EnvironmentCallFromS) requests.is_call)
 
     -- a call has the same refusals in both shared states
-    same-refusals : (call : Call) → call_refusals hart_state shared_m call ≡ call_refusals hart_state shared_n call
-    same-refusals Create = same_create_refusals table m n contexts_m contexts_n (create_args_of hart_state.hart.regs) same_length
+    same-refusals : (call : Call) → call_refusals hart_state first_shared call ≡ call_refusals hart_state second_shared call
+    same-refusals Create = same_create_refusals table memory other_memory contexts other_contexts (create_args_of hart_state.hart.regs) same_length
     same-refusals Measure =
-        same_measure_refusals table m n contexts_m contexts_n hart_state.hart.csrs.pmp (measured_slot hart_state.world (a0 hart_state))
+        same_measure_refusals table memory other_memory contexts other_contexts hart_state.hart.csrs.pmp
+        (measured_slot hart_state.world (a0 hart_state))
         (a1 hart_state) same_length
     same-refusals _ = refl
 
     -- the claim holds for a call, refused or not
-    by-refusal : (o : Option Refusal) (one other : Handled) → (o ≡ None → P one other)
-        → P (option_case o one (refused hart_state shared_m)) (option_case o other (refused hart_state shared_n))
-    by-refusal None one other claim = claim refl
-    by-refusal (Some refusal) one other claim = cases.answers (status_of refusal) 0
+    by-refusal : (maybe_refusal : Option Refusal) (one other : Handled) → (maybe_refusal ≡ None → Claim one other)
+        → Claim (option_case maybe_refusal one (refused hart_state first_shared)) (option_case maybe_refusal other (refused hart_state second_shared))
+    by-refusal None one other claim_if_accepted = claim_if_accepted refl
+    by-refusal (Some refusal) one other claim_if_accepted = cases.answers (status_of refusal) 0
 
     -- the claim holds for a requested call with its refusals
     by-called : (call : Call) → Requests hart_state trap.cause call → HoldsForBoth (λ shared. called hart_state shared call)
     unfolding called
     by-called call requests =
         let rows = same-refusals call in
-        rw (← rows) (by-refusal (first_refusal (call_refusals hart_state shared_m call)) _ _ (by-accepted call requests))
+        rw (← rows) (by-refusal (first_refusal (call_refusals hart_state first_shared call)) _ _ (by-accepted call requests))
 
     -- the claim holds for an ecall from S, whether it requests a call or not
-    by-call : (o : Option Call) → requested_call hart_state.world hart_state.hart.regs ≡ o → trap.cause ≡ causes.Exception EnvironmentCallFromS
-        → HoldsForBoth (λ shared. option_case o (refused hart_state shared NotSupported) (called hart_state shared))
+    by-call : (maybe_call : Option Call) → requested_call hart_state.world hart_state.hart.regs ≡ maybe_call
+        → trap.cause ≡ causes.Exception EnvironmentCallFromS
+        → HoldsForBoth (λ shared. option_case maybe_call (refused hart_state shared NotSupported) (called hart_state shared))
     by-call None requested by_ecall = cases.answers (status_of NotSupported) 0
     by-call (Some call) requested by_ecall = by-called call (record { is_call = by_ecall; asked = requested })
 
@@ -200,33 +212,34 @@ module _ (hart_state : HartState) (trap : Trap) (table : Slots) (m n : List ℕ)
     by-cause (causes.Exception exception) cause_is = by-exception exception cause_is
 
     -- the claim holds for the trap handler before it reprograms the PMP of the hart, if it holds in each case
-    pub by_cause_cases : P (handled_cause hart_state shared_m trap trap.cause) (handled_cause hart_state shared_n trap trap.cause)
+    pub by_cause_cases : Claim (handled_cause hart_state first_shared trap trap.cause) (handled_cause hart_state second_shared trap trap.cause)
     by_cause_cases = by-cause trap.cause refl
 
 -- ---- the case analysis principles. The trap handler reprograms the PMP entries and mie last
 
 -- the proof obligations for a claim about the trap handler on two shared states, with the PMP entries and mie reprogrammed at the end
 abbrev pub HandlerCasesOfBoth : HartState → Trap → Slots → List ℕ → List ℕ → Contexts → Contexts → (Handled → Handled → Type 0) → Type 0
-HandlerCasesOfBoth hart_state trap table m n contexts_m contexts_n P =
-    CauseCases hart_state trap table m n contexts_m contexts_n (λ one other. P (with_reprogrammed_hart one) (with_reprogrammed_hart other))
+HandlerCasesOfBoth hart_state trap table memory other_memory contexts other_contexts Claim =
+    CauseCases hart_state trap table memory other_memory contexts other_contexts
+    (λ one other. Claim (with_reprogrammed_hart one) (with_reprogrammed_hart other))
 
 -- a claim about the trap handler on two shared states with one table holds if it holds in each case
-pub handler_cases_of_both : (hart_state : HartState) (trap : Trap) (table : Slots) (m n : List ℕ) (contexts_m contexts_n : Contexts)
-    (P : Handled → Handled → Type 0)
-    → HandlerCasesOfBoth hart_state trap table m n contexts_m contexts_n P → length m ≡ length n
-    → P (handled hart_state (over table m contexts_m) trap) (handled hart_state (over table n contexts_n) trap)
+pub handler_cases_of_both : (hart_state : HartState) (trap : Trap) (table : Slots) (memory other_memory : List ℕ) (contexts other_contexts : Contexts)
+    (Claim : Handled → Handled → Type 0)
+    → HandlerCasesOfBoth hart_state trap table memory other_memory contexts other_contexts Claim → length memory ≡ length other_memory
+    → Claim (handled hart_state (over table memory contexts) trap) (handled hart_state (over table other_memory other_contexts) trap)
 unfolding handled
-handler_cases_of_both hart_state trap table m n contexts_m contexts_n P cases same_length =
-    by_cause_cases hart_state trap table m n contexts_m contexts_n
-    (λ one other. P (with_reprogrammed_hart one) (with_reprogrammed_hart other)) cases same_length
+handler_cases_of_both hart_state trap table memory other_memory contexts other_contexts Claim cases same_length =
+    by_cause_cases hart_state trap table memory other_memory contexts other_contexts
+    (λ one other. Claim (with_reprogrammed_hart one) (with_reprogrammed_hart other)) cases same_length
 
 -- the proof obligations for a claim about the trap handler on one shared state
 abbrev pub OneHandlerCases : HartState → Trap → Shared → (Handled → Type 0) → Type 0
-OneHandlerCases hart_state trap shared P =
-    HandlerCasesOfBoth hart_state trap shared.table shared.memory shared.memory shared.contexts shared.contexts (λ one _. P one)
+OneHandlerCases hart_state trap shared Claim =
+    HandlerCasesOfBoth hart_state trap shared.table shared.memory shared.memory shared.contexts shared.contexts (λ one _. Claim one)
 
 -- a claim about the trap handler on one shared state holds if it holds in each case
-pub handler_cases : (hart_state : HartState) (trap : Trap) (shared : Shared) (P : Handled → Type 0) → OneHandlerCases hart_state trap shared P
-    → P (handled hart_state shared trap)
-handler_cases hart_state trap shared P cases =
-    handler_cases_of_both hart_state trap shared.table shared.memory shared.memory shared.contexts shared.contexts (λ one _. P one) cases refl
+pub handler_cases : (hart_state : HartState) (trap : Trap) (shared : Shared) (Claim : Handled → Type 0) → OneHandlerCases hart_state trap shared Claim
+    → Claim (handled hart_state shared trap)
+handler_cases hart_state trap shared Claim cases =
+    handler_cases_of_both hart_state trap shared.table shared.memory shared.memory shared.contexts shared.contexts (λ one _. Claim one) cases refl

@@ -24,97 +24,114 @@ use Rattle.rv_monitor.proofs.Records.{state_other}
 
 -- ---- the record and the saved context of the enclave
 
--- the record and the saved context of slot k are unchanged
-record KeepsSlot (k : ℕ) (before after : Shared) : Type 0 where
-  pub slot : slot_at after.table k ≡ slot_at before.table k
-  pub context : context_at after.contexts k ≡ context_at before.contexts k
+-- the record and the saved context of the slot are unchanged
+record KeepsSlot (slot_number : ℕ) (before after : Shared) : Type 0 where
+  pub slot : slot_at after.table slot_number ≡ slot_at before.table slot_number
+  pub context : context_at after.contexts slot_number ≡ context_at before.contexts slot_number
 
--- a new state and a new saved context of slot j leave each other slot unchanged
-other_state : (k j : ℕ) (shared : Shared) (state : EnclaveState) (c : Option Context) → (j == k) ≡ false
-    → KeepsSlot k shared (record shared { table = with_state shared.table j state; contexts = with_context shared.contexts j c })
-other_state k j shared state c distinct =
-    let other : k ≢ j = λ same. both_ways _ distinct (eq-eqb j k (sym same)) in
-    record { slot = state_other shared.table k j (slot_at shared.table j) state other; context = at_other_slot shared.contexts j k c other }
+-- a new state and a new saved context of one slot leave each other slot unchanged
+state_keeps_other_slots : (other_slot slot : ℕ) (shared : Shared) (state : EnclaveState) (maybe_context : Option Context)
+    → (slot == other_slot) ≡ false
+    → KeepsSlot other_slot shared (record shared {
+      table = with_state shared.table slot state;
+      contexts = with_context shared.contexts slot maybe_context;
+    })
+state_keeps_other_slots other_slot slot shared state maybe_context distinct =
+    let is_other_slot : other_slot ≢ slot = λ slots_equal. both_ways _ distinct (eq-eqb slot other_slot (sym slots_equal)) in
+    record {
+      slot = state_other shared.table other_slot slot (slot_at shared.table slot) state is_other_slot;
+      context = at_other_slot shared.contexts slot other_slot maybe_context is_other_slot;
+    }
 
--- the slot of the running world is not slot k
-running_slot_is_other : (k : ℕ) (world : World) → k < slot_count → is_world_of k world ≡ false → (running_slot world == k) ≡ false
-running_slot_is_other k Host in_table not_running = ne_eqb slot_count k (λ same. omega (arith, in_table, same))
-running_slot_is_other k (Enclave j) in_table not_running = not_running
+-- the slot of the running world is not the slot of an enclave that does not run
+running_slot_is_other : (slot : ℕ) (world : World) → slot < slot_count → is_world_of slot world ≡ false → (running_slot world == slot) ≡ false
+running_slot_is_other slot Host in_table not_running = ne_eqb slot_count slot (λ slots_equal. omega (arith, in_table, slots_equal))
+running_slot_is_other slot (Enclave running) in_table not_running = not_running
 
--- if the trap handler does not enter slot k, and slot k is live after it, then slot k is unchanged
+-- if the trap handler does not enter the slot, and the slot is live after the trap handler, then the slot is unchanged
 abbrev Keeps : ℕ → Shared → Handled → Type 0
-Keeps k before h = enters k h.next.entered ≡ false → is_live h.shared.table k ≡ true → KeepsSlot k before h.shared
+Keeps slot before result = enters slot result.next.entered ≡ false → is_live result.shared.table slot ≡ true → KeepsSlot slot before result.shared
 
--- enclave k is live before the trap handler of a hart that does not run k
-module _ (k : ℕ) (hart_state : HartState) (shared : Shared) (valid : IsValid shared.memory shared.table)
-    (not_running : is_world_of k hart_state.world ≡ false)
-    (live : is_live shared.table k ≡ true) where
-  -- a create leaves the live slot k unchanged
-  created_keeps : (new : CreateArgs) → MayCreate shared new → KeepsSlot k shared (created shared new)
+-- the enclave of the slot is live before the trap handler of a hart that does not run this enclave
+module _ (slot : ℕ) (hart_state : HartState) (shared : Shared) (valid : IsValid shared.memory shared.table)
+    (not_running : is_world_of slot hart_state.world ≡ false)
+    (live : is_live shared.table slot ≡ true) where
+  -- a create leaves the live slot unchanged
+  created_keeps : (new : CreateArgs) → MayCreate shared new → KeepsSlot slot shared (created shared new)
   unfolding created
   created_keeps new no_refusal =
       let free = (free_slot_from shared.table (new_slot shared.table) no_refusal.free).free in
-      let distinct : k ≢ new_slot shared.table = λ same. both_ways _ (ap (λ (o : Option SlotInfo). is_some o) free) (rw (← same) live) in
+      let distinct : slot ≢ new_slot shared.table =
+      λ slots_equal. both_ways _ (ap (λ (maybe_info : Option SlotInfo). is_some maybe_info) free) (rw (← slots_equal) live) in
       let info = recorded shared.memory new in
       record {
-        slot = at_other_slot shared.table (new_slot shared.table) k (Some info) distinct;
-        context = at_other_slot shared.contexts (new_slot shared.table) k (Some (first_context info)) distinct;
+        slot = at_other_slot shared.table (new_slot shared.table) slot (Some info) distinct;
+        context = at_other_slot shared.contexts (new_slot shared.table) slot (Some (first_context info)) distinct;
       }
 
-  -- a destroy after which slot k is live leaves slot k unchanged
-  destroyed_keeps : (j : ℕ) → SlotIsAccepted shared.table Destroy j → is_live (destroyed shared j).table k ≡ true
-      → KeepsSlot k shared (destroyed shared j)
+  -- a destroy after which the slot is live leaves the slot unchanged
+  destroyed_keeps : (other_slot : ℕ) → SlotIsAccepted shared.table Destroy other_slot → is_live (destroyed shared other_slot).table slot ≡ true
+      → KeepsSlot slot shared (destroyed shared other_slot)
   unfolding destroyed
-  destroyed_keeps j is_taken live_after = elim (cases_eq k j) [
+  destroyed_keeps other_slot is_taken live_after = elim (cases_eq slot other_slot) [
     | inl equal ↦
-        let slot_in_range = live_in_range shared.table j is_taken.info valid.count is_taken.is in
-        let slot_is_free : slot_at (with_slot shared.table j None) j ≡ None = at_written_slot shared.table j None (omega (arith, valid.count)) in
-        absurd (both_ways _ (ap (λ (o : Option SlotInfo). is_some o) slot_is_free) (rw equal at live_after))
-    | inr distinct ↦ record { slot = at_other_slot shared.table j k None distinct; context = at_other_slot shared.contexts j k None distinct }
+        let slot_in_range = live_in_range shared.table other_slot is_taken.info valid.count is_taken.is in
+        let slot_is_free : slot_at (with_slot shared.table other_slot None) other_slot ≡ None =
+        at_written_slot shared.table other_slot None (omega (arith, valid.count)) in
+        absurd (both_ways _ (ap (λ (maybe_info : Option SlotInfo). is_some maybe_info) slot_is_free) (rw equal at live_after))
+    | inr distinct ↦
+        record {
+          slot = at_other_slot shared.table other_slot slot None distinct;
+          context = at_other_slot shared.contexts other_slot slot None distinct;
+        }
   ]
 
-  -- the trap handler satisfies `Keeps` for slot k
-  handled_keeps : (trap : Trap) → Keeps k shared (handled hart_state shared trap)
+  -- the trap handler satisfies `Keeps` for the slot
+  handled_keeps : (trap : Trap) → Keeps slot shared (handled hart_state shared trap)
   unfolding measured entered_slot left
-  handled_keeps trap = handler_cases hart_state trap shared (Keeps k shared) (record {
+  handled_keeps trap = handler_cases hart_state trap shared (Keeps slot shared) (record {
     answers = λ status result not_entered live_after. record { slot = refl; context = refl };
     creates = λ requests no_refusal not_entered live_after. created_keeps (create_args_of hart_state.hart.regs) no_refusal;
     destroys = λ requests is_taken not_entered live_after. destroyed_keeps (a0 hart_state) is_taken live_after;
     measures = λ requests no_refusal not_entered live_after. record { slot = refl; context = refl };
-    enters = λ call requests is_entry_call from_host is_taken not_entered live_after. other_state k (a0 hart_state) shared Running None not_entered;
+    enters =
+        λ call requests is_entry_call from_host is_taken not_entered live_after. state_keeps_other_slots slot
+        (a0 hart_state) shared Running None not_entered;
     leaves = λ not_entered live_after.
-        other_state k (running_slot hart_state.world) shared (enclave_state_after trap.cause hart_state.hart.regs)
+        state_keeps_other_slots slot (running_slot hart_state.world) shared (enclave_state_after trap.cause hart_state.hart.regs)
         (Some (context_saved_by trap.cause hart_state))
-        (running_slot_is_other k hart_state.world (live_slot_in_range shared.table k (slot_at shared.table k) valid.count refl live) not_running);
+        (running_slot_is_other slot hart_state.world (live_slot_in_range shared.table slot
+        (slot_at shared.table slot) valid.count refl live) not_running);
     redirects = λ not_entered live_after. record { slot = refl; context = refl };
   })
 
 -- ---- the bytes in the region of the enclave
 
 -- a step changes no byte in the region of an enclave that is not the running world and is live after the step
-not_changed : (state : HartView) (k byte : ℕ) → HartViewInvariant state → is_world_of k state.hart_state.world ≡ false
-    → is_live (monitored_step state).state.shared.table k ≡ true
-    → has (region state.shared.table k) byte ≡ true → byte_at (monitored_step state).state.shared.memory byte ≡ byte_at state.shared.memory byte
-not_changed state k byte view_invariant not_running live_after in_region =
+not_changed : (state : HartView) (slot byte : ℕ) → HartViewInvariant state → is_world_of slot state.hart_state.world ≡ false
+    → is_live (monitored_step state).state.shared.table slot ≡ true
+    → has (region state.shared.table slot) byte ≡ true → byte_at (monitored_step state).state.shared.memory byte ≡ byte_at state.shared.memory byte
+not_changed state slot byte view_invariant not_running live_after in_region =
     let shared = state.shared in
     let valid = view_invariant.valid in
     let outside_other_regions = accessible_apart shared.memory shared.table state.hart_state.world Write in
     elim (changes state view_invariant byte) [
-      | inl same ↦ same
+      | inl unchanged ↦ unchanged
       | inr changed ↦ elim changed [
         | inl stored ↦
             absurd
             (both_ways _ (outside_other_regions stored.span.addr
-            (bytes_in stored.span.len) k valid not_running stored.accessible byte stored.low stored.high) in_region)
+            (bytes_in stored.span.len) slot valid not_running stored.accessible byte stored.low stored.high) in_region)
         | inr call ↦ elim call.change [
-          | inl cleared ↦ elim (cases_eq k (register state.hart_state.hart.regs 10)) [
-            | inl equal ↦ absurd (both_ways _ (rw (← equal) at cleared.gone) live_after)
+          | inl destroyed ↦ elim (cases_eq slot (register state.hart_state.hart.regs 10)) [
+            | inl equal ↦ absurd (both_ways _ (rw (← equal) at destroyed.gone) live_after)
             | inr distinct ↦
-                absurd (both_ways _ (apart_at (region shared.table k) (region shared.table (register state.hart_state.hart.regs 10)) byte
-                (valid.regions_apart k (register state.hart_state.hart.regs 10) distinct) in_region) cleared.own)
+                absurd (both_ways _ (apart_at (region shared.table slot) (region shared.table (register state.hart_state.hart.regs 10)) byte
+                (valid.regions_apart slot (register state.hart_state.hart.regs 10) distinct) in_region) destroyed.own)
           ]
-          | inr put ↦
-              absurd (both_ways _ (outside_other_regions byte 1 k valid not_running put.accessible byte (omega arith) (omega arith)) in_region)
+          | inr measured ↦
+              absurd (both_ways _ (outside_other_regions byte 1 slot valid not_running measured.accessible byte (omega arith)
+              (omega arith)) in_region)
         ]
       ]
     ]
@@ -122,29 +139,31 @@ not_changed state k byte view_invariant not_running live_after in_region =
 -- ---- the step
 
 -- a step of a view preserves each live enclave that is not the running world, unless the step enters or destroys this enclave
-pub integrity_in : (state : HartView) → HartViewInvariant state → (k : ℕ) → is_world_of k state.hart_state.world ≡ false
-    → is_live state.shared.table k ≡ true
-    → enters k (monitored_step state).outcome.entered ≡ false → is_live (monitored_step state).state.shared.table k ≡ true
-    → IsPreserved k state.shared (monitored_step state).state.shared
-integrity_in state view_invariant k not_running live not_entered live_after =
+pub integrity_in : (state : HartView) → HartViewInvariant state → (slot : ℕ) → is_world_of slot state.hart_state.world ≡ false
+    → is_live state.shared.table slot ≡ true
+    → enters slot (monitored_step state).outcome.entered ≡ false → is_live (monitored_step state).state.shared.table slot ≡ true
+    → IsPreserved slot state.shared (monitored_step state).state.shared
+integrity_in state view_invariant slot not_running live not_entered live_after =
     let keeps = step_cases state
-    (λ after. enters k after.outcome.entered ≡ false → is_live after.state.shared.table k ≡ true → KeepsSlot k state.shared after.state.shared)
+    (λ after. enters slot after.outcome.entered ≡ false → is_live after.state.shared.table slot ≡ true
+    → KeepsSlot slot state.shared after.state.shared)
     (λ no_trap not_entered live_after. record { slot = refl; context = refl })
-    (λ trap trapped. handled_keeps k (hart_state_after state.hart_state trap) state.shared view_invariant.valid not_running live trap) in
+    (λ trap trapped. handled_keeps slot (hart_state_after state.hart_state trap) state.shared view_invariant.valid not_running live trap) in
     let kept_slot = keeps not_entered live_after in
     record {
       slot = kept_slot.slot;
-      bytes = λ byte in_its_region. not_changed state k byte view_invariant not_running live_after in_its_region;
+      bytes = λ byte in_its_region. not_changed state slot byte view_invariant not_running live_after in_its_region;
       context = kept_slot.context;
     }
 
 -- proves integrity: a step leaves each other live enclave untouched that it neither enters nor destroys
 pub integrity : (hart : ℕ) (machine : MonitoredMachine) → Invariant machine → PreservesOthers hart machine (step_of hart machine)
-integrity hart machine invariant k not_running live not_entered live_after = record {
+integrity hart machine invariant slot not_running live not_entered live_after = record {
   preserved = by_hart hart machine
-      (λ after. enters k after.outcome.entered ≡ false → is_live after.state.shared.table k ≡ true → IsPreserved k machine.shared after.state.shared)
+      (λ after. enters slot after.outcome.entered ≡ false → is_live after.state.shared.table slot ≡ true
+      → IsPreserved slot machine.shared after.state.shared)
       (λ not_entered live_after. record { slot = refl; bytes = λ byte in_its_region. refl; context = refl })
       (λ in_range. integrity_in (hart_view hart machine)
-      (hart_view_invariant hart machine invariant in_range) k not_running live) not_entered live_after;
-  hart_state = hart_state_preserved k hart machine invariant not_running;
+      (hart_view_invariant hart machine invariant in_range) slot not_running live) not_entered live_after;
+  hart_state = hart_state_preserved slot hart machine invariant not_running;
 }

@@ -10,8 +10,8 @@ use Rattle.rv_monitor.proofs.Prelude.{hart_state_of, reprogrammed, hart_states_r
 use Rattle.rv_monitor.proofs.Prelude.{step_of, stepped_by}
 use Rattle.rv_monitor.proofs.Prelude.{with_hart_state, worlds}
 use Rattle.rv_monitor.proofs.Others.{sound_back, shared_invariant-moved_to_front, without}
-use Rattle.rv_monitor.proofs.HartCases.{behind_seated, by_hart, hart_cases, count_behind, other_hart_state, own_hart_state}
-use Rattle.rv_monitor.proofs.StepInvariant.{KeptBeside, laid_seated, hart_view_of, reprogrammed_by, step_invariant}
+use Rattle.rv_monitor.proofs.HartCases.{behind_seated, by_hart, hart_cases, stepped_count, other_hart_state, own_hart_state}
+use Rattle.rv_monitor.proofs.StepInvariant.{InvariantBeside, reprogrammed_invariant, hart_view_of, reprogrammed_by, step_invariant}
 
 -- ---- the world on a hart, and those on the other harts
 
@@ -33,19 +33,19 @@ abbrev pub beside : ℕ → MonitoredMachine → List World
 beside hart machine = without (worlds machine) hart
 
 -- the list of worlds is unchanged if the world of a hart is written to its own place
-pub worlds_are : (hart : ℕ) (machine : MonitoredMachine) → hart < count_of machine
+pub world_write_changes_nothing : (hart : ℕ) (machine : MonitoredMachine) → hart < count_of machine
     → slice_set (worlds machine) hart (hart_state_of hart machine).world ≡ worlds machine
-worlds_are hart machine in_range =
+world_write_changes_nothing hart machine in_range =
     ap (slice_set (worlds machine) hart) (sym (world_at hart machine in_range)) ∙ set-get_or (worlds machine) hart Host
 
 -- ---- one hart
 
 -- the shared invariant holds for the list of worlds that begins with the world of the hart, followed by the worlds of the other harts
-pub own_sound : (hart : ℕ) (machine : MonitoredMachine) → Invariant machine → hart < count_of machine
+pub shared_invariant_in_front : (hart : ℕ) (machine : MonitoredMachine) → Invariant machine → hart < count_of machine
     → SharedInvariant machine.shared ((hart_state_of hart machine).world ∷ beside hart machine)
-own_sound hart machine invariant in_range =
+shared_invariant_in_front hart machine invariant in_range =
     shared_invariant-moved_to_front machine.shared (worlds machine) hart (hart_state_of hart machine).world (has_world hart machine in_range)
-    (subst (SharedInvariant machine.shared) (sym (worlds_are hart machine in_range)) invariant.shared)
+    (subst (SharedInvariant machine.shared) (sym (world_write_changes_nothing hart machine in_range)) invariant.shared)
 
 -- the view of each hart of a machine with the invariant has the invariant
 pub hart_view_invariant : (hart : ℕ) (machine : MonitoredMachine) → Invariant machine → hart < count_of machine
@@ -55,47 +55,50 @@ hart_view_invariant hart machine invariant in_range =
 
 -- a step of a hart preserves the invariant of the shared state and of the hart, with the worlds of the other harts
 pub invariant_of_others : (hart : ℕ) (machine : MonitoredMachine) → Invariant machine → hart < count_of machine
-    → KeptBeside (beside hart machine) (monitored_step (hart_view hart machine))
+    → InvariantBeside (beside hart machine) (monitored_step (hart_view hart machine))
 invariant_of_others hart machine invariant in_range =
-    step_invariant (beside hart machine) (hart_state_of hart machine) machine.shared (own_sound hart machine invariant in_range)
+    step_invariant (beside hart machine) (hart_state_of hart machine) machine.shared (shared_invariant_in_front hart machine invariant in_range)
     (invariant.hart_states hart in_range)
 
 -- ---- the machine
 
 -- the reprogramming after a trap does not change the worlds
-worlds_behind : (o : Option Trap) (slots : Slots) (hart_states : List HartState)
-    → map world_of (hart_states_reprogrammed o slots hart_states) ≡ map world_of hart_states
-worlds_behind None slots hart_states = refl
-worlds_behind (Some trap) slots hart_states = map-map world_of (reprogrammed slots) hart_states
+reprogramming_keeps_worlds : (maybe_trap : Option Trap) (slots : Slots) (hart_states : List HartState)
+    → map world_of (hart_states_reprogrammed maybe_trap slots hart_states) ≡ map world_of hart_states
+reprogramming_keeps_worlds None slots hart_states = refl
+reprogramming_keeps_worlds (Some trap) slots hart_states = map-map world_of (reprogrammed slots) hart_states
 
 -- the machine after a step of one of its harts has the invariant
-stepped_kept : (hart : ℕ) (machine : MonitoredMachine) → Invariant machine → hart < count_of machine
+invariant_after_step : (hart : ℕ) (machine : MonitoredMachine) → Invariant machine → hart < count_of machine
     → Invariant (stepped_by hart machine (monitored_step (hart_view hart machine))).state
-stepped_kept hart machine invariant in_range =
+invariant_after_step hart machine invariant in_range =
     let after = monitored_step (hart_view hart machine) in
     let slots = after.state.shared.table in
     let trap = after.outcome.step.trap in
-    let view_kept = invariant_of_others hart machine invariant in_range in
-    let same_length = count_behind hart machine after in
+    let view_invariant_after = invariant_of_others hart machine invariant in_range in
+    let same_length = stepped_count hart machine after in
     record {
       shared = subst (SharedInvariant after.state.shared)
           (sym (map-set world_of (hart_states_reprogrammed trap slots machine.hart_states) hart after.state.hart_state
-          ∙ ap (λ (ws : List World). slice_set ws hart after.state.hart_state.world) (worlds_behind trap slots machine.hart_states)))
-          (sound_back after.state.shared (worlds machine) hart after.state.hart_state.world (has_world hart machine in_range) view_kept.0);
-      hart_states = λ j inside.
-          let j_in_range : j < count_of machine = omega (arith, same_length, inside) in
-          elim (cases_eq j hart) [
-            | inl equal ↦ subst (HartInvariant slots) (sym (own_hart_state hart machine after j equal in_range)) view_kept.1
+          ∙ ap (λ (worlds : List World). slice_set worlds hart after.state.hart_state.world)
+          (reprogramming_keeps_worlds trap slots machine.hart_states)))
+          (sound_back after.state.shared (worlds machine) hart after.state.hart_state.world (has_world hart machine in_range) view_invariant_after.0);
+      hart_states = λ other_hart other_in_new_range.
+          let other_in_range : other_hart < count_of machine = omega (arith, same_length, other_in_new_range) in
+          elim (cases_eq other_hart hart) [
+            | inl equal ↦ subst (HartInvariant slots) (sym (own_hart_state hart machine after other_hart equal in_range)) view_invariant_after.1
             | inr distinct ↦
                 subst (HartInvariant slots)
-                (sym (other_hart_state hart machine after j distinct j_in_range ∙ behind_seated hart j machine invariant j_in_range))
-                (laid_seated machine.shared.table slots (hart_state_of j machine) (invariant.hart_states j j_in_range))
+                (sym (other_hart_state hart machine after other_hart distinct other_in_range
+                ∙ behind_seated hart other_hart machine invariant other_in_range))
+                (reprogrammed_invariant machine.shared.table slots (hart_state_of other_hart machine)
+                (invariant.hart_states other_hart other_in_range))
           ];
     }
 
 -- proves that a step preserves the invariant
 pub invariant_law : (hart : ℕ) (machine : MonitoredMachine) → Invariant machine → Invariant (step_of hart machine).state
-invariant_law hart machine invariant = by_hart hart machine (λ after. Invariant after.state) invariant (stepped_kept hart machine invariant)
+invariant_law hart machine invariant = by_hart hart machine (λ after. Invariant after.state) invariant (invariant_after_step hart machine invariant)
 
 -- proves that steps of the harts in any order preserve the invariant
 pub sched_invariant : SchedInvariantLaw
@@ -111,42 +114,43 @@ written regs raised hart_state = record hart_state {
 }
 
 -- a hart keeps its invariant if the debugger writes its registers or its timer line
-written_seated : (slots : Slots) (regs : List ℕ) (raised : Bool) (hart_state : HartState) → HartInvariant slots hart_state
+written_hart_invariant : (slots : Slots) (regs : List ℕ) (raised : Bool) (hart_state : HartState) → HartInvariant slots hart_state
     → HartInvariant slots (written regs raised hart_state)
-written_seated slots regs raised hart_state hart_invariant =
+written_hart_invariant slots regs raised hart_state hart_invariant =
     let layout = hart_invariant.layout in
     reprogrammed_by slots slots hart_state (written regs raised hart_state).hart hart_invariant layout.entries layout.mie refl refl
 
 -- a machine keeps its invariant if the debugger writes the registers or the timer line of one of its harts
-written_in : (hart : ℕ) (regs : List ℕ) (raised : Bool) (machine : MonitoredMachine) → Invariant machine → hart < count_of machine
+written_invariant_of_hart : (hart : ℕ) (regs : List ℕ) (raised : Bool) (machine : MonitoredMachine) → Invariant machine → hart < count_of machine
     → Invariant (with_hart_state hart (written regs raised (hart_state_of hart machine)) machine)
-written_in hart regs raised machine invariant in_range =
+written_invariant_of_hart hart regs raised machine invariant in_range =
     let hart_state = hart_state_of hart machine in
-    let new = written regs raised hart_state in
-    let same_length = length-set machine.hart_states hart new in
+    let new_state = written regs raised hart_state in
+    let same_length = length-set machine.hart_states hart new_state in
     record {
       shared =
           subst (SharedInvariant machine.shared)
-          (sym (map-set world_of machine.hart_states hart new ∙ worlds_are hart machine in_range)) invariant.shared;
-      hart_states = λ j inside.
-          hart_cases machine.hart_states hart new (λ i s. i < count_of machine → HartInvariant machine.shared.table s) in_range
-          (λ in_range_too. written_seated machine.shared.table regs raised hart_state (invariant.hart_states hart in_range))
-          (λ i other. invariant.hart_states i) j
-          (omega (arith, same_length, inside));
+          (sym (map-set world_of machine.hart_states hart new_state ∙ world_write_changes_nothing hart machine in_range)) invariant.shared;
+      hart_states = λ other_hart other_in_range.
+          hart_cases machine.hart_states hart new_state (λ hart some_state. hart < count_of machine
+          → HartInvariant machine.shared.table some_state) in_range
+          (λ is_in_range. written_hart_invariant machine.shared.table regs raised hart_state (invariant.hart_states hart in_range))
+          (λ hart is_other_hart. invariant.hart_states hart) other_hart
+          (omega (arith, same_length, other_in_range));
     }
 
 -- a write with a number that is not the number of a hart has no effect
 pub past_as_is : (hart : ℕ) (hart_state : HartState) (machine : MonitoredMachine) → count_of machine ≤ hart
     → with_hart_state hart hart_state machine ≡ machine
-past_as_is hart hart_state machine past =
+past_as_is hart hart_state machine past_last =
     ap (λ (hart_states : List HartState). let after : MonitoredMachine = record { hart_states = hart_states; shared = machine.shared } in after)
-    (set_past machine.hart_states hart hart_state past)
+    (set_past machine.hart_states hart hart_state past_last)
 
 -- a machine keeps its invariant if the debugger writes the registers or the timer line at any hart number
 pub written_invariant : (hart : ℕ) (regs : List ℕ) (raised : Bool) (machine : MonitoredMachine) → Invariant machine
     → Invariant (with_hart_state hart (written regs raised (hart_state_of hart machine)) machine)
 written_invariant hart regs raised machine invariant = elim (cases_lt hart (count_of machine)) [
-  | inl in_range ↦ written_in hart regs raised machine invariant in_range
+  | inl in_range ↦ written_invariant_of_hart hart regs raised machine invariant in_range
   | inr past_last ↦ subst Invariant (sym (past_as_is hart (written regs raised (hart_state_of hart machine)) machine past_last)) invariant
 ]
 
@@ -154,20 +158,24 @@ written_invariant hart regs raised machine invariant = elim (cases_lt hart (coun
 pub hart_state_stored : (hart : ℕ) (hart_state : HartState) (machine : MonitoredMachine) → HostContextsAreLegal machine → hart < count_of machine
     → HostContextIsLegal hart_state
     → HostContextsAreLegal (with_hart_state hart hart_state machine)
-hart_state_stored hart hart_state machine legal in_range own =
-    hart_cases machine.hart_states hart hart_state (λ j s. HostContextIsLegal s) in_range own (λ j other. legal j)
+hart_state_stored hart hart_state machine contexts_legal in_range context_is_legal =
+    hart_cases machine.hart_states hart hart_state (λ some_hart some_state. HostContextIsLegal some_state) in_range context_is_legal
+    (λ some_hart is_other_hart. contexts_legal some_hart)
 
 -- a property of hart states that a change preserves is the same for each hart before and after the change of one hart
-pub change_preserves : {X : Type 0} (of : HartState → X) (change : HartState → HartState)
-    → ((hart_state : HartState) → of (change hart_state) ≡ of hart_state)
-    → (hart j : ℕ) (machine : MonitoredMachine)
-    → of (hart_state_of j (changed hart change machine)) ≡ of (hart_state_of j machine)
-change_preserves of change preserved hart j machine = elim (cases_lt hart (count_of machine)) [
-  | inr past_last ↦ ap (λ (m : MonitoredMachine). of (hart_state_of j m)) (past_as_is hart (change (hart_state_of hart machine)) machine past_last)
+pub change_preserves : {X : Type 0} (property : HartState → X) (change : HartState → HartState)
+    → ((hart_state : HartState) → property (change hart_state) ≡ property hart_state)
+    → (hart other_hart : ℕ) (machine : MonitoredMachine)
+    → property (hart_state_of other_hart (changed hart change machine)) ≡ property (hart_state_of other_hart machine)
+change_preserves property change preserved hart other_hart machine = elim (cases_lt hart (count_of machine)) [
+  | inr past_last ↦
+      ap (λ (machine : MonitoredMachine). property (hart_state_of other_hart machine))
+      (past_as_is hart (change (hart_state_of hart machine)) machine past_last)
   | inl in_range ↦
-      hart_cases machine.hart_states hart (change (hart_state_of hart machine)) (λ i s. of s ≡ of (hart_state_of i machine)) in_range
+      hart_cases machine.hart_states hart (change (hart_state_of hart machine))
+      (λ hart some_state. property some_state ≡ property (hart_state_of hart machine)) in_range
       (preserved (hart_state_of hart machine))
-      (λ i other. refl) j
+      (λ some_hart is_other_hart. refl) other_hart
 ]
 
 -- a machine keeps its invariant with another memory of the same size

@@ -33,17 +33,17 @@ module _ (before : HartView) (slot : ℕ) (host : Context) (runs_enclave : befor
   leaving_now = leaving_with (saved_after trap.cause before.hart_state.hart)
 
   -- the context of the enclave that the exit saves, from the hart before the trap
-  kept_is : (cause : Cause) → context_saved_by cause hart_state ≡ saved_after cause before.hart_state.hart
-  kept_is (causes.Interrupt interrupt) = refl
-  kept_is (causes.Exception exception) = refl
+  saved_context_is : (cause : Cause) → context_saved_by cause hart_state ≡ saved_after cause before.hart_state.hart
+  saved_context_is (causes.Interrupt interrupt) = refl
+  saved_context_is (causes.Exception exception) = refl
 
   -- the enclave continues, or exits
   abbrev StaysOrExits : Handled → Type 0
-  StaysOrExits h = (h.hart_state.world ≡ Enclave slot) ⊎ (h ≡ with_reprogrammed_hart leaving_now)
+  StaysOrExits result = (result.hart_state.world ≡ Enclave slot) ⊎ (result ≡ with_reprogrammed_hart leaving_now)
 
   -- a claim about a hart that runs both an enclave and the host holds, because there is no such hart
-  enters_never : before.hart_state.world ≡ Host → (P : Type 0) → P
-  enters_never from_host P = let contradiction : Host ≡ Enclave slot = sym from_host ∙ runs_enclave in cc
+  enters_never : before.hart_state.world ≡ Host → (Claim : Type 0) → Claim
+  enters_never from_host Claim = let contradiction : Host ≡ Enclave slot = sym from_host ∙ runs_enclave in cc
 
   -- the trap handler exits the enclave, or leaves the enclave running
   handled_stays_or_exits : StaysOrExits (handled hart_state before.shared trap)
@@ -53,7 +53,7 @@ module _ (before : HartView) (slot : ℕ) (host : Context) (runs_enclave : befor
     destroys = λ requests is_taken. inl runs_enclave;
     measures = λ requests no_refusal. inl runs_enclave;
     enters = λ call requests is_entry_call from_host is_taken. enters_never from_host _;
-    leaves = inr (ap (λ (host : Context). with_reprogrammed_hart (leaving_with host)) (kept_is trap.cause));
+    leaves = inr (ap (λ (host : Context). with_reprogrammed_hart (leaving_with host)) (saved_context_is trap.cause));
     redirects = inl runs_enclave;
   })
 
@@ -76,17 +76,18 @@ module _ (before : HartView) (slot : ℕ) (host : Context) (runs_enclave : befor
   returned_left : (outcome : StepOutcome) → HartViewInvariant before → Left (returned outcome (with_reprogrammed_hart leaving_now))
   unfolding left
   returned_left outcome view_invariant =
-      let P : Option Context → Type 0 = λ o. IfSome o (λ c. can_go_on c ≡ true) in
-      let aligned = aligned_again host.mode host.pc (subst P host_is_saved view_invariant.hart.host.held) in
+      let CanGoOnIfSome : Option Context → Type 0 = λ maybe_context. IfSome maybe_context (λ some_context. can_go_on some_context ≡ true) in
+      let aligned = aligned_again host.mode host.pc (subst CanGoOnIfSome host_is_saved view_invariant.hart.host.held) in
       let mprv = view_invariant.hart.layout.mprv in
       (rw (runs_enclave, host_is_saved, aligned, or-false (is_set before.hart_state.hart.csrs.mcountinhibit 0), mprv) refl, refl)
 
-  -- if the host runs after the trap handler, then the return from it gives the view after an exit
-  left_or_not : (outcome : StepOutcome) (h : Handled) → HartViewInvariant before → StaysOrExits h → h.hart_state.world ≡ Host
-      → Left (returned outcome h)
-  left_or_not outcome h view_invariant (inl stays) host_runs_after = let contradiction : Enclave slot ≡ Host = sym stays ∙ host_runs_after in cc
-  left_or_not outcome h view_invariant (inr same) host_runs_after =
-      subst (λ (x : Handled). Left (returned outcome x)) (sym same) (returned_left outcome view_invariant)
+  -- if the host runs after the trap handler, then the return from the trap handler gives the view after an exit
+  exit_if_host_runs : (outcome : StepOutcome) (result : Handled) → HartViewInvariant before → StaysOrExits result → result.hart_state.world ≡ Host
+      → Left (returned outcome result)
+  exit_if_host_runs outcome result view_invariant (inl stays) host_runs_after =
+      let contradiction : Enclave slot ≡ Host = sym stays ∙ host_runs_after in cc
+  exit_if_host_runs outcome result view_invariant (inr is_exit) host_runs_after =
+      subst (λ (some_result : Handled). Left (returned outcome some_result)) (sym is_exit) (returned_left outcome view_invariant)
 
   -- a step with a trap after which the host runs is an exit
   step_is_exit : HartViewInvariant before → (monitored_step before).outcome.step.trap ≡ Some trap
@@ -95,20 +96,21 @@ module _ (before : HartView) (slot : ℕ) (host : Context) (runs_enclave : befor
   step_is_exit view_invariant trapped host_runs_after =
       let step_is = trapped_step before trap trapped in
       let handled_host = subst (λ (after : HartViewStepped). after.state.hart_state.world ≡ Host) step_is host_runs_after in
-      subst Left (sym step_is) (left_or_not (step (bare_machine before)).outcome _ view_invariant handled_stays_or_exits handled_host)
+      subst Left (sym step_is) (exit_if_host_runs (step (bare_machine before)).outcome _ view_invariant handled_stays_or_exits handled_host)
 
 -- a step of an enclave with a trap after which the host runs leaves the machine after an exit, and enters no slot
 pub leave_law : (hart : ℕ) (machine : MonitoredMachine) → Invariant machine → (slot : ℕ) (host : Context) (trap : Trap)
     → (hart_state_of hart machine).world ≡ Enclave slot → (hart_state_of hart machine).host_context ≡ Some host
     → (step_of hart machine).outcome.step.trap ≡ Some trap → (hart_state_of hart (step_of hart machine).state).world ≡ Host
     → ((step_of hart machine).state ≡ left_machine hart machine slot trap host) × ((step_of hart machine).outcome.entered ≡ None)
-leave_law hart machine invariant slot host trap runs saved_host trapped host_runs_after =
+leave_law hart machine invariant slot host trap runs host_is_saved trapped host_runs_after =
     let trapping = is_trapping hart machine trap trapped in
-    let view_host = sym (ap (λ (after : HartViewStepped). after.state.hart_state.world) (step_of_view hart machine trapping.has)) ∙ host_runs_after in
-    let one =
-    step_is_exit (hart_view hart machine) slot host runs saved_host trap
-    (hart_view_invariant hart machine invariant trapping.has) trapping.trapped view_host in
-    (trapping.state ∙ ap (programmed_by hart machine) one.0, ap (λ (outcome : Outcome). outcome.entered) trapping.outcome ∙ one.1)
+    let view_runs_host =
+    sym (ap (λ (after : HartViewStepped). after.state.hart_state.world) (step_of_view hart machine trapping.has)) ∙ host_runs_after in
+    let view_exit =
+    step_is_exit (hart_view hart machine) slot host runs host_is_saved trap
+    (hart_view_invariant hart machine invariant trapping.has) trapping.trapped view_runs_host in
+    (trapping.state ∙ ap (programmed_by hart machine) view_exit.0, ap (λ (outcome : Outcome). outcome.entered) trapping.outcome ∙ view_exit.1)
 
 -- the state of the hart after an exit is the state that `left_hart` gives
 pub left_hart_state : (hart : ℕ) (machine : MonitoredMachine) (slot : ℕ) (trap : Trap) (host : Context) → hart < count_of machine

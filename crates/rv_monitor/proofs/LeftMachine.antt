@@ -62,11 +62,11 @@ left_hart hart slots trap host = record {
 
 -- the machine after an exit: no byte changes, and on every other hart only the PMP entries and mie change
 abbrev pub left_machine : ℕ → MonitoredMachine → ℕ → Trap → Context → MonitoredMachine
-left_machine own before slot trap host =
-    let hart = (hart_state_of own before).hart in
-    let shared = left_shared before.shared slot trap.cause hart in
+left_machine hart before slot trap host =
+    let hart_before = (hart_state_of hart before).hart in
+    let shared = left_shared before.shared slot trap.cause hart_before in
     record {
-      hart_states = slice_set (map (reprogrammed shared.table) before.hart_states) own
-          (record { hart = left_hart hart shared.table trap host; host_context = None; world = Host });
+      hart_states = slice_set (map (reprogrammed shared.table) before.hart_states) hart
+          (record { hart = left_hart hart_before shared.table trap host; host_context = None; world = Host });
       shared = shared;
     }

@@ -28,7 +28,7 @@ use Rattle.rv_monitor.proofs.StepInvariant.{without_trap}
 
 -- the S-mode registers of the hart are legal in a context
 abbrev Legal : CsrState → Type 0
-Legal c = IsLegal (s_context c)
+Legal csrs = IsLegal (s_context csrs)
 
 -- ---- the trap handler
 
@@ -37,27 +37,31 @@ abbrev AllLegal : Contexts → Type 0
 AllLegal saved_contexts = (slot : ℕ) → IfSome (context_at saved_contexts slot) (λ context. IsLegal context.supervisor)
 
 -- every saved context stays legal after a write of a legal context to one slot
-legal_set : (saved_contexts : Contexts) (j : ℕ) (o : Option Context) → AllLegal saved_contexts → IfSome o (λ context. IsLegal context.supervisor)
-    → AllLegal (with_context saved_contexts j o)
-legal_set saved_contexts j o all_legal legal slot =
-    let P : Option Context → Type 0 = λ x. IfSome x (λ context. IsLegal context.supervisor) in
-    elim (cases_lt j (length saved_contexts)) [
-      | inr past_last ↦ subst (λ (x : Contexts). P (context_at x slot)) (sym (set_past saved_contexts j o past_last)) (all_legal slot)
-      | inl in_range ↦ elim (cases_eq slot j) [
-        | inl equal ↦
-            subst (λ (i : ℕ). P (context_at (with_context saved_contexts j o) i)) (sym equal)
-            (subst P (sym (at_written_slot saved_contexts j o in_range)) legal)
-        | inr distinct ↦ subst P (sym (at_other_slot saved_contexts j slot o distinct)) (all_legal slot)
+legal_set : (saved_contexts : Contexts) (written_slot : ℕ) (maybe_context : Option Context) → AllLegal saved_contexts
+    → IfSome maybe_context (λ context. IsLegal context.supervisor)
+    → AllLegal (with_context saved_contexts written_slot maybe_context)
+legal_set saved_contexts written_slot maybe_context all_legal legal slot =
+    let LegalIfSome : Option Context → Type 0 = λ maybe_context. IfSome maybe_context (λ context. IsLegal context.supervisor) in
+    elim (cases_lt written_slot (length saved_contexts)) [
+      | inr past_last ↦
+          subst (λ (contexts : Contexts). LegalIfSome (context_at contexts slot)) (sym (set_past saved_contexts written_slot maybe_context past_last))
+          (all_legal slot)
+      | inl in_range ↦ elim (cases_eq slot written_slot) [
+        | inl is_written_slot ↦
+            subst (λ (some_slot : ℕ). LegalIfSome (context_at (with_context saved_contexts written_slot maybe_context) some_slot))
+            (sym is_written_slot)
+            (subst LegalIfSome (sym (at_written_slot saved_contexts written_slot maybe_context in_range)) legal)
+        | inr is_other_slot ↦ subst LegalIfSome (sym (at_other_slot saved_contexts written_slot slot maybe_context is_other_slot)) (all_legal slot)
       ]
     ]
 
 -- the S-mode registers are legal after the monitor restores a context
-restored_legal : (c : CsrState) (s : SContext) → Legal (with_s_context c s)
-restored_legal c s = let stored = with_s_context_stored c s in record { stvec = stored.stvec; sepc = stored.sepc }
+restored_legal : (csrs : CsrState) (supervisor : SContext) → Legal (with_s_context csrs supervisor)
+restored_legal csrs supervisor = let stored = with_s_context_stored csrs supervisor in record { stvec = stored.stvec; sepc = stored.sepc }
 
 -- a context whose stvec and sepc are 0 is legal
-nothing_legal : (c : Context) → c.supervisor.stvec ≡ 0 → c.supervisor.sepc ≡ 0 → IsLegal c.supervisor
-nothing_legal c stvec sepc =
+nothing_legal : (context : Context) → context.supervisor.stvec ≡ 0 → context.supervisor.sepc ≡ 0 → IsLegal context.supervisor
+nothing_legal context stvec sepc =
     let zero_vector : vector_of 0 ≡ 0 = omega arith in
     let zero_aligned : aligned_to_4 0 ≡ 0 = omega arith in
     record { stvec = ap vector_of stvec ∙ zero_vector ∙ sym stvec; sepc = ap aligned_to_4 sepc ∙ zero_aligned ∙ sym sepc }
@@ -68,14 +72,14 @@ saved_legal (causes.Interrupt interrupt) hart_state legal = legal
 saved_legal (causes.Exception exception) hart_state legal =
     stopped_or_exited_legal (register hart_state.hart.regs 16 == call_number Exit) where
       -- both the empty context and the context that stop saves are legal
-      stopped_or_exited_legal : (b : Bool) → IsLegal (if b then exited_context else stopped_context hart_state).supervisor
+      stopped_or_exited_legal : (is_exit : Bool) → IsLegal (if is_exit then exited_context else stopped_context hart_state).supervisor
       stopped_or_exited_legal true = nothing_legal exited_context refl refl
       stopped_or_exited_legal false = legal
 
 -- the S-mode registers and all saved contexts are legal after the trap handler
-record StoredAfter (h : Handled) : Type 0 where
-  supervisor : Legal h.hart_state.hart.csrs
-  contexts : AllLegal h.shared.contexts
+record StoredAfter (result : Handled) : Type 0 where
+  supervisor : Legal result.hart_state.hart.csrs
+  contexts : AllLegal result.shared.contexts
 
 -- the S-mode registers, mepc and all saved contexts are legal at the trap
 module _ (hart_state : HartState) (shared : Shared) (trap : Trap) (legal : Legal hart_state.hart.csrs)
@@ -127,12 +131,12 @@ view_stored state view_invariant legal = step_cases state (λ after. ViewStored 
     record { pc = hart.pc; supervisor = record { stvec = hart.csrs.stvec; sepc = hart.csrs.sepc }; contexts = legal.contexts })
     (λ trap trapped.
     let hart_state = hart_state_after state.hart_state trap in
-    let work = handled_stored hart_state state.shared trap
+    let legal_after = handled_stored hart_state state.shared trap
     (record { stvec = legal.supervisor.stvec; sepc = legal.supervisor.sepc }) (aligned_twice state.hart_state.hart.pc) legal.contexts in
     record {
       pc = aligned_twice (handled hart_state state.shared trap).next.pc;
-      supervisor = record { stvec = work.supervisor.stvec; sepc = work.supervisor.sepc };
-      contexts = work.contexts;
+      supervisor = record { stvec = legal_after.supervisor.stvec; sepc = legal_after.supervisor.sepc };
+      contexts = legal_after.contexts;
     })
 
 -- ---- the machine
@@ -146,18 +150,21 @@ step_stored hart machine invariant legal = elim (cases_lt hart (count_of machine
       let legal_hart = legal.harts hart in
       let after = view_stored state (hart_view_invariant hart machine invariant in_range)
       (record { pc = legal_hart.pc; supervisor = legal_hart.supervisor; contexts = legal.contexts }) in
-      let view_legal = subst (λ (a : HartViewStepped). ViewStored a.state) (sym (step_of_view hart machine in_range)) after in
+      let view_legal = subst (λ (stepped : HartViewStepped). ViewStored stepped.state) (sym (step_of_view hart machine in_range)) after in
       record {
-        harts = λ j. elim (cases_eq j hart) [
-          | inl equal ↦
-              subst (λ (i : ℕ). IsLegalHartState (hart_state_of i (step_of hart machine).state)) (sym equal)
+        harts = λ other_hart. elim (cases_eq other_hart hart) [
+          | inl is_stepping_hart ↦
+              subst (λ (some_hart : ℕ). IsLegalHartState (hart_state_of some_hart (step_of hart machine).state)) (sym is_stepping_hart)
               (record { pc = view_legal.pc; supervisor = view_legal.supervisor })
-          | inr distinct ↦
-              let pc = other_harts_keep (λ (s : HartState). s.hart.pc) (λ slots s. refl) hart j machine distinct in
-              let supervisor = other_harts_keep (λ (s : HartState). s_context s.hart.csrs) (λ slots s. refl) hart j machine distinct in
+          | inr is_other_hart ↦
+              let pc_unchanged =
+              other_harts_keep (λ (hart_state : HartState). hart_state.hart.pc) (λ slots hart_state. refl) hart other_hart machine is_other_hart in
+              let supervisor_unchanged =
+              other_harts_keep (λ (hart_state : HartState). s_context hart_state.hart.csrs)
+              (λ slots hart_state. refl) hart other_hart machine is_other_hart in
               record {
-                pc = ap aligned_to_4 pc ∙ (legal.harts j).pc ∙ sym pc;
-                supervisor = subst IsLegal (sym supervisor) (legal.harts j).supervisor;
+                pc = ap aligned_to_4 pc_unchanged ∙ (legal.harts other_hart).pc ∙ sym pc_unchanged;
+                supervisor = subst IsLegal (sym supervisor_unchanged) (legal.harts other_hart).supervisor;
               }
         ];
         contexts = view_legal.contexts;
@@ -169,12 +176,15 @@ pub event_stored : (event : Event) (machine : MonitoredMachine) → Invariant ma
     → IsLegalMachine (event_of event machine).state
 event_stored (StepOf hart) machine invariant legal = step_stored hart machine invariant legal
 event_stored (LineOf hart raised) machine invariant legal = record {
-  harts = λ j.
-      let pc = change_preserves (λ (s : HartState). s.hart.pc) (timer_line_set raised) (λ s. refl) hart j machine in
-      let supervisor = change_preserves (λ (s : HartState). s_context s.hart.csrs) (timer_line_set raised) (λ s. refl) hart j machine in
+  harts = λ other_hart.
+      let pc_unchanged =
+      change_preserves (λ (hart_state : HartState). hart_state.hart.pc) (timer_line_set raised) (λ hart_state. refl) hart other_hart machine in
+      let supervisor_unchanged =
+      change_preserves (λ (hart_state : HartState). s_context hart_state.hart.csrs) (timer_line_set raised)
+      (λ hart_state. refl) hart other_hart machine in
       record {
-        pc = ap aligned_to_4 pc ∙ (legal.harts j).pc ∙ sym pc;
-        supervisor = subst IsLegal (sym supervisor) (legal.harts j).supervisor;
+        pc = ap aligned_to_4 pc_unchanged ∙ (legal.harts other_hart).pc ∙ sym pc_unchanged;
+        supervisor = subst IsLegal (sym supervisor_unchanged) (legal.harts other_hart).supervisor;
       };
   contexts = legal.contexts;
 }
@@ -197,7 +207,7 @@ no_context slot = elim (cases_lt slot slot_count) [
 
 -- the saved contexts at reset are legal, because there are none
 none_legal : (slot : ℕ) → IfSome (context_at no_contexts slot) (λ context. IsLegal context.supervisor)
-none_legal slot = subst (λ (o : Option Context). IfSome o (λ context. IsLegal context.supervisor)) (sym (no_context slot)) tt
+none_legal slot = subst (λ (maybe_context : Option Context). IfSome maybe_context (λ context. IsLegal context.supervisor)) (sym (no_context slot)) tt
 
 -- the machine at reset is legal, if the entry point is a multiple of 4
 starts_stored : (memory : List ℕ) (entry harts : ℕ) → aligned_to_4 entry ≡ entry → IsLegalMachine (at_start memory entry harts)
@@ -206,7 +216,7 @@ starts_stored memory entry harts aligned =
     let reset_state = reset_stored entry aligned in
     record {
       harts = λ hart.
-          start_state_cases harts entry hart IsLegalHartState (λ n. record { pc = reset_state.pc; supervisor = reset_state.supervisor })
+          start_state_cases harts entry hart IsLegalHartState (λ some_hart. record { pc = reset_state.pc; supervisor = reset_state.supervisor })
           (reset_stored 0 refl);
       contexts = none_legal;
     }

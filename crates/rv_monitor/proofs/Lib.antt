@@ -20,12 +20,12 @@ pub mod PmpProgramming
 pub mod Programmed
 -- The machine at reset has the values that the definition `machine_at_reset` writes out, and satisfies the invariant
 pub mod Start
--- The trap handler of one hart, over two shared states that are equivalent except e, gives results that are equivalent except e
+-- The trap handler of one hart gives results that are equivalent except one enclave, over two shared states that are equivalent except this enclave
 pub mod HandledAlike
--- Two machines that are equivalent except e stay equivalent except e if the same part of each is changed alike
+-- Two machines that are equivalent except one enclave stay equivalent except this enclave, if the same part of each changes alike
 pub mod EquivLemmas
--- Noninterference of one step: a low step of two machines that are equivalent except e has equal outcomes, and leaves machines that are equivalent
--- except e
+-- Noninterference of one step: low steps of two machines that are equivalent except one enclave have equal outcomes, and leave machines that are
+-- equivalent except this enclave
 pub mod MonitoredAlike
 -- The state of each hart after a step, as two cases: the hart that steps, and each other hart
 pub mod HartCases
@@ -67,7 +67,7 @@ pub mod Scrambled
 pub mod Touched
 -- Every step of a hart of a machine with the full invariant obeys all laws of a step
 pub mod StepLaws
--- The array of hart states in the code represents the harts of a machine: the first `harts` elements of the array are the harts
+-- The code stores hart states in an array. The first elements of this array represent the harts of a machine
 pub mod Held
 -- A step of the host either continues with the host, or enters an enclave
 pub mod Entering
@@ -90,16 +90,16 @@ pub mod GuestView
 pub mod EnclaveMemory
 -- A step of an enclave depends only on the state of the enclave
 pub mod EnclaveSteps
--- Two machines that are equivalent except e stay equivalent except e after e exits from both, if e hands over the same in both
+-- Two machines that are equivalent except one enclave stay so after this enclave exits from both, if the enclave hands over the same in both
 pub mod Release
--- Low steps of two machines whose guest views are equivalent except e have equal outcomes, and leave machines whose guest views are equivalent
--- except e
+-- Low steps of two machines whose guest views are equivalent except one enclave have equal outcomes, and leave machines whose guest views are
+-- equivalent except this enclave
 pub mod GuestEquiv
 -- A step of an enclave that does not exit changes only the hart, the region and the window of the enclave
 pub mod EnclaveStays
 -- A step depends on memory only by the bytes that it reads
 pub mod SteppedOver
--- Two machines that are related are equivalent except e in the guest view, if the window of a running enclave has equal bytes in both
+-- Two related machines are equivalent except one enclave in the guest view, if the window of this enclave has equal bytes in both while it runs
 pub mod RelatedEquiv
 -- A low step of two related machines while the enclave runs on another hart has equal outcomes, and leaves the machines related
 pub mod LowSteps

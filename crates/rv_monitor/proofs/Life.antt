@@ -51,7 +51,7 @@ use Rattle.rv_monitor.proofs.Records.{record_law}
 use Rattle.rv_monitor.proofs.SchedNoninterference.{entered_some, entry_law}
 use Rattle.rv_monitor.proofs.SteppedOver.{MachineOver, MeasuresSeen, ReadsSeen, machine_over, over_bytes}
 use Rattle.rv_monitor.proofs.LegalMachine.{event_stored}
-use Rattle.rv_monitor.proofs.Switched.{Turns, handled_stays_or_switches, legal_again}
+use Rattle.rv_monitor.proofs.Switched.{Turns, handled_stays_or_switches, restored_context_same}
 use Rattle.rv_monitor.proofs.Touched.{touch_law}
 use Rattle.rv_monitor.proofs.TrapSteps.{hart_state_after, step_cases}
 use Rattle.std.proofs.lemmas.Bool.{leb-true, ltb-true, not-false, not-true}
@@ -59,150 +59,168 @@ use Rattle.rv_monitor.proofs.Booleans.{left_if_nor_fails, nand_fails, right_if_n
 
 -- ---- an enclave runs on one hart
 
--- a hart number at which the list of worlds has enclave k is in the list
-none_past : (k : ℕ) (ws : List World) (a : ℕ) → is_world_of k (slice_index_or ws a Host) ≡ true → a < length ws
-none_past k ws a runs_at_a = elim (cases_lt a (length ws)) [
+-- an index at which the list of worlds has the enclave is below the length of the list
+hart_is_in_list : (slot : ℕ) (worlds : List World) (index : ℕ) → is_world_of slot (slice_index_or worlds index Host) ≡ true → index < length worlds
+hart_is_in_list slot worlds index runs_at_index = elim (cases_lt index (length worlds)) [
   | inl in_range ↦ in_range
-  | inr past_last ↦
-      let contradiction : false ≡ true = sym (ap (is_world_of k) (get_or_past {X = World} ws a Host past_last)) ∙ runs_at_a in
+  | inr past_end ↦
+      let contradiction : false ≡ true = sym (ap (is_world_of slot) (get_or_past {X = World} worlds index Host past_end)) ∙ runs_at_index in
       cc
 ]
 
--- two numbers at which the list of worlds has enclave k are equal
-one_world : (k : ℕ) (ws : List World) → AreApart ws → (a b : ℕ) → is_world_of k (slice_index_or ws a Host) ≡ true
-    → is_world_of k (slice_index_or ws b Host) ≡ true → a ≡ b
-one_world k [] worlds_apart a b runs_at_a runs_at_b =
-    absurd (both_ways _ (ap (is_world_of k) (get_or_past {X = World} [] a Host (omega arith))) runs_at_a)
-one_world k (w ∷ ws) worlds_apart zero zero runs_at_a runs_at_b = refl
-one_world k (w ∷ ws) worlds_apart zero (suc b) runs_at_a runs_at_b =
-    absurd (both_ways _ (worlds_apart.0 k runs_at_a) (list_any_at (is_world_of k) ws b Host (none_past k ws b runs_at_b) runs_at_b))
-one_world k (w ∷ ws) worlds_apart (suc a) zero runs_at_a runs_at_b =
-    absurd (both_ways _ (worlds_apart.0 k runs_at_b) (list_any_at (is_world_of k) ws a Host (none_past k ws a runs_at_a) runs_at_a))
-one_world k (w ∷ ws) worlds_apart (suc a) (suc b) runs_at_a runs_at_b = ap suc (one_world k ws worlds_apart.1 a b runs_at_a runs_at_b)
+-- two indices at which the list of worlds has the enclave are equal, because no two harts run the same enclave
+runs_at_one_index : (slot : ℕ) (worlds : List World) → AreApart worlds → (index other_index : ℕ)
+    → is_world_of slot (slice_index_or worlds index Host) ≡ true
+    → is_world_of slot (slice_index_or worlds other_index Host) ≡ true → index ≡ other_index
+runs_at_one_index slot [] worlds_apart index other_index runs_at_index runs_at_other =
+    absurd (both_ways _ (ap (is_world_of slot) (get_or_past {X = World} [] index Host (omega arith))) runs_at_index)
+runs_at_one_index slot (world ∷ worlds) worlds_apart zero zero runs_at_index runs_at_other = refl
+runs_at_one_index slot (world ∷ worlds) worlds_apart zero (suc other_index) runs_at_index runs_at_other =
+    absurd (both_ways _ (worlds_apart.0 slot runs_at_index) (list_any_at (is_world_of slot) worlds other_index Host
+    (hart_is_in_list slot worlds other_index runs_at_other) runs_at_other))
+runs_at_one_index slot (world ∷ worlds) worlds_apart (suc index) zero runs_at_index runs_at_other =
+    absurd (both_ways _ (worlds_apart.0 slot runs_at_other) (list_any_at (is_world_of slot) worlds index Host
+    (hart_is_in_list slot worlds index runs_at_index) runs_at_index))
+runs_at_one_index slot (world ∷ worlds) worlds_apart (suc index) (suc other_index) runs_at_index runs_at_other =
+    ap suc (runs_at_one_index slot worlds worlds_apart.1 index other_index runs_at_index runs_at_other)
 
 -- an enclave runs on at most one hart
-one_hart : (k a b : ℕ) (machine : MonitoredMachine) → Invariant machine → runs_on k a machine ≡ true → runs_on k b machine ≡ true → a ≡ b
-one_hart k a b machine invariant runs_on_a runs_on_b =
-    one_world k (worlds machine) invariant.shared.apart a b (ap (is_world_of k) (world_at a machine (runs_inside k a machine runs_on_a)) ∙ runs_on_a)
-    (ap (is_world_of k) (world_at b machine (runs_inside k b machine runs_on_b)) ∙ runs_on_b)
+runs_on_one_hart : (slot hart other_hart : ℕ) (machine : MonitoredMachine) → Invariant machine → runs_on slot hart machine ≡ true
+    → runs_on slot other_hart machine ≡ true → hart ≡ other_hart
+runs_on_one_hart slot hart other_hart machine invariant runs_on_hart runs_on_other =
+    runs_at_one_index slot (worlds machine) invariant.shared.apart hart other_hart
+    (ap (is_world_of slot) (world_at hart machine (runs_inside slot hart machine runs_on_hart)) ∙ runs_on_hart)
+    (ap (is_world_of slot) (world_at other_hart machine (runs_inside slot other_hart machine runs_on_other)) ∙ runs_on_other)
 
 -- an enclave that runs on a hart has the state Running
-is_running_at : (k hart : ℕ) (machine : MonitoredMachine) → Invariant machine → runs_on k hart machine ≡ true → runs machine.shared.table k ≡ true
-is_running_at k hart machine invariant runs_on_hart = invariant.shared.running k ∙ runs_among k hart machine runs_on_hart
+runs_if_on_hart : (slot hart : ℕ) (machine : MonitoredMachine) → Invariant machine → runs_on slot hart machine ≡ true
+    → runs machine.shared.table slot ≡ true
+runs_if_on_hart slot hart machine invariant runs_on_hart = invariant.shared.running slot ∙ runs_among slot hart machine runs_on_hart
 
 -- an enclave with a saved context does not have the state Running
-held_idle : (o : Option SlotInfo) → is_held o ≡ true → option_case o false (λ info. is_running info.state) ≡ false
-held_idle None has_context = cc
-held_idle (Some info) has_context = not-true (is_running info.state) has_context
+not_running_if_saved : (maybe_info : Option SlotInfo) → is_held maybe_info ≡ true
+    → option_case maybe_info false (λ info. is_running info.state) ≡ false
+not_running_if_saved None has_context = cc
+not_running_if_saved (Some info) has_context = not-true (is_running info.state) has_context
 
 -- a slot with a saved context is live
-held_live : (o : Option SlotInfo) → is_held o ≡ true → is_some o ≡ true
-held_live None has_context = cc
-held_live (Some info) has_context = refl
+live_if_saved : (maybe_info : Option SlotInfo) → is_held maybe_info ≡ true → is_some maybe_info ≡ true
+live_if_saved None has_context = cc
+live_if_saved (Some info) has_context = refl
 
--- slot k of a machine with the invariant has the saved context `context`
-module _ (k : ℕ) (machine : MonitoredMachine) (context : Context) (invariant : Invariant machine)
-    (saves : context_at machine.shared.contexts k ≡ Some context) where
-  -- slot k has a live enclave that does not run, because it has a saved context
-  held_in_slot : is_held (slot_at machine.shared.table k) ≡ true
-  held_in_slot = sym (invariant.shared.contexts.kept k) ∙ ap (λ (o : Option Context). is_some o) saves
+-- the slot of a machine with the invariant has the saved context `context`
+module _ (slot : ℕ) (machine : MonitoredMachine) (context : Context) (invariant : Invariant machine)
+    (saves : context_at machine.shared.contexts slot ≡ Some context) where
+  -- the slot has a live enclave that does not run, because it has a saved context
+  slot_has_saved_context : is_held (slot_at machine.shared.table slot) ≡ true
+  slot_has_saved_context = sym (invariant.shared.contexts.kept slot) ∙ ap (λ (maybe_context : Option Context). is_some maybe_context) saves
 
-  -- the enclave of slot k does not have the state Running
-  saved_idle : runs machine.shared.table k ≡ false
-  saved_idle = held_idle (slot_at machine.shared.table k) held_in_slot
+  -- the enclave of the slot does not have the state Running
+  saved_enclave_not_running : runs machine.shared.table slot ≡ false
+  saved_enclave_not_running = not_running_if_saved (slot_at machine.shared.table slot) slot_has_saved_context
 
-  -- the enclave of slot k is live
-  saved_live : is_live machine.shared.table k ≡ true
-  saved_live = held_live (slot_at machine.shared.table k) held_in_slot
+  -- the enclave of the slot is live
+  saved_enclave_is_live : is_live machine.shared.table slot ≡ true
+  saved_enclave_is_live = live_if_saved (slot_at machine.shared.table slot) slot_has_saved_context
 
-  -- the enclave of slot k continues with its saved context
-  pub saved_continues : ContinuesWith k context machine
+  -- the enclave of the slot continues with its saved context
+  pub saved_continues : ContinuesWith slot context machine
   saved_continues = record {
-    running = λ hart runs_on_hart. absurd (both_ways _ saved_idle (is_running_at k hart machine invariant runs_on_hart));
+    running = λ hart runs_on_hart. absurd (both_ways _ saved_enclave_not_running (runs_if_on_hart slot hart machine invariant runs_on_hart));
     resting = λ not_running. saves;
   }
 
 -- an enclave that runs continues with the registers of its hart
-running_continues : (k hart : ℕ) (machine : MonitoredMachine) (context : Context) → Invariant machine → runs_on k hart machine ≡ true
-    → continuation (hart_state_of hart machine).hart ≡ context → ContinuesWith k context machine
-running_continues k hart machine context invariant runs_on_hart continuation_is = record {
+running_continues : (slot hart : ℕ) (machine : MonitoredMachine) (context : Context) → Invariant machine → runs_on slot hart machine ≡ true
+    → continuation (hart_state_of hart machine).hart ≡ context → ContinuesWith slot context machine
+running_continues slot hart machine context invariant runs_on_hart continuation_is = record {
   running =
-      λ j runs_on_j. ap (λ (h : ℕ). continuation (hart_state_of h machine).hart) (one_hart k j hart machine invariant runs_on_j runs_on_hart)
+      λ other_hart runs_on_other. ap (λ (some_hart : ℕ). continuation (hart_state_of some_hart machine).hart)
+      (runs_on_one_hart slot other_hart hart machine invariant runs_on_other runs_on_hart)
       ∙ continuation_is;
-  resting = λ not_running. absurd (both_ways _ not_running (is_running_at k hart machine invariant runs_on_hart));
+  resting = λ not_running. absurd (both_ways _ not_running (runs_if_on_hart slot hart machine invariant runs_on_hart));
 }
 
 -- ---- the identity of an enclave: its record without the state
 
 -- a record and its identity have the same region
-region_by : (o : Option SlotInfo) → region_of (option_map identity_of o) ≡ region_of o
-region_by None = refl
-region_by (Some info) = refl
+identity_region : (maybe_info : Option SlotInfo) → region_of (option_map identity_of maybe_info) ≡ region_of maybe_info
+identity_region None = refl
+identity_region (Some info) = refl
 
 -- a record and its identity have the same window
-window_by : (o : Option SlotInfo) → window_of (option_map identity_of o) ≡ window_of o
-window_by None = refl
-window_by (Some info) = refl
+identity_window : (maybe_info : Option SlotInfo) → window_of (option_map identity_of maybe_info) ≡ window_of maybe_info
+identity_window None = refl
+identity_window (Some info) = refl
 
 -- two slots with equal identities have the same region
-same_region : (s t : Slots) (i j : ℕ) → identity_at s i ≡ identity_at t j → region s i ≡ region t j
-same_region s t i j same_identity = sym (region_by (slot_at s i)) ∙ ap region_of same_identity ∙ region_by (slot_at t j)
+same_region : (table other_table : Slots) (slot other_slot : ℕ) → identity_at table slot ≡ identity_at other_table other_slot
+    → region table slot ≡ region other_table other_slot
+same_region table other_table slot other_slot same_identity =
+    sym (identity_region (slot_at table slot)) ∙ ap region_of same_identity ∙ identity_region (slot_at other_table other_slot)
 
 -- two slots with equal identities have the same window
-same_window : (s t : Slots) (i j : ℕ) → identity_at s i ≡ identity_at t j → window s i ≡ window t j
-same_window s t i j same_identity = sym (window_by (slot_at s i)) ∙ ap window_of same_identity ∙ window_by (slot_at t j)
+same_window : (table other_table : Slots) (slot other_slot : ℕ) → identity_at table slot ≡ identity_at other_table other_slot
+    → window table slot ≡ window other_table other_slot
+same_window table other_table slot other_slot same_identity =
+    sym (identity_window (slot_at table slot)) ∙ ap window_of same_identity ∙ identity_window (slot_at other_table other_slot)
 
 -- two slots with equal identities are both live, or both free
-same_live : (s t : Slots) (i j : ℕ) → identity_at s i ≡ identity_at t j → is_live s i ≡ is_live t j
-same_live s t i j same_identity =
-    sym (some_identity (slot_at s i)) ∙ ap (λ (o : Option SlotInfo). is_some o) same_identity ∙ some_identity (slot_at t j)
+same_liveness : (table other_table : Slots) (slot other_slot : ℕ) → identity_at table slot ≡ identity_at other_table other_slot
+    → is_live table slot ≡ is_live other_table other_slot
+same_liveness table other_table slot other_slot same_identity =
+    sym (some_identity (slot_at table slot)) ∙ ap (λ (maybe_info : Option SlotInfo). is_some maybe_info) same_identity
+    ∙ some_identity (slot_at other_table other_slot)
 
 -- two slots with equal identities have the same bytes beyond their region and window
-same_beyond : (s t : Slots) (i j byte : ℕ) → identity_at s i ≡ identity_at t j → is_beyond s i byte ≡ is_beyond t j byte
-same_beyond s t i j byte same_identity =
-    ap₂ (λ (r w : Block). not (has r byte || has w byte)) (same_region s t i j same_identity) (same_window s t i j same_identity)
+same_beyond : (table other_table : Slots) (slot other_slot byte : ℕ) → identity_at table slot ≡ identity_at other_table other_slot
+    → is_beyond table slot byte ≡ is_beyond other_table other_slot byte
+same_beyond table other_table slot other_slot byte same_identity =
+    ap₂ (λ (r w : Block). not (has r byte || has w byte)) (same_region table other_table slot other_slot same_identity)
+    (same_window table other_table slot other_slot same_identity)
 
 -- a state that passes the test `is_running` is Running
-running_is : (state : EnclaveState) → is_running state ≡ true → state ≡ Running
-running_is Running running = refl
-running_is _ running = cc
+state_is_running : (state : EnclaveState) → is_running state ≡ true → state ≡ Running
+state_is_running Running running = refl
+state_is_running _ running = cc
 
 -- two Running records with equal identities are equal
-by_identity : (a b : Option SlotInfo) → option_map identity_of a ≡ option_map identity_of b
-    → option_case a false (λ info. is_running info.state) ≡ true → option_case b false (λ info. is_running info.state) ≡ true → a ≡ b
-by_identity None b same_identity a_runs b_runs = cc
-by_identity (Some info) None same_identity a_runs b_runs = cc
-by_identity (Some info) (Some other) same_identity a_runs b_runs =
-    let identity_of_is : identity_of info ≡ identity_of other = cc in
-    let some : SlotInfo → Option SlotInfo = λ i. Some i in
-    ap some (ap (λ (s : EnclaveState). record info { state = s }) (running_is info.state a_runs)
-    ∙ ap (λ (i : SlotInfo). record i { state = Running }) identity_of_is
-    ∙ sym (ap (λ (s : EnclaveState). record other { state = s }) (running_is other.state b_runs)))
+running_records_equal : (maybe_info other_info : Option SlotInfo) → option_map identity_of maybe_info ≡ option_map identity_of other_info
+    → option_case maybe_info false (λ info. is_running info.state) ≡ true → option_case other_info false (λ info. is_running info.state) ≡ true
+    → maybe_info ≡ other_info
+running_records_equal None other_info same_identity info_runs other_runs = cc
+running_records_equal (Some info) None same_identity info_runs other_runs = cc
+running_records_equal (Some info) (Some second_info) same_identity info_runs other_runs =
+    let identities_equal : identity_of info ≡ identity_of second_info = cc in
+    let some : SlotInfo → Option SlotInfo = λ info. Some info in
+    ap some (ap (λ (state : EnclaveState). record info { state = state }) (state_is_running info.state info_runs)
+    ∙ ap (λ (info : SlotInfo). record info { state = Running }) identities_equal
+    ∙ sym (ap (λ (state : EnclaveState). record second_info { state = state }) (state_is_running second_info.state other_runs)))
 
 -- ---- a hart of an enclave, from the context with which it continues
 
 -- CSRs with the S-mode registers of a context and the given timer line, as S and U see them
-abbrev raw_csrs : Bool → SContext → CsrState
-raw_csrs timer s =
-    let c = below_m_csrs (record at_reset { timer = timer }) in
-    record c {
-      stvec = s.stvec;
-      sscratch = s.sscratch;
-      sepc = s.sepc;
-      scause = s.scause;
-      stval = s.stval;
-      mstatus = record c.mstatus { sie = s.sie; spie = s.spie; spp = s.spp; mxr = s.mxr };
+abbrev context_csrs : Bool → SContext → CsrState
+context_csrs timer supervisor =
+    let csrs = below_m_csrs (record at_reset { timer = timer }) in
+    record csrs {
+      stvec = supervisor.stvec;
+      sscratch = supervisor.sscratch;
+      sepc = supervisor.sepc;
+      scause = supervisor.scause;
+      stval = supervisor.stval;
+      mstatus = record csrs.mstatus { sie = supervisor.sie; spie = supervisor.spie; spp = supervisor.spp; mxr = supervisor.mxr };
     }
 
 -- the hart with the registers of a context and the given timer line, as S and U see it
-abbrev plain_hart : Bool → Context → Hart
-plain_hart timer context =
-    record { regs = context.regs; csrs = raw_csrs timer context.supervisor; pc = context.pc; mode = context.mode }
+abbrev context_hart : Bool → Context → Hart
+context_hart timer context =
+    record { regs = context.regs; csrs = context_csrs timer context.supervisor; pc = context.pc; mode = context.mode }
 
 -- what S and U see of a hart with the invariant is its timer line and its context
-below_is : (slots : Slots) (hart_state : HartState) → HartInvariant slots hart_state
-    → below_m_hart hart_state.hart ≡ plain_hart hart_state.hart.csrs.timer (continuation hart_state.hart)
-below_is slots hart_state hart_invariant =
+below_m_hart_of_context : (slots : Slots) (hart_state : HartState) → HartInvariant slots hart_state
+    → below_m_hart hart_state.hart ≡ context_hart hart_state.hart.csrs.timer (continuation hart_state.hart)
+below_m_hart_of_context slots hart_state hart_invariant =
     let mie = hart_invariant.layout.mstatus_mie in
     let mprv = hart_invariant.layout.mprv in
     let tvm = hart_invariant.layout.tvm in
@@ -213,189 +231,209 @@ below_is slots hart_state hart_invariant =
 -- ---- steps of others, and changes of timer lines
 
 -- the enclave is live, continues with the same context, and keeps its identity and the bytes of its region
-record StaysAtPoint (k : ℕ) (context : Context) (before after : MonitoredMachine) : Type 0 where
-  continues : ContinuesWith k context after
-  live : is_live after.shared.table k ≡ true
-  identity : identity_at after.shared.table k ≡ identity_at before.shared.table k
+record StaysAtPoint (slot : ℕ) (context : Context) (before after : MonitoredMachine) : Type 0 where
+  continues : ContinuesWith slot context after
+  live : is_live after.shared.table slot ≡ true
+  identity : identity_at after.shared.table slot ≡ identity_at before.shared.table slot
   size : length after.shared.memory ≡ length before.shared.memory
-  bytes : (i : ℕ) → has (region before.shared.table k) (ram_base + i) ≡ true → slice_index after.shared.memory i ≡ slice_index before.shared.memory i
+  bytes : (index : ℕ) → has (region before.shared.table slot) (ram_base + index) ≡ true
+      → slice_index after.shared.memory index ≡ slice_index before.shared.memory index
 
 -- a change of a timer line leaves the enclave at its point
-line_stays : (k hart : ℕ) (raised : Bool) (machine : MonitoredMachine) (context : Context) → ContinuesWith k context machine
-    → is_live machine.shared.table k ≡ true → StaysAtPoint k context machine (with_timer hart machine raised)
-line_stays k hart raised machine context continues live = record {
+line_stays : (slot hart : ℕ) (raised : Bool) (machine : MonitoredMachine) (context : Context) → ContinuesWith slot context machine
+    → is_live machine.shared.table slot ≡ true → StaysAtPoint slot context machine (with_timer hart machine raised)
+line_stays slot hart raised machine context continues live = record {
   continues = record {
-    running = λ j runs_on_j.
-        change_preserves (λ (s : HartState). continuation s.hart) (timer_line_set raised) (λ s. refl) hart j machine
-        ∙ continues.running j (sym (line_worlds k hart j raised machine) ∙ runs_on_j);
+    running = λ other_hart runs_on_other.
+        change_preserves (λ (hart_state : HartState). continuation hart_state.hart) (timer_line_set raised) (λ s. refl) hart other_hart machine
+        ∙ continues.running other_hart (sym (line_worlds slot hart other_hart raised machine) ∙ runs_on_other);
     resting = continues.resting;
   };
   live = live;
   identity = refl;
   size = refl;
-  bytes = λ i runs_on_j. refl;
+  bytes = λ i runs_on_other. refl;
 }
 
--- if the trap handler reports an entry of slot k, then the host ran before it, and enclave k runs after it
-entered_turn : (k : ℕ) (hart_state : HartState) (trap : Trap) (h : Handled) → Turns hart_state trap h → h.next.entered ≡ Some k
-    → (hart_state.world ≡ Host) × (h.hart_state.world ≡ Enclave k)
-entered_turn k hart_state trap h (inl stays) enters_slot = let contradiction : None ≡ Some k = sym stays.entered ∙ enters_slot in cc
-entered_turn k hart_state trap h (inr (inl enters)) enters_slot =
-    let equal : Some enters.slot ≡ Some k = sym enters.entered ∙ enters_slot in
-    let same : enters.slot ≡ k = cc in
+-- if the trap handler reports an entry of the slot, then the host ran before the trap, and the enclave runs after the trap handler
+handled_entry_from_host : (slot : ℕ) (hart_state : HartState) (trap : Trap) (result : Handled) → Turns hart_state trap result
+    → result.next.entered ≡ Some slot
+    → (hart_state.world ≡ Host) × (result.hart_state.world ≡ Enclave slot)
+handled_entry_from_host slot hart_state trap result (inl stays) enters_slot =
+    let contradiction : None ≡ Some slot = sym stays.entered ∙ enters_slot in cc
+handled_entry_from_host slot hart_state trap result (inr (inl enters)) enters_slot =
+    let equal : Some enters.slot ≡ Some slot = sym enters.entered ∙ enters_slot in
+    let same : enters.slot ≡ slot = cc in
     (enters.from_host, enters.world ∙ ap Enclave same)
-entered_turn k hart_state trap h (inr (inr leaves)) enters_slot = let contradiction : None ≡ Some k = sym leaves.entered ∙ enters_slot in cc
+handled_entry_from_host slot hart_state trap result (inr (inr leaves)) enters_slot =
+    let contradiction : None ≡ Some slot = sym leaves.entered ∙ enters_slot in cc
 
--- if the step enters slot k, then the host ran before the step, and enclave k runs after it
-abbrev EntersHere : ℕ → HartView → HartViewStepped → Type 0
-EntersHere k state after = after.outcome.entered ≡ Some k → (state.hart_state.world ≡ Host) × (after.state.hart_state.world ≡ Enclave k)
+-- if the step of a view enters the slot, then the host ran before the step, and the enclave of the slot runs after the step
+abbrev EntersFromHost : ℕ → HartView → HartViewStepped → Type 0
+EntersFromHost slot state after = after.outcome.entered ≡ Some slot → (state.hart_state.world ≡ Host) × (after.state.hart_state.world ≡ Enclave slot)
 
 -- each step of a view satisfies `EntersHere`
-entered_here : (k : ℕ) (state : HartView) → EntersHere k state (monitored_step state)
-entered_here k state = step_cases state (EntersHere k state) (λ no_trap enters_slot. cc)
+entry_from_host : (slot : ℕ) (state : HartView) → EntersFromHost slot state (monitored_step state)
+entry_from_host slot state = step_cases state (EntersFromHost slot state) (λ no_trap enters_slot. cc)
     (λ trap traps enters_slot.
-    entered_turn k (hart_state_after state.hart_state trap) trap (handled (hart_state_after state.hart_state trap) state.shared trap)
+    handled_entry_from_host slot (hart_state_after state.hart_state trap) trap (handled (hart_state_after state.hart_state trap) state.shared trap)
     (handled_stays_or_switches (hart_state_after state.hart_state trap) state.shared trap) enters_slot)
 
--- if a step of the machine enters slot k, then its hart ran the host before the step, and runs enclave k after it
-entered_worlds : (k hart : ℕ) (machine : MonitoredMachine) → (step_of hart machine).outcome.entered ≡ Some k
-    → ((hart_state_of hart machine).world ≡ Host) × ((hart_state_of hart (step_of hart machine).state).world ≡ Enclave k)
-entered_worlds k hart machine enters_slot = elim (cases_lt hart (count_of machine)) [
+-- if a step of the machine enters the slot, then its hart ran the host before the step, and runs the enclave after it
+worlds_around_entry : (slot hart : ℕ) (machine : MonitoredMachine) → (step_of hart machine).outcome.entered ≡ Some slot
+    → ((hart_state_of hart machine).world ≡ Host) × ((hart_state_of hart (step_of hart machine).state).world ≡ Enclave slot)
+worlds_around_entry slot hart machine enters_slot = elim (cases_lt hart (count_of machine)) [
   | inr past_last ↦
-      let contradiction : None ≡ Some k = sym (ap (λ (a : MonitoredStepped). a.outcome.entered) (outside hart machine past_last)) ∙ enters_slot in
+      let contradiction : None ≡ Some slot =
+      sym (ap (λ (stepped : MonitoredStepped). stepped.outcome.entered) (outside hart machine past_last)) ∙ enters_slot in
       cc
   | inl in_range ↦
       let step_is = step_of_view hart machine in_range in
-      let worlds_are = entered_here k (hart_view hart machine) (sym (ap (λ (a : HartViewStepped). a.outcome.entered) step_is) ∙ enters_slot) in
-      (worlds_are.0, ap (λ (a : HartViewStepped). a.state.hart_state.world) step_is ∙ worlds_are.1)
+      let worlds_of_view =
+      entry_from_host slot (hart_view hart machine) (sym (ap (λ (stepped : HartViewStepped). stepped.outcome.entered) step_is) ∙ enters_slot) in
+      (worlds_of_view.0, ap (λ (stepped : HartViewStepped). stepped.state.hart_state.world) step_is ∙ worlds_of_view.1)
 ]
 
--- enclave k continues with this context before a step, and is live before and after the step
-module _ (k hart : ℕ) (machine : MonitoredMachine) (context : Context) (invariant : Invariant machine) (continues : ContinuesWith k context machine)
-    (live : is_live machine.shared.table k ≡ true) (live_after : is_live (step_of hart machine).state.shared.table k ≡ true)
+-- the enclave continues with this context before a step, and is live before and after the step
+module _ (slot hart : ℕ) (machine : MonitoredMachine) (context : Context) (invariant : Invariant machine)
+    (continues : ContinuesWith slot context machine)
+    (live : is_live machine.shared.table slot ≡ true) (live_after : is_live (step_of hart machine).state.shared.table slot ≡ true)
     (legal_machine : IsLegalMachine machine) where
   -- the machine after the step
   abbrev after : MonitoredMachine
   after = (step_of hart machine).state
 
   -- the machine after the step has the invariant
-  after_kept : Invariant (step_of hart machine).state
-  after_kept = invariant_law hart machine invariant
+  invariant_after : Invariant (step_of hart machine).state
+  invariant_after = invariant_law hart machine invariant
 
   -- a step of another world that does not enter the enclave leaves the enclave at its point
-  undisturbed_stays : runs_on k hart machine ≡ false → enters k (step_of hart machine).outcome.entered ≡ false
-      → StaysAtPoint k context machine (step_of hart machine).state
+  undisturbed_stays : runs_on slot hart machine ≡ false → enters slot (step_of hart machine).outcome.entered ≡ false
+      → StaysAtPoint slot context machine (step_of hart machine).state
   undisturbed_stays not_running not_entered =
-      let preserved = integrity hart machine invariant k not_running live not_entered live_after in
+      let preserved = integrity hart machine invariant slot not_running live not_entered live_after in
       let same_length = same_size hart machine in
       record {
         continues = record {
-          running = λ j in_region. elim (cases_Bool (runs_on k j machine)) [
-            | inl ran_before ↦ ap (λ (s : HartState). continuation s.hart) (preserved.hart_state j ran_before) ∙ continues.running j ran_before
-            | inr idle_before ↦ absurd (both_ways _ (entry_law k hart j machine idle_before not_entered) in_region)
+          running = λ other_hart in_region. elim (cases_Bool (runs_on slot other_hart machine)) [
+            | inl ran_before ↦
+                ap (λ (hart_state : HartState). continuation hart_state.hart) (preserved.hart_state other_hart ran_before)
+                ∙ continues.running other_hart ran_before
+            | inr idle_before ↦ absurd (both_ways _ (entry_law slot hart other_hart machine idle_before not_entered) in_region)
           ];
           resting = λ not_running_now.
               preserved.preserved.context
               ∙ continues.resting
-              (ap (λ (o : Option SlotInfo). option_case o false (λ info. is_running info.state)) (sym preserved.preserved.slot) ∙ not_running_now);
+              (ap (λ (maybe_info : Option SlotInfo). option_case maybe_info false (λ info. is_running info.state)) (sym preserved.preserved.slot)
+              ∙ not_running_now);
         };
         live = live_after;
         identity = ap (option_map identity_of) preserved.preserved.slot;
         size = same_length;
         bytes =
-            λ i in_region. sym
-            (index_same machine.shared.memory after.shared.memory i (sym same_length) (preserved.preserved.bytes (ram_base + i) in_region));
+            λ index in_region. sym
+            (index_same machine.shared.memory after.shared.memory index (sym same_length) (preserved.preserved.bytes (ram_base + index) in_region));
       }
 
   -- a step that enters the enclave leaves the enclave at its point
-  entered_stays : enters k (step_of hart machine).outcome.entered ≡ true → StaysAtPoint k context machine (step_of hart machine).state
+  entered_stays : enters slot (step_of hart machine).outcome.entered ≡ true → StaysAtPoint slot context machine (step_of hart machine).state
   entered_stays enters_slot =
-      let worlds_are = entered_worlds k hart machine (entered_some k (step_of hart machine).outcome.entered enters_slot) in
-      let entry = enter_law hart machine invariant k worlds_are.0 worlds_are.1 in
+      let worlds_of_step = worlds_around_entry slot hart machine (entered_some slot (step_of hart machine).outcome.entered enters_slot) in
+      let entry = enter_law hart machine invariant slot worlds_of_step.0 worlds_of_step.1 in
       let saved = entry.call.kept in
       let saved_context = entry.call.context in
-      let same_saved : Some saved_context ≡ Some context = sym saved ∙ continues.resting (saved_idle k machine saved_context invariant saved) in
-      let same : saved_context ≡ context = cc in
-      let legal : IsLegal saved_context.supervisor =
-      subst (λ (o : Option Context). IfSome o (λ c. IsLegal c.supervisor)) saved (legal_machine.contexts k) in
-      let slots = slots_with_state machine.shared.table k Running in
+      let saved_contexts_equal : Some saved_context ≡ Some context =
+      sym saved ∙ continues.resting (saved_enclave_not_running slot machine saved_context invariant saved) in
+      let contexts_equal : saved_context ≡ context = cc in
+      let context_is_legal : IsLegal saved_context.supervisor =
+      subst (λ (maybe_context : Option Context). IfSome maybe_context (λ context. IsLegal context.supervisor)) saved (legal_machine.contexts slot) in
+      let table_after = slots_with_state machine.shared.table slot Running in
       let in_range = (is_trapping hart machine entry.trap entry.trapped).has in
-      let same_length = length-map machine.hart_states (reprogrammed slots) in
-      let hart_is =
-      get_or-set_at (map (reprogrammed slots) machine.hart_states) hart hart _ (hart_state_at_start 0) refl (omega (arith, same_length, in_range)) in
-      let runs_after : runs_on k hart (step_of hart machine).state ≡ true = ap (is_world_of k) worlds_are.1 ∙ eq-eqb k k refl in
+      let same_length = length-map machine.hart_states (reprogrammed table_after) in
+      let entered_hart_state =
+      get_or-set_at (map (reprogrammed table_after) machine.hart_states) hart hart _ (hart_state_at_start 0) refl
+      (omega (arith, same_length, in_range)) in
+      let runs_after : runs_on slot hart (step_of hart machine).state ≡ true = ap (is_world_of slot) worlds_of_step.1 ∙ eq-eqb slot slot refl in
       let continuation_is : continuation (hart_state_of hart (step_of hart machine).state).hart
       ≡ record saved_context { supervisor = s_context (with_s_context (hart_state_of hart machine).hart.csrs saved_context.supervisor) } =
-      ap (λ (m : MonitoredMachine). continuation (hart_state_of hart m).hart) entry.call.state
-      ∙ ap (λ (s : HartState). continuation s.hart) hart_is in
-      let is_legal = ap (λ (s : SContext). record saved_context { supervisor = s })
-      (legal_again (hart_state_of hart machine).hart.csrs saved_context.supervisor legal) in
+      ap (λ (machine : MonitoredMachine). continuation (hart_state_of hart machine).hart) entry.call.state
+      ∙ ap (λ (hart_state : HartState). continuation hart_state.hart) entered_hart_state in
+      let restored_context_same = ap (λ (supervisor : SContext). record saved_context { supervisor = supervisor })
+      (restored_context_same (hart_state_of hart machine).hart.csrs saved_context.supervisor context_is_legal) in
       record {
-        continues = running_continues k hart (step_of hart machine).state context after_kept runs_after (continuation_is ∙ is_legal ∙ same);
+        continues =
+            running_continues slot hart (step_of hart machine).state context invariant_after runs_after
+            (continuation_is ∙ restored_context_same ∙ contexts_equal);
         live = live_after;
-        identity = record_law hart machine invariant k live live_after;
+        identity = record_law hart machine invariant slot live live_after;
         size = same_size hart machine;
-        bytes = λ i in_region. ap (λ (m : MonitoredMachine). slice_index m.shared.memory i) entry.call.state;
+        bytes = λ index in_region. ap (λ (machine : MonitoredMachine). slice_index machine.shared.memory index) entry.call.state;
       }
 
   -- an enclave on a hart whose timer line is set exits by the timer interrupt
-  timer_exit : (o : Option Context) → (hart_state_of hart machine).host_context ≡ o → runs_on k hart machine ≡ true
-      → (hart_state_of hart machine).hart.csrs.timer ≡ true → (host : Context) × ExitsByTimer hart k host machine (step_of hart machine)
+  timer_exit : (o : Option Context) → (hart_state_of hart machine).host_context ≡ o → runs_on slot hart machine ≡ true
+      → (hart_state_of hart machine).hart.csrs.timer ≡ true → (host : Context) × ExitsByTimer hart slot host machine (step_of hart machine)
   timer_exit None host_context_is runs_on_hart timer_set =
-      let world = world_is_enclave k (hart_state_of hart machine).world runs_on_hart in
+      let world = world_is_enclave slot (hart_state_of hart machine).world runs_on_hart in
       let contradiction : false ≡ true =
-      ap (λ (o : Option Context). is_some o) (sym host_context_is) ∙ (invariant.hart_states hart (runs_inside k hart machine runs_on_hart)).host.kept
-      ∙ ap (λ (w : World). not (is_host w)) world in
+      ap (λ (maybe_context : Option Context). is_some maybe_context) (sym host_context_is)
+      ∙ (invariant.hart_states hart (runs_inside slot hart machine runs_on_hart)).host.kept
+      ∙ ap (λ (world : World). not (is_host world)) world in
       cc
-  timer_exit (Some host) host_context_is runs_on_hart timer_set =
-      (host, timer_exits hart machine invariant k host (world_is_enclave k (hart_state_of hart machine).world runs_on_hart) host_context_is timer_set)
+  timer_exit (Some host) host_context_is runs_on_hart timer_set = (
+    host,
+    timer_exits hart machine invariant slot host (world_is_enclave slot
+        (hart_state_of hart machine).world runs_on_hart) host_context_is timer_set,
+  )
 
   -- a timer interrupt leaves the enclave at its point: its saved context is the context with which it would have continued
-  interrupted_stays : runs_on k hart machine ≡ true → (hart_state_of hart machine).hart.csrs.timer ≡ true
-      → StaysAtPoint k context machine (step_of hart machine).state
+  interrupted_stays : runs_on slot hart machine ≡ true → (hart_state_of hart machine).hart.csrs.timer ≡ true
+      → StaysAtPoint slot context machine (step_of hart machine).state
   interrupted_stays runs_on_hart timer_set =
       let exit = (timer_exit (hart_state_of hart machine).host_context refl runs_on_hart timer_set).1 in
       let has_exited =
-      exited (at k hart) machine timer_trap invariant runs_on_hart exit.trapped exit.world (hart_state_of hart machine).host_context refl in
+      exited (at slot hart) machine timer_trap invariant runs_on_hart exit.trapped exit.world (hart_state_of hart machine).host_context refl in
       let pc : saved_after timer_trap.cause (hart_state_of hart machine).hart ≡ continuation (hart_state_of hart machine).hart =
       ap (λ (pc : ℕ). record (continuation (hart_state_of hart machine).hart) { pc = pc }) (legal_machine.harts hart).pc in
       let some : Context → Option Context = λ c. Some c in
       record {
-        continues = saved_continues k (step_of hart machine).state context after_kept
+        continues = saved_continues slot (step_of hart machine).state context invariant_after
             (has_exited.context ∙ ap some (pc ∙ continues.running hart runs_on_hart));
         live = live_after;
-        identity = record_law hart machine invariant k live live_after;
+        identity = record_law hart machine invariant slot live live_after;
         size = same_size hart machine;
-        bytes = λ i in_region. ap (λ (m : List ℕ). slice_index m i) has_exited.memory;
+        bytes = λ index in_region. ap (λ (memory : List ℕ). slice_index memory index) has_exited.memory;
       }
 
   -- a foreign step leaves the enclave at its point
-  step_stays : (runs_on k hart machine ≡ false) ⊎ ((hart_state_of hart machine).hart.csrs.timer ≡ true)
-      → StaysAtPoint k context machine (step_of hart machine).state
-  step_stays foreign = elim (cases_Bool (runs_on k hart machine)) [
+  step_stays : (runs_on slot hart machine ≡ false) ⊎ ((hart_state_of hart machine).hart.csrs.timer ≡ true)
+      → StaysAtPoint slot context machine (step_of hart machine).state
+  step_stays foreign = elim (cases_Bool (runs_on slot hart machine)) [
     | inl runs_on_hart ↦ elim foreign [ inl low ↦ absurd (both_ways _ low runs_on_hart) | inr line ↦ interrupted_stays runs_on_hart line ]
-    | inr not_running ↦ elim (cases_Bool (enters k (step_of hart machine).outcome.entered)) [
+    | inr not_running ↦ elim (cases_Bool (enters slot (step_of hart machine).outcome.entered)) [
       | inl entered ↦ entered_stays entered
       | inr not_entered ↦ undisturbed_stays not_running not_entered
     ]
   ]
 
 -- a foreign event leaves the enclave at its point
-foreign_stays : (k : ℕ) (event : Event) (machine : MonitoredMachine) (context : Context) → Invariant machine → IsLegalMachine machine
-    → ContinuesWith k context machine
-    → is_live machine.shared.table k ≡ true → IsForeign k event machine → StaysAtPoint k context machine (event_of event machine).state
-foreign_stays k (StepOf hart) machine context invariant legal continues live foreign =
-    step_stays k hart machine context invariant continues live foreign.1 legal foreign.0
-foreign_stays k (LineOf hart raised) machine context invariant legal continues live foreign = line_stays k hart raised machine context continues live
+foreign_stays : (slot : ℕ) (event : Event) (machine : MonitoredMachine) (context : Context) → Invariant machine → IsLegalMachine machine
+    → ContinuesWith slot context machine
+    → is_live machine.shared.table slot ≡ true → IsForeign slot event machine → StaysAtPoint slot context machine (event_of event machine).state
+foreign_stays slot (StepOf hart) machine context invariant legal continues live foreign =
+    step_stays slot hart machine context invariant continues live foreign.1 legal foreign.0
+foreign_stays slot (LineOf hart raised) machine context invariant legal continues live foreign =
+    line_stays slot hart raised machine context continues live
 
 -- a foreign event of the first machine leaves both enclaves at one point
-first_event : (i j : ℕ) (event : Event) (one other : MonitoredMachine) → Invariant one → IsLegalMachine one → AreAtOnePoint i j one other
-    → IsForeign i event one
-    → AreAtOnePoint i j (event_of event one).state other
-first_event i j event one other invariant_one legal point foreign =
-    let stays_alike = foreign_stays i event one point.context invariant_one legal point.first point.live foreign in
+foreign_event_keeps_point : (slot other_slot : ℕ) (event : Event) (one other : MonitoredMachine) → Invariant one → IsLegalMachine one
+    → AreAtOnePoint slot other_slot one other
+    → IsForeign slot event one
+    → AreAtOnePoint slot other_slot (event_of event one).state other
+foreign_event_keeps_point slot other_slot event one other invariant_one legal point foreign =
+    let stays_alike = foreign_stays slot event one point.context invariant_one legal point.first point.live foreign in
     let table_after = (event_of event one).state.shared.table in
-    let block = same_region table_after one.shared.table i i stays_alike.identity in
+    let block = same_region table_after one.shared.table slot slot stays_alike.identity in
     record {
       context = point.context;
       first = stays_alike.continues;
@@ -404,273 +442,294 @@ first_event i j event one other invariant_one legal point foreign =
       identity = stays_alike.identity ∙ point.identity;
       memory = record {
         size = stays_alike.size ∙ point.memory.size;
-        bytes = λ n outside_region.
-            let before = ap (λ (b : Block). not (has b (ram_base + n))) (sym block) ∙ outside_region in
-            stays_alike.bytes n (not-false _ before) ∙ point.memory.bytes n before;
+        bytes = λ index outside_region.
+            let before = ap (λ (block : Block). not (has block (ram_base + index))) (sym block) ∙ outside_region in
+            stays_alike.bytes index (not-false _ before) ∙ point.memory.bytes index before;
       };
     }
 
 -- two enclaves at one point are at one point in the other order too
-swapped : (i j : ℕ) (one other : MonitoredMachine) → AreAtOnePoint i j one other → AreAtOnePoint j i other one
-swapped i j one other point =
-    let block = same_region one.shared.table other.shared.table i j point.identity in
+swapped : (slot other_slot : ℕ) (one other : MonitoredMachine) → AreAtOnePoint slot other_slot one other → AreAtOnePoint other_slot slot other one
+swapped slot other_slot one other point =
+    let block = same_region one.shared.table other.shared.table slot other_slot point.identity in
     record {
       context = point.context;
       first = point.second;
       second = point.first;
-      live = sym (same_live one.shared.table other.shared.table i j point.identity) ∙ point.live;
+      live = sym (same_liveness one.shared.table other.shared.table slot other_slot point.identity) ∙ point.live;
       identity = sym point.identity;
       memory = record {
         size = sym point.memory.size;
-        bytes = λ n outside_region. sym (point.memory.bytes n (ap (λ (b : Block). not (has b (ram_base + n))) block ∙ outside_region));
+        bytes =
+            λ index outside_region. sym (point.memory.bytes index
+            (ap (λ (block : Block). not (has block (ram_base + index))) block ∙ outside_region));
       };
     }
 
 -- ---- own steps of the enclave
 
 -- bytes that are accessible to the enclave are not beyond its region and window
-span_own : (k : ℕ) (machine : MonitoredMachine) (hart : ℕ) (access : Access) (o : Option Span) → (hart_state_of hart machine).world ≡ Enclave k
-    → SpanIsAccessible (hart_view hart machine) access o → (byte : ℕ) → in_span o byte ≡ true → is_beyond machine.shared.table k byte ≡ false
-span_own k machine hart access None world is_accessible_span byte byte_in_span = cc
-span_own k machine hart access (Some span) world is_accessible_span byte byte_in_span =
+accessible_span_is_own : (slot : ℕ) (machine : MonitoredMachine) (hart : ℕ) (access : Access) (maybe_span : Option Span)
+    → (hart_state_of hart machine).world ≡ Enclave slot
+    → SpanIsAccessible (hart_view hart machine) access maybe_span → (byte : ℕ) → in_span maybe_span byte ≡ true
+    → is_beyond machine.shared.table slot byte ≡ false
+accessible_span_is_own slot machine hart access None world is_accessible_span byte byte_in_span = cc
+accessible_span_is_own slot machine hart access (Some span) world is_accessible_span byte byte_in_span =
     let parts = and_parts _ _ byte_in_span in
-    own_seen machine.shared.memory machine.shared.table k access span.addr (bytes_in span.len)
-    (subst (λ (w : World). is_accessible machine.shared.memory machine.shared.table w access
+    own_seen machine.shared.memory machine.shared.table slot access span.addr (bytes_in span.len)
+    (subst (λ (world : World). is_accessible machine.shared.memory machine.shared.table world access
     (bytes_from span.addr (bytes_in span.len)) ≡ true) world is_accessible_span)
     byte (leb-true _ _ parts.0) (ltb-true _ _ parts.1)
 
 -- an own step reads only bytes of the enclave's region and window
-reads_own : (p : Place) (machine : MonitoredMachine) → Invariant machine → runs_at p machine ≡ true → (byte : ℕ)
-    → reads_byte (step_at p machine).outcome.step.touched byte ≡ true → is_beyond machine.shared.table p.slot byte ≡ false
-reads_own p machine invariant runs byte byte_read =
-    let in_range = runs_inside p.slot p.hart machine runs in
-    let world = world_is_enclave p.slot (hart_state_of p.hart machine).world runs in
-    let state = hart_view p.hart machine in
-    let step_is : (step_at p machine).outcome.step ≡ (monitored_step state).outcome.step =
-    ap (λ (a : HartViewStepped). a.outcome.step) (step_of_view p.hart machine in_range) in
-    let accessed = subst (IsTouchedAccessible state) (sym step_is) (touch_law state (hart_view_invariant p.hart machine invariant in_range)) in
-    let touched = (step_at p machine).outcome.step.touched in
+reads_only_own_bytes : (place : Place) (machine : MonitoredMachine) → Invariant machine → runs_at place machine ≡ true → (byte : ℕ)
+    → reads_byte (step_at place machine).outcome.step.touched byte ≡ true → is_beyond machine.shared.table place.slot byte ≡ false
+reads_only_own_bytes place machine invariant runs byte byte_read =
+    let in_range = runs_inside place.slot place.hart machine runs in
+    let world = world_is_enclave place.slot (hart_state_of place.hart machine).world runs in
+    let state = hart_view place.hart machine in
+    let step_is : (step_at place machine).outcome.step ≡ (monitored_step state).outcome.step =
+    ap (λ (stepped : HartViewStepped). stepped.outcome.step) (step_of_view place.hart machine in_range) in
+    let accessed = subst (IsTouchedAccessible state) (sym step_is) (touch_law state (hart_view_invariant place.hart machine invariant in_range)) in
+    let touched = (step_at place machine).outcome.step.touched in
     elim (cases_Bool (in_span touched.fetched byte)) [
-      | inl is_fetched ↦ span_own p.slot machine p.hart Fetch touched.fetched world accessed.fetched byte is_fetched
-      | inr not_fetched ↦ span_own p.slot machine p.hart Read touched.loaded world accessed.loaded byte (right_if_not_left _ _ byte_read not_fetched)
+      | inl is_fetched ↦ accessible_span_is_own place.slot machine place.hart Fetch touched.fetched world accessed.fetched byte is_fetched
+      | inr not_fetched ↦
+          accessible_span_is_own place.slot machine place.hart Read touched.loaded world accessed.loaded byte
+          (right_if_not_left _ _ byte_read not_fetched)
     ]
 
 -- an own step changes no byte beyond the enclave's region and window
-own_only : (p : Place) (machine : MonitoredMachine) → Invariant machine → runs_at p machine ≡ true → (i : ℕ)
-    → is_beyond machine.shared.table p.slot (ram_base + i) ≡ true
-    → slice_index (step_at p machine).state.shared.memory i ≡ slice_index machine.shared.memory i
-own_only p machine invariant runs i byte_beyond =
-    let in_range = runs_inside p.slot p.hart machine runs in
-    let world = world_is_enclave p.slot (hart_state_of p.hart machine).world runs in
-    let state = hart_view p.hart machine in
-    let shared = ap (λ (a : HartViewStepped). a.state.shared.memory) (step_of_view p.hart machine in_range) in
-    let same = own_bytes p.slot state (hart_view_invariant p.hart machine invariant in_range) world (ram_base + i) byte_beyond in
-    let same_length = same_size p.hart machine in
-    sym (index_same machine.shared.memory (step_at p machine).state.shared.memory i (sym same_length)
-    (subst (λ (m : List ℕ). byte_at m (ram_base + i) ≡ byte_at machine.shared.memory (ram_base + i)) (sym shared) same))
+changes_only_own_bytes : (place : Place) (machine : MonitoredMachine) → Invariant machine → runs_at place machine ≡ true → (index : ℕ)
+    → is_beyond machine.shared.table place.slot (ram_base + index) ≡ true
+    → slice_index (step_at place machine).state.shared.memory index ≡ slice_index machine.shared.memory index
+changes_only_own_bytes place machine invariant runs index byte_beyond =
+    let in_range = runs_inside place.slot place.hart machine runs in
+    let world = world_is_enclave place.slot (hart_state_of place.hart machine).world runs in
+    let state = hart_view place.hart machine in
+    let memory_of_view = ap (λ (stepped : HartViewStepped). stepped.state.shared.memory) (step_of_view place.hart machine in_range) in
+    let byte_unchanged =
+    own_bytes place.slot state (hart_view_invariant place.hart machine invariant in_range) world (ram_base + index) byte_beyond in
+    let same_length = same_size place.hart machine in
+    sym (index_same machine.shared.memory (step_at place machine).state.shared.memory index (sym same_length)
+    (subst (λ (memory : List ℕ). byte_at memory (ram_base + index) ≡ byte_at machine.shared.memory (ram_base + index))
+    (sym memory_of_view) byte_unchanged))
 
 -- two enclaves are at one point of life, and make an own step in two machines
-module _ (p q : Place) (one other : MonitoredMachine) (invariant_one : Invariant one) (invariant_other : Invariant other)
-    (point : AreAtOnePoint p.slot q.slot one other)
-    (own_step_premises : IsOwnStep p q one other) where
+module _ (place other_place : Place) (one other : MonitoredMachine) (invariant_one : Invariant one) (invariant_other : Invariant other)
+    (point : AreAtOnePoint place.slot other_place.slot one other)
+    (own_step_premises : IsOwnStep place other_place one other) where
   -- the slot of the first enclave
-  abbrev i : ℕ
-  i = p.slot
+  abbrev first_slot : ℕ
+  first_slot = place.slot
 
   -- the slot of the second enclave
-  abbrev j : ℕ
-  j = q.slot
+  abbrev second_slot : ℕ
+  second_slot = other_place.slot
 
-  -- The second machine with the memory of the first one. Below, this machine is called the machine in between.
-  abbrev mid : MonitoredMachine
-  mid = over_bytes other one.shared.memory
+  -- The mixed machine: the second machine with the memory of the first one.
+  abbrev mixed : MonitoredMachine
+  mixed = over_bytes other one.shared.memory
 
-  -- the machine in between has the invariant
-  mid_kept : Invariant mid
-  mid_kept = invariant_by_size other one.shared.memory invariant_other (sym point.memory.size)
+  -- the mixed machine has the invariant
+  mixed_invariant : Invariant mixed
+  mixed_invariant = invariant_by_size other one.shared.memory invariant_other (sym point.memory.size)
 
   -- both slots have the same record before the step
-  slot_same : slot_at one.shared.table i ≡ slot_at other.shared.table j
-  slot_same =
-      by_identity (slot_at one.shared.table i) (slot_at other.shared.table j) point.identity
-      (is_running_at i p.hart one invariant_one own_step_premises.first)
-      (is_running_at j q.hart other invariant_other own_step_premises.second)
+  same_record : slot_at one.shared.table first_slot ≡ slot_at other.shared.table second_slot
+  same_record =
+      running_records_equal (slot_at one.shared.table first_slot) (slot_at other.shared.table second_slot) point.identity
+      (runs_if_on_hart first_slot place.hart one invariant_one own_step_premises.first)
+      (runs_if_on_hart second_slot other_place.hart other invariant_other own_step_premises.second)
 
   -- both harts are equal before the step, as S and U see them
-  hart_same : below_m_hart (hart_state_of p.hart one).hart ≡ below_m_hart (hart_state_of q.hart other).hart
-  hart_same =
+  same_hart : below_m_hart (hart_state_of place.hart one).hart ≡ below_m_hart (hart_state_of other_place.hart other).hart
+  same_hart =
       let below_one =
-      below_is one.shared.table (hart_state_of p.hart one) (invariant_one.hart_states p.hart (runs_inside i p.hart one own_step_premises.first)) in
+      below_m_hart_of_context one.shared.table (hart_state_of place.hart one)
+      (invariant_one.hart_states place.hart (runs_inside first_slot place.hart one own_step_premises.first)) in
       let below_other =
-      below_is other.shared.table (hart_state_of q.hart other)
-      (invariant_other.hart_states q.hart (runs_inside j q.hart other own_step_premises.second)) in
+      below_m_hart_of_context other.shared.table (hart_state_of other_place.hart other)
+      (invariant_other.hart_states other_place.hart (runs_inside second_slot other_place.hart other own_step_premises.second)) in
       below_one
-      ∙ ap₂ plain_hart (own_step_premises.line ∙ sym own_step_premises.line_too)
-      (point.first.running p.hart own_step_premises.first ∙ sym (point.second.running q.hart own_step_premises.second)) ∙ sym below_other
+      ∙ ap₂ context_hart (own_step_premises.line ∙ sym own_step_premises.line_too)
+      (point.first.running place.hart own_step_premises.first ∙ sym (point.second.running other_place.hart own_step_premises.second))
+      ∙ sym below_other
 
-  -- the enclave has the same state in the first machine and in the machine in between
-  enclave : SameEnclave p q one mid
-  enclave = record {
+  -- the enclave has the same state in the first machine and in the mixed machine
+  same_enclave : SameEnclave place other_place one mixed
+  same_enclave = record {
     first = own_step_premises.first;
     second = own_step_premises.second;
-    hart = hart_same;
-    slot = slot_same;
+    hart = same_hart;
+    slot = same_record;
     memory = record { size = refl; bytes = λ n shown. refl };
   }
 
-  -- the step of the enclave is the same in the first machine and in the machine in between
-  same_own_step : SameEnclaveStep p q (step_at p one) (step_at q mid)
-  same_own_step = enclave_step p q one mid invariant_one mid_kept enclave
+  -- the step of the enclave is the same in the first machine and in the mixed machine
+  same_own_step : SameEnclaveStep place other_place (step_at place one) (step_at other_place mixed)
+  same_own_step = enclave_step place other_place one mixed invariant_one mixed_invariant same_enclave
 
   -- each byte that the step reads is equal in the memories of both machines
-  read_same : (n : ℕ) → reads_byte (step_at p one).outcome.step.touched (ram_base + n) ≡ true
-      → slice_index one.shared.memory n ≡ slice_index other.shared.memory n
-  read_same n byte_read = elim (cases_Bool (has (window one.shared.table i) (ram_base + n))) [
-    | inl in_window ↦ own_step_premises.window.bytes n (nand_fails _ _ in_window byte_read)
+  read_bytes_equal : (index : ℕ) → reads_byte (step_at place one).outcome.step.touched (ram_base + index) ≡ true
+      → slice_index one.shared.memory index ≡ slice_index other.shared.memory index
+  read_bytes_equal index byte_read = elim (cases_Bool (has (window one.shared.table first_slot) (ram_base + index))) [
+    | inl in_window ↦ own_step_premises.window.bytes index (nand_fails _ _ in_window byte_read)
     | inr outside_window ↦
-        point.memory.bytes n (left_if_nor_fails _ _ (reads_own p one invariant_one own_step_premises.first (ram_base + n) byte_read) outside_window)
+        point.memory.bytes index (left_if_nor_fails _ _ (reads_only_own_bytes place one invariant_one own_step_premises.first
+        (ram_base + index) byte_read) outside_window)
   ]
 
   -- the step reads no byte in which the memories of both machines differ
-  reads : ReadsSeen (differs one.shared.memory other.shared.memory) (step_at q mid).outcome.step.touched
-  reads n read =
-      let touched = ap (λ (o : Outcome). reads_byte o.step.touched (ram_base + n)) same_own_step.outcome in
-      same_does_not_differ one.shared.memory other.shared.memory n (read_same n (touched ∙ read))
+  reads : ReadsSeen (differs one.shared.memory other.shared.memory) (step_at other_place mixed).outcome.step.touched
+  reads index read =
+      let touched = ap (λ (outcome : Outcome). reads_byte outcome.step.touched (ram_base + index)) same_own_step.outcome in
+      same_does_not_differ one.shared.memory other.shared.memory index (read_bytes_equal index (touched ∙ read))
 
   -- the step measures no byte in which the memories of both machines differ, because no enclave may create
-  measures_seen : MeasuresSeen (differs one.shared.memory other.shared.memory) (hart_state_of q.hart mid).world mid.shared.table mid.shared.contexts
-  measures_seen from_host memory new no_refusal n in_region =
-      absurd (both_ways _ (not_host_by j (hart_state_of q.hart other).world own_step_premises.second) from_host)
+  measures_seen : MeasuresSeen (differs one.shared.memory other.shared.memory)
+      (hart_state_of other_place.hart mixed).world mixed.shared.table mixed.shared.contexts
+  measures_seen from_host memory new no_refusal index in_region =
+      absurd (both_ways _ (not_host_by second_slot (hart_state_of other_place.hart other).world own_step_premises.second) from_host)
 
-  -- the steps of the machine in between and of the second machine differ only in bytes that the step does not change
-  same_over_memory : MachineOver one.shared.memory other.shared.memory (step_at q mid) (step_at q other)
+  -- the steps of the mixed machine and of the second machine differ only in bytes that the step does not change
+  same_over_memory : MachineOver one.shared.memory other.shared.memory (step_at other_place mixed) (step_at other_place other)
   same_over_memory =
-      machine_over (differs one.shared.memory other.shared.memory) q.hart mid other.shared.memory
+      machine_over (differs one.shared.memory other.shared.memory) other_place.hart mixed other.shared.memory
       (equal_outside_differing one.shared.memory other.shared.memory point.memory.size) reads measures_seen
 
   -- the first machine after the step
   abbrev after_one : MonitoredMachine
-  after_one = (step_at p one).state
+  after_one = (step_at place one).state
 
-  -- the machine in between after the step
-  abbrev after_mid : MonitoredMachine
-  after_mid = (step_at q mid).state
+  -- the mixed machine after the step
+  abbrev after_mixed : MonitoredMachine
+  after_mixed = (step_at other_place mixed).state
 
   -- the second machine after the step
   abbrev after_other : MonitoredMachine
-  after_other = (step_at q other).state
+  after_other = (step_at other_place other).state
 
   -- the first machine after the step has the invariant
-  after_one_kept : Invariant (step_at p one).state
-  after_one_kept = invariant_law p.hart one invariant_one
+  invariant_after_one : Invariant (step_at place one).state
+  invariant_after_one = invariant_law place.hart one invariant_one
 
   -- the second machine after the step has the invariant
-  after_other_kept : Invariant (step_at q other).state
-  after_other_kept = invariant_law q.hart other invariant_other
+  invariant_after_other : Invariant (step_at other_place other).state
+  invariant_after_other = invariant_law other_place.hart other invariant_other
 
   -- the first enclave is live after the step
-  a_live : is_live after_one.shared.table i ≡ true
-  a_live = elim (cases_Bool (runs_at p after_one)) [
-    | inl runs_still ↦ running_is_live i p.hart after_one after_one_kept runs_still
+  live_after : is_live after_one.shared.table first_slot ≡ true
+  live_after = elim (cases_Bool (runs_at place after_one)) [
+    | inl runs_still ↦ running_is_live first_slot place.hart after_one invariant_after_one runs_still
     | inr has_left ↦
-        saved_live i after_one (same_own_step.state.exits has_left).saved.context after_one_kept (same_own_step.state.exits has_left).saved.first
+        saved_enclave_is_live first_slot after_one (same_own_step.state.exits has_left).saved.context invariant_after_one
+        (same_own_step.state.exits has_left).saved.first
   ]
 
   -- the first enclave keeps its identity
-  identity_kept : identity_at after_one.shared.table i ≡ identity_at one.shared.table i
-  identity_kept = record_law p.hart one invariant_one i point.live a_live
+  identity_kept : identity_at after_one.shared.table first_slot ≡ identity_at one.shared.table first_slot
+  identity_kept = record_law place.hart one invariant_one first_slot point.live live_after
 
-  -- after the step, each byte within the enclave's region and window is equal in the first machine and in the machine in between
-  own_same : (n : ℕ) → is_beyond after_one.shared.table i (ram_base + n) ≡ false
-      → slice_index after_one.shared.memory n ≡ slice_index after_mid.shared.memory n
-  own_same n byte_within = elim (cases_Bool (runs_at p after_one)) [
-    | inl runs_still ↦ (same_own_step.state.runs runs_still).memory.bytes n byte_within
-    | inr has_left ↦ (same_own_step.state.exits has_left).saved.memory.bytes n byte_within
+  -- after the step, each byte within the enclave's region and window is equal in the first machine and in the mixed machine
+  own_bytes_equal : (index : ℕ) → is_beyond after_one.shared.table first_slot (ram_base + index) ≡ false
+      → slice_index after_one.shared.memory index ≡ slice_index after_mixed.shared.memory index
+  own_bytes_equal index byte_within = elim (cases_Bool (runs_at place after_one)) [
+    | inl runs_still ↦ (same_own_step.state.runs runs_still).memory.bytes index byte_within
+    | inr has_left ↦ (same_own_step.state.exits has_left).saved.memory.bytes index byte_within
   ]
 
-  -- each byte that the step changes in a machine is equal in both machines after the step
+  -- a byte is either unchanged in both machines, or equal in both machines after the step
   changes : ChangeAlike one.shared.memory other.shared.memory after_one.shared.memory after_other.shared.memory
-  changes n = elim (cases_Bool (is_beyond one.shared.table i (ram_base + n))) [
+  changes index = elim (cases_Bool (is_beyond one.shared.table first_slot (ram_base + index))) [
     | inl byte_beyond ↦
-        let beyond_other = sym (same_beyond one.shared.table other.shared.table i j (ram_base + n) point.identity) ∙ byte_beyond in
-        inl
-        (own_only p one invariant_one own_step_premises.first n byte_beyond, own_only q other invariant_other own_step_premises.second n beyond_other)
+        let beyond_other =
+        sym (same_beyond one.shared.table other.shared.table first_slot second_slot (ram_base + index) point.identity) ∙ byte_beyond in
+        inl (
+          changes_only_own_bytes place one invariant_one own_step_premises.first index byte_beyond,
+          changes_only_own_bytes other_place other invariant_other own_step_premises.second index beyond_other,
+        )
     | inr byte_within ↦
-        let same = own_same n (same_beyond after_one.shared.table one.shared.table i i (ram_base + n) identity_kept ∙ byte_within) in
-        elim (same_over_memory.shared.changes n) [
-          | inl unchanged ↦ inl (same ∙ unchanged.0, unchanged.1)
-          | inr changed_alike ↦ inr (same ∙ changed_alike)
+        let bytes_equal =
+        own_bytes_equal index (same_beyond after_one.shared.table one.shared.table first_slot first_slot (ram_base + index) identity_kept
+        ∙ byte_within) in
+        elim (same_over_memory.shared.changes index) [
+          | inl unchanged ↦ inl (bytes_equal ∙ unchanged.0, unchanged.1)
+          | inr changed_alike ↦ inr (bytes_equal ∙ changed_alike)
         ]
   ]
 
   -- both slots have the same record after the step
-  slot_after : slot_at after_one.shared.table i ≡ slot_at after_other.shared.table j
-  slot_after =
-      let table = ap (λ (t : Slots). slot_at t j) same_over_memory.shared.table in
-      elim (cases_Bool (runs_at p after_one)) [
+  same_record_after : slot_at after_one.shared.table first_slot ≡ slot_at after_other.shared.table second_slot
+  same_record_after =
+      let table = ap (λ (table : Slots). slot_at table second_slot) same_over_memory.shared.table in
+      elim (cases_Bool (runs_at place after_one)) [
         | inl runs_still ↦ (same_own_step.state.runs runs_still).slot ∙ table
         | inr has_left ↦ (same_own_step.state.exits has_left).saved.slot ∙ table
       ]
 
-  -- the hart has the same state after the step in the machine in between and in the second machine
-  hart_after : hart_state_of q.hart after_mid ≡ hart_state_of q.hart after_other
-  hart_after = ap (λ (hs : List HartState). hart_state_in hs q.hart) same_over_memory.hart_states
+  -- the hart has the same state after the step in the mixed machine and in the second machine
+  same_hart_after : hart_state_of other_place.hart after_mixed ≡ hart_state_of other_place.hart after_other
+  same_hart_after = ap (λ (hart_states : List HartState). hart_state_in hart_states other_place.hart) same_over_memory.hart_states
 
-  -- both enclaves continue with this context after the step
+  -- the context with which both enclaves continue after the step
   record ContinueAlike : Type 0 where
     context : Context
-    first : ContinuesWith i context (step_at p one).state
-    second : ContinuesWith j context (step_at q other).state
+    first : ContinuesWith first_slot context (step_at place one).state
+    second : ContinuesWith second_slot context (step_at other_place other).state
 
   -- both enclaves continue with the same context after the step
   continue_alike : ContinueAlike
-  continue_alike = elim (cases_Bool (runs_at p after_one)) [
+  continue_alike = elim (cases_Bool (runs_at place after_one)) [
     | inl runs_still ↦
-        let same = same_own_step.state.runs runs_still in
-        let runs_too : runs_at q after_other ≡ true = ap (λ (s : HartState). is_world_of j s.world) (sym hart_after) ∙ same.second in
-        let below : continuation (hart_state_of p.hart after_one).hart ≡ continuation (hart_state_of q.hart after_mid).hart =
-        ap (λ (h : Hart). continuation h) same.hart in
+        let still_same_enclave = same_own_step.state.runs runs_still in
+        let other_runs : runs_at other_place after_other ≡ true =
+        ap (λ (hart_state : HartState). is_world_of second_slot hart_state.world) (sym same_hart_after) ∙ still_same_enclave.second in
+        let continuations_equal : continuation (hart_state_of place.hart after_one).hart
+        ≡ continuation (hart_state_of other_place.hart after_mixed).hart =
+        ap (λ (hart : Hart). continuation hart) still_same_enclave.hart in
         record {
-          context = continuation (hart_state_of p.hart after_one).hart;
-          first = running_continues i p.hart after_one _ after_one_kept runs_still refl;
-          second = running_continues j q.hart after_other _ after_other_kept runs_too
-              (ap (λ (s : HartState). continuation s.hart) (sym hart_after) ∙ sym below);
+          context = continuation (hart_state_of place.hart after_one).hart;
+          first = running_continues first_slot place.hart after_one _ invariant_after_one runs_still refl;
+          second = running_continues second_slot other_place.hart after_other _ invariant_after_other other_runs
+              (ap (λ (hart_state : HartState). continuation hart_state.hart) (sym same_hart_after) ∙ sym continuations_equal);
         }
     | inr has_left ↦
-        let saves = (same_own_step.state.exits has_left).saved in
+        let saved_alike = (same_own_step.state.exits has_left).saved in
         record {
-          context = saves.context;
-          first = saved_continues i after_one saves.context after_one_kept saves.first;
+          context = saved_alike.context;
+          first = saved_continues first_slot after_one saved_alike.context invariant_after_one saved_alike.first;
           second =
-              saved_continues j after_other saves.context after_other_kept
-              (ap (λ (cs : Contexts). context_at cs j) (sym same_over_memory.shared.contexts) ∙ saves.second);
+              saved_continues second_slot after_other saved_alike.context invariant_after_other
+              (ap (λ (contexts : Contexts). context_at contexts second_slot) (sym same_over_memory.shared.contexts) ∙ saved_alike.second);
         }
   ]
 
   -- both enclaves are at one point after the step
-  own_point : AreAtOnePoint i j after_one after_other
-  own_point =
-      let alike_after = continue_alike in
-      let block = same_region after_one.shared.table one.shared.table i i identity_kept in
+  same_point_after : AreAtOnePoint first_slot second_slot after_one after_other
+  same_point_after =
+      let continue_alike_after = continue_alike in
+      let region_unchanged = same_region after_one.shared.table one.shared.table first_slot first_slot identity_kept in
       record {
-        context = alike_after.context;
-        first = alike_after.first;
-        second = alike_after.second;
-        live = a_live;
-        identity = ap (option_map identity_of) slot_after;
+        context = continue_alike_after.context;
+        first = continue_alike_after.first;
+        second = continue_alike_after.second;
+        live = live_after;
+        identity = ap (option_map identity_of) same_record_after;
         memory = record {
-          size = same_size p.hart one ∙ point.memory.size ∙ sym (same_size q.hart other);
-          bytes = λ n outside_region.
-              let before = ap (λ (x : Block). not (has x (ram_base + n))) (sym block) ∙ outside_region in
-              elim (changes n) [
-                | inl unchanged ↦ unchanged.0 ∙ point.memory.bytes n before ∙ sym unchanged.1
+          size = same_size place.hart one ∙ point.memory.size ∙ sym (same_size other_place.hart other);
+          bytes = λ index outside_region.
+              let was_outside =
+              ap (λ (block : Block). not (has block (ram_base + index))) (sym region_unchanged) ∙ outside_region in
+              elim (changes index) [
+                | inl unchanged ↦ unchanged.0 ∙ point.memory.bytes index was_outside ∙ sym unchanged.1
                 | inr changed_alike ↦ changed_alike
               ];
         };
       }
 
   -- the own step of the enclave is the same in both machines
-  own_step : SameOwnStep p q one other
+  own_step : SameOwnStep place other_place one other
   own_step = record {
     outcome = same_own_step.outcome ∙ same_over_memory.outcome;
     changes = changes;
@@ -681,9 +740,9 @@ module _ (p q : Place) (one other : MonitoredMachine) (invariant_one : Invariant
           value = exit.value;
           first = exit.first;
           second = record {
-            world = ap (λ (s : HartState). s.world) (sym hart_after) ∙ exit.second.world;
+            world = ap (λ (hart_state : HartState). hart_state.world) (sym same_hart_after) ∙ exit.second.world;
             host = exit.second.host;
-            regs = ap (λ (s : HartState). s.hart.regs) (sym hart_after) ∙ exit.second.regs;
+            regs = ap (λ (hart_state : HartState). hart_state.hart.regs) (sym same_hart_after) ∙ exit.second.regs;
           };
         };
   }
@@ -692,56 +751,67 @@ module _ (p q : Place) (one other : MonitoredMachine) (invariant_one : Invariant
 
 -- proves the law of whole lives, by induction on the list of moves
 pub life_law : LifeLaw
-life_law i j [] one other invariant_one invariant_other legal_one legal_other point moves = record { steps = tt; point = point }
-life_law i j (InFirst event ∷ more) one other invariant_one invariant_other legal_one legal_other point moves =
-    let rest =
-    life_law i j more (event_of event one).state other (event_invariant event one invariant_one) invariant_other
+life_law slot other_slot [] one other invariant_one invariant_other legal_one legal_other point are_moves = record { steps = tt; point = point }
+life_law slot other_slot (InFirst event ∷ moves) one other invariant_one invariant_other legal_one legal_other point are_moves =
+    let remaining =
+    life_law slot other_slot moves (event_of event one).state other (event_invariant event one invariant_one) invariant_other
     (event_stored event one invariant_one legal_one) legal_other
-    (first_event i j event one other invariant_one legal_one point moves.0) moves.1 in
-    record { steps = rest.steps; point = rest.point }
-life_law i j (InSecond event ∷ more) one other invariant_one invariant_other legal_one legal_other point moves =
+    (foreign_event_keeps_point slot other_slot event one other invariant_one legal_one point are_moves.0) are_moves.1 in
+    record { steps = remaining.steps; point = remaining.point }
+life_law slot other_slot (InSecond event ∷ moves) one other invariant_one invariant_other legal_one legal_other point are_moves =
     let after = (event_of event other).state in
-    let next = swapped j i after one (first_event j i event other one invariant_other legal_other (swapped i j one other point) moves.0) in
-    let rest =
-    life_law i j more one after invariant_one (event_invariant event other invariant_other) legal_one
-    (event_stored event other invariant_other legal_other) next moves.1 in
-    record { steps = rest.steps; point = rest.point }
-life_law i j (Own h g ∷ more) one other invariant_one invariant_other legal_one legal_other point moves =
-    let p = at i h in
-    let q = at j g in
-    let rest =
-    life_law i j more (step_of h one).state (step_of g other).state (invariant_law h one invariant_one) (invariant_law g other invariant_other)
-    (event_stored (StepOf h) one invariant_one legal_one) (event_stored (StepOf g) other invariant_other legal_other)
-    (own_point p q one other invariant_one invariant_other point moves.0) moves.1 in
-    record { steps = (own_step p q one other invariant_one invariant_other point moves.0, rest.steps); point = rest.point }
+    let next =
+    swapped other_slot slot after one (foreign_event_keeps_point other_slot slot event other one invariant_other legal_other
+    (swapped slot other_slot one other point) are_moves.0) in
+    let remaining =
+    life_law slot other_slot moves one after invariant_one (event_invariant event other invariant_other) legal_one
+    (event_stored event other invariant_other legal_other) next are_moves.1 in
+    record { steps = remaining.steps; point = remaining.point }
+life_law slot other_slot (Own hart other_hart ∷ moves) one other invariant_one invariant_other legal_one legal_other point are_moves =
+    let place = at slot hart in
+    let other_place = at other_slot other_hart in
+    let remaining =
+    life_law slot other_slot moves (step_of hart one).state (step_of other_hart other).state (invariant_law hart one invariant_one)
+    (invariant_law other_hart other invariant_other)
+    (event_stored (StepOf hart) one invariant_one legal_one) (event_stored (StepOf other_hart) other invariant_other legal_other)
+    (same_point_after place other_place one other invariant_one invariant_other point are_moves.0) are_moves.1 in
+    record {
+      steps = (own_step place other_place one other invariant_one invariant_other point are_moves.0, remaining.steps);
+      point = remaining.point;
+    }
 
 -- ---- the beginning of a life
 
 -- proves that two enclaves with equal measured bytes begin at the same point
 pub life_begins : LifeBeginsLaw
-life_begins i j one other invariant_one invariant_other same size =
-    let first_enclave = same.first in
-    let second_enclave = same.second in
-    let m = one.shared.memory in
-    let n = other.shared.memory in
+life_begins slot other_slot one other invariant_one invariant_other same_identity size =
+    let first_enclave = same_identity.first in
+    let second_enclave = same_identity.second in
+    let memory = one.shared.memory in
+    let other_memory = other.shared.memory in
     let measured =
-    measurement_law m n first_enclave.info second_enclave.info invariant_one.shared.valid.ram size (valid_slot i one invariant_one first_enclave)
-    (valid_slot j other invariant_other second_enclave) same.input in
+    measurement_law memory other_memory first_enclave.info second_enclave.info invariant_one.shared.valid.ram size
+    (valid_slot slot one invariant_one first_enclave)
+    (valid_slot other_slot other invariant_other second_enclave) same_identity.input in
     let digest : first_enclave.info.measurement ≡ second_enclave.info.measurement =
-    first_enclave.measurement ∙ same_digest m n (args_of first_enclave.info) (args_of second_enclave.info) same.input
+    first_enclave.measurement ∙ same_digest memory other_memory (args_of first_enclave.info) (args_of second_enclave.info) same_identity.input
     ∙ sym second_enclave.measurement in
-    let info = same_info first_enclave.info second_enclave.info measured.args digest first_enclave.fresh second_enclave.fresh in
-    let some : SlotInfo → Option SlotInfo = λ x. Some x in
-    let begin : SlotInfo → Option Context = λ x. Some (first_context x) in
+    let same_info_record = same_info first_enclave.info second_enclave.info measured.args digest first_enclave.fresh second_enclave.fresh in
+    let some_info : SlotInfo → Option SlotInfo = λ info. Some info in
+    let begin : SlotInfo → Option Context = λ info. Some (first_context info) in
     record {
       context = first_context first_enclave.info;
-      first = saved_continues i one (first_context first_enclave.info) invariant_one first_enclave.context;
-      second = saved_continues j other (first_context first_enclave.info) invariant_other (second_enclave.context ∙ ap begin (sym info));
-      live = ap (λ (o : Option SlotInfo). is_some o) first_enclave.is;
-      identity = ap (option_map identity_of) (first_enclave.is ∙ ap some info ∙ sym second_enclave.is);
+      first = saved_continues slot one (first_context first_enclave.info) invariant_one first_enclave.context;
+      second =
+          saved_continues other_slot other (first_context first_enclave.info) invariant_other
+          (second_enclave.context ∙ ap begin (sym same_info_record));
+      live = ap (λ (maybe_info : Option SlotInfo). is_some maybe_info) first_enclave.is;
+      identity = ap (option_map identity_of) (first_enclave.is ∙ ap some_info same_info_record ∙ sym second_enclave.is);
       memory = record {
         size = size;
-        bytes = λ k outside_region.
-            measured.bytes.bytes k (ap (λ (o : Option SlotInfo). not (has (region_of o) (ram_base + k))) (sym first_enclave.is) ∙ outside_region);
+        bytes = λ index outside_region.
+            measured.bytes.bytes index (ap (λ (maybe_info : Option SlotInfo). not (has (region_of maybe_info) (ram_base + index)))
+            (sym first_enclave.is)
+            ∙ outside_region);
       };
     }

@@ -16,7 +16,7 @@ use Rattle.rv_monitor.proofs.Prelude.{HartStatesEquivExcept, HartViewStepped, In
 use Rattle.rv_monitor.proofs.Prelude.{and_parts, both_ways, cases_Bool, cases_lt, count_of, eq-eqb, eqb-true, hart_state_of, hart_view}
 use Rattle.rv_monitor.proofs.Prelude.{list_any, monitored_step, runs_on, step_of}
 use Rattle.rv_monitor.proofs.Beside.{running_is_live}
-use Rattle.rv_monitor.proofs.GuestEquiv.{GuestStepEquiv, guest_step_equiv, hosts_after}
+use Rattle.rv_monitor.proofs.GuestEquiv.{GuestStepEquiv, guest_step_equiv, same_hosts_after}
 use Rattle.rv_monitor.proofs.HartCases.{outside, step_of_view}
 use Rattle.rv_monitor.specs.MonitoredMachine.{hart_state_in}
 use Rattle.rv_monitor.proofs.Integrity.{integrity}
@@ -32,22 +32,24 @@ use Rattle.rv_monitor.proofs.Booleans.{left_if_nand_fails, nand_fails, right_if_
 
 -- whether two memories differ at an address
 abbrev pub differs : List ℕ → List ℕ → ℕ → Bool
-differs m n byte = not (slice_index m (byte - ram_base) == slice_index n (byte - ram_base))
+differs memory other_memory byte = not (slice_index memory (byte - ram_base) == slice_index other_memory (byte - ram_base))
 
--- two memories with equal bytes at index i do not differ at the address of index i
-pub same_does_not_differ : (m n : List ℕ) (i : ℕ) → slice_index m i ≡ slice_index n i → differs m n (ram_base + i) ≡ false
-same_does_not_differ m n i same_element =
-    let index_is : ram_base + i - ram_base ≡ i = omega arith in
-    rw index_is (ap not (eq-eqb (slice_index m i) (slice_index n i) same_element))
+-- two memories with equal bytes at an index do not differ at the address of this index
+pub same_does_not_differ : (memory other_memory : List ℕ) (index : ℕ) → slice_index memory index ≡ slice_index other_memory index
+    → differs memory other_memory (ram_base + index) ≡ false
+same_does_not_differ memory other_memory index same_element =
+    let hart_is : ram_base + index - ram_base ≡ index = omega arith in
+    rw hart_is (ap not (eq-eqb (slice_index memory index) (slice_index other_memory index) same_element))
 
 -- two memories of the same size are equal outside the addresses at which they differ
-pub equal_outside_differing : (m n : List ℕ) → length m ≡ length n → EqualOutside (differs m n) m n
-equal_outside_differing m n same_length = record {
+pub equal_outside_differing : (memory other_memory : List ℕ) → length memory ≡ length other_memory
+    → EqualOutside (differs memory other_memory) memory other_memory
+equal_outside_differing memory other_memory same_length = record {
   size = same_length;
-  bytes = λ i not_differing.
-      let index_is : ram_base + i - ram_base ≡ i = omega arith in
-      let same : (slice_index m i == slice_index n i) ≡ true = not-false _ (rw index_is at not_differing) in
-      eqb-true (slice_index m i) (slice_index n i) same;
+  bytes = λ index not_differing.
+      let hart_is : ram_base + index - ram_base ≡ index = omega arith in
+      let bytes_equal : (slice_index memory index == slice_index other_memory index) ≡ true = not-false _ (rw hart_is at not_differing) in
+      eqb-true (slice_index memory index) (slice_index other_memory index) bytes_equal;
 }
 
 -- ---- a hart on which a running enclave runs
@@ -58,26 +60,27 @@ pub record RunsSomewhere (enclave : ℕ) (machine : MonitoredMachine) : Type 0 w
   pub runs : runs_on enclave hart machine ≡ true
 
 -- if some hart state of a list runs the enclave, then the hart state at some index runs the enclave
-some_index : (enclave : ℕ) (states : List HartState) → list_any (is_world_of enclave) (map (λ s. s.world) states) ≡ true
-    → (j : ℕ) × (is_world_of enclave (hart_state_in states j).world ≡ true)
-some_index enclave [] some_runs = cc
-some_index enclave (s ∷ states) some_runs = elim (cases_Bool (is_world_of enclave s.world)) [
+hart_in_list : (enclave : ℕ) (hart_states : List HartState) → list_any (is_world_of enclave) (map (λ hart_state. hart_state.world) hart_states) ≡ true
+    → (hart : ℕ) × (is_world_of enclave (hart_state_in hart_states hart).world ≡ true)
+hart_in_list enclave [] some_runs = cc
+hart_in_list enclave (hart_state ∷ hart_states) some_runs = elim (cases_Bool (is_world_of enclave hart_state.world)) [
   | inl runs_enclave ↦ (zero, runs_enclave)
-  | inr runs_other ↦ let rest = some_index enclave states (rw runs_other at some_runs) in (suc rest.0, rest.1)
+  | inr other_runs ↦ let rest = hart_in_list enclave hart_states (rw other_runs at some_runs) in (suc rest.0, rest.1)
 ]
 
 -- an enclave with the state Running runs on some hart
 pub runs_somewhere : (enclave : ℕ) (machine : MonitoredMachine) → Invariant machine → runs machine.shared.table enclave ≡ true
     → RunsSomewhere enclave machine
 runs_somewhere enclave machine invariant running =
-    let index_is = some_index enclave machine.hart_states (sym (invariant.shared.running enclave) ∙ running) in
-    record { hart = index_is.0; runs = index_is.1 }
+    let hart_is = hart_in_list enclave machine.hart_states (sym (invariant.shared.running enclave) ∙ running) in
+    record { hart = hart_is.0; runs = hart_is.1 }
 
 -- ---- the bytes that a step reads
 
 -- bytes that are accessible to another world are not in the region of `enclave`
-span_apart : (enclave : ℕ) (machine : MonitoredMachine) (hart : ℕ) (access : Access) (o : Option Span) → Invariant machine → hart < count_of machine
-    → runs_on enclave hart machine ≡ false → SpanIsAccessible (hart_view hart machine) access o → (byte : ℕ) → in_span o byte ≡ true
+span_apart : (enclave : ℕ) (machine : MonitoredMachine) (hart : ℕ) (access : Access) (maybe_span : Option Span) → Invariant machine
+    → hart < count_of machine
+    → runs_on enclave hart machine ≡ false → SpanIsAccessible (hart_view hart machine) access maybe_span → (byte : ℕ) → in_span maybe_span byte ≡ true
     → has (region machine.shared.table enclave) byte ≡ false
 span_apart enclave machine hart access None invariant in_range not_running is_accessible_span byte byte_in_span = cc
 span_apart enclave machine hart access (Some span) invariant in_range not_running is_accessible_span byte byte_in_span =
@@ -91,12 +94,12 @@ pub reads_apart : (enclave hart : ℕ) (machine : MonitoredMachine) → Invarian
 reads_apart enclave hart machine invariant not_running byte byte_read = elim (cases_lt hart (count_of machine)) [
   | inr past_last ↦
       let contradiction : false ≡ true =
-      sym (ap (λ (a : MonitoredStepped). reads_byte a.outcome.step.touched byte) (outside hart machine past_last)) ∙ byte_read in
+      sym (ap (λ (stepped : MonitoredStepped). reads_byte stepped.outcome.step.touched byte) (outside hart machine past_last)) ∙ byte_read in
       cc
   | inl in_range ↦
       let state = hart_view hart machine in
       let step_is : (step_of hart machine).outcome.step ≡ (monitored_step state).outcome.step =
-      ap (λ (a : HartViewStepped). a.outcome.step) (step_of_view hart machine in_range) in
+      ap (λ (stepped : HartViewStepped). stepped.outcome.step) (step_of_view hart machine in_range) in
       let accessed = subst (IsTouchedAccessible state) (sym step_is) (touch_law state (hart_view_invariant hart machine invariant in_range)) in
       let touched = (step_of hart machine).outcome.step.touched in
       elim (cases_Bool (in_span touched.fetched byte)) [
@@ -119,79 +122,80 @@ may_not_differ in_region false in_window outside_region outside_window = rw outs
 module _ (enclave hart : ℕ) (one other : MonitoredMachine) (invariant_one : Invariant one) (invariant_other : Invariant other)
     (related : AreRelated enclave one other)
     (low : IsLowStep enclave hart one other) (running : runs one.shared.table enclave ≡ true) where
-  -- The second machine with the memory of the first one. Below, this machine is called the machine in between.
-  abbrev mid : MonitoredMachine
-  mid = over_bytes other one.shared.memory
+  -- The mixed machine: the second machine with the memory of the first one.
+  abbrev mixed : MonitoredMachine
+  mixed = over_bytes other one.shared.memory
 
-  -- the machine in between has the invariant
-  mid_kept : Invariant mid
-  mid_kept = invariant_by_size other one.shared.memory invariant_other (sym related.memory.size)
+  -- the mixed machine has the invariant
+  mixed_invariant : Invariant mixed
+  mixed_invariant = invariant_by_size other one.shared.memory invariant_other (sym related.memory.size)
 
-  -- the first machine is related to the machine in between
-  mid_related : AreRelated enclave one mid
-  mid_related = record {
+  -- the first machine is related to the mixed machine
+  mixed_related : AreRelated enclave one mixed
+  mixed_related = record {
     harts = related.harts;
     hart_states = related.hart_states;
     hosts = related.hosts;
     table = related.table;
-    memory = record { size = refl; bytes = λ i shown. refl };
+    memory = record { size = refl; bytes = λ index shown. refl };
     contexts = related.contexts;
-    gone = λ dead. ap (λ (s : Shared). record s { memory = one.shared.memory }) (related.gone dead);
+    gone = λ dead. ap (λ (shared : Shared). record shared { memory = one.shared.memory }) (related.gone dead);
   }
 
-  -- the first machine and the machine in between are equivalent except `enclave` in the guest view
-  mid_equiv : EquivToGuests enclave one mid
-  mid_equiv = related_equiv enclave one mid mid_related (λ runs_too. record { size = refl; bytes = λ i shown. refl })
+  -- the first machine and the mixed machine are equivalent except `enclave` in the guest view
+  mixed_equiv : EquivToGuests enclave one mixed
+  mixed_equiv = related_equiv enclave one mixed mixed_related (λ enclave_runs. record { size = refl; bytes = λ index shown. refl })
 
-  -- the low steps of the first machine and of the machine in between have equal outcomes, and leave machines that are equivalent in the guest view
-  first_step : GuestStepEquiv enclave (step_of hart one) (step_of hart mid)
-  first_step = guest_step_equiv enclave hart one mid invariant_one mid_kept mid_equiv low.low
+  -- the low steps of the first machine and of the mixed machine have equal outcomes, and leave machines that are equivalent in the guest view
+  first_step : GuestStepEquiv enclave (step_of hart one) (step_of hart mixed)
+  first_step = guest_step_equiv enclave hart one mixed invariant_one mixed_invariant mixed_equiv low.low
 
-  -- the first machine and the machine in between are related after the step
-  first_after : AreRelated enclave (step_of hart one).state (step_of hart mid).state
-  first_after =
-      equiv_related enclave (step_of hart one).state (step_of hart mid).state first_step.state
-      (hosts_after enclave hart one mid invariant_one mid_kept mid_equiv mid_related.hosts low.low)
+  -- the first machine and the mixed machine are related after the step
+  related_after : AreRelated enclave (step_of hart one).state (step_of hart mixed).state
+  related_after =
+      equiv_related enclave (step_of hart one).state (step_of hart mixed).state first_step.state
+      (same_hosts_after enclave hart one mixed invariant_one mixed_invariant mixed_equiv mixed_related.hosts low.low)
 
   -- each byte that the step reads is equal in the memories of both machines
-  read_same : (i : ℕ) → reads_byte (step_of hart one).outcome.step.touched (ram_base + i) ≡ true
-      → slice_index one.shared.memory i ≡ slice_index other.shared.memory i
-  read_same i byte_read = elim (cases_Bool (has (window one.shared.table enclave) (ram_base + i))) [
-    | inl in_window ↦ (low.window running).bytes i (nand_fails _ _ in_window byte_read)
+  read_bytes_equal : (index : ℕ) → reads_byte (step_of hart one).outcome.step.touched (ram_base + index) ≡ true
+      → slice_index one.shared.memory index ≡ slice_index other.shared.memory index
+  read_bytes_equal index byte_read = elim (cases_Bool (has (window one.shared.table enclave) (ram_base + index))) [
+    | inl in_window ↦ (low.window running).bytes index (nand_fails _ _ in_window byte_read)
     | inr outside_window ↦
-        related.memory.bytes i
-        (may_not_differ _ _ _ (reads_apart enclave hart one invariant_one low.low (ram_base + i) byte_read) (λ runs_too. outside_window))
+        related.memory.bytes index
+        (may_not_differ _ _ _ (reads_apart enclave hart one invariant_one low.low (ram_base + index) byte_read) (λ enclave_runs. outside_window))
   ]
 
   -- the step reads no byte in which the memories of both machines differ
-  reads_seen : ReadsSeen (differs one.shared.memory other.shared.memory) (step_of hart mid).outcome.step.touched
-  reads_seen i is =
-      let touched = ap (λ (o : Outcome). reads_byte o.step.touched (ram_base + i)) first_step.outcome in
-      same_does_not_differ one.shared.memory other.shared.memory i (read_same i (touched ∙ is))
+  reads_seen : ReadsSeen (differs one.shared.memory other.shared.memory) (step_of hart mixed).outcome.step.touched
+  reads_seen index byte_is_read =
+      let touched = ap (λ (outcome : Outcome). reads_byte outcome.step.touched (ram_base + index)) first_step.outcome in
+      same_does_not_differ one.shared.memory other.shared.memory index (read_bytes_equal index (touched ∙ byte_is_read))
 
   -- the step measures no byte in which the memories of both machines differ
-  measures_seen : MeasuresSeen (differs one.shared.memory other.shared.memory) (hart_state_of hart mid).world mid.shared.table mid.shared.contexts
-  measures_seen host memory new no_refusal i in_new_region =
+  measures_seen : MeasuresSeen (differs one.shared.memory other.shared.memory)
+      (hart_state_of hart mixed).world mixed.shared.table mixed.shared.contexts
+  measures_seen host memory new no_refusal index in_new_region =
       let new_is_apart = (free_from other.shared.table new no_refusal.apart).others enclave in
       let table = related.table in
-      let outside_region : has (region other.shared.table enclave) (ram_base + i) ≡ false =
-      apart_at new.region (region other.shared.table enclave) (ram_base + i) new_is_apart.regions in_new_region in
-      let outside_window : has (window other.shared.table enclave) (ram_base + i) ≡ false =
-      apart_at new.region (window other.shared.table enclave) (ram_base + i) new_is_apart.window in_new_region in
-      same_does_not_differ one.shared.memory other.shared.memory i
-      (related.memory.bytes i (ap (λ (t : Slots). may_differ t enclave (ram_base + i)) table
-      ∙ may_not_differ _ _ _ outside_region (λ runs_too. outside_window)))
+      let outside_region : has (region other.shared.table enclave) (ram_base + index) ≡ false =
+      apart_at new.region (region other.shared.table enclave) (ram_base + index) new_is_apart.regions in_new_region in
+      let outside_window : has (window other.shared.table enclave) (ram_base + index) ≡ false =
+      apart_at new.region (window other.shared.table enclave) (ram_base + index) new_is_apart.window in_new_region in
+      same_does_not_differ one.shared.memory other.shared.memory index
+      (related.memory.bytes index (ap (λ (table : Slots). may_differ table enclave (ram_base + index)) table
+      ∙ may_not_differ _ _ _ outside_region (λ enclave_runs. outside_window)))
 
-  -- the steps of the machine in between and of the second machine differ only in bytes that the step does not change
-  last_step : MachineOver one.shared.memory other.shared.memory (step_of hart mid) (step_of hart other)
-  last_step =
-      machine_over (differs one.shared.memory other.shared.memory) hart mid other.shared.memory
+  -- the steps of the mixed machine and of the second machine differ only in bytes that the step does not change
+  mixed_step : MachineOver one.shared.memory other.shared.memory (step_of hart mixed) (step_of hart other)
+  mixed_step =
+      machine_over (differs one.shared.memory other.shared.memory) hart mixed other.shared.memory
       (equal_outside_differing one.shared.memory other.shared.memory related.memory.size) reads_seen measures_seen
 
   -- the record of the enclave is unchanged after the step, because the enclave runs on another hart
-  slot_kept : (slot_at (step_of hart one).state.shared.table enclave ≡ slot_at one.shared.table enclave)
+  record_unchanged : (slot_at (step_of hart one).state.shared.table enclave ≡ slot_at one.shared.table enclave)
       × (is_live (step_of hart one).state.shared.table enclave ≡ true)
-  slot_kept =
+  record_unchanged =
       let somewhere = runs_somewhere enclave one invariant_one running in
       let continues = go_on_law hart one invariant_one enclave somewhere.hart somewhere.runs low.low in
       let live = running_is_live enclave somewhere.hart one invariant_one somewhere.runs in
@@ -201,37 +205,41 @@ module _ (enclave hart : ℕ) (one other : MonitoredMachine) (invariant_one : In
   pub low_while_running : ((step_of hart one).outcome ≡ (step_of hart other).outcome)
       × AreRelated enclave (step_of hart one).state (step_of hart other).state
   low_while_running =
-      let after_one = (step_of hart one).state in
-      let states = last_step.hart_states in
-      let may_differ_by : Option SlotInfo → ℕ → Bool = λ o byte.
-      has (region_of o) byte || (option_case o false (λ info. is_running info.state) && has (window_of o) byte) in (
-        first_step.outcome ∙ last_step.outcome,
+      let after_first = (step_of hart one).state in
+      let hart_states = mixed_step.hart_states in
+      let may_differ_by : Option SlotInfo → ℕ → Bool = λ maybe_info byte.
+      has (region_of maybe_info) byte || (option_case maybe_info false (λ info. is_running info.state) && has (window_of maybe_info) byte) in (
+        first_step.outcome ∙ mixed_step.outcome,
         record {
-          harts = first_after.harts ∙ ap (λ (hs : List HartState). length hs) states;
-          hart_states = λ j.
+          harts = related_after.harts ∙ ap (λ (hart_states : List HartState). length hart_states) hart_states;
+          hart_states = λ hart.
               subst
-              (λ (hs : List HartState). HartStatesEquivExcept enclave (guest_state (hart_state_of j after_one))
-              (guest_state (hart_state_in hs j))) states
-              (first_after.hart_states j);
-          hosts = λ j runs_there.
-              subst (λ (hs : List HartState). SameHost (guest_state (hart_state_of j after_one)) (guest_state (hart_state_in hs j))) states
-              (first_after.hosts j runs_there);
-          table = first_after.table ∙ last_step.shared.table;
+              (λ (hart_states : List HartState). HartStatesEquivExcept enclave (guest_state (hart_state_of hart after_first))
+              (guest_state (hart_state_in hart_states hart))) hart_states
+              (related_after.hart_states hart);
+          hosts = λ hart runs_on_hart.
+              subst (λ (hart_states : List HartState). SameHost (guest_state (hart_state_of hart after_first))
+              (guest_state (hart_state_in hart_states hart))) hart_states
+              (related_after.hosts hart runs_on_hart);
+          table = related_after.table ∙ mixed_step.shared.table;
           memory = record {
-            size = first_after.memory.size ∙ last_step.shared.size;
+            size = related_after.memory.size ∙ mixed_step.shared.size;
             -- each byte is unchanged in both memories, or has the same new value in both
-            bytes = λ i not_hidden. elim (last_step.shared.changes i) [
-              | inr same ↦ first_after.memory.bytes i not_hidden ∙ same
+            bytes = λ index not_hidden. elim (mixed_step.shared.changes index) [
+              | inr bytes_equal ↦ related_after.memory.bytes index not_hidden ∙ bytes_equal
               | inl unchanged ↦
-                  let before = ap (λ (o : Option SlotInfo). may_differ_by o (ram_base + i)) (sym slot_kept.0) ∙ not_hidden in
-                  first_after.memory.bytes i not_hidden ∙ unchanged.0 ∙ related.memory.bytes i before ∙ sym unchanged.1
+                  let before =
+                  ap (λ (maybe_info : Option SlotInfo). may_differ_by maybe_info (ram_base + index)) (sym record_unchanged.0) ∙ not_hidden in
+                  related_after.memory.bytes index not_hidden ∙ unchanged.0 ∙ related.memory.bytes index before ∙ sym unchanged.1
             ];
           };
           contexts = record {
-            size = first_after.contexts.size ∙ ap (λ (c : Contexts). length c) last_step.shared.contexts;
-            others = λ k distinct. first_after.contexts.others k distinct ∙ ap (λ (c : Contexts). context_at c k) last_step.shared.contexts;
+            size = related_after.contexts.size ∙ ap (λ (contexts : Contexts). length contexts) mixed_step.shared.contexts;
+            others =
+                λ slot distinct. related_after.contexts.others slot distinct
+                ∙ ap (λ (contexts : Contexts). context_at contexts slot) mixed_step.shared.contexts;
           };
-          gone = λ dead. absurd (both_ways _ dead slot_kept.1);
+          gone = λ dead. absurd (both_ways _ dead record_unchanged.1);
         },
       )
 
@@ -239,4 +247,5 @@ module _ (enclave hart : ℕ) (one other : MonitoredMachine) (invariant_one : In
 
 -- if all bytes of the window are equal in two machines, then so are the bytes of the window that a step reads
 pub window_read : (enclave hart : ℕ) (one other : MonitoredMachine) → SameWindow enclave one other → SameWindowRead enclave hart one other
-window_read enclave hart one other same = record { size = same.size; bytes = λ i shown. same.bytes i (left_if_nand_fails _ _ shown) }
+window_read enclave hart one other bytes_equal =
+    record { size = bytes_equal.size; bytes = λ index shown. bytes_equal.bytes index (left_if_nand_fails _ _ shown) }

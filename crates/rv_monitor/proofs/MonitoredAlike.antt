@@ -1,6 +1,5 @@
 -- Noninterference of one step: a low step of two machines that are equivalent except `enclave` has equal outcomes, and leaves machines that are
--- equivalent
--- except `enclave`.
+-- equivalent except `enclave`.
 use Rattle.std.proofs.Common.{◌≡◌, ◌<◌, ℕ, false, List, Option, Some, None, refl, sym, ◌∙◌, ap, ap₂, subst, inl, inr, arith}
 use Rattle.rv_monitor.specs.Prelude.{Hart, SharedInvariant, Outcome, HartState, Shared, SharedEquivExcept, Slots, Machine, StepOutcome, Stepped, Trap, World}
 use Rattle.rv_monitor.specs.Prelude.{is_live, is_world_of, option_case, step}
@@ -14,14 +13,14 @@ use Rattle.rv_monitor.proofs.Beside.{running_is_live}
 use Rattle.rv_monitor.proofs.BareStepNoninterference.{bare_law}
 use Rattle.rv_monitor.proofs.HandledAlike.{handler_law}
 use Rattle.rv_monitor.proofs.InvariantLemmas.{hart_view_invariant}
-use Rattle.rv_monitor.proofs.HartCases.{count_behind, inside, other_hart_state, outside, own_hart_state, past_hart_state, hart_state_reprogrammed}
+use Rattle.rv_monitor.proofs.HartCases.{stepped_count, inside, other_hart_state, outside, own_hart_state, past_hart_state, hart_state_reprogrammed}
 use Rattle.rv_monitor.proofs.StepInvariant.{step_size}
 
 -- ---- a step of one hart over equivalent shared states
 
 -- the view with this hart state and this shared state
-abbrev on : HartState → Shared → HartView
-on hart_state shared = record { hart_state = hart_state; shared = shared }
+abbrev view_of : HartState → Shared → HartView
+view_of hart_state shared = record { hart_state = hart_state; shared = shared }
 
 -- two steps of a view have equal outcomes, and leave views that are equivalent except `enclave`
 record Agree (enclave : ℕ) (one other : HartViewStepped) : Type 0 where
@@ -30,18 +29,18 @@ record Agree (enclave : ℕ) (one other : HartViewStepped) : Type 0 where
   pub shared : SharedEquivExcept enclave one.state.shared other.state.shared
 
 -- the end of the step, with or without a trap, leaves views that are equivalent except `enclave`
-trapped_equiv : (enclave : ℕ) (outcome : StepOutcome) (o : Option Trap) (worlds : List World) (hart_state : HartState) (one other : Shared)
+trapped_equiv : (enclave : ℕ) (outcome : StepOutcome) (maybe_trap : Option Trap) (worlds : List World) (hart_state : HartState) (one other : Shared)
     → SharedInvariant one worlds → SharedInvariant other worlds → is_world_of enclave hart_state.world ≡ false → SharedEquivExcept enclave one other
-    → Agree enclave (option_case o (unhandled outcome hart_state one) (λ trap. returned outcome (handled hart_state one trap)))
-    (option_case o (unhandled outcome hart_state other) (λ trap. returned outcome (handled hart_state other trap)))
+    → Agree enclave (option_case maybe_trap (unhandled outcome hart_state one) (λ trap. returned outcome (handled hart_state one trap)))
+    (option_case maybe_trap (unhandled outcome hart_state other) (λ trap. returned outcome (handled hart_state other trap)))
 trapped_equiv enclave outcome None worlds hart_state one other shared_invariant_one shared_invariant_other not_running shared_equiv =
     record { outcome = refl; hart_state = record { world = refl; same = λ not_running. refl }; shared = shared_equiv }
 trapped_equiv enclave outcome (Some trap) worlds hart_state one other shared_invariant_one shared_invariant_other not_running shared_equiv =
-    let work = handler_law enclave worlds hart_state one other trap shared_invariant_one shared_invariant_other not_running shared_equiv in
+    let handler_results = handler_law enclave worlds hart_state one other trap shared_invariant_one shared_invariant_other not_running shared_equiv in
     record {
-      outcome = ap (λ (entered : Option ℕ). let shown : Outcome = record { step = outcome; entered = entered } in shown) work.entered;
-      hart_state = work.hart_state;
-      shared = work.shared;
+      outcome = ap (λ (entered : Option ℕ). let shown : Outcome = record { step = outcome; entered = entered } in shown) handler_results.entered;
+      hart_state = handler_results.hart_state;
+      shared = handler_results.shared;
     }
 
 -- the bare step of the view
@@ -65,43 +64,44 @@ stored_sound worlds hart_state shared shared_invariant =
     sound_by_size shared worlds (stepped hart_state shared).state.memory shared_invariant (step_size before (step before) (confined before))
 
 -- a step of a world other than `enclave` over two equivalent shared states has equal outcomes, and leaves equivalent views
-step_equiv : (enclave : ℕ) (hart_state : HartState) (ws : List World) (one other : Shared) → HartViewInvariant (on hart_state one)
-    → SharedInvariant one ws → SharedInvariant other ws → is_world_of enclave hart_state.world ≡ false → SharedEquivExcept enclave one other
-    → Agree enclave (monitored_step (on hart_state one)) (monitored_step (on hart_state other))
+step_equiv : (enclave : ℕ) (hart_state : HartState) (worlds : List World) (one other : Shared) → HartViewInvariant (view_of hart_state one)
+    → SharedInvariant one worlds → SharedInvariant other worlds → is_world_of enclave hart_state.world ≡ false → SharedEquivExcept enclave one other
+    → Agree enclave (monitored_step (view_of hart_state one)) (monitored_step (view_of hart_state other))
 unfolding monitored_step
-step_equiv enclave hart_state ws one other view_invariant_one shared_invariant_one shared_invariant_other not_running shared_equiv =
-    let bare_one = stepped hart_state one in
-    let bare_other = stepped hart_state other in
-    let bare_steps_alike = bare_law enclave (on hart_state one) other.memory view_invariant_one not_running shared_equiv.memory in
+step_equiv enclave hart_state worlds one other view_invariant_one shared_invariant_one shared_invariant_other not_running shared_equiv =
+    let first_bare = stepped hart_state one in
+    let second_bare = stepped hart_state other in
+    let bare_steps_alike = bare_law enclave (view_of hart_state one) other.memory view_invariant_one not_running shared_equiv.memory in
     let shared : SharedEquivExcept enclave (stored hart_state one) (stored hart_state other) = record {
       table = shared_equiv.table;
       memory = bare_steps_alike.memory;
       contexts = shared_equiv.contexts;
       gone = λ dead. ap (stored hart_state) (shared_equiv.gone dead);
     } in
-    let base =
-    trapped_equiv enclave bare_one.outcome bare_one.outcome.trap ws (record hart_state { hart = bare_one.state.hart }) (stored hart_state one)
+    let ended =
+    trapped_equiv enclave first_bare.outcome first_bare.outcome.trap worlds (record hart_state { hart = first_bare.state.hart })
+    (stored hart_state one)
     (stored hart_state other)
-    (stored_sound ws hart_state one shared_invariant_one) (stored_sound ws hart_state other shared_invariant_other) not_running shared in
-    let P : Hart → StepOutcome → Type 0 = λ hart outcome. Agree enclave
-    (after_bare bare_one.outcome (record hart_state { hart = bare_one.state.hart }) (stored hart_state one))
+    (stored_sound worlds hart_state one shared_invariant_one) (stored_sound worlds hart_state other shared_invariant_other) not_running shared in
+    let AgreeFor : Hart → StepOutcome → Type 0 = λ hart outcome. Agree enclave
+    (after_bare first_bare.outcome (record hart_state { hart = first_bare.state.hart }) (stored hart_state one))
     (after_bare outcome (record hart_state { hart = hart }) (stored hart_state other)) in
-    subst (λ hart. P hart bare_other.outcome) (sym bare_steps_alike.hart)
-    (subst (λ outcome. P bare_one.state.hart outcome) (sym bare_steps_alike.outcome) base)
+    subst (λ hart. AgreeFor hart second_bare.outcome) (sym bare_steps_alike.hart)
+    (subst (λ outcome. AgreeFor first_bare.state.hart outcome) (sym bare_steps_alike.outcome) ended)
 
 -- ---- a step of a hart of the machine
 
 -- two machines that are equivalent except `enclave` have the same worlds
 same_worlds : (enclave : ℕ) (one other : MonitoredMachine) → EquivExcept enclave one other → worlds one ≡ worlds other
 same_worlds enclave one other equiv =
-    let world : HartState → World = λ s. s.world in
+    let world_of : HartState → World = λ hart_state. hart_state.world in
     let same_harts = equiv.harts in
-    let length_one = length-map one.hart_states world in
-    let length_other = length-map other.hart_states world in
-    same_lists (worlds one) (worlds other) (length_one ∙ same_harts ∙ sym length_other) (λ k d inside.
-    let in_range : k < count_of one = omega (arith, length_one, inside) in
-    get_or-map world one.hart_states k (hart_state_at_start 0) d in_range ∙ (equiv.hart_states k).world
-    ∙ sym (get_or-map world other.hart_states k (hart_state_at_start 0) d (omega (arith, same_harts, in_range))))
+    let first_length = length-map one.hart_states world_of in
+    let second_length = length-map other.hart_states world_of in
+    same_lists (worlds one) (worlds other) (first_length ∙ same_harts ∙ sym second_length) (λ hart default in_list.
+    let in_range : hart < count_of one = omega (arith, first_length, in_list) in
+    get_or-map world_of one.hart_states hart (hart_state_at_start 0) default in_range ∙ (equiv.hart_states hart).world
+    ∙ sym (get_or-map world_of other.hart_states hart (hart_state_at_start 0) default (omega (arith, same_harts, in_range))))
 
 -- the low steps of the views of one hart of two equivalent machines leave equivalent views
 views_equiv : (enclave hart : ℕ) (one other : MonitoredMachine) → Invariant one → Invariant other → EquivExcept enclave one other
@@ -111,42 +111,51 @@ views_equiv : (enclave hart : ℕ) (one other : MonitoredMachine) → Invariant 
 views_equiv enclave hart one other invariant_one invariant_other equiv in_range not_running =
     let hart_states = equiv.hart_states hart in
     let shared_invariant_other = subst (SharedInvariant other.shared) (sym (same_worlds enclave one other equiv)) invariant_other.shared in
-    subst (λ (s : HartState). Agree enclave (monitored_step (hart_view hart one)) (monitored_step (on s other.shared))) (hart_states.same not_running)
+    subst (λ (hart_state : HartState). Agree enclave (monitored_step (hart_view hart one)) (monitored_step (view_of hart_state other.shared)))
+    (hart_states.same not_running)
     (step_equiv enclave (hart_state_of hart one) (worlds one) one.shared other.shared
     (hart_view_invariant hart one invariant_one in_range) invariant_one.shared shared_invariant_other not_running equiv.shared)
 
 -- reprogramming leaves equivalent hart states equivalent
-behind_equiv : (enclave : ℕ) (o : Option Trap) (slots : Slots) (a b : HartState) → HartStatesEquivExcept enclave a b
-    → HartStatesEquivExcept enclave (hart_state_reprogrammed o slots a) (hart_state_reprogrammed o slots b)
-behind_equiv enclave None slots a b equiv = equiv
-behind_equiv enclave (Some trap) slots a b equiv =
+reprogrammed_equiv : (enclave : ℕ) (maybe_trap : Option Trap) (slots : Slots) (hart_state other_state : HartState)
+    → HartStatesEquivExcept enclave hart_state other_state
+    → HartStatesEquivExcept enclave (hart_state_reprogrammed maybe_trap slots hart_state) (hart_state_reprogrammed maybe_trap slots other_state)
+reprogrammed_equiv enclave None slots hart_state other_state equiv = equiv
+reprogrammed_equiv enclave (Some trap) slots hart_state other_state equiv =
     record { world = equiv.world; same = λ not_running. ap (reprogrammed slots) (equiv.same not_running) }
 
 -- after low steps of two equivalent machines, the states of each hart are equivalent
-stepped_equiv : (enclave hart : ℕ) (one other : MonitoredMachine) (a b : HartViewStepped) → EquivExcept enclave one other → hart < count_of one
-    → Agree enclave a b
-    → (j : ℕ) → HartStatesEquivExcept enclave (hart_state_of j (stepped_by hart one a).state) (hart_state_of j (stepped_by hart other b).state)
-stepped_equiv enclave hart one other a b equiv in_range step j =
+stepped_equiv : (enclave hart : ℕ) (one other : MonitoredMachine) (stepped other_stepped : HartViewStepped) → EquivExcept enclave one other
+    → hart < count_of one
+    → Agree enclave stepped other_stepped
+    → (other_hart : ℕ) → HartStatesEquivExcept enclave (hart_state_of other_hart (stepped_by hart one stepped).state)
+    (hart_state_of other_hart (stepped_by hart other other_stepped).state)
+stepped_equiv enclave hart one other stepped other_stepped equiv in_range view_steps_agree other_hart =
     let same_harts = equiv.harts in
-    elim (cases_lt j (count_of one)) [
+    elim (cases_lt other_hart (count_of one)) [
       | inr past_last ↦
-          let count_one = count_behind hart one a in
-          let count_other = count_behind hart other b in
-          same_hart_states enclave _ _ (past_hart_state (stepped_by hart one a).state.hart_states j (omega (arith, count_one, past_last))
-          ∙ sym (past_hart_state (stepped_by hart other b).state.hart_states j (omega (arith, count_other, same_harts, past_last))))
-      | inl inside ↦ elim (cases_eq j hart) [
-        | inl equal ↦ hart_states_equiv enclave _ _ _ _ (own_hart_state hart one a j equal in_range)
-            (own_hart_state hart other b j equal (omega (arith, same_harts, in_range))) step.hart_state
+          let first_count = stepped_count hart one stepped in
+          let second_count = stepped_count hart other other_stepped in
+          same_hart_states enclave _ _ (past_hart_state (stepped_by hart one stepped).state.hart_states other_hart
+          (omega (arith, first_count, past_last))
+          ∙ sym (past_hart_state (stepped_by hart other other_stepped).state.hart_states other_hart
+          (omega (arith, second_count, same_harts, past_last))))
+      | inl other_in_range ↦ elim (cases_eq other_hart hart) [
+        | inl equal ↦ hart_states_equiv enclave _ _ _ _ (own_hart_state hart one stepped other_hart equal in_range)
+            (own_hart_state hart other other_stepped other_hart equal (omega (arith, same_harts, in_range))) view_steps_agree.hart_state
         | inr distinct ↦
-            let traps = ap (λ (outcome : Outcome). outcome.step.trap) step.outcome in
-            let behind : Option Trap → Slots → Type 0 =
-            λ o slots. HartStatesEquivExcept enclave (hart_state_reprogrammed a.outcome.step.trap a.state.shared.table (hart_state_of j one))
-            (hart_state_reprogrammed o slots (hart_state_of j other)) in
-            hart_states_equiv enclave _ _ _ _ (other_hart_state hart one a j distinct inside)
-            (other_hart_state hart other b j distinct (omega (arith, same_harts, inside)))
-            (subst (λ (o : Option Trap). behind o b.state.shared.table) traps
-            (subst (behind a.outcome.step.trap) step.shared.table
-            (behind_equiv enclave a.outcome.step.trap a.state.shared.table (hart_state_of j one) (hart_state_of j other) (equiv.hart_states j))))
+            let traps = ap (λ (outcome : Outcome). outcome.step.trap) view_steps_agree.outcome in
+            let ReprogrammedEquiv : Option Trap → Slots → Type 0 =
+            λ maybe_trap slots. HartStatesEquivExcept enclave (hart_state_reprogrammed stepped.outcome.step.trap stepped.state.shared.table
+            (hart_state_of other_hart one))
+            (hart_state_reprogrammed maybe_trap slots (hart_state_of other_hart other)) in
+            hart_states_equiv enclave _ _ _ _ (other_hart_state hart one stepped other_hart distinct other_in_range)
+            (other_hart_state hart other other_stepped other_hart distinct (omega (arith, same_harts, other_in_range)))
+            (subst (λ (maybe_trap : Option Trap). ReprogrammedEquiv maybe_trap other_stepped.state.shared.table) traps
+            (subst (ReprogrammedEquiv stepped.outcome.step.trap) view_steps_agree.shared.table
+            (reprogrammed_equiv enclave stepped.outcome.step.trap stepped.state.shared.table (hart_state_of other_hart one)
+            (hart_state_of other_hart other)
+            (equiv.hart_states other_hart))))
       ]
     ]
 
@@ -158,15 +167,15 @@ noninterference hart one invariant enclave other invariant_other equiv not_runni
       | inr past_last ↦
           rw (outside hart one past_last, outside hart other (omega (arith, same_harts, past_last))) (record { outcome = refl; state = equiv })
       | inl in_range ↦
-          let after_one = monitored_step (hart_view hart one) in
-          let after_other = monitored_step (hart_view hart other) in
-          let step = views_equiv enclave hart one other invariant invariant_other equiv in_range not_running in
+          let first_after = monitored_step (hart_view hart one) in
+          let second_after = monitored_step (hart_view hart other) in
+          let view_steps_agree = views_equiv enclave hart one other invariant invariant_other equiv in_range not_running in
           rw (inside hart one in_range, inside hart other (omega (arith, same_harts, in_range))) (record {
-            outcome = step.outcome;
+            outcome = view_steps_agree.outcome;
             state = record {
-              harts = count_behind hart one after_one ∙ equiv.harts ∙ sym (count_behind hart other after_other);
-              hart_states = stepped_equiv enclave hart one other after_one after_other equiv in_range step;
-              shared = step.shared;
+              harts = stepped_count hart one first_after ∙ equiv.harts ∙ sym (stepped_count hart other second_after);
+              hart_states = stepped_equiv enclave hart one other first_after second_after equiv in_range view_steps_agree;
+              shared = view_steps_agree.shared;
             };
           })
     ]
@@ -176,19 +185,19 @@ noninterference hart one invariant enclave other invariant_other equiv not_runni
 -- two machines that are equivalent except `enclave` are equal, if `enclave` is not live
 pub gone_equal : (enclave : ℕ) (one other : MonitoredMachine) → Invariant one → EquivExcept enclave one other
     → is_live one.shared.table enclave ≡ false → one ≡ other
-gone_equal enclave one other invariant_one equiv dead =
+gone_equal enclave one other invariant_one equiv not_live =
     let same_harts = equiv.harts in
-    let machine : List HartState → Shared → MonitoredMachine = λ hart_states shared. record { hart_states = hart_states; shared = shared } in
-    ap₂ machine (same_lists one.hart_states other.hart_states equiv.harts (λ j d inside.
-    get_or_default one.hart_states j d (hart_state_at_start 0) inside
-    ∙ (equiv.hart_states j).same (not_running j)
-    ∙ sym (get_or_default other.hart_states j d (hart_state_at_start 0) (omega (arith, same_harts, inside)))))
-    (equiv.shared.gone dead)
+    let machine_of : List HartState → Shared → MonitoredMachine = λ hart_states shared. record { hart_states = hart_states; shared = shared } in
+    ap₂ machine_of (same_lists one.hart_states other.hart_states equiv.harts (λ hart default in_range.
+    get_or_default one.hart_states hart default (hart_state_at_start 0) in_range
+    ∙ (equiv.hart_states hart).same (not_running hart)
+    ∙ sym (get_or_default other.hart_states hart default (hart_state_at_start 0) (omega (arith, same_harts, in_range)))))
+    (equiv.shared.gone not_live)
   where
     -- an enclave that is not live runs on no hart
-    not_running : (j : ℕ) → runs_on enclave j one ≡ false
-    not_running j =
-        elim (cases_Bool (runs_on enclave j one)) [
-          | inl runs ↦ absurd (both_ways _ dead (running_is_live enclave j one invariant_one runs))
+    not_running : (hart : ℕ) → runs_on enclave hart one ≡ false
+    not_running hart =
+        elim (cases_Bool (runs_on enclave hart one)) [
+          | inl runs ↦ absurd (both_ways _ not_live (running_is_live enclave hart one invariant_one runs))
           | inr runs_other ↦ runs_other
         ]

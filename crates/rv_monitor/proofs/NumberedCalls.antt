@@ -46,7 +46,7 @@ refused_by_status hart_state shared result [] status_is_not_0 = absurd (status_i
 refused_by_status hart_state shared result ((true, refusal) ∷ rows) status_is_not_0 = refl
 refused_by_status hart_state shared result ((false, refusal) ∷ rows) status_is_not_0 = refused_by_status hart_state shared result rows status_is_not_0
 
--- ---- the handler
+-- ---- the trap handler
 
 -- the hart state at an ecall, and the shared state
 module _ (hart_state : HartState) (shared : Shared) where
@@ -65,12 +65,12 @@ module _ (hart_state : HartState) (shared : Shared) where
   refusals_are_rows Run = numbers.run (a0 hart_state)
   refusals_are_rows Resume = numbers.resume (a0 hart_state)
   refusals_are_rows Measure =
-      ap (λ (k : ℕ). in_numbers (measure_refusals shared hart_state.hart.csrs.pmp k (a1 hart_state))) (numbers.slot hart_state.world)
+      ap (λ (slot : ℕ). in_numbers (measure_refusals shared hart_state.hart.csrs.pmp slot (a1 hart_state))) (numbers.slot hart_state.world)
       ∙ numbers.measure (slot_named hart_state.world hart_state.hart.regs) (a1 hart_state)
   refusals_are_rows Stop = refl
   refusals_are_rows Exit = refl
 
-  -- the requested call, by the numbers in a7 and a6
+  -- the requested call, which the numbers in a7 and a6 determine
   abbrev numbered : Option Call
   numbered = call_numbered hart_state.world (register hart_state.hart.regs 17) (register hart_state.hart.regs 16)
 
@@ -82,7 +82,7 @@ module _ (hart_state : HartState) (shared : Shared) where
   not_refused : (call : Call) → first_status (rows_of call) ≡ 0 → first_refusal (call_refusals hart_state shared call) ≡ None
   not_refused call status_is_0 = no_row_holds (call_refusals hart_state shared call) (ap first_status (refusals_are_rows call) ∙ status_is_0)
 
-  -- if the status of a call's table is not 0, then the call is refused with this status
+  -- if the status of a call's table is not 0, then the monitor refuses the call with this status
   called_refused : (call : Call) → first_status (rows_of call) ≢ 0
       → called hart_state shared call ≡ returned_to_caller hart_state shared (first_status (rows_of call)) 0
   unfolding called
@@ -93,25 +93,27 @@ module _ (hart_state : HartState) (shared : Shared) where
       (refused hart_state shared) ≡ returned_to_caller hart_state shared (first_status rows) 0) (refusals_are_rows call)
       (refused_by_status hart_state shared (performed hart_state shared call) (call_refusals hart_state shared call)) status_is_not_0
 
-  -- if the status of an ecall is not 0, then the ecall is refused with this status, whether it requests a call or not
-  by_call : (o : Option Call) → option_case o 0xFFFFFFFF (λ call. first_status (rows_of call)) ≢ 0
-      → option_case o (refused hart_state shared NotSupported) (called hart_state shared)
-      ≡ returned_to_caller hart_state shared (option_case o 0xFFFFFFFF (λ call. first_status (rows_of call))) 0
-  by_call None status_is_not_0 = refl
-  by_call (Some call) status_is_not_0 = called_refused call status_is_not_0
+  -- If the status of an ecall is not 0, then the monitor refuses the ecall with this status. The status is 0xFFFFFFFF if the ecall requests no
+  -- call.
+  ecall_refused : (maybe_call : Option Call) → option_case maybe_call 0xFFFFFFFF (λ call. first_status (rows_of call)) ≢ 0
+      → option_case maybe_call (refused hart_state shared NotSupported) (called hart_state shared)
+      ≡ returned_to_caller hart_state shared (option_case maybe_call 0xFFFFFFFF (λ call. first_status (rows_of call))) 0
+  ecall_refused None status_is_not_0 = refl
+  ecall_refused (Some call) status_is_not_0 = called_refused call status_is_not_0
 
   -- an ecall whose status is not 0 returns this status and 0, and leaves the shared state unchanged
   pub handled_refused : (trap : Trap) (cause : Cause) → cause ≡ causes.Exception EnvironmentCallFromS → status ≢ 0
       → handled_cause hart_state shared trap cause ≡ returned_to_caller hart_state shared status 0
   unfolding call_handled call_status
   handled_refused trap cause by_ecall status_is_not_0 =
-      let asked = numbers.call hart_state.world in rw (by_ecall, asked) (by_call numbered status_is_not_0)
+      let requested = numbers.call hart_state.world in rw (by_ecall, requested) (ecall_refused numbered status_is_not_0)
 
   -- if the status of an ecall is 0, then so is the status of the table of the requested call
-  status_of_call : (call : Call) (o : Option Call) → o ≡ Some call → option_case o 0xFFFFFFFF (λ c. first_status (rows_of c)) ≡ 0
+  status_of_call : (call : Call) (maybe_call : Option Call) → maybe_call ≡ Some call
+      → option_case maybe_call 0xFFFFFFFF (λ some_call. first_status (rows_of some_call)) ≡ 0
       → first_status (rows_of call) ≡ 0
-  status_of_call call o call_is status_is_0 =
-      subst (λ (x : Option Call). option_case x 0xFFFFFFFF (λ c. first_status (rows_of c)) ≡ 0) call_is status_is_0
+  status_of_call call maybe_call call_is status_is_0 =
+      subst (λ (maybe_call : Option Call). option_case maybe_call 0xFFFFFFFF (λ some_call. first_status (rows_of some_call)) ≡ 0) call_is status_is_0
 
   -- no refusal of the requested call applies, if the status is 0
   pub none_refused : (call : Call) → numbered ≡ Some call → status ≡ 0 → first_refusal (call_refusals hart_state shared call) ≡ None
@@ -127,29 +129,31 @@ module _ (hart_state : HartState) (shared : Shared) where
       → handled_cause hart_state shared trap cause ≡ performed hart_state shared call
   unfolding call_handled called
   handled_done trap cause call by_ecall numbered_is status_is_0 =
-      let asked = asks call numbered_is in
+      let requested = asks call numbered_is in
       let no_refusal = none_refused call numbered_is status_is_0 in
-      rw (by_ecall, asked, no_refusal) refl
+      rw (by_ecall, requested, no_refusal) refl
 
   -- create returns 0 and the lowest free slot, and puts the new enclave into the shared state
   pub performs_create : performed hart_state shared Create
-      ≡ returned_to_caller hart_state (shared_with_new shared hart_state.hart.regs) 0 (option_case (lowest_free shared.table) slot_count (λ k. k))
+      ≡ returned_to_caller hart_state (shared_with_new shared hart_state.hart.regs) 0
+      (option_case (lowest_free shared.table) slot_count (λ slot. slot))
   unfolding performed free_slot
   performs_create =
-      ap (λ (s : Shared). returned_to_caller hart_state s 0 (option_case (lowest_free shared.table) slot_count (λ k. k))) numbers.created
+      ap (λ (after : Shared). returned_to_caller hart_state after 0
+      (option_case (lowest_free shared.table) slot_count (λ slot. slot))) numbers.created
 
   -- destroy returns 0 and 0, and removes the enclave in the slot of a0 from the shared state
   pub performs_destroy : performed hart_state shared Destroy ≡ returned_to_caller hart_state (shared_without shared (a0 hart_state)) 0 0
   unfolding performed
-  performs_destroy = ap (λ (s : Shared). returned_to_caller hart_state s 0 0) (numbers.destroyed (a0 hart_state))
+  performs_destroy = ap (λ (shared : Shared). returned_to_caller hart_state shared 0 0) (numbers.destroyed (a0 hart_state))
 
   -- measure returns 0 and 0, and writes the measurement of the named slot at a1
   pub performs_measure : performed hart_state shared Measure
       ≡ returned_to_caller hart_state (shared_with_measurement shared (slot_named hart_state.world hart_state.hart.regs) (a1 hart_state)) 0 0
   unfolding performed
   performs_measure =
-      ap (λ (k : ℕ). returned_to_caller hart_state (measured shared k (a1 hart_state)) 0 0) (numbers.slot hart_state.world)
-      ∙ ap (λ (s : Shared). returned_to_caller hart_state s 0 0)
+      ap (λ (slot : ℕ). returned_to_caller hart_state (measured shared slot (a1 hart_state)) 0 0) (numbers.slot hart_state.world)
+      ∙ ap (λ (shared : Shared). returned_to_caller hart_state shared 0 0)
       (numbers.measured (slot_named hart_state.world hart_state.hart.regs) (a1 hart_state))
 
   -- the result of an entry of the slot in a0
@@ -170,32 +174,32 @@ module _ (hart_state : HartState) (shared : Shared) where
 
 -- the view after a return to the caller
 abbrev answered_view : HartView → Trap → Shared → ℕ → ℕ → HartView
-answered_view state trap shared v0 v1 =
+answered_view state trap shared a0_value a1_value =
     let machine : MonitoredMachine = record { hart_states = state.hart_state ∷ []; shared = state.shared } in
-    record { hart_state = hart_state_of 0 (answered_machine 0 machine trap shared v0 v1); shared = shared }
+    record { hart_state = hart_state_of 0 (answered_machine 0 machine trap shared a0_value a1_value); shared = shared }
 
--- the trap handler returns to the caller with the values v0 and v1, and leaves this shared state
-module _ (state : HartView) (view_invariant : HartViewInvariant state) (trap : Trap) (shared : Shared) (v0 v1 : ℕ) where
+-- the trap handler returns to the caller with values in a0 and a1, and leaves this shared state
+module _ (state : HartView) (view_invariant : HartViewInvariant state) (trap : Trap) (shared : Shared) (a0_value a1_value : ℕ) where
   -- the return to the caller gives the view after a return to the caller
   returned_answered : (outcome : StepOutcome)
-      → (returned outcome (with_reprogrammed_hart (returned_to_caller (hart_state_after state.hart_state trap) shared v0 v1))).state
-      ≡ answered_view state trap shared v0 v1
+      → (returned outcome (with_reprogrammed_hart (returned_to_caller (hart_state_after state.hart_state trap) shared a0_value a1_value))).state
+      ≡ answered_view state trap shared a0_value a1_value
   returned_answered outcome =
       let hart = state.hart_state.hart in
       let mprv = view_invariant.hart.layout.mprv in
       rw (next_is_aligned hart.pc, or-false (is_set hart.csrs.mcountinhibit 0), mprv) refl
 
   -- the view after the step is the view after a return to the caller, and the step enters no slot
-  abbrev Answered : HartViewStepped → Type 0
-  Answered after = (after.state ≡ answered_view state trap shared v0 v1) × (after.outcome.entered ≡ None)
+  abbrev StepAnswers : HartViewStepped → Type 0
+  StepAnswers after = (after.state ≡ answered_view state trap shared a0_value a1_value) × (after.outcome.entered ≡ None)
 
   -- if the trap handler returns to the caller, then the step satisfies `Answered`
-  answered_at : (outcome : StepOutcome)
+  handler_answer_is_step_answer : (outcome : StepOutcome)
       → handled_cause (hart_state_after state.hart_state trap) state.shared trap trap.cause
-      ≡ returned_to_caller (hart_state_after state.hart_state trap) shared v0 v1
-      → Answered (returned outcome (handled (hart_state_after state.hart_state trap) state.shared trap))
+      ≡ returned_to_caller (hart_state_after state.hart_state trap) shared a0_value a1_value
+      → StepAnswers (returned outcome (handled (hart_state_after state.hart_state trap) state.shared trap))
   unfolding handled
-  answered_at outcome handled_is = rw handled_is (returned_answered outcome, refl)
+  handler_answer_is_step_answer outcome handled_is = rw handled_is (returned_answered outcome, refl)
 
 -- the step of a hart of the machine has this trap
 module _ (hart : ℕ) (machine : MonitoredMachine) (invariant : Invariant machine) (trap : Trap) (trapping : IsTrapping hart machine trap) where
@@ -213,9 +217,9 @@ module _ (hart : ℕ) (machine : MonitoredMachine) (invariant : Invariant machin
       → Returns hart machine (step_of hart machine) trap shared a0_value a1_value
   returns shared a0_value a1_value handled_is =
       let view_answers =
-      subst (Answered view_before (hart_view_invariant hart machine invariant trapping.has) trap shared a0_value a1_value)
+      subst (StepAnswers view_before (hart_view_invariant hart machine invariant trapping.has) trap shared a0_value a1_value)
       (sym (trapped_step view_before trap trapping.trapped))
-      (answered_at view_before (hart_view_invariant hart machine invariant trapping.has) trap shared a0_value a1_value
+      (handler_answer_is_step_answer view_before (hart_view_invariant hart machine invariant trapping.has) trap shared a0_value a1_value
       (step (bare_machine view_before)).outcome handled_is) in
       (trapping.state ∙ ap (programmed_by hart machine) view_answers.0, ap (λ (outcome : Outcome). outcome.entered) trapping.outcome ∙ view_answers.1)
 
@@ -228,23 +232,23 @@ module _ (hart : ℕ) (machine : MonitoredMachine) (invariant : Invariant machin
   slot_runs_after_entry handled_is =
       ap (λ (after : HartViewStepped). after.state.hart_state.world)
       (step_of_view hart machine trapping.has ∙ trapped_step view_before trap trapping.trapped)
-      ∙ ap (λ (h : Handled). h.hart_state.world) handled_is
+      ∙ ap (λ (result : Handled). result.hart_state.world) handled_is
 
-  -- a step of the host after which enclave k runs is an entry of slot k by a call
-  enters_by : (k : ℕ) → view_before.hart_state.world ≡ Host → (step_of hart machine).outcome.step.trap ≡ Some trap
-      → (hart_state_of hart (step_of hart machine).state).world ≡ Enclave k → EntersByCall hart machine (step_of hart machine) trap k
-  enters_by k from_host traps enclave_runs_after =
-      let has_entered = enter_law hart machine invariant k from_host enclave_runs_after in
-      let traps_alike : Some has_entered.trap ≡ Some trap = sym has_entered.trapped ∙ traps in
-      let same : has_entered.trap ≡ trap = cc in
-      subst (λ (entry_trap : Trap). EntersByCall hart machine (step_of hart machine) entry_trap k) same has_entered.call
+  -- a step of the host after which the enclave runs is an entry of the slot by a call
+  entry_is_by_call : (slot : ℕ) → view_before.hart_state.world ≡ Host → (step_of hart machine).outcome.step.trap ≡ Some trap
+      → (hart_state_of hart (step_of hart machine).state).world ≡ Enclave slot → EntersByCall hart machine (step_of hart machine) trap slot
+  entry_is_by_call slot from_host traps enclave_runs_after =
+      let has_entered = enter_law hart machine invariant slot from_host enclave_runs_after in
+      let some_traps_equal : Some has_entered.trap ≡ Some trap = sym has_entered.trapped ∙ traps in
+      let traps_equal : has_entered.trap ≡ trap = cc in
+      subst (λ (entry_trap : Trap). EntersByCall hart machine (step_of hart machine) entry_trap slot) traps_equal has_entered.call
 
   -- a call that enters the slot in a0 makes the step of the machine an entry of this slot
-  enters_with : (call : Call) → performed after_trap machine.shared call ≡ entry after_trap machine.shared
+  entering_call_enters : (call : Call) → performed after_trap machine.shared call ≡ entry after_trap machine.shared
       → handled_cause after_trap machine.shared trap trap.cause ≡ performed after_trap machine.shared call → view_before.hart_state.world ≡ Host
       → (step_of hart machine).outcome.step.trap ≡ Some trap → EntersByCall hart machine (step_of hart machine) trap (a0 after_trap)
-  enters_with call performs_entry handled_is from_host trapped =
-      enters_by (a0 after_trap) from_host trapped (slot_runs_after_entry (handled_is ∙ performs_entry))
+  entering_call_enters call performs_entry handled_is from_host trapped =
+      entry_is_by_call (a0 after_trap) from_host trapped (slot_runs_after_entry (handled_is ∙ performs_entry))
 
 -- ---- exit
 
@@ -273,49 +277,49 @@ six_not_seven : (a6 : ℕ) → (a6 == 6) ≡ true → (a6 == 7) ≡ false
 six_not_seven a6 is_six = grind (arith, nat_tests)
 
 -- if an enclave requests stop, then a6 does not have the number of exit
-requests_stop-a6 : (k a7 a6 : ℕ) → call_numbered (Enclave k) a7 a6 ≡ Some Stop → (a6 == call_number Exit) ≡ false
+requests_stop-a6 : (slot a7 a6 : ℕ) → call_numbered (Enclave slot) a7 a6 ≡ Some Stop → (a6 == call_number Exit) ≡ false
 unfolding call_numbered
-requests_stop-a6 k a7 a6 call_numbered_is = six_not_seven a6 (stop_numbered (a7 == 0x0A454E43) (a6 == 5) (a6 == 6) (a6 == 7) call_numbered_is)
+requests_stop-a6 slot a7 a6 call_numbered_is = six_not_seven a6 (stop_numbered (a7 == 0x0A454E43) (a6 == 5) (a6 == 6) (a6 == 7) call_numbered_is)
 
 -- if an enclave requests exit, then a6 has the number of exit
-requests_exit-a6 : (k a7 a6 : ℕ) → call_numbered (Enclave k) a7 a6 ≡ Some Exit → (a6 == call_number Exit) ≡ true
+requests_exit-a6 : (slot a7 a6 : ℕ) → call_numbered (Enclave slot) a7 a6 ≡ Some Exit → (a6 == call_number Exit) ≡ true
 unfolding call_numbered
-requests_exit-a6 k a7 a6 call_numbered_is = exit_numbered (a7 == 0x0A454E43) (a6 == 5) (a6 == 6) (a6 == 7) call_numbered_is
+requests_exit-a6 slot a7 a6 call_numbered_is = exit_numbered (a7 == 0x0A454E43) (a6 == 5) (a6 == 6) (a6 == 7) call_numbered_is
 
 -- an ecall that requests stop or exit is a cause that exits
-leaves_by : (hart_state : HartState) (cause : Cause) (call : Call) → cause ≡ causes.Exception EnvironmentCallFromS
+exit_call_is_exit_cause : (hart_state : HartState) (cause : Cause) (call : Call) → cause ≡ causes.Exception EnvironmentCallFromS
     → requested_call hart_state.world hart_state.hart.regs ≡ Some call → is_exit_call (Some call) ≡ true → causes_exit hart_state cause ≡ true
-leaves_by hart_state cause call by_ecall requested is_exit = rw (by_ecall, requested) is_exit
+exit_call_is_exit_cause hart_state cause call by_ecall requested is_exit = rw (by_ecall, requested) is_exit
 
--- enclave k exits from a hart by this trap, to the host with this saved context
-module _ (hart : ℕ) (machine : MonitoredMachine) (k : ℕ) (trap : Trap) (host : Context) where
+-- the enclave of the slot exits from a hart by this trap, to the host with this saved context
+module _ (hart : ℕ) (machine : MonitoredMachine) (slot : ℕ) (trap : Trap) (host : Context) where
   -- the hart before the step
   abbrev hart_before : Hart
   hart_before = (hart_state_of hart machine).hart
 
   -- both definitions of the machine after a stop agree
-  stopped_is : trap.cause ≡ causes.Exception EnvironmentCallFromS → (register hart_before.regs 16 == call_number Exit) ≡ false
-      → left_machine hart machine k trap host ≡ handed_over_machine hart machine k trap host (by_stop_call hart_before)
-  stopped_is by_ecall is_not_exit = rw (by_ecall, is_not_exit) refl
+  machines_after_stop_equal : trap.cause ≡ causes.Exception EnvironmentCallFromS → (register hart_before.regs 16 == call_number Exit) ≡ false
+      → left_machine hart machine slot trap host ≡ handed_over_machine hart machine slot trap host (by_stop_call hart_before)
+  machines_after_stop_equal by_ecall is_not_exit = rw (by_ecall, is_not_exit) refl
 
   -- both definitions of the machine after an exit agree
-  exited_is : trap.cause ≡ causes.Exception EnvironmentCallFromS → (register hart_before.regs 16 == call_number Exit) ≡ true
-      → left_machine hart machine k trap host ≡ handed_over_machine hart machine k trap host (by_exit_call hart_before)
-  exited_is by_ecall is_exit = rw (by_ecall, is_exit) refl
+  machines_after_exit_equal : trap.cause ≡ causes.Exception EnvironmentCallFromS → (register hart_before.regs 16 == call_number Exit) ≡ true
+      → left_machine hart machine slot trap host ≡ handed_over_machine hart machine slot trap host (by_exit_call hart_before)
+  machines_after_exit_equal by_ecall is_exit = rw (by_ecall, is_exit) refl
 
   -- both definitions of the machine after a timer interrupt agree
-  interrupted_is : (interrupt : Interrupt) → trap.cause ≡ causes.Interrupt interrupt
-      → left_machine hart machine k trap host ≡ handed_over_machine hart machine k trap host (by_interrupt hart_before)
-  interrupted_is interrupt cause_is = rw cause_is refl
+  machines_after_interrupt_equal : (interrupt : Interrupt) → trap.cause ≡ causes.Interrupt interrupt
+      → left_machine hart machine slot trap host ≡ handed_over_machine hart machine slot trap host (by_interrupt hart_before)
+  machines_after_interrupt_equal interrupt cause_is = rw cause_is refl
 
 -- ---- the law
 
 -- proves that an interrupt of an enclave hands its hart over to the host
 pub interrupts_enclave : (hart : ℕ) (machine : MonitoredMachine) → Invariant machine → InterruptsEnclave hart machine (step_of hart machine)
-interrupts_enclave hart machine invariant k host trap interrupt runs host_is_saved traps cause_is =
-    let exit_is = leave_law hart machine invariant k host trap runs host_is_saved traps
-    (host_is _ ((exits_law hart machine invariant k runs).exits trap traps ∙ ap (causes_exit (hart_state_of hart machine)) cause_is)) in
-    (exit_is.0 ∙ interrupted_is hart machine k trap host interrupt cause_is, exit_is.1)
+interrupts_enclave hart machine invariant slot host trap interrupt runs host_is_saved traps cause_is =
+    let left = leave_law hart machine invariant slot host trap runs host_is_saved traps
+    (host_is _ ((exits_law hart machine invariant slot runs).exits trap traps ∙ ap (causes_exit (hart_state_of hart machine)) cause_is)) in
+    (left.0 ∙ machines_after_interrupt_equal hart machine slot trap host interrupt cause_is, left.1)
 
 -- proves the result of each call by its number and its status
 pub answers_calls : (hart : ℕ) (machine : MonitoredMachine) → Invariant machine → AnswersCalls hart machine (step_of hart machine)
@@ -325,48 +329,52 @@ answers_calls hart machine invariant trap traps by_ecall =
     let before = hart_state_of hart machine in
     let hart_state = hart_state_after before trap in
     -- the trap handler performs a requested call with status 0
-    let done : (call : Call) → call_at hart machine ≡ Some call → status_at hart machine ≡ 0
+    let handler_performs : (call : Call) → call_at hart machine ≡ Some call → status_at hart machine ≡ 0
     → handled_cause hart_state shared trap trap.cause ≡ performed hart_state shared call =
-    λ call call_is status_is_0. handled_done hart_state shared trap trap.cause call by_ecall call_is status_is_0 in
+    λ call is_call status_is_0. handled_done hart_state shared trap trap.cause call by_ecall is_call status_is_0 in
     -- a stop or an exit leaves the machine that `left_machine` gives, and enters no slot
-    let leaves : (k : ℕ) (host : Context) (call : Call)
-    → before.world ≡ Enclave k → before.host_context ≡ Some host → call_at hart machine ≡ Some call
+    let leaves_machine : (slot : ℕ) (host : Context) (call : Call)
+    → before.world ≡ Enclave slot → before.host_context ≡ Some host → call_at hart machine ≡ Some call
     → is_exit_call (Some call) ≡ true
-    → ((step_of hart machine).state ≡ left_machine hart machine k trap host) × ((step_of hart machine).outcome.entered ≡ None) =
-    λ k host call runs host_is_saved call_is exits.
-    leave_law hart machine invariant k host trap runs host_is_saved traps
-    (host_is _ ((exits_law hart machine invariant k runs).exits trap traps
-    ∙ leaves_by before trap.cause call by_ecall (asks before shared call call_is) exits)) in
+    → ((step_of hart machine).state ≡ left_machine hart machine slot trap host) × ((step_of hart machine).outcome.entered ≡ None) =
+    λ slot host call runs host_is_saved is_call exits.
+    leave_law hart machine invariant slot host trap runs host_is_saved traps
+    (host_is _ ((exits_law hart machine invariant slot runs).exits trap traps
+    ∙ exit_call_is_exit_cause before trap.cause call by_ecall (asks before shared call is_call) exits)) in
     -- the numbers in a7 and a6 are those of the call
-    let asked : (k : ℕ) (call : Call) → before.world ≡ Enclave k → call_at hart machine ≡ Some call
-    → call_numbered (Enclave k) (register before.hart.regs 17) (register before.hart.regs 16) ≡ Some call =
-    λ k call runs call_is. subst
-    (λ (world : World). call_numbered world (register before.hart.regs 17) (register before.hart.regs 16) ≡ Some call) runs call_is in
+    let numbers_of_call : (slot : ℕ) (call : Call) → before.world ≡ Enclave slot → call_at hart machine ≡ Some call
+    → call_numbered (Enclave slot) (register before.hart.regs 17) (register before.hart.regs 16) ≡ Some call =
+    λ slot call runs is_call. subst
+    (λ (world : World). call_numbered world (register before.hart.regs 17) (register before.hart.regs 16) ≡ Some call) runs is_call in
     record {
-      refuses = λ holds.
+      refuses = λ status_is_not_0.
           returns hart machine invariant trap trapping shared (status_at hart machine) 0
-          (handled_refused hart_state shared trap trap.cause by_ecall holds);
+          (handled_refused hart_state shared trap trap.cause by_ecall status_is_not_0);
       creates =
-          λ call_is status_is_0. returns hart machine invariant trap trapping _ 0 _
-          (done Create call_is status_is_0 ∙ performs_create hart_state shared);
+          λ is_call status_is_0. returns hart machine invariant trap trapping _ 0 _
+          (handler_performs Create is_call status_is_0 ∙ performs_create hart_state shared);
       destroys =
-          λ call_is status_is_0. returns hart machine invariant trap trapping _ 0 0
-          (done Destroy call_is status_is_0 ∙ performs_destroy hart_state shared);
+          λ is_call status_is_0. returns hart machine invariant trap trapping _ 0 0
+          (handler_performs Destroy is_call status_is_0 ∙ performs_destroy hart_state shared);
       measures =
-          λ call_is status_is_0. returns hart machine invariant trap trapping _ 0 0
-          (done Measure call_is status_is_0 ∙ performs_measure hart_state shared);
-      runs = λ host call_is status_is_0.
-          enters_with hart machine invariant trap trapping Run (performs_run hart_state shared) (done Run call_is status_is_0) host traps;
-      resumes = λ host call_is status_is_0.
-          enters_with hart machine invariant trap trapping Resume (performs_resume hart_state shared) (done Resume call_is status_is_0) host traps;
-      stops = λ k host runs host_is_saved call_is.
-          let left = leaves k host Stop runs host_is_saved call_is refl in
-          let test = requests_stop-a6 k (register before.hart.regs 17) (register before.hart.regs 16) (asked k Stop runs call_is) in
-          (left.0 ∙ stopped_is hart machine k trap host by_ecall test, left.1);
-      exits = λ k host runs host_is_saved call_is.
-          let left = leaves k host Exit runs host_is_saved call_is refl in
-          let test = requests_exit-a6 k (register before.hart.regs 17) (register before.hart.regs 16) (asked k Exit runs call_is) in
-          (left.0 ∙ exited_is hart machine k trap host by_ecall test, left.1);
+          λ is_call status_is_0. returns hart machine invariant trap trapping _ 0 0
+          (handler_performs Measure is_call status_is_0 ∙ performs_measure hart_state shared);
+      runs = λ host is_call status_is_0.
+          entering_call_enters hart machine invariant trap trapping Run (performs_run hart_state shared)
+          (handler_performs Run is_call status_is_0) host traps;
+      resumes = λ host is_call status_is_0.
+          entering_call_enters hart machine invariant trap trapping Resume (performs_resume hart_state shared)
+          (handler_performs Resume is_call status_is_0) host traps;
+      stops = λ slot host runs host_is_saved is_call.
+          let left = leaves_machine slot host Stop runs host_is_saved is_call refl in
+          let a6_test =
+          requests_stop-a6 slot (register before.hart.regs 17) (register before.hart.regs 16) (numbers_of_call slot Stop runs is_call) in
+          (left.0 ∙ machines_after_stop_equal hart machine slot trap host by_ecall a6_test, left.1);
+      exits = λ slot host runs host_is_saved is_call.
+          let left = leaves_machine slot host Exit runs host_is_saved is_call refl in
+          let a6_test =
+          requests_exit-a6 slot (register before.hart.regs 17) (register before.hart.regs 16) (numbers_of_call slot Exit runs is_call) in
+          (left.0 ∙ machines_after_exit_equal hart machine slot trap host by_ecall a6_test, left.1);
     }
 
 -- proves that each call succeeds under its conditions in numbers
@@ -374,36 +382,36 @@ pub calls_succeed : (hart : ℕ) (machine : MonitoredMachine) → Invariant mach
 calls_succeed hart machine invariant trap traps by_ecall =
     let before = hart_state_of hart machine in
     let regs = before.hart.regs in
-    let answers = answers_calls hart machine invariant trap traps by_ecall in
-    let accepts = accepts_calls machine.shared before.hart.csrs.pmp regs in
-    -- `At world call`: the monitor accepts this call of this world
-    let At : World → Call → Type 0 = λ world call. IsAccepted world machine.shared before.hart.csrs.pmp regs call in
-    let of : (world : World) (call : Call) → before.world ≡ world → At world call → At before.world call =
-    λ world call world_is_enclave. subst (λ (w : World). At w call) (sym world_is_enclave) in
+    let call_results = answers_calls hart machine invariant trap traps by_ecall in
+    let accepted_calls = accepts_calls machine.shared before.hart.csrs.pmp regs in
+    -- `AcceptsCall world call`: the monitor accepts this call of this world
+    let AcceptsCall : World → Call → Type 0 = λ world call. IsAccepted world machine.shared before.hart.csrs.pmp regs call in
+    let accepted_of_world : (world : World) (call : Call) → before.world ≡ world → AcceptsCall world call → AcceptsCall before.world call =
+    λ world call world_is_enclave. subst (λ (world : World). AcceptsCall world call) (sym world_is_enclave) in
     record {
-      create = λ slot host asks conditions.
-          let accepted_create = accepts.create slot asks conditions in
-          let accepted = of Host Create host accepted_create.0 in
+      create = λ slot host is_request conditions.
+          let accepted_create = accepted_calls.create slot is_request conditions in
+          let accepted = accepted_of_world Host Create host accepted_create.0 in
           subst
-          (λ (o : Option ℕ). Returns hart machine (step_of hart machine) trap (shared_with_new machine.shared regs) 0
-          (option_case o slot_count (λ k. k)))
-          accepted_create.1 (answers.creates accepted.requested accepted.status);
-      destroy = λ host asks conditions.
-          let accepted = of Host Destroy host (accepts.destroy asks conditions) in
-          answers.destroys accepted.requested accepted.status;
-      run = λ host asks conditions.
-          let accepted = of Host Run host (accepts.run asks conditions) in
-          answers.runs host accepted.requested accepted.status;
-      resume = λ host asks conditions.
-          let accepted = of Host Resume host (accepts.resume asks conditions) in
-          answers.resumes host accepted.requested accepted.status;
-      measure = λ asks conditions.
-          let accepted = accepts.measure before.world asks conditions in
-          answers.measures accepted.requested accepted.status;
-      stop = λ k host runs host_is_saved asks.
-          let accepted = of (Enclave k) Stop runs (accepts.stop k asks) in
-          answers.stops k host runs host_is_saved accepted.requested;
-      exit = λ k host runs host_is_saved asks.
-          let accepted = of (Enclave k) Exit runs (accepts.exit k asks) in
-          answers.exits k host runs host_is_saved accepted.requested;
+          (λ (maybe_number : Option ℕ). Returns hart machine (step_of hart machine) trap (shared_with_new machine.shared regs) 0
+          (option_case maybe_number slot_count (λ new_slot. new_slot)))
+          accepted_create.1 (call_results.creates accepted.requested accepted.status);
+      destroy = λ host is_request conditions.
+          let accepted = accepted_of_world Host Destroy host (accepted_calls.destroy is_request conditions) in
+          call_results.destroys accepted.requested accepted.status;
+      run = λ host is_request conditions.
+          let accepted = accepted_of_world Host Run host (accepted_calls.run is_request conditions) in
+          call_results.runs host accepted.requested accepted.status;
+      resume = λ host is_request conditions.
+          let accepted = accepted_of_world Host Resume host (accepted_calls.resume is_request conditions) in
+          call_results.resumes host accepted.requested accepted.status;
+      measure = λ is_request conditions.
+          let accepted = accepted_calls.measure before.world is_request conditions in
+          call_results.measures accepted.requested accepted.status;
+      stop = λ slot host runs host_is_saved is_request.
+          let accepted = accepted_of_world (Enclave slot) Stop runs (accepted_calls.stop slot is_request) in
+          call_results.stops slot host runs host_is_saved accepted.requested;
+      exit = λ slot host runs host_is_saved is_request.
+          let accepted = accepted_of_world (Enclave slot) Exit runs (accepted_calls.exit slot is_request) in
+          call_results.exits slot host runs host_is_saved accepted.requested;
     }

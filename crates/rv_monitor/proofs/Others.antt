@@ -11,66 +11,71 @@ or_swap true true c = refl
 or_swap true false c = refl
 or_swap false b c = refl
 
--- the list of worlds without the world at index i
+-- the list of worlds without the world at an index
 abbrev pub without : List World → ℕ → List World
-without [] i = []
-without (w ∷ ws) zero = ws
-without (w ∷ ws) (suc i) = w ∷ without ws i
+without [] index = []
+without (first ∷ worlds) zero = worlds
+without (first ∷ worlds) (suc index) = first ∷ without worlds index
 
--- a test holds for some world of a list if and only if it holds for the world at index i or for some other world
-pub any_prefix : (p : World → Bool) (ws : List World) (i : ℕ) (w : World) → i < length ws
-    → list_any p (slice_set ws i w) ≡ (p w || list_any p (without ws i))
-any_prefix p [] i w in_range = absurd (omega (arith, in_range))
-any_prefix p (x ∷ xs) zero w in_range = refl
-any_prefix p (x ∷ xs) (suc i) w in_range =
-    ap (λ (b : Bool). p x || b) (any_prefix p xs i w (omega (arith, in_range))) ∙ or_swap (p x) (p w) (list_any p (without xs i))
+-- a test holds for some world of a list if and only if it holds for the world at the index or for some other world
+pub any_prefix : (test : World → Bool) (worlds : List World) (index : ℕ) (world : World) → index < length worlds
+    → list_any test (slice_set worlds index world) ≡ (test world || list_any test (without worlds index))
+any_prefix test [] index world in_range = absurd (omega (arith, in_range))
+any_prefix test (first ∷ rest) zero world in_range = refl
+any_prefix test (first ∷ rest) (suc index) world in_range =
+    ap (λ (rest_test : Bool). test first || rest_test) (any_prefix test rest index world (omega (arith, in_range)))
+    ∙ or_swap (test first) (test world) (list_any test (without rest index))
 
--- worlds that are apart stay apart if the world at index i moves to the front
-apart_prefix : (ws : List World) (i : ℕ) (w : World) → i < length ws → AreApart (slice_set ws i w) → AreApart (w ∷ without ws i)
-apart_prefix [] i w in_range worlds_apart = absurd (omega (arith, in_range))
-apart_prefix (x ∷ xs) zero w in_range worlds_apart = worlds_apart
-apart_prefix (x ∷ xs) (suc i) w in_range worlds_apart =
-    let in_tail : i < length xs = omega (arith, in_range) in
-    let rest = apart_prefix xs i w in_tail worlds_apart.1 in
-    let both : (k : ℕ) → is_world_of k x ≡ true → (is_world_of k w ≡ false) × (list_any (is_world_of k) (without xs i) ≡ false) =
-    λ k world_is_x. or_parts _ _ (sym (any_prefix (is_world_of k) xs i w in_tail) ∙ worlds_apart.0 k world_is_x) in (
-      λ k world_is_x. elim (cases_Bool (is_world_of k x)) [
-        | inl runs_enclave ↦ absurd (both_ways _ (both k runs_enclave).0 world_is_x)
-        | inr runs_other ↦ or_from (is_world_of k x) _ runs_other (rest.0 k world_is_x)
+-- worlds that are apart stay apart if the world at the index moves to the front
+apart_prefix : (worlds : List World) (index : ℕ) (world : World) → index < length worlds → AreApart (slice_set worlds index world)
+    → AreApart (world ∷ without worlds index)
+apart_prefix [] index world in_range worlds_apart = absurd (omega (arith, in_range))
+apart_prefix (first ∷ rest) zero world in_range worlds_apart = worlds_apart
+apart_prefix (first ∷ rest) (suc index) world in_range worlds_apart =
+    let in_tail : index < length rest = omega (arith, in_range) in
+    let rest_apart = apart_prefix rest index world in_tail worlds_apart.1 in
+    let prefix_facts : (slot : ℕ) → is_world_of slot first ≡ true
+    → (is_world_of slot world ≡ false) × (list_any (is_world_of slot) (without rest index) ≡ false) =
+    λ slot first_runs. or_parts _ _ (sym (any_prefix (is_world_of slot) rest index world in_tail) ∙ worlds_apart.0 slot first_runs) in (
+      λ slot first_runs. elim (cases_Bool (is_world_of slot first)) [
+        | inl runs_enclave ↦ absurd (both_ways _ (prefix_facts slot runs_enclave).0 first_runs)
+        | inr world_runs_other ↦ or_from (is_world_of slot first) _ world_runs_other (rest_apart.0 slot first_runs)
       ],
-      (λ k world_is_x. (both k world_is_x).1, rest.1),
+      (λ slot first_runs. (prefix_facts slot first_runs).1, rest_apart.1),
     )
 
--- worlds that are apart stay apart if the first world moves to index i
-apart_back : (ws : List World) (i : ℕ) (w : World) → i < length ws → AreApart (w ∷ without ws i) → AreApart (slice_set ws i w)
-apart_back [] i w in_range worlds_apart = absurd (omega (arith, in_range))
-apart_back (x ∷ xs) zero w in_range worlds_apart = worlds_apart
-apart_back (x ∷ xs) (suc i) w in_range worlds_apart =
-    let in_tail : i < length xs = omega (arith, in_range) in (
-      λ k world_is_x. any_prefix (is_world_of k) xs i w in_tail ∙ elim (cases_Bool (is_world_of k w)) [
-        | inl runs_enclave ↦ absurd (both_ways _ (or_parts _ _ (worlds_apart.0 k runs_enclave)).0 world_is_x)
-        | inr runs_other ↦ or_from (is_world_of k w) _ runs_other (worlds_apart.1.0 k world_is_x)
+-- worlds that are apart stay apart if the first world moves to the index
+apart_back : (worlds : List World) (index : ℕ) (world : World) → index < length worlds → AreApart (world ∷ without worlds index)
+    → AreApart (slice_set worlds index world)
+apart_back [] index world in_range worlds_apart = absurd (omega (arith, in_range))
+apart_back (first ∷ rest) zero world in_range worlds_apart = worlds_apart
+apart_back (first ∷ rest) (suc index) world in_range worlds_apart =
+    let in_tail : index < length rest = omega (arith, in_range) in (
+      λ slot first_runs. any_prefix (is_world_of slot) rest index world in_tail ∙ elim (cases_Bool (is_world_of slot world)) [
+        | inl runs_enclave ↦ absurd (both_ways _ (or_parts _ _ (worlds_apart.0 slot runs_enclave)).0 first_runs)
+        | inr world_runs_other ↦ or_from (is_world_of slot world) _ world_runs_other (worlds_apart.1.0 slot first_runs)
       ],
-      apart_back xs i w in_tail (λ k world_is_x. (or_parts _ _ (worlds_apart.0 k world_is_x)).1, worlds_apart.1.1),
+      apart_back rest index world in_tail (λ slot first_runs. (or_parts _ _ (worlds_apart.0 slot first_runs)).1, worlds_apart.1.1),
     )
 
--- the shared invariant for a list of worlds holds for the list with the world at index i moved to the front
-pub shared_invariant-moved_to_front : (shared : Shared) (ws : List World) (i : ℕ) (w : World) → i < length ws
-    → SharedInvariant shared (slice_set ws i w)
-    → SharedInvariant shared (w ∷ without ws i)
-shared_invariant-moved_to_front shared ws i w in_range shared_invariant = record {
+-- the shared invariant for a list of worlds holds for the list with the world at the index moved to the front
+pub shared_invariant-moved_to_front : (shared : Shared) (worlds : List World) (index : ℕ) (world : World) → index < length worlds
+    → SharedInvariant shared (slice_set worlds index world)
+    → SharedInvariant shared (world ∷ without worlds index)
+shared_invariant-moved_to_front shared worlds index world in_range shared_invariant = record {
   valid = shared_invariant.valid;
   contexts = shared_invariant.contexts;
-  running = λ k. shared_invariant.running k ∙ any_prefix (is_world_of k) ws i w in_range;
-  apart = apart_prefix ws i w in_range shared_invariant.apart;
+  running = λ slot. shared_invariant.running slot ∙ any_prefix (is_world_of slot) worlds index world in_range;
+  apart = apart_prefix worlds index world in_range shared_invariant.apart;
 }
 
--- the shared invariant for a list of worlds holds for the list with the first world moved to index i
-pub sound_back : (shared : Shared) (ws : List World) (i : ℕ) (w : World) → i < length ws → SharedInvariant shared (w ∷ without ws i)
-    → SharedInvariant shared (slice_set ws i w)
-sound_back shared ws i w in_range shared_invariant = record {
+-- the shared invariant for a list of worlds holds for the list with the first world moved to the index
+pub sound_back : (shared : Shared) (worlds : List World) (index : ℕ) (world : World) → index < length worlds
+    → SharedInvariant shared (world ∷ without worlds index)
+    → SharedInvariant shared (slice_set worlds index world)
+sound_back shared worlds index world in_range shared_invariant = record {
   valid = shared_invariant.valid;
   contexts = shared_invariant.contexts;
-  running = λ k. shared_invariant.running k ∙ sym (any_prefix (is_world_of k) ws i w in_range);
-  apart = apart_back ws i w in_range shared_invariant.apart;
+  running = λ slot. shared_invariant.running slot ∙ sym (any_prefix (is_world_of slot) worlds index world in_range);
+  apart = apart_back worlds index world in_range shared_invariant.apart;
 }

@@ -18,25 +18,27 @@ use Rattle.rv_monitor.proofs.TrapSteps.{same_outcome, step_cases, view_without_t
 -- ---- without a trap
 
 -- a step of a view without a trap is the bare step
-quiet_step : (state : HartView) → (monitored_step state).outcome.step.trap ≡ None → monitored_step state ≡ view_without_trap state
-quiet_step state = step_cases state (λ after. after.outcome.step.trap ≡ None → after ≡ view_without_trap state) (λ no_trap quiet. refl)
-    (λ trap traps quiet. let contradiction : None ≡ Some trap = sym quiet ∙ traps in cc)
+step_without_trap : (state : HartView) → (monitored_step state).outcome.step.trap ≡ None → monitored_step state ≡ view_without_trap state
+step_without_trap state = step_cases state (λ after. after.outcome.step.trap ≡ None → after ≡ view_without_trap state) (λ no_trap is_untrapped. refl)
+    (λ trap traps is_untrapped. let contradiction : None ≡ Some trap = sym is_untrapped ∙ traps in cc)
 
 -- ---- no interrupt
 
 -- if no interrupt is enabled, then there is no highest pending interrupt
-find_none : (a b t x y z : Bool)
-    → (if a && false then Some MachineExternal else (if b && false then Some MachineSoftware else (if t && false then Some MachineTimer
+find_none : (is_external is_software is_timer is_s_external is_s_software is_s_timer : Bool)
+    → (if is_external && false then Some MachineExternal else
+    (if is_software && false then Some MachineSoftware else (if is_timer && false then Some MachineTimer
     else
-    (if x && false then Some SupervisorExternal else
-    (if y && false then Some SupervisorSoftware else (if z && false then Some SupervisorTimer else None))))))
+    (if is_s_external && false then Some SupervisorExternal else
+    (if is_s_software && false then Some SupervisorSoftware else (if is_s_timer && false then Some SupervisorTimer else None))))))
     ≡ None
-find_none a b t x y z = rw (and-false a, and-false b, and-false t, and-false x, and-false y, and-false z) refl
+find_none is_external is_software is_timer is_s_external is_s_software is_s_timer =
+    rw (and-false is_external, and-false is_software, and-false is_timer, and-false is_s_external, and-false is_s_software, and-false is_s_timer) refl
 
 -- below mode M, no interrupt is pending if mie is 0
-nothing_waits : (c : CsrState) (mode : Mode) → is_machine mode ≡ false → c.mie ≡ 0 → pending c mode ≡ None
-nothing_waits c mode mode_below_m disabled =
-    let mip = mip_word c in
+nothing_waits : (csrs : CsrState) (mode : Mode) → is_machine mode ≡ false → csrs.mie ≡ 0 → pending csrs mode ≡ None
+nothing_waits csrs mode mode_below_m disabled =
+    let mip = mip_word csrs in
     rw (mode_below_m, disabled) (find_none (is_set mip 11) (is_set mip 3) (is_set mip 7) (is_set mip 9) (is_set mip 1) (is_set mip 5))
 
 -- ---- the laws
@@ -50,16 +52,21 @@ steps_plainly hart machine in_range =
     record {
       outcome = outcome;
       quiet = λ no_trap.
-          let bare : (step (bare_machine state)).outcome.trap ≡ None = sym (ap (λ (o : StepOutcome). o.trap) outcome) ∙ no_trap in
-          let one = quiet_step state (ap (λ (o : StepOutcome). o.trap) (same_outcome state) ∙ bare) in
+          let bare_step_untrapped : (step (bare_machine state)).outcome.trap ≡ None =
+          sym (ap (λ (outcome : StepOutcome). outcome.trap) outcome) ∙ no_trap in
+          let view_step_is = step_without_trap state (ap (λ (outcome : StepOutcome). outcome.trap) (same_outcome state) ∙ bare_step_untrapped) in
           let step_is : step_of hart machine ≡ stepped_by hart machine (view_without_trap state) =
-          inside hart machine in_range ∙ ap (stepped_by hart machine) one in
-          let put : Option Trap → MonitoredMachine = λ o. record {
+          inside hart machine in_range ∙ ap (stepped_by hart machine) view_step_is in
+          let machine_after : Option Trap → MonitoredMachine = λ maybe_trap. record {
             hart_states =
-                slice_set (hart_states_reprogrammed o machine.shared.table machine.hart_states) hart (view_without_trap state).state.hart_state;
+                slice_set (hart_states_reprogrammed maybe_trap machine.shared.table machine.hart_states) hart
+                (view_without_trap state).state.hart_state;
             shared = (view_without_trap state).state.shared;
-          } in
-          (ap (λ (after : MonitoredStepped). after.state) step_is ∙ ap put bare, ap (λ (after : MonitoredStepped). after.outcome.entered) step_is);
+          } in (
+            ap (λ (after : MonitoredStepped). after.state) step_is
+                ∙ ap machine_after bare_step_untrapped,
+            ap (λ (after : MonitoredStepped). after.outcome.entered) step_is,
+          );
     }
 
 -- proves that a step of the host takes no interrupt, and redirects each exception that is not a call
@@ -69,12 +76,12 @@ host_continues hart machine invariant host = record {
       let trapping = is_trapping hart machine trap trapped in
       let state = hart_view hart machine in
       let view_invariant = hart_view_invariant hart machine invariant trapping.has in
-      let bare : (step (bare_machine state)).outcome.trap ≡ Some trap =
-      sym (ap (λ (o : StepOutcome). o.trap) (same_outcome state)) ∙ trapping.trapped in
+      let bare_step_traps : (step (bare_machine state)).outcome.trap ≡ Some trap =
+      sym (ap (λ (outcome : StepOutcome). outcome.trap) (same_outcome state)) ∙ trapping.trapped in
       let disabled : state.hart_state.hart.csrs.mie ≡ 0 = view_invariant.hart.layout.mie ∙ ap mie_of host in
       let contradiction : None ≡ Some interrupt =
       sym (nothing_waits state.hart_state.hart.csrs state.hart_state.hart.mode view_invariant.hart.layout.mode disabled)
-      ∙ takes_pending (bare_machine state) trap interrupt bare cause_is in
+      ∙ takes_pending (bare_machine state) trap interrupt bare_step_traps cause_is in
       cc;
   redirects = redirects_step hart machine invariant;
 }

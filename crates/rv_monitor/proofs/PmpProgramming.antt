@@ -19,28 +19,29 @@ reprogramming_changes_nothing slots hart_state hart_invariant =
 
 -- reprogramming changes no hart, if each hart has the invariant
 pub all_as_are : (slots : Slots) (hart_states : List HartState)
-    → ((j : ℕ) → j < length hart_states → HartInvariant slots (slice_index_or hart_states j (hart_state_at_start 0)))
+    → ((hart : ℕ) → hart < length hart_states → HartInvariant slots (slice_index_or hart_states hart (hart_state_at_start 0)))
     → map (reprogrammed slots) hart_states ≡ hart_states
 all_as_are slots [] each = refl
 all_as_are slots (hart_state ∷ hart_states) each =
-    let rest = all_as_are slots hart_states (λ j in_range. each (suc j) (omega (arith, in_range))) in
-    ap (λ (s : HartState). s ∷ map (reprogrammed slots) hart_states) (reprogramming_changes_nothing slots hart_state (each 0 (omega arith))) ∙ ap
-    (λ (ss : List HartState). hart_state ∷ ss) rest
+    let rest_unchanged = all_as_are slots hart_states (λ hart in_range. each (suc hart) (omega (arith, in_range))) in
+    ap (λ (hart_state : HartState). hart_state ∷ map (reprogrammed slots) hart_states)
+    (reprogramming_changes_nothing slots hart_state (each 0 (omega arith))) ∙ ap
+    (λ (hart_states : List HartState). hart_state ∷ hart_states) rest_unchanged
 
 -- after a redirected trap, reprogramming does not change a hart that was programmed before the trap
 pub redirected_is_programmed : (hart_state : HartState) (shared : Shared) (trap : Trap) → reprogrammed shared.table hart_state ≡ hart_state
     → with_reprogrammed_hart (redirected hart_state shared trap) ≡ redirected hart_state shared trap
 unfolding with_redirected_trap
 redirected_is_programmed hart_state shared trap is_programmed =
-    let entries = ap (λ (s : HartState). s.hart.csrs.pmp) is_programmed in
-    let mie = ap (λ (s : HartState). s.hart.csrs.mie) is_programmed in
+    let entries = ap (λ (hart_state : HartState). hart_state.hart.csrs.pmp) is_programmed in
+    let mie = ap (λ (hart_state : HartState). hart_state.hart.csrs.mie) is_programmed in
     rw (entries, mie) refl
 
 -- ---- no earlier action of the trap handler writes a PMP entry
 
 -- the PMP entries of the hart after the trap handler
 abbrev pub entries_of : Handled → Entries
-entries_of h = h.hart_state.hart.csrs.pmp
+entries_of result = result.hart_state.hart.csrs.pmp
 
 -- no action of the trap handler before the last one changes the PMP entries
 pub work_entries : (hart_state : HartState) (shared : Shared) (trap : Trap)
@@ -48,7 +49,7 @@ pub work_entries : (hart_state : HartState) (shared : Shared) (trap : Trap)
 unfolding entered_slot left with_redirected_trap
 work_entries hart_state shared trap =
     by_cause_cases hart_state trap shared.table shared.memory shared.memory shared.contexts shared.contexts
-    (λ h _. entries_of h ≡ hart_state.hart.csrs.pmp)
+    (λ result _. entries_of result ≡ hart_state.hart.csrs.pmp)
     (record {
       answers = λ status result. refl;
       creates = λ requests no_refusal. refl;

@@ -1,5 +1,5 @@
--- The loop that programs the PMP entries and mie of the other harts. Before the loop handles hart n, the harts below n are programmed, and the others
--- are unchanged.
+-- The loop that programs the PMP entries and mie of the other harts. Before the loop handles a hart, the harts with a lower number are
+-- programmed, and the others are unchanged.
 use Rattle.std.proofs.Common.{◌≡◌, ◌<◌, ◌≤◌, ℕ, ◌+◌, List, length, slice_set, refl, sym, ◌∙◌, ap, subst, below_more, arith}
 use Rattle.std.specs.Prelude.{map, take}
 use Rattle.std.proofs.lemmas.List.{length-take-le}
@@ -7,62 +7,68 @@ use Rattle.rv_monitor.specs.Prelude.{HartState, Slots}
 use Rattle.rv_monitor.proofs.Prelude.{get_or-map, get_or-set_at, get_or-set_other, get_or-take, get_or_default, hart_state_at_start, hart_state_in, length-map}
 use Rattle.rv_monitor.proofs.Prelude.{length-set, reprogrammed, same_lists}
 
--- the state of the loop: the first n hart states are reprogrammed, and the others are unchanged
-pub record AreProgrammed (slots : Slots) (first now : List HartState) (n : ℕ) : Type 0 where
-  pub size : length now ≡ length first
-  pub done : (j : ℕ) → j < n → hart_state_in now j ≡ reprogrammed slots (hart_state_in first j)
-  pub rest : (j : ℕ) → n ≤ j → hart_state_in now j ≡ hart_state_in first j
+-- the state of the loop: the first `count` hart states are reprogrammed, and the others are unchanged
+pub record AreProgrammed (slots : Slots) (original current : List HartState) (count : ℕ) : Type 0 where
+  pub size : length current ≡ length original
+  pub done : (hart : ℕ) → hart < count → hart_state_in current hart ≡ reprogrammed slots (hart_state_in original hart)
+  pub rest : (hart : ℕ) → count ≤ hart → hart_state_in current hart ≡ hart_state_in original hart
 
 -- at the start of the loop, no hart state is reprogrammed
-pub none_programmed : (slots : Slots) (first : List HartState) → AreProgrammed slots first first 0
-none_programmed slots first = record { size = refl; done = λ j below. absurd (omega (arith, below)); rest = λ j past. refl }
+pub none_programmed : (slots : Slots) (original : List HartState) → AreProgrammed slots original original 0
+none_programmed slots original = record { size = refl; done = λ hart below. absurd (omega (arith, below)); rest = λ hart not_below. refl }
 
--- the loop is about to handle hart n
-module _ (slots : Slots) (first now : List HartState) (n : ℕ) (so_far : AreProgrammed slots first now n) where
+-- the loop is about to handle the hart `hart`
+module _ (slots : Slots) (original current : List HartState) (hart : ℕ) (so_far : AreProgrammed slots original current hart) where
   -- one iteration of the loop programs the next hart
-  pub one_programmed : n < length now → AreProgrammed slots first (slice_set now n (reprogrammed slots (hart_state_in now n))) (n + 1)
-  one_programmed inside =
-      let next = reprogrammed slots (hart_state_in now n) in
+  pub one_programmed : hart < length current
+      → AreProgrammed slots original (slice_set current hart (reprogrammed slots (hart_state_in current hart))) (hart + 1)
+  one_programmed in_array =
+      let programmed = reprogrammed slots (hart_state_in current hart) in
       record {
-        size = length-set now n next ∙ so_far.size;
+        size = length-set current hart programmed ∙ so_far.size;
         done = below_more _ _
-            (λ j below. get_or-set_other now n j next (hart_state_at_start 0) (λ same. omega (arith, same, below)) ∙ so_far.done j below)
-            (get_or-set_at now n n next (hart_state_at_start 0) refl inside ∙ ap (reprogrammed slots) (so_far.rest n (omega arith)));
-        rest = λ j past.
-            get_or-set_other now n j next (hart_state_at_start 0) (λ same. omega (arith, same, past)) ∙ so_far.rest j (omega (arith, past));
+            (λ other_hart below. get_or-set_other current hart other_hart programmed (hart_state_at_start 0)
+            (λ harts_equal. omega (arith, harts_equal, below)) ∙ so_far.done other_hart below)
+            (get_or-set_at current hart hart programmed (hart_state_at_start 0) refl in_array
+            ∙ ap (reprogrammed slots) (so_far.rest hart (omega arith)));
+        rest = λ other_hart above.
+            get_or-set_other current hart other_hart programmed (hart_state_at_start 0) (λ harts_equal. omega (arith, harts_equal, above))
+            ∙ so_far.rest other_hart (omega (arith, above));
       }
 
   -- one iteration of the loop changes nothing if the next hart is already programmed
-  pub one_as_is : reprogrammed slots (hart_state_in first n) ≡ hart_state_in first n → AreProgrammed slots first now (n + 1)
+  pub one_as_is : reprogrammed slots (hart_state_in original hart) ≡ hart_state_in original hart → AreProgrammed slots original current (hart + 1)
   one_as_is reprogrammed_is = record {
     size = so_far.size;
-    done = below_more _ _ so_far.done (so_far.rest n (omega arith) ∙ sym reprogrammed_is);
-    rest = λ j past. so_far.rest j (omega (arith, past));
+    done = below_more _ _ so_far.done (so_far.rest hart (omega arith) ∙ sym reprogrammed_is);
+    rest = λ other_hart above. so_far.rest other_hart (omega (arith, above));
   }
 
   -- at the end of the loop, all harts of the machine are reprogrammed
-  pub all_programmed : n ≤ length first → take n now ≡ map (reprogrammed slots) (take n first)
-  all_programmed inside =
-      let past = hart_state_at_start 0 in
-      let now_length = length-take-le n now (omega (arith, so_far.size, inside)) in
-      let first_length = length-take-le n first inside in
-      same_lists (take n now) (map (reprogrammed slots) (take n first))
-      (now_length ∙ sym (length-map (take n first) (reprogrammed slots) ∙ first_length))
-      (λ k default in_range.
-      let below : k < n = omega (arith, now_length, in_range) in
-      get_or-take n now k default below ∙ get_or_default now k default past (omega (arith, so_far.size, inside, below)) ∙ so_far.done k below
-      ∙ ap (reprogrammed slots) (sym (get_or-take n first k past below))
-      ∙ sym (get_or-map (reprogrammed slots) (take n first) k past default (omega (arith, first_length, below))))
+  pub all_programmed : hart ≤ length original → take hart current ≡ map (reprogrammed slots) (take hart original)
+  all_programmed in_array =
+      let default = hart_state_at_start 0 in
+      let current_length = length-take-le hart current (omega (arith, so_far.size, in_array)) in
+      let original_length = length-take-le hart original in_array in
+      same_lists (take hart current) (map (reprogrammed slots) (take hart original))
+      (current_length ∙ sym (length-map (take hart original) (reprogrammed slots) ∙ original_length))
+      (λ index some_default in_range.
+      let below : index < hart = omega (arith, current_length, in_range) in
+      get_or-take hart current index some_default below
+      ∙ get_or_default current index some_default default (omega (arith, so_far.size, in_array, below)) ∙ so_far.done index below
+      ∙ ap (reprogrammed slots) (sym (get_or-take hart original index default below))
+      ∙ sym (get_or-map (reprogrammed slots) (take hart original) index default some_default (omega (arith, original_length, below))))
 
 -- the loop changes nothing on a machine with one hart that is already programmed
-pub single_as_is : (slots : Slots) (by_hart : List HartState) (harts hart : ℕ) → hart < harts → harts ≤ 1 → harts ≤ length by_hart
-    → reprogrammed slots (hart_state_in by_hart hart) ≡ hart_state_in by_hart hart
-    → take harts by_hart ≡ map (reprogrammed slots) (take harts by_hart)
-single_as_is slots by_hart harts hart in_range one inside own =
-    let first : hart ≡ 0 = omega (arith, in_range, one) in
-    let only : 1 ≡ harts = omega (arith, in_range, one) in
-    let own_is : ℕ → Type 0 = λ j. reprogrammed slots (hart_state_in by_hart j) ≡ hart_state_in by_hart j in
-    let programmed : AreProgrammed slots by_hart by_hart 1 =
-    one_as_is slots by_hart by_hart 0 (none_programmed slots by_hart) (subst own_is first own) in
-    subst (λ (n : ℕ). take n by_hart ≡ map (reprogrammed slots) (take n by_hart)) only
-    (all_programmed slots by_hart by_hart 1 programmed (omega (arith, only, inside)))
+pub single_as_is : (slots : Slots) (state_array : List HartState) (hart_count hart : ℕ) → hart < hart_count → hart_count ≤ 1
+    → hart_count ≤ length state_array
+    → reprogrammed slots (hart_state_in state_array hart) ≡ hart_state_in state_array hart
+    → take hart_count state_array ≡ map (reprogrammed slots) (take hart_count state_array)
+single_as_is slots state_array hart_count hart in_range at_most_one in_array is_programmed =
+    let hart_is_0 : hart ≡ 0 = omega (arith, in_range, at_most_one) in
+    let one_hart : 1 ≡ hart_count = omega (arith, in_range, at_most_one) in
+    let IsProgrammed : ℕ → Type 0 = λ hart. reprogrammed slots (hart_state_in state_array hart) ≡ hart_state_in state_array hart in
+    let programmed : AreProgrammed slots state_array state_array 1 =
+    one_as_is slots state_array state_array 0 (none_programmed slots state_array) (subst IsProgrammed hart_is_0 is_programmed) in
+    subst (λ (count : ℕ). take count state_array ≡ map (reprogrammed slots) (take count state_array)) one_hart
+    (all_programmed slots state_array state_array 1 programmed (omega (arith, one_hart, in_array)))

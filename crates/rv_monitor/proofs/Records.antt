@@ -14,27 +14,28 @@ use Rattle.rv_monitor.proofs.HartCases.{by_hart}
 use Rattle.rv_monitor.proofs.TrapSteps.{step_cases, hart_state_after}
 use Rattle.rv_monitor.proofs.HandlerCases.{handler_cases}
 
--- a new state of slot j leaves the record of each other slot unchanged
-pub state_other : (slots : Slots) (slot j : ℕ) (o : Option SlotInfo) (state : EnclaveState) → slot ≢ j
-    → slot_at (option_case o slots (λ info. with_slot slots j (Some (record info { state = state })))) slot ≡ slot_at slots slot
-state_other slots slot j None state distinct = refl
-state_other slots slot j (Some info) state distinct = at_other_slot slots j slot (Some (record info { state = state })) distinct
+-- a new state of one slot leaves the record of each other slot unchanged
+pub state_other : (slots : Slots) (slot other_slot : ℕ) (maybe_info : Option SlotInfo) (state : EnclaveState) → slot ≢ other_slot
+    → slot_at (option_case maybe_info slots (λ info. with_slot slots other_slot (Some (record info { state = state })))) slot ≡ slot_at slots slot
+state_other slots slot other_slot None state distinct = refl
+state_other slots slot other_slot (Some info) state distinct = at_other_slot slots other_slot slot (Some (record info { state = state })) distinct
 
 -- a new state of `slot` leaves the identity of `slot` unchanged
-state_same : (slots : Slots) (slot : ℕ) (o : Option SlotInfo) (state : EnclaveState) → length slots ≡ slot_count → slot_at slots slot ≡ o
-    → identity_at (option_case o slots (λ info. with_slot slots slot (Some (record info { state = state })))) slot ≡ identity_at slots slot
+state_same : (slots : Slots) (slot : ℕ) (maybe_info : Option SlotInfo) (state : EnclaveState) → length slots ≡ slot_count
+    → slot_at slots slot ≡ maybe_info
+    → identity_at (option_case maybe_info slots (λ info. with_slot slots slot (Some (record info { state = state })))) slot ≡ identity_at slots slot
 state_same slots slot None state table_length slot_is = refl
 state_same slots slot (Some info) state table_length slot_is =
     let slot_in_range = live_in_range slots slot info table_length slot_is in
-    let at_k = at_written_slot slots slot (Some (record info { state = state })) (omega (arith, table_length, slot_in_range)) in
-    ap (option_map identity_of) at_k ∙ sym (ap (option_map identity_of) slot_is)
+    let written_record = at_written_slot slots slot (Some (record info { state = state })) (omega (arith, table_length, slot_in_range)) in
+    ap (option_map identity_of) written_record ∙ sym (ap (option_map identity_of) slot_is)
 
--- a new state of slot j leaves the identity of each slot unchanged
-pub state_keeps : (slots : Slots) (slot j : ℕ) (state : EnclaveState) → length slots ≡ slot_count
-    → identity_at (with_state slots j state) slot ≡ identity_at slots slot
-state_keeps slots slot j state table_length = elim (cases_eq slot j) [
+-- a new state of the other slot leaves the identity of each slot unchanged
+pub state_keeps : (slots : Slots) (slot other_slot : ℕ) (state : EnclaveState) → length slots ≡ slot_count
+    → identity_at (with_state slots other_slot state) slot ≡ identity_at slots slot
+state_keeps slots slot other_slot state table_length = elim (cases_eq slot other_slot) [
   | inl equal ↦ rw (← equal) (state_same slots slot (slot_at slots slot) state table_length refl)
-  | inr distinct ↦ ap (option_map identity_of) (state_other slots slot j (slot_at slots j) state distinct)
+  | inr distinct ↦ ap (option_map identity_of) (state_other slots slot other_slot (slot_at slots other_slot) state distinct)
 ]
 
 -- enclave `slot` is live before the trap handler
@@ -45,24 +46,26 @@ module _ (slot : ℕ) (hart_state : HartState) (shared : Shared) (valid : IsVali
   unfolding created
   created_keeps new no_refusal =
       let free = (free_slot_from shared.table (new_slot shared.table) no_refusal.free).free in
-      let distinct : slot ≢ new_slot shared.table = λ same. both_ways _ (ap (λ (o : Option SlotInfo). is_some o) free) (rw (← same) live) in
+      let distinct : slot ≢ new_slot shared.table =
+      λ slots_equal. both_ways _ (ap (λ (maybe_info : Option SlotInfo). is_some maybe_info) free) (rw (← slots_equal) live) in
       ap (option_map identity_of) (at_other_slot shared.table (new_slot shared.table) slot (Some (recorded shared.memory new)) distinct)
 
   -- a destroy after which `slot` is live leaves the identity of `slot` unchanged
-  destroyed_keeps : (j : ℕ) → SlotIsAccepted shared.table Destroy j → is_live (destroyed shared j).table slot ≡ true
-      → identity_at (destroyed shared j).table slot ≡ identity_at shared.table slot
+  destroyed_keeps : (other_slot : ℕ) → SlotIsAccepted shared.table Destroy other_slot → is_live (destroyed shared other_slot).table slot ≡ true
+      → identity_at (destroyed shared other_slot).table slot ≡ identity_at shared.table slot
   unfolding destroyed
-  destroyed_keeps j is_taken live_after = elim (cases_eq slot j) [
+  destroyed_keeps other_slot is_taken live_after = elim (cases_eq slot other_slot) [
     | inl equal ↦
-        let slot_in_range = live_in_range shared.table j is_taken.info valid.count is_taken.is in
-        let slot_is_free : slot_at (with_slot shared.table j None) j ≡ None = at_written_slot shared.table j None (omega (arith, valid.count)) in
-        absurd (both_ways _ (ap (λ (o : Option SlotInfo). is_some o) slot_is_free) (rw equal at live_after))
-    | inr distinct ↦ ap (option_map identity_of) (at_other_slot shared.table j slot None distinct)
+        let slot_in_range = live_in_range shared.table other_slot is_taken.info valid.count is_taken.is in
+        let slot_is_free : slot_at (with_slot shared.table other_slot None) other_slot ≡ None =
+        at_written_slot shared.table other_slot None (omega (arith, valid.count)) in
+        absurd (both_ways _ (ap (λ (maybe_info : Option SlotInfo). is_some maybe_info) slot_is_free) (rw equal at live_after))
+    | inr distinct ↦ ap (option_map identity_of) (at_other_slot shared.table other_slot slot None distinct)
   ]
 
   -- if `slot` is live after the trap handler, then its identity is unchanged
   abbrev Keeps : Handled → Type 0
-  Keeps h = is_live h.shared.table slot ≡ true → identity_at h.shared.table slot ≡ identity_at shared.table slot
+  Keeps result = is_live result.shared.table slot ≡ true → identity_at result.shared.table slot ≡ identity_at shared.table slot
 
   -- the trap handler satisfies `Keeps`
   handled_keeps : (trap : Trap) → Keeps (handled hart_state shared trap)

@@ -9,31 +9,33 @@ use Rattle.rv_monitor.proofs.Prelude.{HartStatesEquivExcept, MonitoredMachine, c
 use Rattle.rv_monitor.proofs.HartCases.{hart_cases_of_both}
 use Rattle.rv_monitor.proofs.InvariantLemmas.{past_as_is}
 
--- two changes of a hart keep its world, and keep related hart states related
-pub record ChangesAlike (enclave : ℕ) (one other : HartState) (change change_too : HartState → HartState) : Type 0 where
+-- `change` of the first hart state and `other_change` of the second keep the world, and keep related hart states related
+pub record ChangesAlike (enclave : ℕ) (one other : HartState) (change other_change : HartState → HartState) : Type 0 where
   pub world : (change one).world ≡ one.world
   pub state : HartStatesEquivExcept enclave (guest_state one) (guest_state other)
-      → HartStatesEquivExcept enclave (guest_state (change one)) (guest_state (change_too other))
-  pub host : SameHost (guest_state one) (guest_state other) → SameHost (guest_state (change one)) (guest_state (change_too other))
+      → HartStatesEquivExcept enclave (guest_state (change one)) (guest_state (other_change other))
+  pub host : SameHost (guest_state one) (guest_state other) → SameHost (guest_state (change one)) (guest_state (other_change other))
 
 -- the state of the same hart changes in two related machines by changes that are alike
-module _ (enclave hart : ℕ) (change change_too : HartState → HartState) (one other : MonitoredMachine) (related : AreRelated enclave one other)
-    (alike : ChangesAlike enclave (hart_state_of hart one) (hart_state_of hart other) change change_too) where
+module _ (enclave hart : ℕ) (change other_change : HartState → HartState) (one other : MonitoredMachine) (related : AreRelated enclave one other)
+    (alike : ChangesAlike enclave (hart_state_of hart one) (hart_state_of hart other) change other_change) where
   -- two changes of a hart of the machines that are alike leave the machines related
-  changed_in : hart < count_of one → AreRelated enclave (changed hart change one) (changed hart change_too other)
-  changed_in in_range =
-      let changed_one = change (hart_state_of hart one) in
-      let changed_other = change_too (hart_state_of hart other) in
+  changed_in_range : hart < count_of one → AreRelated enclave (changed hart change one) (changed hart other_change other)
+  changed_in_range in_range =
+      let first_changed = change (hart_state_of hart one) in
+      let second_changed = other_change (hart_state_of hart other) in
       let same_harts = related.harts in
       record {
-        harts = length-set one.hart_states hart changed_one ∙ same_harts ∙ sym (length-set other.hart_states hart changed_other);
-        hart_states = hart_cases_of_both one.hart_states other.hart_states hart changed_one changed_other
-            (λ j s t. HartStatesEquivExcept enclave (guest_state s) (guest_state t)) same_harts in_range (alike.state (related.hart_states hart))
-            (λ j distinct. related.hart_states j);
-        hosts = hart_cases_of_both one.hart_states other.hart_states hart changed_one changed_other
-            (λ j s t. is_world_of enclave s.world ≡ true → SameHost (guest_state s) (guest_state t)) same_harts in_range
+        harts = length-set one.hart_states hart first_changed ∙ same_harts ∙ sym (length-set other.hart_states hart second_changed);
+        hart_states = hart_cases_of_both one.hart_states other.hart_states hart first_changed second_changed
+            (λ some_hart first_state second_state. HartStatesEquivExcept enclave (guest_state first_state)
+            (guest_state second_state)) same_harts in_range (alike.state (related.hart_states hart))
+            (λ some_hart distinct. related.hart_states some_hart);
+        hosts = hart_cases_of_both one.hart_states other.hart_states hart first_changed second_changed
+            (λ some_hart first_state second_state. is_world_of enclave first_state.world ≡ true
+            → SameHost (guest_state first_state) (guest_state second_state)) same_harts in_range
             (λ runs. alike.host (related.hosts hart (ap (is_world_of enclave) (sym alike.world) ∙ runs)))
-            (λ j distinct. related.hosts j);
+            (λ some_hart distinct. related.hosts some_hart);
         table = related.table;
         memory = related.memory;
         contexts = related.contexts;
@@ -41,28 +43,28 @@ module _ (enclave hart : ℕ) (change change_too : HartState → HartState) (one
       }
 
   -- two changes at any hart number that are alike leave the machines related
-  pub changed_related : AreRelated enclave (changed hart change one) (changed hart change_too other)
+  pub changed_related : AreRelated enclave (changed hart change one) (changed hart other_change other)
   changed_related = elim (cases_lt hart (count_of one)) [
-    | inl in_range ↦ changed_in in_range
+    | inl in_range ↦ changed_in_range in_range
     | inr past_last ↦
         let same_harts = related.harts in
         let one_unchanged = past_as_is hart (change (hart_state_of hart one)) one past_last in
-        let other_unchanged = past_as_is hart (change_too (hart_state_of hart other)) other (omega (arith, same_harts, past_last)) in
+        let other_unchanged = past_as_is hart (other_change (hart_state_of hart other)) other (omega (arith, same_harts, past_last)) in
         rw (one_unchanged, other_unchanged) related
   ]
 
 -- two related machines stay related with two memories that are equal outside the bytes that may differ, and that are equal if the enclave is not live
-pub memory_related : (enclave : ℕ) (one other : MonitoredMachine) (m n : List ℕ) → AreRelated enclave one other
-    → EqualOutside (may_differ one.shared.table enclave) m n → (is_live one.shared.table enclave ≡ false → m ≡ n)
-    → AreRelated enclave (with_memory one m) (with_memory other n)
-memory_related enclave one other m n related equal same_once_dead = record {
+pub memory_related : (enclave : ℕ) (one other : MonitoredMachine) (memory other_memory : List ℕ) → AreRelated enclave one other
+    → EqualOutside (may_differ one.shared.table enclave) memory other_memory → (is_live one.shared.table enclave ≡ false → memory ≡ other_memory)
+    → AreRelated enclave (with_memory one memory) (with_memory other other_memory)
+memory_related enclave one other memory other_memory related equal_outside same_once_dead = record {
   harts = related.harts;
   hart_states = related.hart_states;
   hosts = related.hosts;
   table = related.table;
-  memory = equal;
+  memory = equal_outside;
   contexts = related.contexts;
-  gone = λ dead. ap₂ (λ (s : Shared) (x : List ℕ). record s { memory = x }) (related.gone dead) (same_once_dead dead);
+  gone = λ dead. ap₂ (λ (shared : Shared) (memory : List ℕ). record shared { memory = memory }) (related.gone dead) (same_once_dead dead);
 }
 
 -- a machine is related to itself
@@ -72,7 +74,7 @@ related_itself enclave machine = record {
   hart_states = λ hart. record { world = refl; same = λ low. refl };
   hosts = λ hart runs. record { host = refl; rest = refl };
   table = refl;
-  memory = record { size = refl; bytes = λ i shown. refl };
-  contexts = record { size = refl; others = λ k distinct. refl };
+  memory = record { size = refl; bytes = λ index shown. refl };
+  contexts = record { size = refl; others = λ slot distinct. refl };
   gone = λ dead. refl;
 }

@@ -17,11 +17,11 @@ module _ (enclave : ℕ) (one other : MonitoredMachine) where
   -- two related machines are equivalent except `enclave` in the guest view, if the window of a running enclave has equal bytes in both
   pub related_equiv : AreRelated enclave one other → (runs one.shared.table enclave ≡ true → SameWindow enclave one other)
       → EquivToGuests enclave one other
-  related_equiv related same = record {
+  related_equiv related same_window = record {
     harts = length-map one.hart_states guest_state ∙ related.harts ∙ sym (length-map other.hart_states guest_state);
-    hart_states = λ j.
-        hart_states_equiv enclave (hart_state_of j (guest_view one)) (guest_state (hart_state_of j one)) (hart_state_of j (guest_view other))
-        (guest_state (hart_state_of j other)) (guest_hart_state j one) (guest_hart_state j other) (related.hart_states j);
+    hart_states = λ hart.
+        hart_states_equiv enclave (hart_state_of hart (guest_view one)) (guest_state (hart_state_of hart one)) (hart_state_of hart (guest_view other))
+        (guest_state (hart_state_of hart other)) (guest_hart_state hart one) (guest_hart_state hart other) (related.hart_states hart);
     shared = record {
       table = related.table;
       memory = record { size = related.memory.size; bytes = bytes };
@@ -30,13 +30,13 @@ module _ (enclave : ℕ) (one other : MonitoredMachine) where
     };
   } where
     -- the memories of the two machines have equal bytes outside the region of `enclave`
-    bytes : (i : ℕ) → has (region one.shared.table enclave) (ram_base + i) ≡ false
-        → slice_index one.shared.memory i ≡ slice_index other.shared.memory i
-    bytes i own = elim (cases_Bool (runs one.shared.table enclave)) [
-      | inr idle ↦ related.memory.bytes i (rw (own, idle) refl)
-      | inl running ↦ elim (cases_Bool (has (window one.shared.table enclave) (ram_base + i))) [
-        | inl in_window ↦ (same running).bytes i (ap not in_window)
-        | inr outside_window ↦ related.memory.bytes i (rw (own, running, outside_window) refl)
+    bytes : (index : ℕ) → has (region one.shared.table enclave) (ram_base + index) ≡ false
+        → slice_index one.shared.memory index ≡ slice_index other.shared.memory index
+    bytes index outside_region = elim (cases_Bool (runs one.shared.table enclave)) [
+      | inr idle ↦ related.memory.bytes index (rw (outside_region, idle) refl)
+      | inl running ↦ elim (cases_Bool (has (window one.shared.table enclave) (ram_base + index))) [
+        | inl in_window ↦ (same_window running).bytes index (ap not in_window)
+        | inr outside_window ↦ related.memory.bytes index (rw (outside_region, running, outside_window) refl)
       ]
     ]
 
@@ -45,14 +45,16 @@ module _ (enclave : ℕ) (one other : MonitoredMachine) where
       → AreRelated enclave one other
   equiv_related equiv hosts = record {
     harts = sym (length-map one.hart_states guest_state) ∙ equiv.harts ∙ length-map other.hart_states guest_state;
-    hart_states = λ j.
-        hart_states_equiv enclave (guest_state (hart_state_of j one)) (hart_state_of j (guest_view one)) (guest_state (hart_state_of j other))
-        (hart_state_of j (guest_view other)) (sym (guest_hart_state j one)) (sym (guest_hart_state j other)) (equiv.hart_states j);
+    hart_states = λ hart.
+        hart_states_equiv enclave (guest_state (hart_state_of hart one)) (hart_state_of hart (guest_view one))
+        (guest_state (hart_state_of hart other))
+        (hart_state_of hart (guest_view other)) (sym (guest_hart_state hart one)) (sym (guest_hart_state hart other)) (equiv.hart_states hart);
     hosts = hosts;
     table = equiv.shared.table;
     memory = record {
       size = equiv.shared.memory.size;
-      bytes = λ i not_hidden. equiv.shared.memory.bytes i (or_parts (has (region one.shared.table enclave) (ram_base + i)) _ not_hidden).0;
+      bytes =
+          λ index not_hidden. equiv.shared.memory.bytes index (or_parts (has (region one.shared.table enclave) (ram_base + index)) _ not_hidden).0;
     };
     contexts = equiv.shared.contexts;
     gone = equiv.shared.gone;

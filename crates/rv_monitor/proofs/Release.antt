@@ -35,142 +35,154 @@ same_value (causes.Interrupt interrupt) one other same_handover = refl
 same_value (causes.Exception exception) one other same_handover = same_handover.a0
 
 -- a new state of `slot` does not change whether `slot` is live
-state_live : (slots : Slots) (slot : ℕ) (o : Option SlotInfo) (state : EnclaveState) → length slots ≡ slot_count → slot_at slots slot ≡ o
-    → is_live (option_case o slots (λ info. with_slot slots slot (Some (record info { state = state })))) slot ≡ is_some o
-state_live slots slot None state table_length slot_is = ap (λ (o : Option SlotInfo). is_some o) slot_is
+state_live : (slots : Slots) (slot : ℕ) (maybe_info : Option SlotInfo) (state : EnclaveState) → length slots ≡ slot_count
+    → slot_at slots slot ≡ maybe_info
+    → is_live (option_case maybe_info slots (λ info. with_slot slots slot (Some (record info { state = state })))) slot ≡ is_some maybe_info
+state_live slots slot None state table_length slot_is = ap (λ (maybe_info : Option SlotInfo). is_some maybe_info) slot_is
 state_live slots slot (Some info) state table_length slot_is =
     let slot_in_range = live_in_range slots slot info table_length slot_is in
-    ap (λ (o : Option SlotInfo). is_some o)
+    ap (λ (maybe_info : Option SlotInfo). is_some maybe_info)
     (at_written_slot slots slot (Some (record info { state = state })) (omega (arith, table_length, slot_in_range)))
 
 -- `enclave` exits by the same trap from the same hart of two machines that are equivalent except `enclave`. The enclave hands over the same, and
--- both harts
--- have the same saved host.
+-- both harts have the same saved host.
 module _ (enclave hart : ℕ) (one other : MonitoredMachine) (trap : Trap) (host : Context) (table_length : length one.shared.table ≡ slot_count)
     (live : is_live one.shared.table enclave ≡ true)
-    (equiv : EquivExcept enclave one other) (there_is : hart < count_of one)
+    (equiv : EquivExcept enclave one other) (in_range : hart < count_of one)
     (same_host : SameHost (hart_state_of hart one) (hart_state_of hart other))
     (same_handover : SameHandoverBy trap.cause (hart_state_of hart one).hart (hart_state_of hart other).hart) where
   -- the first hart at the trap
-  abbrev hart_one : Hart
-  hart_one = (hart_state_of hart one).hart
+  abbrev first_hart : Hart
+  first_hart = (hart_state_of hart one).hart
 
   -- the second hart at the trap
-  abbrev hart_other : Hart
-  hart_other = (hart_state_of hart other).hart
+  abbrev second_hart : Hart
+  second_hart = (hart_state_of hart other).hart
 
   -- the state of the enclave after the exit
   abbrev state_after : EnclaveState
-  state_after = enclave_state_after trap.cause hart_one.regs
+  state_after = enclave_state_after trap.cause first_hart.regs
 
   -- the first table after the exit
-  abbrev table_one : Slots
-  table_one = with_state one.shared.table enclave state_after
+  abbrev first_table : Slots
+  first_table = with_state one.shared.table enclave state_after
 
   -- the second table after the exit
-  abbrev table_other : Slots
-  table_other = with_state other.shared.table enclave (enclave_state_after trap.cause hart_other.regs)
+  abbrev second_table : Slots
+  second_table = with_state other.shared.table enclave (enclave_state_after trap.cause second_hart.regs)
 
   -- the tables after both exits are equal
-  same_table : table_one ≡ table_other
-  same_table = ap₂ (λ (t : Slots) (s : EnclaveState). with_state t enclave s) equiv.shared.table
-      (same_state trap.cause hart_one hart_other same_handover)
+  same_table : first_table ≡ second_table
+  same_table = ap₂ (λ (table : Slots) (state : EnclaveState). with_state table enclave state) equiv.shared.table
+      (same_state trap.cause first_hart second_hart same_handover)
 
-  -- the hart after an exit, from the table t, the CSRs c, the reason r and the value v
+  -- the hart that runs the host after an exit: its PMP entries follow from the table, and a0 and a1 have the reason and the value
   abbrev returned_hart : Slots → CsrState → ℕ → ℕ → Hart
-  returned_hart t c r v = record { regs = with_return_values host.regs r v; csrs = left_csrs c t trap host; pc = host.pc; mode = host.mode }
+  returned_hart table csrs reason_value value_value =
+      record { regs = with_return_values host.regs reason_value value_value; csrs = left_csrs csrs table trap host; pc = host.pc; mode = host.mode }
 
   -- both harts are equal after the exit
-  harts_same : left_hart hart_one table_one trap host ≡ left_hart hart_other table_other trap host
-  harts_same =
-      let first : returned_hart table_one (unswitched hart_one.csrs) (reason trap.cause hart_one.regs) (value trap.cause hart_one.regs)
-      ≡ returned_hart table_other (unswitched hart_other.csrs) (reason trap.cause hart_one.regs) (value trap.cause hart_one.regs) =
+  same_hart_after_exit : left_hart first_hart first_table trap host ≡ left_hart second_hart second_table trap host
+  same_hart_after_exit =
+      let tables_replaced : returned_hart first_table (unswitched first_hart.csrs) (reason trap.cause first_hart.regs)
+      (value trap.cause first_hart.regs)
+      ≡ returned_hart second_table (unswitched second_hart.csrs) (reason trap.cause first_hart.regs) (value trap.cause first_hart.regs) =
       ap₂
-      (λ (t : Slots) (c : CsrState). returned_hart t c (reason trap.cause hart_one.regs)
-      (value trap.cause hart_one.regs)) same_table same_host.rest in
-      first
-      ∙ ap₂ (λ (r v : ℕ). returned_hart table_other (unswitched hart_other.csrs) r v) (same_reason trap.cause hart_one hart_other same_handover)
-      (same_value trap.cause hart_one hart_other same_handover)
+      (λ (table : Slots) (csrs : CsrState). returned_hart table csrs (reason trap.cause first_hart.regs)
+      (value trap.cause first_hart.regs)) same_table same_host.rest in
+      tables_replaced
+      ∙ ap₂ (λ (reason_value value_value : ℕ). returned_hart second_table (unswitched second_hart.csrs) reason_value value_value)
+      (same_reason trap.cause first_hart second_hart same_handover)
+      (same_value trap.cause first_hart second_hart same_handover)
 
   -- the state of the hart after the exit, which runs the host
   abbrev host_state : Hart → HartState
-  host_state h = record { hart = h; host_context = None; world = Host }
+  host_state hart = record { hart = hart; host_context = None; world = Host }
 
   -- both machines have the same number of harts
-  same_count : length (map (reprogrammed table_one) one.hart_states) ≡ length (map (reprogrammed table_other) other.hart_states)
-  same_count = length-map one.hart_states (reprogrammed table_one) ∙ equiv.harts ∙ sym (length-map other.hart_states (reprogrammed table_other))
+  same_count : length (map (reprogrammed first_table) one.hart_states) ≡ length (map (reprogrammed second_table) other.hart_states)
+  same_count = length-map one.hart_states (reprogrammed first_table) ∙ equiv.harts ∙ sym (length-map other.hart_states (reprogrammed second_table))
 
   -- the states of each other hart are equivalent after the exit
-  other_harts_equiv : (j : ℕ)
-      → HartStatesEquivExcept enclave (hart_state_in (map (reprogrammed table_one) one.hart_states) j)
-      (hart_state_in (map (reprogrammed table_other) other.hart_states) j)
-  other_harts_equiv j =
+  other_harts_equiv : (hart : ℕ)
+      → HartStatesEquivExcept enclave (hart_state_in (map (reprogrammed first_table) one.hart_states) hart)
+      (hart_state_in (map (reprogrammed second_table) other.hart_states) hart)
+  other_harts_equiv hart =
       let same_harts = equiv.harts in
-      let length_one = length-map one.hart_states (reprogrammed table_one) in
-      let length_other = length-map other.hart_states (reprogrammed table_other) in
-      elim (cases_lt j (count_of one)) [
+      let first_length = length-map one.hart_states (reprogrammed first_table) in
+      let second_length = length-map other.hart_states (reprogrammed second_table) in
+      elim (cases_lt hart (count_of one)) [
         | inl in_range ↦
-            let read_one = get_or-map (reprogrammed table_one) one.hart_states j (hart_state_at_start 0) (hart_state_at_start 0) in_range in
-            let read_other =
-            get_or-map (reprogrammed table_other) other.hart_states j (hart_state_at_start 0) (hart_state_at_start 0)
+            let first_state_is =
+            get_or-map (reprogrammed first_table) one.hart_states hart (hart_state_at_start 0) (hart_state_at_start 0) in_range in
+            let second_state_is =
+            get_or-map (reprogrammed second_table) other.hart_states hart (hart_state_at_start 0) (hart_state_at_start 0)
             (omega (arith, same_harts, in_range)) in
-            let hart_states = equiv.hart_states j in
-            let harts_alike : HartStatesEquivExcept enclave (reprogrammed table_one (hart_state_of j one))
-            (reprogrammed table_other (hart_state_of j other)) =
+            let hart_states = equiv.hart_states hart in
+            let harts_alike : HartStatesEquivExcept enclave (reprogrammed first_table (hart_state_of hart one))
+            (reprogrammed second_table (hart_state_of hart other)) =
             record {
               world = hart_states.world;
-              same = λ low. ap₂ (λ (t : Slots) (s : HartState). reprogrammed t s) same_table (hart_states.same low);
+              same = λ low. ap₂ (λ (table : Slots) (state : HartState). reprogrammed table state) same_table (hart_states.same low);
             } in
-            subst (λ (x : HartState). HartStatesEquivExcept enclave x (hart_state_in (map (reprogrammed table_other) other.hart_states) j))
-            (sym read_one)
-            (subst (HartStatesEquivExcept enclave (reprogrammed table_one (hart_state_of j one))) (sym read_other) harts_alike)
+            subst (λ (hart_state : HartState). HartStatesEquivExcept enclave hart_state
+            (hart_state_in (map (reprogrammed second_table) other.hart_states) hart))
+            (sym first_state_is)
+            (subst (HartStatesEquivExcept enclave (reprogrammed first_table (hart_state_of hart one))) (sym second_state_is) harts_alike)
         | inr past_last ↦
-            let read_one = past_hart_state (map (reprogrammed table_one) one.hart_states) j (omega (arith, length_one, past_last)) in
-            let read_other =
-            past_hart_state (map (reprogrammed table_other) other.hart_states) j (omega (arith, length_other, same_harts, past_last)) in
-            let both : HartStatesEquivExcept enclave (hart_state_at_start 0) (hart_state_at_start 0) = record { world = refl; same = λ low. refl } in
-            subst (λ (x : HartState). HartStatesEquivExcept enclave x (hart_state_in (map (reprogrammed table_other) other.hart_states) j))
-            (sym read_one)
-            (subst (HartStatesEquivExcept enclave (hart_state_at_start 0)) (sym read_other) both)
+            let first_state_is = past_hart_state (map (reprogrammed first_table) one.hart_states) hart (omega (arith, first_length, past_last)) in
+            let second_state_is =
+            past_hart_state (map (reprogrammed second_table) other.hart_states) hart (omega (arith, second_length, same_harts, past_last)) in
+            let reset_states_equiv : HartStatesEquivExcept enclave (hart_state_at_start 0) (hart_state_at_start 0) =
+            record { world = refl; same = λ low. refl } in
+            subst (λ (hart_state : HartState). HartStatesEquivExcept enclave hart_state
+            (hart_state_in (map (reprogrammed second_table) other.hart_states) hart))
+            (sym first_state_is)
+            (subst (HartStatesEquivExcept enclave (hart_state_at_start 0)) (sym second_state_is) reset_states_equiv)
       ]
 
   -- both machines are equivalent after the exit
-  left_agree : EquivExcept enclave (left_machine hart one enclave trap host) (left_machine hart other enclave trap host)
-  left_agree =
-      let length_one = length-map one.hart_states (reprogrammed table_one) in
+  machines_equiv_after_exit : EquivExcept enclave (left_machine hart one enclave trap host) (left_machine hart other enclave trap host)
+  machines_equiv_after_exit =
+      let first_length = length-map one.hart_states (reprogrammed first_table) in
       let extent = state_extent one.shared.table enclave (slot_at one.shared.table enclave) state_after table_length refl in
-      let contexts_one = one.shared.contexts in
-      let contexts_other = other.shared.contexts in
-      let saved_one = Some (saved_after trap.cause hart_one) in
-      let saved_other = Some (saved_after trap.cause hart_other) in
+      let first_contexts = one.shared.contexts in
+      let second_contexts = other.shared.contexts in
+      let first_saved = Some (saved_after trap.cause first_hart) in
+      let second_saved = Some (saved_after trap.cause second_hart) in
       record {
-        harts = length-set (map (reprogrammed table_one) one.hart_states) hart (host_state (left_hart hart_one table_one trap host)) ∙ same_count
-            ∙ sym (length-set (map (reprogrammed table_other) other.hart_states) hart (host_state (left_hart hart_other table_other trap host)));
+        harts =
+            length-set (map (reprogrammed first_table) one.hart_states) hart (host_state (left_hart first_hart first_table trap host)) ∙ same_count
+            ∙ sym (length-set (map (reprogrammed second_table) other.hart_states) hart (host_state (left_hart second_hart second_table trap host)));
         hart_states =
-            hart_cases_of_both (map (reprogrammed table_one) one.hart_states) (map (reprogrammed table_other) other.hart_states) hart
-            (host_state (left_hart hart_one table_one trap host))
-            (host_state (left_hart hart_other table_other trap host)) (λ j a b. HartStatesEquivExcept enclave a b) same_count
-            (omega (arith, length_one, there_is))
-            (record { world = refl; same = λ low. ap host_state harts_same }) (λ j distinct. other_harts_equiv j);
+            hart_cases_of_both (map (reprogrammed first_table) one.hart_states) (map (reprogrammed second_table) other.hart_states) hart
+            (host_state (left_hart first_hart first_table trap host))
+            (host_state (left_hart second_hart second_table trap host))
+            (λ some_hart first_state second_state. HartStatesEquivExcept enclave first_state second_state) same_count
+            (omega (arith, first_length, in_range))
+            (record { world = refl; same = λ low. ap host_state same_hart_after_exit }) (λ some_hart distinct. other_harts_equiv some_hart);
         shared = record {
           table = same_table;
           memory = record {
             size = equiv.shared.memory.size;
-            bytes = λ i not_hidden. equiv.shared.memory.bytes i (ap (λ (r : Block). has r (ram_base + i)) (sym extent.region) ∙ not_hidden);
+            bytes =
+                λ index not_hidden. equiv.shared.memory.bytes index
+                (ap (λ (block : Block). has block (ram_base + index)) (sym extent.region) ∙ not_hidden);
           };
           contexts = record {
-            size = length-set contexts_one enclave saved_one ∙ equiv.shared.contexts.size ∙ sym (length-set contexts_other enclave saved_other);
+            size = length-set first_contexts enclave first_saved ∙ equiv.shared.contexts.size ∙ sym (length-set second_contexts enclave second_saved);
             others =
-                λ slot distinct. at_other_slot contexts_one enclave slot saved_one distinct ∙ equiv.shared.contexts.others slot distinct
-                ∙ sym (at_other_slot contexts_other enclave slot saved_other distinct);
+                λ slot distinct. at_other_slot first_contexts enclave slot first_saved distinct ∙ equiv.shared.contexts.others slot distinct
+                ∙ sym (at_other_slot second_contexts enclave slot second_saved distinct);
           };
           gone = λ dead. absurd (both_ways _ dead (state_live one.shared.table enclave (slot_at one.shared.table enclave) state_after table_length
               refl ∙ live));
         };
       }
 
--- an exit from both machines leaves them equivalent, for each saved context that the first hart has
-with_host : (enclave hart : ℕ) (one other : MonitoredMachine) (trap : Trap) (o : Option Context) → (hart_state_of hart one).host_context ≡ o
+-- An exit from both machines leaves them equivalent. The proof is by cases of the saved host context of the first hart, which cannot be None.
+equiv_after_exit : (enclave hart : ℕ) (one other : MonitoredMachine) (trap : Trap) (saved_host : Option Context)
+    → (hart_state_of hart one).host_context ≡ saved_host
     → Invariant one
     → Invariant other
     → EquivExcept enclave one other → runs_on enclave hart one ≡ true
@@ -179,22 +191,26 @@ with_host : (enclave hart : ℕ) (one other : MonitoredMachine) (trap : Trap) (o
     → (step_of hart one).outcome.step.trap ≡ Some trap → (step_of hart other).outcome.step.trap ≡ Some trap
     → (hart_state_of hart (step_of hart one).state).world ≡ Host → (hart_state_of hart (step_of hart other).state).world ≡ Host
     → EquivExcept enclave (step_of hart one).state (step_of hart other).state
-with_host enclave hart one other trap None saved invariant_one invariant_other equiv runs_e same_host handed traps traps_too one_exits other_exits =
-    let in_range = runs_inside enclave hart one runs_e in
-    let world = world_is_enclave enclave (hart_state_of hart one).world runs_e in
-    let kept = (invariant_one.hart_states hart in_range).host.kept in
-    let contradiction : false ≡ true = ap (λ (o : Option Context). is_some o) (sym saved) ∙ kept ∙ ap (λ w. not (is_host w)) world in
+equiv_after_exit enclave hart one other trap None host_context_is invariant_one invariant_other equiv runs_enclave same_host same_handover traps
+    other_traps one_exits other_exits =
+    let in_range = runs_inside enclave hart one runs_enclave in
+    let world = world_is_enclave enclave (hart_state_of hart one).world runs_enclave in
+    let has_host_context = (invariant_one.hart_states hart in_range).host.kept in
+    let contradiction : false ≡ true =
+    ap (λ (maybe_context : Option Context). is_some maybe_context) (sym host_context_is) ∙ has_host_context
+    ∙ ap (λ world. not (is_host world)) world in
     cc
-with_host enclave hart one other trap (Some host) saved invariant_one invariant_other equiv runs_e same_host handed traps traps_too one_exits
-    other_exits =
-    let in_range = runs_inside enclave hart one runs_e in
-    let world = world_is_enclave enclave (hart_state_of hart one).world runs_e in
-    let left_one = (leave_law hart one invariant_one enclave host trap world saved traps one_exits).0 in
-    let left_other =
+equiv_after_exit enclave hart one other trap (Some host) host_context_is invariant_one invariant_other equiv runs_enclave same_host same_handover
+    traps other_traps one_exits other_exits =
+    let in_range = runs_inside enclave hart one runs_enclave in
+    let world = world_is_enclave enclave (hart_state_of hart one).world runs_enclave in
+    let first_exit = (leave_law hart one invariant_one enclave host trap world host_context_is traps one_exits).0 in
+    let second_exit =
     (leave_law hart other invariant_other enclave host trap (sym (equiv.hart_states hart).world ∙ world)
-    (sym same_host.host ∙ saved) traps_too other_exits).0 in
-    let live = running_is_live enclave hart one invariant_one runs_e in
-    rw (left_one, left_other) (left_agree enclave hart one other trap host invariant_one.shared.valid.count live equiv in_range same_host handed)
+    (sym same_host.host ∙ host_context_is) other_traps other_exits).0 in
+    let live = running_is_live enclave hart one invariant_one runs_enclave in
+    rw (first_exit, second_exit) (machines_equiv_after_exit enclave hart one other trap host invariant_one.shared.valid.count live equiv in_range
+    same_host same_handover)
 
 -- an exit from both machines to the same host that hands over the same leaves the machines equivalent except `enclave`
 pub release : (enclave hart : ℕ) (one other : MonitoredMachine) (trap : Trap) → Invariant one → Invariant other
@@ -204,4 +220,4 @@ pub release : (enclave hart : ℕ) (one other : MonitoredMachine) (trap : Trap) 
     → (step_of hart one).outcome.step.trap ≡ Some trap → (step_of hart other).outcome.step.trap ≡ Some trap
     → (hart_state_of hart (step_of hart one).state).world ≡ Host → (hart_state_of hart (step_of hart other).state).world ≡ Host
     → EquivExcept enclave (step_of hart one).state (step_of hart other).state
-release enclave hart one other trap = with_host enclave hart one other trap (hart_state_of hart one).host_context refl
+release enclave hart one other trap = equiv_after_exit enclave hart one other trap (hart_state_of hart one).host_context refl

@@ -13,13 +13,13 @@ use Rattle.rv_monitor.proofs.HartCases.{past_hart_state, other_harts_keep, step_
 use Rattle.rv_monitor.proofs.Switched.{KeptStored, kept_between, switch_law}
 
 -- no saved context of the host is a legal saved context of the host
-nothing_kept : (o : Option Context) → is_some o ≡ false → KeptStored o
-nothing_kept None no_context = tt
-nothing_kept (Some context) no_context = cc
+no_context_is_legal : (maybe_context : Option Context) → is_some maybe_context ≡ false → KeptStored maybe_context
+no_context_is_legal None no_context = tt
+no_context_is_legal (Some context) no_context = cc
 
 -- a hart that runs the host has no saved context of the host, so each saved context of the host is legal
 pub host_stored : (hart_state : HartState) → HostContextInvariant hart_state → is_host hart_state.world ≡ true → HostContextIsLegal hart_state
-host_stored hart_state keeps host_runs = nothing_kept hart_state.host_context (keeps.kept ∙ ap not host_runs)
+host_stored hart_state keeps host_runs = no_context_is_legal hart_state.host_context (keeps.kept ∙ ap not host_runs)
 
 -- the step that enters an enclave saves the context of the host after its ecall
 pub entered_from : (state : HartView) (after : HartViewStepped) → StaysOrSwitches state after → is_host state.hart_state.world ≡ true
@@ -38,16 +38,16 @@ back_from before state after (inl stays) host_is_saved enclave_runs host_runs_af
 back_from before state after (inr (inl enters)) host_is_saved enclave_runs host_runs_after =
     absurd (both_ways _ enclave_runs (ap is_host enters.from_host))
 back_from before state after (inr (inr leaves)) host_is_saved enclave_runs host_runs_after =
-    let equal = sym leaves.kept ∙ host_is_saved in
-    let same : leaves.host ≡ saved before.hart_state.hart (past_ecall before.hart_state.hart) S = cc in
-    let reason_value = reason leaves.trap.cause state.hart_state.hart.regs in
+    let some_contexts_equal = sym leaves.kept ∙ host_is_saved in
+    let contexts_equal : leaves.host ≡ saved before.hart_state.hart (past_ecall before.hart_state.hart) S = cc in
+    let exit_reason = reason leaves.trap.cause state.hart_state.hart.regs in
     let exit_value = value leaves.trap.cause state.hart_state.hart.regs in
     record {
       trap = leaves.trap;
       trapped = leaves.trapped;
       again =
           leaves.again
-          ∙ ap (λ (host : Context). record host { regs = with_return_values host.regs reason_value exit_value }) same;
+          ∙ ap (λ (host : Context). record host { regs = with_return_values host.regs exit_reason exit_value }) contexts_equal;
     }
 
 -- the saved context of the host on a hart
@@ -60,31 +60,33 @@ runs_there hart machine enclave_runs = elim (cases_lt hart (count_of machine)) [
   | inl in_range ↦ in_range
   | inr past_last ↦
       let contradiction : true ≡ false =
-      sym (ap (λ (s : HartState). is_host s.world) (past_hart_state machine.hart_states hart past_last)) ∙ enclave_runs in
+      sym (ap (λ (hart_state : HartState). is_host hart_state.world) (past_hart_state machine.hart_states hart past_last)) ∙ enclave_runs in
       cc
 ]
 
 -- ---- a step of a hart
 
 -- a step of a hart that runs an enclave before and after the step keeps the saved context of the host
-own_keeps : (hart : ℕ) (machine : MonitoredMachine) → is_host (hart_state_of hart machine).world ≡ false
+own_step_keeps_context : (hart : ℕ) (machine : MonitoredMachine) → is_host (hart_state_of hart machine).world ≡ false
     → is_host (hart_state_of hart (step_of hart machine).state).world ≡ false → host_on hart (step_of hart machine).state ≡ host_on hart machine
-own_keeps hart machine enclave_runs enclave_runs_after =
+own_step_keeps_context hart machine enclave_runs enclave_runs_after =
     let step_is = step_of_view hart machine (runs_there hart machine enclave_runs) in
     ap (λ (after : HartViewStepped). after.state.hart_state.host_context) step_is
     ∙ kept_between (hart_view hart machine) enclave_runs
     (sym (ap (λ (after : HartViewStepped). is_host after.state.hart_state.world) step_is) ∙ enclave_runs_after)
 
 -- a step of any hart keeps the saved context of the host on each hart that runs an enclave before and after the step
-step_keeps : (hart named : ℕ) (machine : MonitoredMachine) → is_host (hart_state_of hart machine).world ≡ false
-    → is_host (hart_state_of hart (step_of named machine).state).world ≡ false → host_on hart (step_of named machine).state ≡ host_on hart machine
-step_keeps hart named machine enclave_runs enclave_runs_after = elim (cases_eq hart named) [
+step_keeps : (hart stepping_hart : ℕ) (machine : MonitoredMachine) → is_host (hart_state_of hart machine).world ≡ false
+    → is_host (hart_state_of hart (step_of stepping_hart machine).state).world ≡ false
+    → host_on hart (step_of stepping_hart machine).state ≡ host_on hart machine
+step_keeps hart stepping_hart machine enclave_runs enclave_runs_after = elim (cases_eq hart stepping_hart) [
   | inl equal ↦
       subst
-      (λ (h : ℕ). is_host (hart_state_of hart (step_of h machine).state).world ≡ false → host_on hart
-      (step_of h machine).state ≡ host_on hart machine)
-      equal (own_keeps hart machine enclave_runs) enclave_runs_after
-  | inr distinct ↦ other_harts_keep (λ (hart_state : HartState). hart_state.host_context) (λ slots hart_state. refl) named hart machine distinct
+      (λ (stepping_hart : ℕ). is_host (hart_state_of hart (step_of stepping_hart machine).state).world ≡ false → host_on hart
+      (step_of stepping_hart machine).state ≡ host_on hart machine)
+      equal (own_step_keeps_context hart machine enclave_runs) enclave_runs_after
+  | inr distinct ↦
+      other_harts_keep (λ (hart_state : HartState). hart_state.host_context) (λ slots hart_state. refl) stepping_hart hart machine distinct
 ]
 
 -- ---- steps of the harts in order
@@ -93,21 +95,21 @@ step_keeps hart named machine enclave_runs enclave_runs_after = elim (cases_eq h
 pub first_runs : (hart : ℕ) (harts : List ℕ) (machine : MonitoredMachine) → RunsThrough hart harts machine
     → is_host (hart_state_of hart machine).world ≡ false
 first_runs hart [] machine runs_through = runs_through
-first_runs hart (named ∷ harts) machine runs_through = runs_through.0
+first_runs hart (stepping_hart ∷ harts) machine runs_through = runs_through.0
 
 -- the saved context of the host on a hart does not change while the hart runs an enclave
 pub steps_keep : (hart : ℕ) (harts : List ℕ) (machine : MonitoredMachine) → RunsThrough hart harts machine
     → host_on hart (sched harts machine).state ≡ host_on hart machine
 steps_keep hart [] machine runs_through = refl
-steps_keep hart (named ∷ harts) machine runs_through =
-    let after = (step_of named machine).state in
-    steps_keep hart harts after runs_through.1 ∙ step_keeps hart named machine runs_through.0 (first_runs hart harts after runs_through.1)
+steps_keep hart (stepping_hart ∷ harts) machine runs_through =
+    let after = (step_of stepping_hart machine).state in
+    steps_keep hart harts after runs_through.1 ∙ step_keeps hart stepping_hart machine runs_through.0 (first_runs hart harts after runs_through.1)
 
 -- a hart that runs an enclave through a list of steps runs an enclave after the last step
 pub last_runs : (hart : ℕ) (harts : List ℕ) (machine : MonitoredMachine) → RunsThrough hart harts machine
     → is_host (hart_state_of hart (sched harts machine).state).world ≡ false
 last_runs hart [] machine runs_through = runs_through
-last_runs hart (named ∷ harts) machine runs_through = last_runs hart harts (step_of named machine).state runs_through.1
+last_runs hart (stepping_hart ∷ harts) machine runs_through = last_runs hart harts (step_of stepping_hart machine).state runs_through.1
 
 -- ---- from entry to exit
 
@@ -117,7 +119,7 @@ entering_hart_in_range : (hart : ℕ) (machine : MonitoredMachine) → is_host (
 entering_hart_in_range hart machine enclave_runs_after =
     let after = (step_of hart machine).state in
     let in_range = runs_there hart after enclave_runs_after in
-    subst (λ (n : ℕ). hart < n) (step_count hart machine) in_range
+    subst (λ (hart_count : ℕ). hart < hart_count) (step_count hart machine) in_range
 
 -- the entry saves the context of the host after its ecall
 pub entered_is : (hart : ℕ) (machine : MonitoredMachine) → Invariant machine → is_host (hart_state_of hart machine).world ≡ true
@@ -145,10 +147,11 @@ comes_back hart before machine invariant legal host_on_is runs host =
 
 -- proves that the host gets its own context back when the enclave exits
 pub return_law : ReturnLaw
-return_law hart harts machine invariant stored host runs again =
-    let first = (step_of hart machine).state in
-    let last = (sched harts first).state in
-    let same = steps_keep hart harts first runs in
-    comes_back hart (hart_view hart machine) last (sched_invariant harts first (invariant_law hart machine invariant))
-    (subst KeptStored (sym same) stored)
-    (same ∙ entered_is hart machine invariant host (first_runs hart harts first runs)) (last_runs hart harts first runs) again
+return_law hart harts machine invariant context_is_legal host_runs runs_through exits =
+    let after_entry = (step_of hart machine).state in
+    let before_exit = (sched harts after_entry).state in
+    let context_kept = steps_keep hart harts after_entry runs_through in
+    comes_back hart (hart_view hart machine) before_exit (sched_invariant harts after_entry (invariant_law hart machine invariant))
+    (subst KeptStored (sym context_kept) context_is_legal)
+    (context_kept ∙ entered_is hart machine invariant host_runs (first_runs hart harts after_entry runs_through))
+    (last_runs hart harts after_entry runs_through) exits

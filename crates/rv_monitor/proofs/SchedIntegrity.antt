@@ -8,7 +8,7 @@ use Rattle.rv_monitor.proofs.Prelude.{HartViewStepped, RunningLaw, SchedChangeLa
 use Rattle.rv_monitor.proofs.Prelude.{monitored_step, runs_on, sched, hart_state_of, reprogrammed, hart_view_after, hart_view, step_of}
 use Rattle.rv_monitor.proofs.Beside.{live_if_running, runs_beside, runs_inside, running_is_live}
 use Rattle.rv_monitor.proofs.Changes.{changes}
-use Rattle.rv_monitor.proofs.SchedNoninterference.{entered_by, is_entered, none_again}
+use Rattle.rv_monitor.proofs.SchedNoninterference.{entered_by, is_entered, still_runs_on_none}
 use Rattle.rv_monitor.proofs.Integrity.{integrity}
 use Rattle.rv_monitor.proofs.InvariantLemmas.{invariant_of_others, invariant_law, hart_view_invariant}
 use Rattle.rv_monitor.proofs.PmpProgramming.{reprogramming_changes_nothing}
@@ -17,79 +17,85 @@ use Rattle.rv_monitor.proofs.HartCases.{by_hart, outside, step_of_view}
 -- ---- two changes in turn
 
 -- an enclave that two changes in turn preserve is preserved by both together
-pub preserved_twice : (k : ℕ) (before between after : Shared) → IsPreserved k before between → IsPreserved k between after
-    → IsPreserved k before after
-preserved_twice k before between after first last = record {
-  slot = last.slot ∙ first.slot;
-  bytes = λ byte in_region. last.bytes byte (ap (λ slot. has (region_of slot) byte) first.slot ∙ in_region) ∙ first.bytes byte in_region;
-  context = last.context ∙ first.context;
+pub preserved_twice : (slot : ℕ) (before middle after : Shared) → IsPreserved slot before middle → IsPreserved slot middle after
+    → IsPreserved slot before after
+preserved_twice slot before middle after first_change second_change = record {
+  slot = second_change.slot ∙ first_change.slot;
+  bytes =
+      λ byte in_region. second_change.bytes byte (ap (λ maybe_info. has (region_of maybe_info) byte) first_change.slot ∙ in_region)
+      ∙ first_change.bytes byte in_region;
+  context = second_change.context ∙ first_change.context;
 }
 
 -- an enclave that two steps in turn leave untouched is untouched by both together
-untouched_twice : (k : ℕ) (before between after : MonitoredMachine) → IsUntouched k before between → IsUntouched k between after
-    → IsUntouched k before after
-untouched_twice k before between after first last = record {
-  preserved = preserved_twice k before.shared between.shared after.shared first.preserved last.preserved;
+untouched_twice : (slot : ℕ) (before middle after : MonitoredMachine) → IsUntouched slot before middle → IsUntouched slot middle after
+    → IsUntouched slot before after
+untouched_twice slot before middle after first_change second_change = record {
+  preserved = preserved_twice slot before.shared middle.shared after.shared first_change.preserved second_change.preserved;
   hart_state = λ hart runs.
-      let one = first.hart_state hart runs in
-      last.hart_state hart (ap (λ (s : HartState). is_world_of k s.world) one ∙ runs) ∙ ap (reprogrammed after.shared.table) one;
+      let middle_state_is = first_change.hart_state hart runs in
+      second_change.hart_state hart (ap (λ (hart_state : HartState). is_world_of slot hart_state.world) middle_state_is ∙ runs)
+      ∙ ap (reprogrammed after.shared.table) middle_state_is;
 }
 
 -- an enclave is untouched by an empty list of steps
-untouched_itself : (k : ℕ) (machine : MonitoredMachine) → Invariant machine → IsUntouched k machine machine
-untouched_itself k machine invariant = record {
+untouched_itself : (slot : ℕ) (machine : MonitoredMachine) → Invariant machine → IsUntouched slot machine machine
+untouched_itself slot machine invariant = record {
   preserved = record { slot = refl; bytes = λ byte in_region. refl; context = refl };
   hart_state =
       λ hart runs. sym (reprogramming_changes_nothing machine.shared.table (hart_state_of hart machine)
-      (invariant.hart_states hart (runs_inside k hart machine runs)));
+      (invariant.hart_states hart (runs_inside slot hart machine runs)));
 }
 
 -- ---- every order of steps
 
 -- an enclave that a list of steps leaves undisturbed is live before these steps
-first_live : (k : ℕ) (harts : List ℕ) (machine : MonitoredMachine) → IsUndisturbed k harts machine → is_live machine.shared.table k ≡ true
-first_live k [] machine undisturbed = undisturbed
-first_live k (hart ∷ harts) machine undisturbed = undisturbed.0
+first_live : (slot : ℕ) (harts : List ℕ) (machine : MonitoredMachine) → IsUndisturbed slot harts machine → is_live machine.shared.table slot ≡ true
+first_live slot [] machine undisturbed = undisturbed
+first_live slot (hart ∷ harts) machine undisturbed = undisturbed.0
 
 -- proves the integrity law for steps in any order, by induction on the list
 pub sched_integrity : SchedIntegrityLaw
-sched_integrity k [] machine invariant undisturbed = untouched_itself k machine invariant
-sched_integrity k (hart ∷ harts) machine invariant undisturbed =
+sched_integrity slot [] machine invariant undisturbed = untouched_itself slot machine invariant
+sched_integrity slot (hart ∷ harts) machine invariant undisturbed =
     let after = (step_of hart machine).state in
-    untouched_twice k machine after (sched harts after).state
-    (integrity hart machine invariant k undisturbed.1 undisturbed.0 undisturbed.2 (first_live k harts after undisturbed.3))
-    (sched_integrity k harts after (invariant_law hart machine invariant) undisturbed.3)
+    untouched_twice slot machine after (sched harts after).state
+    (integrity hart machine invariant slot undisturbed.1 undisturbed.0 undisturbed.2 (first_live slot harts after undisturbed.3))
+    (sched_integrity slot harts after (invariant_law hart machine invariant) undisturbed.3)
 
 -- ---- a running enclave is neither entered nor ended by another hart
 
 -- proves that a step neither enters nor destroys an enclave that runs on another hart
 pub go_on_law : (hart : ℕ) (machine : MonitoredMachine) → Invariant machine → KeepsOthersRunning hart machine (step_of hart machine)
-go_on_law hart machine invariant k hart_of_k runs not_running = by_hart hart machine (KeepsRunning k)
-    (record { passes = refl; live = running_is_live k hart_of_k machine invariant runs })
+go_on_law hart machine invariant slot slot_hart runs not_running = by_hart hart machine (KeepsRunning slot)
+    (record { passes = refl; live = running_is_live slot slot_hart machine invariant runs })
     (λ in_range.
     let after = monitored_step (hart_view hart machine) in
     let sound = (invariant_of_others hart machine invariant in_range).0 in
-    let others = runs_beside k hart hart_of_k machine in_range runs not_running in
+    let runs_on_other_hart = runs_beside slot hart slot_hart machine in_range runs not_running in
     record {
-      passes = entered_by k after.outcome.entered
-          (λ enters_slot. both_ways _ (sound.apart.0 k (is_entered k (hart_view hart machine) enters_slot)) others);
-      live = live_if_running (slot_at after.state.shared.table k) (sound.running k ∙ or_right (is_world_of k after.state.hart_state.world) _ others);
+      passes = entered_by slot after.outcome.entered
+          (λ enters_slot. both_ways _ (sound.apart.0 slot (is_entered slot (hart_view hart machine) enters_slot)) runs_on_other_hart);
+      live =
+          live_if_running (slot_at after.state.shared.table slot)
+          (sound.running slot ∙ or_right (is_world_of slot after.state.hart_state.world) _ runs_on_other_hart);
     })
 
 -- proves that steps of other harts leave a running enclave undisturbed
 pub running_law : RunningLaw
-running_law k own_hart [] machine invariant runs runs_on_none = running_is_live k own_hart machine invariant runs
-running_law k own_hart (hart ∷ harts) machine invariant runs runs_on_none =
+running_law slot slot_hart [] machine invariant runs runs_on_none = running_is_live slot slot_hart machine invariant runs
+running_law slot slot_hart (hart ∷ harts) machine invariant runs runs_on_none =
     let after = (step_of hart machine).state in
-    let live = running_is_live k own_hart machine invariant runs in
-    let continues = go_on_law hart machine invariant k own_hart runs runs_on_none.0 in
-    let preserved = integrity hart machine invariant k runs_on_none.0 live continues.passes continues.live in
-    let runs_after : runs_on k own_hart after ≡ true = ap (λ (s : HartState). is_world_of k s.world) (preserved.hart_state own_hart runs) ∙ runs in (
+    let live = running_is_live slot slot_hart machine invariant runs in
+    let continues = go_on_law hart machine invariant slot slot_hart runs runs_on_none.0 in
+    let preserved = integrity hart machine invariant slot runs_on_none.0 live continues.passes continues.live in
+    let runs_after : runs_on slot slot_hart after ≡ true =
+    ap (λ (hart_state : HartState). is_world_of slot hart_state.world) (preserved.hart_state slot_hart runs) ∙ runs in (
       live,
       runs_on_none.0,
       continues.passes,
-      running_law k own_hart harts after (invariant_law hart machine invariant) runs_after
-          (none_again k hart harts machine runs_on_none.1 continues.passes),
+      running_law slot slot_hart harts after (invariant_law hart machine invariant) runs_after
+          (still_runs_on_none slot hart harts machine runs_on_none.1 continues.passes),
     )
 
 -- ---- which bytes the steps change
@@ -110,8 +116,8 @@ step_changes hart machine byte invariant = elim (cases_lt hart (count_of machine
 pub sched_changes : SchedChangeLaw
 sched_changes [] machine byte invariant = inl refl
 sched_changes (hart ∷ harts) machine byte invariant = elim (step_changes hart machine byte invariant) [
-  | inl same ↦ elim (sched_changes harts (step_of hart machine).state byte (invariant_law hart machine invariant)) [
-    | inl unchanged_later ↦ inl (unchanged_later ∙ same)
+  | inl unchanged ↦ elim (sched_changes harts (step_of hart machine).state byte (invariant_law hart machine invariant)) [
+    | inl unchanged_later ↦ inl (unchanged_later ∙ unchanged)
     | inr changed ↦ inr (inr changed)
   ]
   | inr changed ↦ inr (inl changed)

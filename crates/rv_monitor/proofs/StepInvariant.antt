@@ -24,13 +24,13 @@ use Rattle.rv_monitor.proofs.Alignment.{aligned_is_multiple}
 -- no PMP entry of the layout of a world is locked
 pub layout_unlocked : (slots : Slots) (world : World) → IsUnlocked (layout slots world)
 unfolding layout
-layout_unlocked slots world i = elim (cases_lt i 16) [
+layout_unlocked slots world entry = elim (cases_lt entry 16) [
   | inl in_range ↦
-      let cfg_is : cfg_of (layout slots world) i ≡ (entry_at slots world i).cfg =
-      get_or-map-range_with_len (λ j. (entry_at slots world j).cfg) 0 16 i i 0 in_range (omega arith) in
-      rw cfg_is (entry_is_plain slots world i).unlocked
+      let cfg_is : cfg_of (layout slots world) entry ≡ (entry_at slots world entry).cfg =
+      get_or-map-range_with_len (λ some_entry. (entry_at slots world some_entry).cfg) 0 16 entry entry 0 in_range (omega arith) in
+      rw cfg_is (entry_is_plain slots world entry).unlocked
   | inr past_last ↦
-      let cfg_is_0 : cfg_of (layout slots world) i ≡ 0 = get_or_past {X = ℕ} (layout slots world).cfgs i 0 past_last in
+      let cfg_is_0 : cfg_of (layout slots world) entry ≡ 0 = get_or_past {X = ℕ} (layout slots world).cfgs entry 0 past_last in
       rw cfg_is_0 refl
 ]
 
@@ -40,12 +40,13 @@ hart_state_unlocked slots hart_state hart_invariant =
     let layout = hart_invariant.layout in subst IsUnlocked (sym layout.entries) (layout_unlocked slots hart_state.world)
 
 -- no PMP entry of a hart is locked at a trap, if the hart has the invariant before the step
-unlocked_if : (slots : Slots) (hart_state : HartState) (o : Option Trap) (hart : Hart) (memory left : List ℕ) (trap : Trap) → o ≡ Some trap
+unlocked_if : (slots : Slots) (hart_state : HartState) (maybe_trap : Option Trap) (hart : Hart) (memory memory_after : List ℕ) (trap : Trap)
+    → maybe_trap ≡ Some trap
     → HartInvariant slots hart_state
-    → IfSome o (λ t. (hart ≡ hart_after hart_state.hart t) × (left ≡ memory)) → IsUnlocked hart.csrs.pmp
-unlocked_if slots hart_state None hart memory left trap trapped hart_invariant keeps = cc
-unlocked_if slots hart_state (Some t) hart memory left trap trapped hart_invariant keeps =
-    subst (λ (h : Hart). IsUnlocked h.csrs.pmp) (sym keeps.0) (hart_state_unlocked slots hart_state hart_invariant)
+    → IfSome maybe_trap (λ some_trap. (hart ≡ hart_after hart_state.hart some_trap) × (memory_after ≡ memory)) → IsUnlocked hart.csrs.pmp
+unlocked_if slots hart_state None hart memory memory_after trap trapped hart_invariant keeps = cc
+unlocked_if slots hart_state (Some some_trap) hart memory memory_after trap trapped hart_invariant keeps =
+    subst (λ (hart : Hart). IsUnlocked hart.csrs.pmp) (sym keeps.0) (hart_state_unlocked slots hart_state hart_invariant)
 
 -- no PMP entry is locked after a bare step that traps
 pub unlocked_after : (hart_state : HartState) (shared : Shared) (after : Stepped) (trap : Trap) → after.outcome.trap ≡ Some trap
@@ -57,51 +58,52 @@ unlocked_after hart_state shared after trap trapped hart_invariant keeps =
 -- ---- the bare step
 
 -- a store does not change the size of the memory
-stored_size : (bytes old new : List ℕ) (span : Option Span) → Stores bytes old new span → length old ≡ length new
-stored_size bytes old new None stores = sym (ap length stores)
-stored_size bytes old new (Some span) stores = sym (length-write old span.addr bytes new stores.1)
+stored_size : (bytes before after : List ℕ) (span : Option Span) → Stores bytes before after span → length before ≡ length after
+stored_size bytes before after None stores = sym (ap length stores)
+stored_size bytes before after (Some span) stores = sym (length-write before span.addr bytes after stores.1)
 
 -- a memory has the same bytes as itself in each span
-same_in : (m : List ℕ) (span : Option Span) → SameIn m m span
-same_in m None = tt
-same_in m (Some span) = refl
+same_in_span : (memory : List ℕ) (span : Option Span) → SameIn memory memory span
+same_in_span memory None = tt
+same_in_span memory (Some span) = refl
 
 -- a memory is equal to itself on all accessed bytes
-pub equiv_itself : (m : List ℕ) (touched : Touched) → EqualOn m m touched
-equiv_itself m touched = record { size = refl; fetched = same_in m touched.fetched; loaded = same_in m touched.loaded }
+pub equal_to_itself : (memory : List ℕ) (touched : Touched) → EqualOn memory memory touched
+equal_to_itself memory touched = record { size = refl; fetched = same_in_span memory touched.fetched; loaded = same_in_span memory touched.loaded }
 
 -- a step whose stores are confined keeps the size of the memory
 pub step_size : (before : Machine) (after : Stepped) → IsConfined before after → length before.memory ≡ length after.state.memory
 step_size before after confined =
-    let equiv = equiv_itself before.memory after.outcome.touched in
-    stored_size confined.bytes before.memory after.state.memory after.outcome.touched.stored (confined.alike before.memory equiv).here
+    let same_memory = equal_to_itself before.memory after.outcome.touched in
+    stored_size confined.bytes before.memory after.state.memory after.outcome.touched.stored (confined.alike before.memory same_memory).here
 
 -- CSRs with equal machine's parts have equal PMP entries, mie and bits of mstatus
-same_parts : (a b : CsrState) → machine_parts a ≡ machine_parts b
-    → (a.pmp ≡ b.pmp) × (a.mie ≡ b.mie) × (a.mstatus.mie ≡ b.mstatus.mie) × (a.mstatus.tvm ≡ b.mstatus.tvm) × (a.mstatus.tw ≡ b.mstatus.tw)
-    × (a.mstatus.tsr ≡ b.mstatus.tsr)
+same_parts : (csrs other_csrs : CsrState) → machine_parts csrs ≡ machine_parts other_csrs
+    → (csrs.pmp ≡ other_csrs.pmp) × (csrs.mie ≡ other_csrs.mie) × (csrs.mstatus.mie ≡ other_csrs.mstatus.mie) ×
+    (csrs.mstatus.tvm ≡ other_csrs.mstatus.tvm) × (csrs.mstatus.tw ≡ other_csrs.mstatus.tw)
+    × (csrs.mstatus.tsr ≡ other_csrs.mstatus.tsr)
 unfolding machine_parts
-same_parts a b machine_parts_is = (
-  ap (λ (c : CsrState). c.pmp) machine_parts_is,
-  ap (λ (c : CsrState). c.mie) machine_parts_is,
-  ap (λ (c : CsrState). c.mstatus.mie) machine_parts_is,
-  ap (λ (c : CsrState). c.mstatus.tvm) machine_parts_is,
-  ap (λ (c : CsrState). c.mstatus.tw) machine_parts_is,
-  ap (λ (c : CsrState). c.mstatus.tsr) machine_parts_is,
+same_parts csrs other_csrs machine_parts_is = (
+  ap (λ (csrs : CsrState). csrs.pmp) machine_parts_is,
+  ap (λ (csrs : CsrState). csrs.mie) machine_parts_is,
+  ap (λ (csrs : CsrState). csrs.mstatus.mie) machine_parts_is,
+  ap (λ (csrs : CsrState). csrs.mstatus.tvm) machine_parts_is,
+  ap (λ (csrs : CsrState). csrs.mstatus.tw) machine_parts_is,
+  ap (λ (csrs : CsrState). csrs.mstatus.tsr) machine_parts_is,
 )
 
 -- a claim that holds if there is no trap holds for a step without a trap
-pub without_trap : (o : Option Trap) (P : Type 0) → o ≡ None → IfNone o P → P
-without_trap None P no_trap p = p
-without_trap (Some t) P no_trap p = cc
+pub without_trap : (maybe_trap : Option Trap) (Claim : Type 0) → maybe_trap ≡ None → IfNone maybe_trap Claim → Claim
+without_trap None Claim no_trap claim = claim
+without_trap (Some trap) Claim no_trap claim = cc
 
 -- ---- the state of a hart
 
 -- the hart state has the invariant with another hart whose PMP entries, mie, mode and mstatus satisfy the invariant
-hart_seated : (slots : Slots) (hart_state : HartState) (hart : Hart) → HostContextInvariant hart_state
+invariant_with_hart : (slots : Slots) (hart_state : HartState) (hart : Hart) → HostContextInvariant hart_state
     → HasPmpLayout slots (record hart_state { hart = hart })
     → HartInvariant slots (record hart_state { hart = hart })
-hart_seated slots hart_state hart host layout = record { host = record { kept = host.kept; held = host.held }; layout = layout }
+invariant_with_hart slots hart_state hart host layout = record { host = record { kept = host.kept; held = host.held }; layout = layout }
 
 -- the hart state has the invariant for a new table with another hart that keeps the mode and mstatus, and has the PMP entries and mie of the new
 -- table
@@ -109,23 +111,23 @@ pub reprogrammed_by : (before after : Slots) (hart_state : HartState) (hart : Ha
     → hart.csrs.pmp ≡ layout after hart_state.world
     → hart.csrs.mie ≡ mie_of hart_state.world → hart.mode ≡ hart_state.hart.mode → hart.csrs.mstatus ≡ hart_state.hart.csrs.mstatus
     → HartInvariant after (record hart_state { hart = hart })
-reprogrammed_by before after hart_state hart hart_invariant entries mie mode status =
-    let own_layout = hart_invariant.layout in
-    hart_seated after hart_state hart hart_invariant.host (record {
+reprogrammed_by before after hart_state hart hart_invariant entries mie mode_unchanged mstatus_unchanged =
+    let layout_before = hart_invariant.layout in
+    invariant_with_hart after hart_state hart hart_invariant.host (record {
       entries = entries;
       mie = mie;
-      mode = ap is_machine mode ∙ own_layout.mode;
-      mstatus_mie = ap (λ (s : Mstatus). s.mie) status ∙ own_layout.mstatus_mie;
-      mprv = ap (λ (s : Mstatus). s.mprv) status ∙ own_layout.mprv;
-      tvm = ap (λ (s : Mstatus). s.tvm) status ∙ own_layout.tvm;
-      tw = ap (λ (s : Mstatus). s.tw) status ∙ own_layout.tw;
-      tsr = ap (λ (s : Mstatus). s.tsr) status ∙ own_layout.tsr;
+      mode = ap is_machine mode_unchanged ∙ layout_before.mode;
+      mstatus_mie = ap (λ (mstatus : Mstatus). mstatus.mie) mstatus_unchanged ∙ layout_before.mstatus_mie;
+      mprv = ap (λ (mstatus : Mstatus). mstatus.mprv) mstatus_unchanged ∙ layout_before.mprv;
+      tvm = ap (λ (mstatus : Mstatus). mstatus.tvm) mstatus_unchanged ∙ layout_before.tvm;
+      tw = ap (λ (mstatus : Mstatus). mstatus.tw) mstatus_unchanged ∙ layout_before.tw;
+      tsr = ap (λ (mstatus : Mstatus). mstatus.tsr) mstatus_unchanged ∙ layout_before.tsr;
     })
 
 -- a hart has the invariant for a new table after it is reprogrammed for this table
-pub laid_seated : (before after : Slots) (hart_state : HartState) → HartInvariant before hart_state
+pub reprogrammed_invariant : (before after : Slots) (hart_state : HartState) → HartInvariant before hart_state
     → HartInvariant after (reprogrammed after hart_state)
-laid_seated before after hart_state hart_invariant =
+reprogrammed_invariant before after hart_state hart_invariant =
     reprogrammed_by before after hart_state (pmp_programmed after hart_state.world hart_state.hart) hart_invariant refl refl refl refl
 
 -- ---- a step of one hart, for given worlds of the other harts
@@ -137,8 +139,8 @@ pub hart_view_of : (hart_state : HartState) (shared : Shared) (worlds : List Wor
 hart_view_of hart_state shared worlds shared_invariant hart_invariant = record { valid = shared_invariant.valid; hart = hart_invariant }
 
 -- the shared invariant holds after the step with the new world of the hart and the worlds of the other harts, and the hart has the invariant
-abbrev pub KeptBeside : List World → HartViewStepped → Type 0
-KeptBeside beside after =
+abbrev pub InvariantBeside : List World → HartViewStepped → Type 0
+InvariantBeside beside after =
     SharedInvariant after.state.shared (after.state.hart_state.world ∷ beside) × HartInvariant after.state.shared.table after.state.hart_state
 
 -- the hart and the shared state have their invariants, with the worlds of the other harts
@@ -164,57 +166,62 @@ module _ (beside : List World) (hart_state : HartState) (shared : Shared) (share
         pc = aligned_is_multiple hart_state.hart.pc;
       }
 
-  -- a step without a trap satisfies `KeptBeside`
-  quiet_kept : (after : Stepped) → IsConfined (bare_machine state) after → StaysBelow hart_state.hart after.state.hart
+  -- a step without a trap satisfies `InvariantBeside`
+  kept_without_trap : (after : Stepped) → IsConfined (bare_machine state) after → StaysBelow hart_state.hart after.state.hart
       → after.state.hart.csrs.mstatus.mprv ≡ false
-      → KeptBeside beside (unhandled after.outcome (record hart_state { hart = after.state.hart }) (record shared { memory = after.state.memory }))
-  quiet_kept after confined stays_below mprv =
+      → InvariantBeside beside (unhandled after.outcome (record hart_state { hart = after.state.hart })
+      (record shared { memory = after.state.memory }))
+  kept_without_trap after confined stays_below mprv =
       let hart = after.state.hart in
-      let parts = same_parts hart.csrs hart_state.hart.csrs stays_below.0 in
+      let same_machine_parts = same_parts hart.csrs hart_state.hart.csrs stays_below.0 in
       let layout = hart_invariant.layout in (
         sound_by_size shared (hart_state.world ∷ beside) after.state.memory shared_invariant (step_size (bare_machine state) after confined),
-        hart_seated shared.table hart_state hart hart_invariant.host (record {
-          entries = parts.0 ∙ layout.entries;
-          mie = parts.1 ∙ layout.mie;
+        invariant_with_hart shared.table hart_state hart hart_invariant.host (record {
+          entries = same_machine_parts.0 ∙ layout.entries;
+          mie = same_machine_parts.1 ∙ layout.mie;
           mode = stays_below.1;
-          mstatus_mie = parts.2 ∙ layout.mstatus_mie;
+          mstatus_mie = same_machine_parts.2 ∙ layout.mstatus_mie;
           mprv = mprv;
-          tvm = parts.3 ∙ layout.tvm;
-          tw = parts.4 ∙ layout.tw;
-          tsr = parts.5 ∙ layout.tsr;
+          tvm = same_machine_parts.3 ∙ layout.tvm;
+          tw = same_machine_parts.4 ∙ layout.tw;
+          tsr = same_machine_parts.5 ∙ layout.tsr;
         }),
       )
 
-  -- the return from a result of the trap handler that satisfies `InvariantAfterHandler` satisfies `KeptBeside`
-  worked_kept : (outcome : StepOutcome) (h : Handled) → InvariantAfterHandler beside h → IsLaidOut h.shared.table h.hart_state
-      → KeptBeside beside (returned outcome h)
-  worked_kept outcome h is_done is_laid_out =
-      let ready = is_done.ready in (
+  -- the return from a result of the trap handler that satisfies `InvariantAfterHandler` satisfies `InvariantBeside`
+  kept_after_handler : (outcome : StepOutcome) (result : Handled) → InvariantAfterHandler beside result
+      → IsLaidOut result.shared.table result.hart_state
+      → InvariantBeside beside (returned outcome result)
+  kept_after_handler outcome result invariant_after is_laid_out =
+      let ready = invariant_after.ready in (
         ready.sound,
-        hart_seated h.shared.table h.hart_state (returned_to h.hart_state.hart h.next.pc h.next.mode) ready.host (record {
-          entries = is_laid_out.entries;
-          mie = is_laid_out.mie;
-          mode = is_done.mode;
-          mstatus_mie = ready.quiet.mpie;
-          mprv = rw ready.quiet.mprv refl;
-          tvm = ready.quiet.tvm;
-          tw = ready.quiet.tw;
-          tsr = ready.quiet.tsr;
-        }),
+        invariant_with_hart result.shared.table result.hart_state (returned_to result.hart_state.hart result.next.pc result.next.mode) ready.host
+            (record {
+              entries = is_laid_out.entries;
+              mie = is_laid_out.mie;
+              mode = invariant_after.mode;
+              mstatus_mie = ready.quiet.mpie;
+              mprv = rw ready.quiet.mprv refl;
+              tvm = ready.quiet.tvm;
+              tw = ready.quiet.tw;
+              tsr = ready.quiet.tsr;
+            }),
       )
 
-  -- a step of a view satisfies `KeptBeside`
-  pub step_invariant : KeptBeside beside (monitored_step state)
+  -- a step of a view satisfies `InvariantBeside`
+  pub step_invariant : InvariantBeside beside (monitored_step state)
   step_invariant =
       let after = step (bare_machine state) in
       let layout = hart_invariant.layout in
-      step_cases state (KeptBeside beside)
+      step_cases state (InvariantBeside beside)
       (λ no_trap.
-      let below =
+      let parts_and_mode_kept =
       without_trap after.outcome.trap (StaysBelow hart_state.hart after.state.hart) no_trap
       (keeps_machine_parts (bare_machine state) layout.mode layout.mprv) in
-      quiet_kept after (confined (bare_machine state)) below (keeps_mprv_clear (bare_machine state) (λ b. layout.mprv) below.1))
+      kept_without_trap after (confined (bare_machine state)) parts_and_mode_kept
+      (keeps_mprv_clear (bare_machine state) (λ some_bit. layout.mprv) parts_and_mode_kept.1))
       (λ trap traps.
-      let last = hart_state_after hart_state trap in
-      worked_kept after.outcome (handled last shared trap) (handled_done beside last shared trap (trapped_hart_state trap))
-      (handled_laid_out last shared trap))
+      let hart_state_at_trap = hart_state_after hart_state trap in
+      kept_after_handler after.outcome (handled hart_state_at_trap shared trap)
+      (handled_done beside hart_state_at_trap shared trap (trapped_hart_state trap))
+      (handled_laid_out hart_state_at_trap shared trap))

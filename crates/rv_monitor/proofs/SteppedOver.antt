@@ -27,85 +27,95 @@ use Rattle.rv_monitor.proofs.TrapSteps.{same_outcome}
 -- ---- changes of two memories
 
 -- the same write changes two memories alike
-pub put_alike : (m n : List ℕ) (address : ℕ) (bytes : List ℕ) → length m ≡ length n
-    → ChangeAlike m n (or_unchanged m (write m address bytes)) (or_unchanged n (write n address bytes))
-put_alike m n address bytes same_length i = elim (cases_Bool (is_inside m address (length bytes))) [
+pub put_alike : (memory other_memory : List ℕ) (address : ℕ) (bytes : List ℕ) → length memory ≡ length other_memory
+    → ChangeAlike memory other_memory (or_unchanged memory (write memory address bytes))
+    (or_unchanged other_memory (write other_memory address bytes))
+put_alike memory other_memory address bytes same_length position = elim (cases_Bool (is_inside memory address (length bytes))) [
   | inr outside ↦
-      let one = write-none m address bytes outside in
-      let other = write-none n address bytes (rw (← same_length) outside) in
-      rw (one, other) (inl (refl, refl))
-  | inl inner ↦
-      let one = write-some m address bytes inner in
-      let other = write-some n address bytes (rw (← same_length) inner) in
-      let bounds = inside-bounds m address (length bytes) inner in
-      let index = address - ram_base in
-      let fits : index + length bytes ≤ length m = omega (arith, bounds.0, bounds.1) in
-      let fits_too : index + length bytes ≤ length n = omega (arith, bounds.0, bounds.1, same_length) in
-      rw (one, other) (elim (cases_lt i index) [
-        | inl before_start ↦ inl (index-below m index bytes i fits before_start, index-below n index bytes i fits_too before_start)
-        | inr from_start ↦ elim (cases_lt i (index + length bytes)) [
+      let first_write = write-none memory address bytes outside in
+      let second_write = write-none other_memory address bytes (rw (← same_length) outside) in
+      rw (first_write, second_write) (inl (refl, refl))
+  | inl is_inside_memory ↦
+      let first_write = write-some memory address bytes is_inside_memory in
+      let second_write = write-some other_memory address bytes (rw (← same_length) is_inside_memory) in
+      let bounds = inside-bounds memory address (length bytes) is_inside_memory in
+      let start = address - ram_base in
+      let fits : start + length bytes ≤ length memory = omega (arith, bounds.0, bounds.1) in
+      let fits_other : start + length bytes ≤ length other_memory = omega (arith, bounds.0, bounds.1, same_length) in
+      rw (first_write, second_write) (elim (cases_lt position start) [
+        | inl before_start ↦
+            inl (index-below memory start bytes position fits before_start, index-below other_memory start bytes position fits_other before_start)
+        | inr from_start ↦ elim (cases_lt position (start + length bytes)) [
           | inl before_end ↦
               inr
-              (index-within m index bytes i fits from_start before_end
-              ∙ sym (index-within n index bytes i fits_too from_start before_end))
-          | inr after_end ↦ inl (index-above m index bytes i fits after_end, index-above n index bytes i fits_too after_end)
+              (index-within memory start bytes position fits from_start before_end
+              ∙ sym (index-within other_memory start bytes position fits_other from_start before_end))
+          | inr after_end ↦
+              inl (index-above memory start bytes position fits after_end, index-above other_memory start bytes position fits_other after_end)
         ]
       ])
 ]
 
 -- two memories that do not change are changed alike
-unchanged : (m n : List ℕ) → ChangeAlike m n m n
-unchanged m n i = inl (refl, refl)
+unchanged : (memory other_memory : List ℕ) → ChangeAlike memory other_memory memory other_memory
+unchanged memory other_memory index = inl (refl, refl)
 
--- two changes in turn that are alike are alike together
-alike_twice : (m n m1 n1 m2 n2 : List ℕ) → ChangeAlike m n m1 n1 → ChangeAlike m1 n1 m2 n2 → ChangeAlike m n m2 n2
-alike_twice m n m1 n1 m2 n2 first last i = elim (last i) [
-  | inr same ↦ inr same
-  | inl unchanged_later ↦ elim (first i) [
+-- if two memories change alike twice in turn, then they change alike over both changes
+alike_twice : (memory other_memory middle other_middle after other_after : List ℕ) → ChangeAlike memory other_memory middle other_middle
+    → ChangeAlike middle other_middle after other_after
+    → ChangeAlike memory other_memory after other_after
+alike_twice memory other_memory middle other_middle after other_after first_change second_change index = elim (second_change index) [
+  | inr bytes_equal ↦ inr bytes_equal
+  | inl unchanged_later ↦ elim (first_change index) [
     | inl unchanged_first ↦ inl (unchanged_later.0 ∙ unchanged_first.0, unchanged_later.1 ∙ unchanged_first.1)
-    | inr same ↦ inr (unchanged_later.0 ∙ same ∙ sym unchanged_later.1)
+    | inr bytes_equal ↦ inr (unchanged_later.0 ∙ bytes_equal ∙ sym unchanged_later.1)
   ]
 ]
 
 -- two memories that are equal outside the hidden bytes are so after two changes that are alike
-pub equal_after : (hidden : ℕ → Bool) (m n m1 n1 : List ℕ) → EqualOutside hidden m n → ChangeAlike m n m1 n1 → length m1 ≡ length n1
-    → EqualOutside hidden m1 n1
-equal_after hidden m n m1 n1 equal changes same_length = record {
+pub equal_after : (hidden : ℕ → Bool) (memory other_memory after other_after : List ℕ) → EqualOutside hidden memory other_memory
+    → ChangeAlike memory other_memory after other_after → length after ≡ length other_after
+    → EqualOutside hidden after other_after
+equal_after hidden memory other_memory after other_after equal_outside changes same_length = record {
   size = same_length;
-  bytes = λ i not_hidden. elim (changes i) [
-    | inl unchanged_both ↦ unchanged_both.0 ∙ equal.bytes i not_hidden ∙ sym unchanged_both.1
-    | inr same ↦ same
+  bytes = λ index not_hidden. elim (changes index) [
+    | inl unchanged_both ↦ unchanged_both.0 ∙ equal_outside.bytes index not_hidden ∙ sym unchanged_both.1
+    | inr bytes_equal ↦ bytes_equal
   ];
 }
 
 -- equal stores change two memories alike
-stored_alike : (stored : Option Span) (bytes m n m1 n1 : List ℕ) → length m ≡ length n → Stores bytes m m1 stored → Stores bytes n n1 stored
-    → ChangeAlike m n m1 n1
-stored_alike None bytes m n m1 n1 same_length stores_m stores_n = rw (stores_m, stores_n) (unchanged m n)
-stored_alike (Some span) bytes m n m1 n1 same_length stores_m stores_n =
-    subst (λ (o : Option (List ℕ)). ChangeAlike m n (or_unchanged m o) n1) stores_m.1
-    (subst (λ (o : Option (List ℕ)). ChangeAlike m n (or_unchanged m (write m span.addr bytes)) (or_unchanged n o)) stores_n.1
-    (put_alike m n span.addr bytes same_length))
+stored_alike : (stored : Option Span) (bytes memory other_memory after other_after : List ℕ) → length memory ≡ length other_memory
+    → Stores bytes memory after stored
+    → Stores bytes other_memory other_after stored
+    → ChangeAlike memory other_memory after other_after
+stored_alike None bytes memory other_memory after other_after same_length stores stores_other =
+    rw (stores, stores_other) (unchanged memory other_memory)
+stored_alike (Some span) bytes memory other_memory after other_after same_length stores stores_other =
+    subst (λ (maybe_bytes : Option (List ℕ)). ChangeAlike memory other_memory (or_unchanged memory maybe_bytes) other_after) stores.1
+    (subst (λ (maybe_bytes : Option (List ℕ)). ChangeAlike memory other_memory (or_unchanged memory (write memory span.addr bytes))
+    (or_unchanged other_memory maybe_bytes)) stores_other.1
+    (put_alike memory other_memory span.addr bytes same_length))
 
 -- a store does not change the size of the memory
-stored_size : (stored : Option Span) (bytes m m1 : List ℕ) → Stores bytes m m1 stored → length m1 ≡ length m
-stored_size None bytes m m1 stores_m = ap (λ (x : List ℕ). length x) stores_m
-stored_size (Some span) bytes m m1 stores_m = length-write m span.addr bytes m1 stores_m.1
+stored_size : (stored : Option Span) (bytes memory after : List ℕ) → Stores bytes memory after stored → length after ≡ length memory
+stored_size None bytes memory after stores = ap (λ (some_memory : List ℕ). length some_memory) stores
+stored_size (Some span) bytes memory after stores = length-write memory span.addr bytes after stores.1
 
 -- ---- the trap handler
 
--- the tables and the contexts of two shared states are equal, and their memories are changed alike from m and n
-pub record SharedOver (m n : List ℕ) (one other : Shared) : Type 0 where
+-- The tables and the saved contexts of two shared states are equal. Their memories result from `memory` and `other_memory` by the same changes.
+pub record SharedOver (memory other_memory : List ℕ) (one other : Shared) : Type 0 where
   pub table : one.table ≡ other.table
   pub contexts : one.contexts ≡ other.contexts
   pub size : length one.memory ≡ length other.memory
-  pub changes : ChangeAlike m n one.memory other.memory
+  pub changes : ChangeAlike memory other_memory one.memory other.memory
 
--- two results of the trap handler are equal, except that their memories are changed alike from m and n
-record HandledOver (m n : List ℕ) (a b : Handled) : Type 0 where
-  hart_state : a.hart_state ≡ b.hart_state
-  next : a.next ≡ b.next
-  shared : SharedOver m n a.shared b.shared
+-- Two results of the trap handler are equal except for their memories. These result from `memory` and `other_memory` by the same changes.
+record HandledOver (memory other_memory : List ℕ) (result other_result : Handled) : Type 0 where
+  hart_state : result.hart_state ≡ other_result.hart_state
+  next : result.next ≡ other_result.next
+  shared : SharedOver memory other_memory result.shared other_result.shared
 
 -- create is offered only to the host
 offered_host : (world : World) → is_offered world Create ≡ true → is_host world ≡ true
@@ -115,150 +125,169 @@ offered_host (Enclave slot) offered = cc
 -- the region of a create by the host has no hidden byte
 abbrev pub MeasuresSeen : (ℕ → Bool) → World → Slots → Contexts → Type 0
 MeasuresSeen hidden world table saved_contexts =
-    is_host world ≡ true → (memory : List ℕ) (new : CreateArgs) → MayCreate (over table memory saved_contexts) new → (i : ℕ)
-    → has new.region (ram_base + i) ≡ true → hidden (ram_base + i) ≡ false
+    is_host world ≡ true → (memory : List ℕ) (new : CreateArgs) → MayCreate (over table memory saved_contexts) new → (index : ℕ)
+    → has new.region (ram_base + index) ≡ true → hidden (ram_base + index) ≡ false
 
--- Two shared states differ only in their memories m and n, which are equal outside the hidden bytes. A create measures no hidden byte.
-module _ (hidden : ℕ → Bool) (hart_state : HartState) (trap : Trap) (table : Slots) (m n : List ℕ) (saved_contexts : Contexts)
-    (equal : EqualOutside hidden m n)
+-- Two shared states differ only in their memories, which are equal outside the hidden bytes. A create measures no hidden byte.
+module _ (hidden : ℕ → Bool) (hart_state : HartState) (trap : Trap) (table : Slots) (memory other_memory : List ℕ) (saved_contexts : Contexts)
+    (equal_outside : EqualOutside hidden memory other_memory)
     (measures_seen : MeasuresSeen hidden hart_state.world table saved_contexts) where
-  -- the shared state with the memory m
-  abbrev shared_m : Shared
-  shared_m = over table m saved_contexts
+  -- the shared state with the first memory
+  abbrev first_shared : Shared
+  first_shared = over table memory saved_contexts
 
-  -- the shared state with the memory n
-  abbrev shared_n : Shared
-  shared_n = over table n saved_contexts
+  -- the shared state with the second memory
+  abbrev second_shared : Shared
+  second_shared = over table other_memory saved_contexts
 
-  -- two results of the trap handler are equal, except that their memories are changed alike from m and n
-  abbrev Over : Handled → Handled → Type 0
-  Over a b = HandledOver m n a b
+  -- two results of the trap handler are equal, except for their memories, which changed alike
+  abbrev DifferInMemory : Handled → Handled → Type 0
+  DifferInMemory result other_result = HandledOver memory other_memory result other_result
 
-  -- the two shared states are equal, except for their memories m and n
-  same_shared : SharedOver m n shared_m shared_n
-  same_shared = record { table = refl; contexts = refl; size = equal.size; changes = unchanged m n }
+  -- the two shared states are equal, except for their memories
+  same_shared : SharedOver memory other_memory first_shared second_shared
+  same_shared = record { table = refl; contexts = refl; size = equal_outside.size; changes = unchanged memory other_memory }
 
-  -- a return to the caller satisfies `Over`, if the shared states after the call satisfy `SharedOver`
-  caller_over : (one other : Shared) (status result : ℕ) → SharedOver m n one other
-      → Over (with_reprogrammed_hart (returned_to_caller hart_state one status result))
+  -- a return to the caller satisfies `DifferInMemory`, if the shared states after the call satisfy `SharedOver`
+  caller_over : (one other : Shared) (status result : ℕ) → SharedOver memory other_memory one other
+      → DifferInMemory (with_reprogrammed_hart (returned_to_caller hart_state one status result))
       (with_reprogrammed_hart (returned_to_caller hart_state other status result))
-  caller_over one other status result same = record {
-    hart_state = ap (λ (slots : Slots). reprogrammed slots (returned_to_caller hart_state one status result).hart_state) same.table;
+  caller_over one other status result shared_same_over = record {
+    hart_state = ap (λ (table : Slots). reprogrammed table (returned_to_caller hart_state one status result).hart_state) shared_same_over.table;
     next = refl;
-    shared = same;
+    shared = shared_same_over;
   }
 
   -- the same write to both memories gives shared states that satisfy `SharedOver`
   put_over : (after : Slots) (contexts : Contexts) (address : ℕ) (bytes : List ℕ)
-      → SharedOver m n (over after (or_unchanged m (write m address bytes)) contexts) (over after (or_unchanged n (write n address bytes)) contexts)
+      → SharedOver memory other_memory (over after (or_unchanged memory (write memory address bytes)) contexts)
+      (over after (or_unchanged other_memory (write other_memory address bytes)) contexts)
   put_over after contexts address bytes = record {
     table = refl;
     contexts = refl;
-    size = put_size m address bytes (write m address bytes) refl ∙ equal.size ∙ sym (put_size n address bytes (write n address bytes) refl);
-    changes = put_alike m n address bytes equal.size;
+    size =
+        put_size memory address bytes (write memory address bytes) refl ∙ equal_outside.size
+        ∙ sym (put_size other_memory address bytes (write other_memory address bytes) refl);
+    changes = put_alike memory other_memory address bytes equal_outside.size;
   }
 
   -- the bytes of a region that the host creates are equal in both memories
-  block_same : (new : CreateArgs) → is_host hart_state.world ≡ true → MayCreate shared_m new
-      → bytes_of_block m new.region ≡ bytes_of_block n new.region
-  block_same new host_runs no_refusal =
-      let inner = valid_inside m new.region no_refusal.well_formed in
-      let low = (inside-bounds m new.region.base new.region.size inner).0 in
-      ap (λ (o : Option (List ℕ)). option_case o [] (λ bytes. bytes))
-      (same_read hidden m n new.region.base new.region.size equal inner (λ byte above below.
-      let address_is : ram_base + (byte - ram_base) ≡ byte = omega (arith, low, above) in
+  region_bytes_equal : (new : CreateArgs) → is_host hart_state.world ≡ true → MayCreate first_shared new
+      → bytes_of_block memory new.region ≡ bytes_of_block other_memory new.region
+  region_bytes_equal new host_runs no_refusal =
+      let region_is_inside = valid_inside memory new.region no_refusal.well_formed in
+      let region_above_base = (inside-bounds memory new.region.base new.region.size region_is_inside).0 in
+      ap (λ (maybe_bytes : Option (List ℕ)). option_case maybe_bytes [] (λ bytes. bytes))
+      (same_read hidden memory other_memory new.region.base new.region.size equal_outside region_is_inside (λ byte at_or_after_base before_end.
+      let address_is : ram_base + (byte - ram_base) ≡ byte = omega (arith, region_above_base, at_or_after_base) in
       let in_region : has new.region byte ≡ true =
-      and_from _ _ (le-leb new.region.base byte above) (lt-ltb byte (new.region.base + new.region.size) below) in
-      ap hidden (sym address_is) ∙ measures_seen host_runs m new no_refusal (byte - ram_base) (ap (has new.region) address_is ∙ in_region)))
+      and_from _ _ (le-leb new.region.base byte at_or_after_base) (lt-ltb byte (new.region.base + new.region.size) before_end) in
+      ap hidden (sym address_is) ∙ measures_seen host_runs memory new no_refusal (byte - ram_base) (ap (has new.region) address_is ∙ in_region)))
 
   -- a create gives shared states that satisfy `SharedOver`, if the bytes of the region are equal
-  created_over : (new : CreateArgs) → bytes_of_block m new.region ≡ bytes_of_block n new.region
-      → SharedOver m n (created shared_m new) (created shared_n new)
+  created_over : (new : CreateArgs) → bytes_of_block memory new.region ≡ bytes_of_block other_memory new.region
+      → SharedOver memory other_memory (created first_shared new) (created second_shared new)
   unfolding created measurement_of
   created_over new bytes =
-      let info : recorded m new ≡ recorded n new = rw bytes refl in
+      let same_record : recorded memory new ≡ recorded other_memory new = rw bytes refl in
       let slot = new_slot table in
       record {
-        table = ap (λ (x : SlotInfo). with_slot table slot (Some x)) info;
-        contexts = ap (λ (x : SlotInfo). with_context saved_contexts slot (Some (first_context x))) info;
-        size = equal.size;
-        changes = unchanged m n;
+        table = ap (λ (same_record : SlotInfo). with_slot table slot (Some same_record)) same_record;
+        contexts = ap (λ (same_record : SlotInfo). with_context saved_contexts slot (Some (first_context same_record))) same_record;
+        size = equal_outside.size;
+        changes = unchanged memory other_memory;
       }
 
   -- a destroy gives shared states that satisfy `SharedOver`
-  destroyed_over : (slot : ℕ) → SharedOver m n (destroyed shared_m slot) (destroyed shared_n slot)
+  destroyed_over : (slot : ℕ) → SharedOver memory other_memory (destroyed first_shared slot) (destroyed second_shared slot)
   unfolding destroyed
   destroyed_over slot =
       let block = region table slot in
       put_over (with_slot table slot None) (with_context saved_contexts slot None) block.base (replicate block.size 0)
 
   -- a measure gives shared states that satisfy `SharedOver`
-  measured_over : (slot address : ℕ) → SharedOver m n (measured shared_m slot address) (measured shared_n slot address)
+  measured_over : (slot address : ℕ) → SharedOver memory other_memory (measured first_shared slot address) (measured second_shared slot address)
   unfolding measured
   measured_over slot address = put_over table saved_contexts address (measurement_at table slot)
 
   -- the results of the trap handler satisfy `HandledOver`
-  handled_over : HandledOver m n (handled hart_state shared_m trap) (handled hart_state shared_n trap)
+  handled_over : HandledOver memory other_memory (handled hart_state first_shared trap) (handled hart_state second_shared trap)
   unfolding left entered_slot
-  handled_over = handler_cases_of_both hart_state trap table m n saved_contexts saved_contexts Over (record {
-    answers = λ status result. caller_over shared_m shared_n status result same_shared;
-    creates = λ requests no_refusal.
-        let host = offered_host hart_state.world (requested-is_offered hart_state.world hart_state.hart.regs Create requests.asked).1 in
+  handled_over = handler_cases_of_both hart_state trap table memory other_memory saved_contexts saved_contexts DifferInMemory (record {
+    answers = λ status result. caller_over first_shared second_shared status result same_shared;
+    creates = λ is_request no_refusal.
+        let host = offered_host hart_state.world (requested-is_offered hart_state.world hart_state.hart.regs Create is_request.asked).1 in
         caller_over _ _ 0 (new_slot table)
-        (created_over (create_args_of hart_state.hart.regs) (block_same (create_args_of hart_state.hart.regs) host no_refusal));
-    destroys = λ requests is_taken. caller_over _ _ 0 0 (destroyed_over (a0 hart_state));
-    measures = λ requests no_refusal. caller_over _ _ 0 0 (measured_over (measured_slot hart_state.world (a0 hart_state)) (a1 hart_state));
-    enters = λ call requests is_entry_call from_host is_taken.
-        record { hart_state = refl; next = refl; shared = record { table = refl; contexts = refl; size = equal.size; changes = unchanged m n } };
-    leaves = record { hart_state = refl; next = refl; shared = record { table = refl; contexts = refl; size = equal.size; changes = unchanged m n } };
+        (created_over (create_args_of hart_state.hart.regs) (region_bytes_equal (create_args_of hart_state.hart.regs) host no_refusal));
+    destroys = λ is_request is_taken. caller_over _ _ 0 0 (destroyed_over (a0 hart_state));
+    measures = λ is_request no_refusal. caller_over _ _ 0 0 (measured_over (measured_slot hart_state.world (a0 hart_state)) (a1 hart_state));
+    enters = λ call is_request is_entry_call from_host is_taken.
+        record {
+          hart_state = refl;
+          next = refl;
+          shared = record { table = refl; contexts = refl; size = equal_outside.size; changes = unchanged memory other_memory };
+        };
+    leaves =
+        record {
+          hart_state = refl;
+          next = refl;
+          shared = record { table = refl; contexts = refl; size = equal_outside.size; changes = unchanged memory other_memory };
+        };
     redirects = record { hart_state = refl; next = refl; shared = same_shared };
-  }) equal.size
+  }) equal_outside.size
 
 -- ---- the step of one hart
 
 -- two steps of a view have equal outcomes and hart states, and shared states that satisfy `SharedOver`
-record StepOver (m n : List ℕ) (a b : HartViewStepped) : Type 0 where
-  outcome : a.outcome ≡ b.outcome
-  hart_state : a.state.hart_state ≡ b.state.hart_state
-  shared : SharedOver m n a.state.shared b.state.shared
+record StepOver (memory other_memory : List ℕ) (stepped other_stepped : HartViewStepped) : Type 0 where
+  outcome : stepped.outcome ≡ other_stepped.outcome
+  hart_state : stepped.state.hart_state ≡ other_stepped.state.hart_state
+  shared : SharedOver memory other_memory stepped.state.shared other_stepped.state.shared
 
 -- the shared state with another memory
 abbrev with_bytes : Shared → List ℕ → Shared
 with_bytes shared memory = record shared { memory = memory }
 
 -- the end of the step, with or without a trap, satisfies `StepOver`, if the bare steps changed the memories alike
-ended_over : (hidden : ℕ → Bool) (outcome : StepOutcome) (o : Option Trap) (hart_state : HartState) (shared : Shared) (m n m1 n1 : List ℕ)
-    → EqualOutside hidden m n → length m1 ≡ length n1 → ChangeAlike m n m1 n1 → MeasuresSeen hidden hart_state.world shared.table shared.contexts
-    → StepOver m n
-    (option_case o (unhandled outcome hart_state (with_bytes shared m1)) (λ trap. returned outcome (handled hart_state (with_bytes shared m1) trap)))
-    (option_case o (unhandled outcome hart_state (with_bytes shared n1)) (λ trap. returned outcome (handled hart_state (with_bytes shared n1) trap)))
-ended_over hidden outcome None hart_state shared m n m1 n1 equal same_length changes measures_seen =
+ended_over : (hidden : ℕ → Bool) (outcome : StepOutcome) (maybe_trap : Option Trap) (hart_state : HartState) (shared : Shared)
+    (memory other_memory after other_after : List ℕ)
+    → EqualOutside hidden memory other_memory → length after ≡ length other_after → ChangeAlike memory other_memory after other_after
+    → MeasuresSeen hidden hart_state.world shared.table shared.contexts
+    → StepOver memory other_memory
+    (option_case maybe_trap (unhandled outcome hart_state (with_bytes shared after))
+    (λ trap. returned outcome (handled hart_state (with_bytes shared after) trap)))
+    (option_case maybe_trap (unhandled outcome hart_state (with_bytes shared other_after))
+    (λ trap. returned outcome (handled hart_state (with_bytes shared other_after) trap)))
+ended_over hidden outcome None hart_state shared memory other_memory after other_after equal_outside same_length changes measures_seen =
     record { outcome = refl; hart_state = refl; shared = record { table = refl; contexts = refl; size = same_length; changes = changes } }
-ended_over hidden outcome (Some trap) hart_state shared m n m1 n1 equal same_length changes measures_seen =
-    let work =
-    handled_over hidden hart_state trap shared.table m1 n1 shared.contexts (equal_after hidden m n m1 n1 equal changes same_length) measures_seen in
-    let handled_one = handled hart_state (with_bytes shared m1) trap in
-    let handled_other = handled hart_state (with_bytes shared n1) trap in
-    let returned_by : HartState → Next → HartState = λ s next. record s { hart = returned_to s.hart next.pc next.mode } in
+ended_over hidden outcome (Some trap) hart_state shared memory other_memory after other_after equal_outside same_length changes measures_seen =
+    let handler_results =
+    handled_over hidden hart_state trap shared.table after other_after shared.contexts
+    (equal_after hidden memory other_memory after other_after equal_outside changes same_length) measures_seen in
+    let first_handled = handled hart_state (with_bytes shared after) trap in
+    let second_handled = handled hart_state (with_bytes shared other_after) trap in
+    let returned_by : HartState → Next → HartState = λ hart_state next. record hart_state { hart = returned_to hart_state.hart next.pc next.mode } in
     let shows : Next → Outcome = λ next. record { step = outcome; entered = next.entered } in
     record {
-      outcome = ap shows work.next;
-      hart_state = ap₂ returned_by work.hart_state work.next;
+      outcome = ap shows handler_results.next;
+      hart_state = ap₂ returned_by handler_results.hart_state handler_results.next;
       shared = record {
-        table = work.shared.table;
-        contexts = work.shared.contexts;
-        size = work.shared.size;
-        changes = alike_twice m n m1 n1 handled_one.shared.memory handled_other.shared.memory changes work.shared.changes;
+        table = handler_results.shared.table;
+        contexts = handler_results.shared.contexts;
+        size = handler_results.shared.size;
+        changes =
+            alike_twice memory other_memory after other_after first_handled.shared.memory second_handled.shared.memory changes
+            handler_results.shared.changes;
       };
     }
 
 -- the step reads no hidden byte
 abbrev pub ReadsSeen : (ℕ → Bool) → Touched → Type 0
-ReadsSeen hidden touched = (i : ℕ) → reads_byte touched (ram_base + i) ≡ true → hidden (ram_base + i) ≡ false
+ReadsSeen hidden touched = (index : ℕ) → reads_byte touched (ram_base + index) ≡ true → hidden (ram_base + index) ≡ false
 
 -- the view with this hart state and this shared state
-abbrev on : HartState → Shared → HartView
-on hart_state shared = record { hart_state = hart_state; shared = shared }
+abbrev view_of : HartState → Shared → HartView
+view_of hart_state shared = record { hart_state = hart_state; shared = shared }
 
 -- the bare step of the view
 abbrev stepped : HartState → Shared → Stepped
@@ -270,61 +299,66 @@ after_bare outcome hart_state shared =
     option_case outcome.trap (unhandled outcome hart_state shared) (λ trap. returned outcome (handled hart_state shared trap))
 
 -- A hart makes a step over two memories that are equal outside the hidden bytes. The step reads and measures no hidden byte.
-module _ (hidden : ℕ → Bool) (hart_state : HartState) (shared : Shared) (n : List ℕ) (equal : EqualOutside hidden shared.memory n)
-    (reads_seen : ReadsSeen hidden (step (bare_machine (on hart_state shared))).outcome.touched)
+module _ (hidden : ℕ → Bool) (hart_state : HartState) (shared : Shared) (other_memory : List ℕ)
+    (equal_outside : EqualOutside hidden shared.memory other_memory)
+    (reads_seen : ReadsSeen hidden (step (bare_machine (view_of hart_state shared))).outcome.touched)
     (measures_seen : MeasuresSeen hidden hart_state.world shared.table shared.contexts) where
   -- the bare machine before the step
   abbrev before : Machine
-  before = bare_machine (on hart_state shared)
+  before = bare_machine (view_of hart_state shared)
 
   -- an access of no hidden byte has equal bytes in both memories
-  span_same : (mode : Mode) (access : Access) (touched : Option Span) → MayTouch before mode access touched
-      → ((i : ℕ) → in_span touched (ram_base + i) ≡ true → hidden (ram_base + i) ≡ false) → SameIn before.memory n touched
-  span_same mode access None may_touch not_hidden = tt
-  span_same mode access (Some span) may_touch not_hidden =
-      let low = (inside-bounds shared.memory span.addr (bytes_in span.len) may_touch.0).0 in
-      same_read hidden before.memory n span.addr (bytes_in span.len) equal may_touch.0 (λ byte above below.
-      let address_is : ram_base + (byte - ram_base) ≡ byte = omega (arith, low, above) in
+  accessed_bytes_equal : (mode : Mode) (access : Access) (touched : Option Span) → MayTouch before mode access touched
+      → ((index : ℕ) → in_span touched (ram_base + index) ≡ true → hidden (ram_base + index) ≡ false) → SameIn before.memory other_memory touched
+  accessed_bytes_equal mode access None may_touch not_hidden = tt
+  accessed_bytes_equal mode access (Some span) may_touch not_hidden =
+      let span_above_base = (inside-bounds shared.memory span.addr (bytes_in span.len) may_touch.0).0 in
+      same_read hidden before.memory other_memory span.addr (bytes_in span.len) equal_outside may_touch.0 (λ byte at_or_after_base before_end.
+      let address_is : ram_base + (byte - ram_base) ≡ byte = omega (arith, span_above_base, at_or_after_base) in
       let byte_in_span : in_span (Some span) byte ≡ true =
-      and_from _ _ (le-leb span.addr byte above) (lt-ltb byte (span.addr + bytes_in span.len) below) in
+      and_from _ _ (le-leb span.addr byte at_or_after_base) (lt-ltb byte (span.addr + bytes_in span.len) before_end) in
       ap hidden (sym address_is) ∙ not_hidden (byte - ram_base) (ap (in_span (Some span)) address_is ∙ byte_in_span))
 
   -- all accesses of the step have equal bytes in both memories
-  equal_on : EqualOn before.memory n (step before).outcome.touched
-  equal_on =
+  accesses_equal : EqualOn before.memory other_memory (step before).outcome.touched
+  accesses_equal =
       let touches_permitted_bytes = touches_permitted before in
       let touched = (step before).outcome.touched in
       record {
-        size = equal.size;
+        size = equal_outside.size;
         fetched =
-            span_same hart_state.hart.mode Fetch touched.fetched touches_permitted_bytes.fetched (λ i is_fetched. reads_seen i (rw is_fetched refl));
+            accessed_bytes_equal hart_state.hart.mode Fetch touched.fetched touches_permitted_bytes.fetched
+            (λ index is_fetched. reads_seen index (rw is_fetched refl));
         loaded =
-            span_same (data_mode hart_state.hart) Read touched.loaded touches_permitted_bytes.loaded
-            (λ i is_loaded. reads_seen i (or_right _ _ is_loaded));
+            accessed_bytes_equal (data_mode hart_state.hart) Read touched.loaded touches_permitted_bytes.loaded
+            (λ index is_loaded. reads_seen index (or_right _ _ is_loaded));
       }
 
   -- the steps of the view over both memories satisfy `StepOver`
-  step_over : StepOver shared.memory n (monitored_step (on hart_state shared)) (monitored_step (on hart_state (with_bytes shared n)))
+  step_over : StepOver shared.memory other_memory (monitored_step (view_of hart_state shared))
+      (monitored_step (view_of hart_state (with_bytes shared other_memory)))
   unfolding monitored_step
   step_over =
-      let bare_one = stepped hart_state shared in
-      let bare_other = stepped hart_state (with_bytes shared n) in
+      let first_bare = stepped hart_state shared in
+      let second_bare = stepped hart_state (with_bytes shared other_memory) in
       let is_confined = confined before in
-      let alike = is_confined.alike n equal_on in
+      let alike = is_confined.alike other_memory accesses_equal in
       let changes =
-      stored_alike bare_one.outcome.touched.stored is_confined.bytes shared.memory n bare_one.state.memory bare_other.state.memory equal.size
+      stored_alike first_bare.outcome.touched.stored is_confined.bytes shared.memory other_memory first_bare.state.memory second_bare.state.memory
+      equal_outside.size
       alike.here alike.there in
-      let same_length : length bare_one.state.memory ≡ length bare_other.state.memory =
-      stored_size bare_one.outcome.touched.stored is_confined.bytes shared.memory bare_one.state.memory alike.here ∙ equal.size
-      ∙ sym (stored_size bare_one.outcome.touched.stored is_confined.bytes n bare_other.state.memory alike.there) in
-      let base =
-      ended_over hidden bare_one.outcome bare_one.outcome.trap
-      (record hart_state { hart = bare_one.state.hart }) shared shared.memory n bare_one.state.memory bare_other.state.memory
-      equal same_length changes measures_seen in
-      let P : Hart → StepOutcome → Type 0 = λ hart outcome. StepOver shared.memory n
-      (after_bare bare_one.outcome (record hart_state { hart = bare_one.state.hart }) (with_bytes shared bare_one.state.memory))
-      (after_bare outcome (record hart_state { hart = hart }) (with_bytes shared bare_other.state.memory)) in
-      subst (λ hart. P hart bare_other.outcome) (sym alike.hart) (subst (λ outcome. P bare_one.state.hart outcome) (sym alike.outcome) base)
+      let same_length : length first_bare.state.memory ≡ length second_bare.state.memory =
+      stored_size first_bare.outcome.touched.stored is_confined.bytes shared.memory first_bare.state.memory alike.here ∙ equal_outside.size
+      ∙ sym (stored_size first_bare.outcome.touched.stored is_confined.bytes other_memory second_bare.state.memory alike.there) in
+      let ended =
+      ended_over hidden first_bare.outcome first_bare.outcome.trap
+      (record hart_state { hart = first_bare.state.hart }) shared shared.memory other_memory first_bare.state.memory second_bare.state.memory
+      equal_outside same_length changes measures_seen in
+      let StepsOverFor : Hart → StepOutcome → Type 0 = λ hart outcome. StepOver shared.memory other_memory
+      (after_bare first_bare.outcome (record hart_state { hart = first_bare.state.hart }) (with_bytes shared first_bare.state.memory))
+      (after_bare outcome (record hart_state { hart = hart }) (with_bytes shared second_bare.state.memory)) in
+      subst (λ hart. StepsOverFor hart second_bare.outcome) (sym alike.hart)
+      (subst (λ outcome. StepsOverFor first_bare.state.hart outcome) (sym alike.outcome) ended)
 
 -- ---- the step of the machine
 
@@ -333,42 +367,44 @@ abbrev pub over_bytes : MonitoredMachine → List ℕ → MonitoredMachine
 over_bytes machine memory = record machine { shared = record machine.shared { memory = memory } }
 
 -- two steps have equal outcomes and hart states, and shared states that satisfy `SharedOver`
-pub record MachineOver (m n : List ℕ) (one other : MonitoredStepped) : Type 0 where
+pub record MachineOver (memory other_memory : List ℕ) (one other : MonitoredStepped) : Type 0 where
   pub outcome : one.outcome ≡ other.outcome
   pub hart_states : one.state.hart_states ≡ other.state.hart_states
-  pub shared : SharedOver m n one.state.shared other.state.shared
+  pub shared : SharedOver memory other_memory one.state.shared other.state.shared
 
 -- a step that reads and measures no hidden byte has the same effect over each memory that is equal outside the hidden bytes
-pub machine_over : (hidden : ℕ → Bool) (hart : ℕ) (machine : MonitoredMachine) (n : List ℕ) → EqualOutside hidden machine.shared.memory n
+pub machine_over : (hidden : ℕ → Bool) (hart : ℕ) (machine : MonitoredMachine) (other_memory : List ℕ)
+    → EqualOutside hidden machine.shared.memory other_memory
     → ReadsSeen hidden (step_of hart machine).outcome.step.touched
     → MeasuresSeen hidden (hart_state_of hart machine).world machine.shared.table machine.shared.contexts
-    → MachineOver machine.shared.memory n (step_of hart machine) (step_of hart (over_bytes machine n))
-machine_over hidden hart machine n equal reads_seen measures_seen = elim (cases_lt hart (count_of machine)) [
+    → MachineOver machine.shared.memory other_memory (step_of hart machine) (step_of hart (over_bytes machine other_memory))
+machine_over hidden hart machine other_memory equal_outside reads_seen measures_seen = elim (cases_lt hart (count_of machine)) [
   -- a step of a hart that the machine does not have changes nothing
   | inr past_last ↦
-      rw (outside hart machine past_last, outside hart (over_bytes machine n) past_last)
+      rw (outside hart machine past_last, outside hart (over_bytes machine other_memory) past_last)
       (record {
         outcome = refl;
         hart_states = refl;
-        shared = record { table = refl; contexts = refl; size = equal.size; changes = unchanged machine.shared.memory n };
+        shared = record { table = refl; contexts = refl; size = equal_outside.size; changes = unchanged machine.shared.memory other_memory };
       })
   | inl in_range ↦
-      let one = inside hart machine in_range in
-      let other = inside hart (over_bytes machine n) in_range in
-      let state = hart_view hart machine in
-      let bare : (step_of hart machine).outcome.step ≡ (step (bare_machine state)).outcome =
-      ap (λ (after : MonitoredStepped). after.outcome.step) one ∙ same_outcome state in
-      let reads_bare = subst (λ (o : StepOutcome). ReadsSeen hidden o.touched) bare reads_seen in
-      let step = step_over hidden (hart_state_of hart machine) machine.shared n equal reads_bare measures_seen in
-      let after_one = monitored_step state in
-      let after_other = monitored_step (hart_view hart (over_bytes machine n)) in
-      let put : Outcome → Slots → HartState → List HartState =
-      λ o slots s. slice_set (hart_states_reprogrammed o.step.trap slots machine.hart_states) hart s in
-      rw (one, other)
+      let first_step_is = inside hart machine in_range in
+      let second_step_is = inside hart (over_bytes machine other_memory) in_range in
+      let view = hart_view hart machine in
+      let bare_outcome_is : (step_of hart machine).outcome.step ≡ (step (bare_machine view)).outcome =
+      ap (λ (after : MonitoredStepped). after.outcome.step) first_step_is ∙ same_outcome view in
+      let reads_bare = subst (λ (outcome : StepOutcome). ReadsSeen hidden outcome.touched) bare_outcome_is reads_seen in
+      let view_steps = step_over hidden (hart_state_of hart machine) machine.shared other_memory equal_outside reads_bare measures_seen in
+      let first_after = monitored_step view in
+      let second_after = monitored_step (hart_view hart (over_bytes machine other_memory)) in
+      let states_after : Outcome → Slots → HartState → List HartState =
+      λ outcome slots hart_state. slice_set (hart_states_reprogrammed outcome.step.trap slots machine.hart_states) hart hart_state in
+      rw (first_step_is, second_step_is)
       (record {
-        outcome = step.outcome;
-        hart_states = ap (λ (o : Outcome). put o after_one.state.shared.table after_one.state.hart_state) step.outcome
-            ∙ ap₂ (λ (slots : Slots) (s : HartState). put after_other.outcome slots s) step.shared.table step.hart_state;
-        shared = step.shared;
+        outcome = view_steps.outcome;
+        hart_states = ap (λ (outcome : Outcome). states_after outcome first_after.state.shared.table first_after.state.hart_state) view_steps.outcome
+            ∙ ap₂ (λ (slots : Slots) (hart_state : HartState). states_after second_after.outcome slots hart_state) view_steps.shared.table
+            view_steps.hart_state;
+        shared = view_steps.shared;
       })
 ]

@@ -14,33 +14,33 @@ use Rattle.rv_monitor.proofs.HandlerCases.{handler_cases}
 -- ---- the effect of the trap handler on the state of a hart
 
 -- the trap handler continues the world: it keeps the world and the saved context of the host, and enters no enclave
-pub record StaysIn (hart_state : HartState) (h : Handled) : Type 0 where
-  pub world : h.hart_state.world ≡ hart_state.world
-  pub host : h.hart_state.host_context ≡ hart_state.host_context
-  pub entered : h.next.entered ≡ None
+pub record StaysIn (hart_state : HartState) (result : Handled) : Type 0 where
+  pub world : result.hart_state.world ≡ hart_state.world
+  pub host : result.hart_state.host_context ≡ hart_state.host_context
+  pub entered : result.next.entered ≡ None
 
 -- the trap handler enters an enclave from the host, and saves the context of the host
-pub record EntersFrom (hart_state : HartState) (h : Handled) : Type 0 where
+pub record EntersFrom (hart_state : HartState) (result : Handled) : Type 0 where
   pub slot : ℕ
   pub from_host : hart_state.world ≡ Host
-  pub world : h.hart_state.world ≡ Enclave slot
-  pub host : h.hart_state.host_context ≡ Some (saved hart_state.hart (past_call hart_state) S)
-  pub entered : h.next.entered ≡ Some slot
+  pub world : result.hart_state.world ≡ Enclave slot
+  pub host : result.hart_state.host_context ≡ Some (saved hart_state.hart (past_call hart_state) S)
+  pub entered : result.next.entered ≡ Some slot
 
 -- the trap handler exits to the host: it restores the saved context of the host, with a reason in a0 and a value in a1
-pub record LeavesFor (hart_state : HartState) (trap : Trap) (h : Handled) : Type 0 where
-  pub world : h.hart_state.world ≡ Host
-  pub regs : h.hart_state.hart.regs
+pub record LeavesFor (hart_state : HartState) (trap : Trap) (result : Handled) : Type 0 where
+  pub world : result.hart_state.world ≡ Host
+  pub regs : result.hart_state.hart.regs
       ≡ with_return_values (saved_host hart_state).regs (reason trap.cause hart_state.hart.regs) (value trap.cause hart_state.hart.regs)
-  pub pc : h.next.pc ≡ (saved_host hart_state).pc
-  pub mode : h.next.mode ≡ (saved_host hart_state).mode
-  pub supervisor : s_context h.hart_state.hart.csrs ≡ s_context (with_s_context hart_state.hart.csrs (saved_host hart_state).supervisor)
-  pub forgotten : h.hart_state.host_context ≡ None
-  pub entered : h.next.entered ≡ None
+  pub pc : result.next.pc ≡ (saved_host hart_state).pc
+  pub mode : result.next.mode ≡ (saved_host hart_state).mode
+  pub supervisor : s_context result.hart_state.hart.csrs ≡ s_context (with_s_context hart_state.hart.csrs (saved_host hart_state).supervisor)
+  pub forgotten : result.hart_state.host_context ≡ None
+  pub entered : result.next.entered ≡ None
 
 -- the trap handler continues the world, enters an enclave, or exits to the host
 abbrev pub Turns : HartState → Trap → Handled → Type 0
-Turns hart_state trap h = StaysIn hart_state h ⊎ (EntersFrom hart_state h ⊎ LeavesFor hart_state trap h)
+Turns hart_state trap result = StaysIn hart_state result ⊎ (EntersFrom hart_state result ⊎ LeavesFor hart_state trap result)
 
 -- each trap continues the world, enters an enclave, or exits to the host
 pub handled_stays_or_switches : (hart_state : HartState) (shared : Shared) (trap : Trap) → Turns hart_state trap (handled hart_state shared trap)
@@ -60,36 +60,40 @@ handled_stays_or_switches hart_state shared trap = handler_cases hart_state trap
 -- ---- the S-mode registers of the host's saved context are as a hart stores them
 
 -- the S-mode registers of a hart are legal in a saved context, if each holds a value that the hart can store
-pub own_stored : (c : CsrState) → KeepsOwn c → IsLegal (s_context c)
-own_stored c keeps_own = record { stvec = ap (λ (x : CsrState). x.stvec) keeps_own; sepc = ap (λ (x : CsrState). x.sepc) keeps_own }
+pub own_context_legal : (csrs : CsrState) → KeepsOwn csrs → IsLegal (s_context csrs)
+own_context_legal csrs keeps_own =
+    record { stvec = ap (λ (csrs : CsrState). csrs.stvec) keeps_own; sepc = ap (λ (csrs : CsrState). csrs.sepc) keeps_own }
 
 -- the saved context of the host, if there is one, is legal
 abbrev pub KeptStored : Option Context → Type 0
-KeptStored o = IfSome o (λ context. IsLegal context.supervisor)
+KeptStored maybe_context = IfSome maybe_context (λ context. IsLegal context.supervisor)
 
 -- each kind of result leaves a legal saved context of the host
-stored_by : (hart_state : HartState) (trap : Trap) (h : Handled) → Turns hart_state trap h → HostContextIsLegal hart_state
+context_legal_by_result : (hart_state : HartState) (trap : Trap) (result : Handled) → Turns hart_state trap result → HostContextIsLegal hart_state
     → KeepsOwn hart_state.hart.csrs
-    → HostContextIsLegal h.hart_state
-stored_by hart_state trap h (inl stays) legal keeps_own = subst KeptStored (sym stays.host) legal
-stored_by hart_state trap h (inr (inl enters)) legal keeps_own = subst KeptStored (sym enters.host) (own_stored hart_state.hart.csrs keeps_own)
-stored_by hart_state trap h (inr (inr leaves)) legal keeps_own = subst KeptStored (sym leaves.forgotten) tt
+    → HostContextIsLegal result.hart_state
+context_legal_by_result hart_state trap result (inl stays) legal keeps_own = subst KeptStored (sym stays.host) legal
+context_legal_by_result hart_state trap result (inr (inl enters)) legal keeps_own =
+    subst KeptStored (sym enters.host) (own_context_legal hart_state.hart.csrs keeps_own)
+context_legal_by_result hart_state trap result (inr (inr leaves)) legal keeps_own = subst KeptStored (sym leaves.forgotten) tt
 
 -- the trap handler leaves a legal saved context of the host
 pub handled_stored : (hart_state : HartState) (shared : Shared) (trap : Trap) → HostContextIsLegal hart_state → KeepsOwn hart_state.hart.csrs
     → HostContextIsLegal (handled hart_state shared trap).hart_state
 handled_stored hart_state shared trap legal keeps_own =
-    stored_by hart_state trap (handled hart_state shared trap) (handled_stays_or_switches hart_state shared trap) legal keeps_own
+    context_legal_by_result hart_state trap (handled hart_state shared trap) (handled_stays_or_switches hart_state shared trap) legal keeps_own
 
 -- ---- if an enclave runs before and after, the host's saved context is unchanged
 
 -- a result after which an enclave runs keeps the saved context of the host, if an enclave ran before
-runs_on : (hart_state : HartState) (trap : Trap) (h : Handled) → Turns hart_state trap h → is_host hart_state.world ≡ false
-    → is_host h.hart_state.world ≡ false
-    → h.hart_state.host_context ≡ hart_state.host_context
-runs_on hart_state trap h (inl stays) enclave_runs enclave_runs_after = stays.host
-runs_on hart_state trap h (inr (inl enters)) enclave_runs enclave_runs_after = absurd (both_ways _ enclave_runs (ap is_host enters.from_host))
-runs_on hart_state trap h (inr (inr leaves)) enclave_runs enclave_runs_after = absurd (both_ways _ enclave_runs_after (ap is_host leaves.world))
+host_context_kept : (hart_state : HartState) (trap : Trap) (result : Handled) → Turns hart_state trap result → is_host hart_state.world ≡ false
+    → is_host result.hart_state.world ≡ false
+    → result.hart_state.host_context ≡ hart_state.host_context
+host_context_kept hart_state trap result (inl stays) enclave_runs enclave_runs_after = stays.host
+host_context_kept hart_state trap result (inr (inl enters)) enclave_runs enclave_runs_after =
+    absurd (both_ways _ enclave_runs (ap is_host enters.from_host))
+host_context_kept hart_state trap result (inr (inr leaves)) enclave_runs enclave_runs_after =
+    absurd (both_ways _ enclave_runs_after (ap is_host leaves.world))
 
 -- a step before and after which an enclave runs keeps the saved context of the host
 pub kept_between : (state : HartView) → is_host state.hart_state.world ≡ false → is_host (monitored_step state).state.hart_state.world ≡ false
@@ -100,19 +104,19 @@ kept_between state enclave_runs =
     (λ no_trap enclave_runs_after. refl)
     (λ trap trapped enclave_runs_after.
     let hart_state = hart_state_after state.hart_state trap in
-    runs_on hart_state trap (handled hart_state state.shared trap)
+    host_context_kept hart_state trap (handled hart_state state.shared trap)
     (handled_stays_or_switches hart_state state.shared trap) enclave_runs enclave_runs_after)
 
 -- ---- the step
 
 -- a legal context has the same S-mode registers after the monitor restores and saves it
-pub legal_again : (c : CsrState) (s : SContext) → IsLegal s → s_context (with_s_context c s) ≡ s
-legal_again c s legal = let stvec = legal.stvec in let sepc = legal.sepc in rw (stvec, sepc) refl
+pub restored_context_same : (csrs : CsrState) (supervisor : SContext) → IsLegal supervisor → s_context (with_s_context csrs supervisor) ≡ supervisor
+restored_context_same csrs supervisor legal = let stvec = legal.stvec in let sepc = legal.sepc in rw (stvec, sepc) refl
 
 -- the pc of a context with which a hart can continue is unchanged if it is rounded down to a multiple of 4
 pub aligned_again : (mode : Mode) (pc : ℕ) → (not (is_machine mode) && pc % 4 == 0) ≡ true → aligned_to_4 pc ≡ pc
 aligned_again mode pc can_continue =
-    let test : (pc % 4 == 0) ≡ true = (and_parts (not (is_machine mode)) (pc % 4 == 0) can_continue).1 in
+    let is_multiple_test : (pc % 4 == 0) ≡ true = (and_parts (not (is_machine mode)) (pc % 4 == 0) can_continue).1 in
     let multiple : pc % 4 ≡ 0 = grind (arith, nat_tests) in
     omega arith
 
@@ -120,47 +124,51 @@ aligned_again mode pc can_continue =
 same_context : (host : Context) (regs : List ℕ) (pc : ℕ) (mode : Mode) (supervisor : SContext) (new_regs : List ℕ) → regs ≡ new_regs
     → pc ≡ host.pc → mode ≡ host.mode
     → supervisor ≡ host.supervisor
-    → (let made : Context = record { regs = regs; pc = pc; mode = mode; supervisor = supervisor } in made) ≡ record host { regs = new_regs }
+    → (let context : Context = record { regs = regs; pc = pc; mode = mode; supervisor = supervisor } in context) ≡ record host { regs = new_regs }
 same_context host regs pc mode supervisor new_regs regs_is pc_is mode_is supervisor_is = rw (regs_is, pc_is, mode_is, supervisor_is) refl
 
 -- the saved context of the host is legal and agrees with the world, and the step has this trap
 module _ (state : HartView) (host_invariant : HostContextInvariant state.hart_state) (legal : HostContextIsLegal state.hart_state) (trap : Trap) where
   -- the return from an exit to the host satisfies `StaysOrSwitches`
-  returned_leaves : (outcome : StepOutcome) (h : Handled) → outcome.trap ≡ Some trap → LeavesFor (hart_state_after state.hart_state trap) trap h
-      → (world : World) (o : Option Context) → state.hart_state.world ≡ world → state.hart_state.host_context ≡ o → is_some o ≡ not (is_host world)
-      → StaysOrSwitches state (returned outcome h)
-  returned_leaves outcome h trapped_is leaves Host None runs kept_is saved_if_enclave =
-      inl (record { world = leaves.world ∙ sym runs; host = leaves.forgotten ∙ sym kept_is; entered = leaves.entered })
-  returned_leaves outcome h trapped_is leaves Host (Some host) runs kept_is saved_if_enclave = cc
-  returned_leaves outcome h trapped_is leaves (Enclave k) None runs kept_is saved_if_enclave = cc
-  returned_leaves outcome h trapped_is leaves (Enclave k) (Some host) runs kept_is saved_if_enclave =
-      let P : Option Context → Type 0 = λ o. IfSome o (λ c. can_go_on c ≡ true) in
-      let can_continue : can_go_on host ≡ true = subst P kept_is host_invariant.held in
-      let host_stored : IsLegal host.supervisor = subst KeptStored kept_is legal in
-      let host_leaves = rw kept_is at leaves in
+  returned_leaves : (outcome : StepOutcome) (result : Handled) → outcome.trap ≡ Some trap
+      → LeavesFor (hart_state_after state.hart_state trap) trap result
+      → (world : World) (saved_host : Option Context) → state.hart_state.world ≡ world → state.hart_state.host_context ≡ saved_host
+      → is_some saved_host ≡ not (is_host world)
+      → StaysOrSwitches state (returned outcome result)
+  returned_leaves outcome result outcome_trap_is leaves Host None world_is host_context_is saved_if_enclave =
+      inl (record { world = leaves.world ∙ sym world_is; host = leaves.forgotten ∙ sym host_context_is; entered = leaves.entered })
+  returned_leaves outcome result outcome_trap_is leaves Host (Some host) world_is host_context_is saved_if_enclave = cc
+  returned_leaves outcome result outcome_trap_is leaves (Enclave slot) None world_is host_context_is saved_if_enclave = cc
+  returned_leaves outcome result outcome_trap_is leaves (Enclave slot) (Some host) world_is host_context_is saved_if_enclave =
+      let CanGoOnIfSome : Option Context → Type 0 = λ saved_host. IfSome saved_host (λ some_context. can_go_on some_context ≡ true) in
+      let can_continue : can_go_on host ≡ true = subst CanGoOnIfSome host_context_is host_invariant.held in
+      let host_stored : IsLegal host.supervisor = subst KeptStored host_context_is legal in
+      let host_leaves = rw host_context_is at leaves in
       inr (inr (record {
-        slot = k;
+        slot = slot;
         host = host;
         trap = trap;
-        from_enclave = runs;
-        kept = kept_is;
-        trapped = trapped_is;
+        from_enclave = world_is;
+        kept = host_context_is;
+        trapped = outcome_trap_is;
         world = host_leaves.world;
-        again = same_context host h.hart_state.hart.regs (aligned_to_4 h.next.pc) h.next.mode (s_context h.hart_state.hart.csrs) _ host_leaves.regs
+        again =
+            same_context host result.hart_state.hart.regs (aligned_to_4 result.next.pc) result.next.mode
+            (s_context result.hart_state.hart.csrs) _ host_leaves.regs
             (ap aligned_to_4 host_leaves.pc ∙ aligned_again host.mode host.pc can_continue) host_leaves.mode
-            (host_leaves.supervisor ∙ legal_again state.hart_state.hart.csrs host.supervisor host_stored);
+            (host_leaves.supervisor ∙ restored_context_same state.hart_state.hart.csrs host.supervisor host_stored);
         forgotten = host_leaves.forgotten;
         entered = host_leaves.entered;
       }))
 
   -- the return from each kind of result satisfies `StaysOrSwitches`
-  returned_turns : (outcome : StepOutcome) (h : Handled) → outcome.trap ≡ Some trap
-      → Turns (hart_state_after state.hart_state trap) trap h → StaysOrSwitches state (returned outcome h)
-  returned_turns outcome h trapped_is (inl stays) = inl (record { world = stays.world; host = stays.host; entered = stays.entered })
-  returned_turns outcome h trapped_is (inr (inl enters)) =
+  returned_turns : (outcome : StepOutcome) (result : Handled) → outcome.trap ≡ Some trap
+      → Turns (hart_state_after state.hart_state trap) trap result → StaysOrSwitches state (returned outcome result)
+  returned_turns outcome result outcome_trap_is (inl stays) = inl (record { world = stays.world; host = stays.host; entered = stays.entered })
+  returned_turns outcome result outcome_trap_is (inr (inl enters)) =
       inr (inl (record { slot = enters.slot; from_host = enters.from_host; world = enters.world; host = enters.host; entered = enters.entered }))
-  returned_turns outcome h trapped_is (inr (inr leaves)) =
-      returned_leaves outcome h trapped_is leaves state.hart_state.world state.hart_state.host_context refl refl host_invariant.kept
+  returned_turns outcome result outcome_trap_is (inr (inr leaves)) =
+      returned_leaves outcome result outcome_trap_is leaves state.hart_state.world state.hart_state.host_context refl refl host_invariant.kept
 
 -- proves that each step continues its world, enters an enclave, or exits to the host
 pub switch_law : (state : HartView) → HostContextInvariant state.hart_state → HostContextIsLegal state.hart_state

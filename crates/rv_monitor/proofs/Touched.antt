@@ -12,11 +12,12 @@ use Rattle.rv_monitor.proofs.TrapSteps.{same_outcome}
 -- ---- the fetch
 
 -- the end of an instruction, with or without an exception, keeps the fetched bytes
-fetched_still : (hart : Hart) (touched : Touched) (written : Option ℕ) (o : Option Span) (finish : Result Hart Trap) → touched.fetched ≡ o
-    → (retired_or_trapped hart touched written finish).outcome.touched.fetched ≡ o
+fetched_still : (hart : Hart) (touched : Touched) (written : Option ℕ) (maybe_span : Option Span) (finish : Result Hart Trap)
+    → touched.fetched ≡ maybe_span
+    → (retired_or_trapped hart touched written finish).outcome.touched.fetched ≡ maybe_span
 unfolding retired_or_trapped
-fetched_still hart touched written o (Ok after) fetched_is = fetched_is
-fetched_still hart touched written o (Err trap) fetched_is = fetched_is
+fetched_still hart touched written maybe_span (Ok after) fetched_is = fetched_is
+fetched_still hart touched written maybe_span (Err trap) fetched_is = fetched_is
 
 -- the step fetches the word at pc, or executes no instruction
 abbrev FetchesAtPc : ℕ → Stepped → Type 0
@@ -41,15 +42,16 @@ fetches_at_pc state = step_ways state (FetchesAtPc state.hart.pc) (record {
 -- a view with the invariant
 module _ (state : HartView) (view_invariant : HartViewInvariant state) where
   -- a permitted access below M is accessible to the running world
-  accessible : (mode : Mode) (access : Access) (o : Option Span) → is_machine mode ≡ false → MayTouch (bare_machine state) mode access o
-      → SpanIsAccessible state access o
+  accessible : (mode : Mode) (access : Access) (maybe_span : Option Span) → is_machine mode ≡ false
+      → MayTouch (bare_machine state) mode access maybe_span
+      → SpanIsAccessible state access maybe_span
   accessible mode access None mode_below_m may_touch = tt
   accessible mode access (Some span) mode_below_m may_touch =
       sym (access_control_law state mode access span.addr span.len view_invariant (below_M mode mode_below_m) may_touch.0) ∙ may_touch.1
 
   -- each access of the bare step is accessible to the running world
-  touched_in_reach : IsTouchedAccessible state (step (bare_machine state)).outcome
-  touched_in_reach =
+  touches_accessible : IsTouchedAccessible state (step (bare_machine state)).outcome
+  touches_accessible =
       let touches_permitted_bytes = touches_permitted (bare_machine state) in
       let mode_below_m = data_below state view_invariant in
       let touched = (step (bare_machine state)).outcome.touched in
@@ -62,4 +64,4 @@ module _ (state : HartView) (view_invariant : HartViewInvariant state) where
 
 -- proves that a step accesses only bytes that its world may access
 pub touch_law : (state : HartView) → HartViewInvariant state → TouchesAccessible state (monitored_step state)
-touch_law state view_invariant = subst (IsTouchedAccessible state) (sym (same_outcome state)) (touched_in_reach state view_invariant)
+touch_law state view_invariant = subst (IsTouchedAccessible state) (sym (same_outcome state)) (touches_accessible state view_invariant)

@@ -26,26 +26,28 @@ abbrev pub view_after_trap : HartView → Trap → HartViewStepped
 view_after_trap state trap = returned (step (bare_machine state)).outcome (handled (hart_state_after state.hart_state trap) state.shared trap)
 
 -- the claim holds for the end of a step, with a trap or without
-by-end : (state : HartView) (P : HartViewStepped → Type 0) (o : Option Trap) (outcome : StepOutcome) (hart : Hart) (memory : List ℕ)
-    → IfSome o (λ t. (hart ≡ hart_after state.hart_state.hart t) × (memory ≡ state.shared.memory))
+by-end : (state : HartView) (Claim : HartViewStepped → Type 0) (maybe_trap : Option Trap) (outcome : StepOutcome) (hart : Hart) (memory : List ℕ)
+    → IfSome maybe_trap (λ trap. (hart ≡ hart_after state.hart_state.hart trap) × (memory ≡ state.shared.memory))
     → (let hart_state = record state.hart_state { hart = hart } in
     let shared = record state.shared { memory = memory } in
-    (o ≡ None → P (unhandled outcome hart_state shared))
-    → ((trap : Trap) → o ≡ Some trap → P (returned outcome (handled (hart_state_after state.hart_state trap) state.shared trap)))
-    → P (option_case o (unhandled outcome hart_state shared) (λ t. returned outcome (handled hart_state shared t))))
-by-end state P None outcome hart memory keeps quiet traps = quiet refl
-by-end state P (Some trap) outcome hart memory keeps quiet traps =
+    (maybe_trap ≡ None → Claim (unhandled outcome hart_state shared))
+    → ((trap : Trap) → maybe_trap ≡ Some trap → Claim (returned outcome (handled (hart_state_after state.hart_state trap) state.shared trap)))
+    → Claim (option_case maybe_trap (unhandled outcome hart_state shared) (λ trap. returned outcome (handled hart_state shared trap))))
+by-end state Claim None outcome hart memory keeps claim_without_trap claim_with_trap = claim_without_trap refl
+by-end state Claim (Some trap) outcome hart memory keeps claim_without_trap claim_with_trap =
     let hart_is = keeps.0 in
     let memory_is = keeps.1 in
-    rw (hart_is, memory_is) (traps trap refl)
+    rw (hart_is, memory_is) (claim_with_trap trap refl)
 
 -- Case analysis of a step of a view. A claim holds for the step if it holds for a step without a trap, and for a step with each trap.
-pub step_cases : (state : HartView) (P : HartViewStepped → Type 0) → ((step (bare_machine state)).outcome.trap ≡ None → P (view_without_trap state))
-    → ((trap : Trap) → (step (bare_machine state)).outcome.trap ≡ Some trap → P (view_after_trap state trap)) → P (monitored_step state)
+pub step_cases : (state : HartView) (Claim : HartViewStepped → Type 0)
+    → ((step (bare_machine state)).outcome.trap ≡ None → Claim (view_without_trap state))
+    → ((trap : Trap) → (step (bare_machine state)).outcome.trap ≡ Some trap → Claim (view_after_trap state trap)) → Claim (monitored_step state)
 unfolding monitored_step
-step_cases state P quiet traps =
+step_cases state Claim claim_without_trap claim_with_trap =
     let after = step (bare_machine state) in
-    by-end state P after.outcome.trap after.outcome after.state.hart after.state.memory (trap_keeps (bare_machine state)) quiet traps
+    by-end state Claim after.outcome.trap after.outcome after.state.hart after.state.memory
+    (trap_keeps (bare_machine state)) claim_without_trap claim_with_trap
 
 -- the outcome of the step of a view contains the outcome of the bare step
 pub same_outcome : (state : HartView) → (monitored_step state).outcome.step ≡ (step (bare_machine state)).outcome
@@ -58,14 +60,14 @@ pub trapped_step : (state : HartView) (trap : Trap) → (monitored_step state).o
 trapped_step state trap =
     step_cases state (λ after. after.outcome.step.trap ≡ Some trap → after ≡ view_after_trap state trap)
     (λ no_trap trapped. let contradiction : None ≡ Some trap = sym no_trap ∙ trapped in cc)
-    (λ other trapped_other trapped.
-    let traps : Some other ≡ Some trap = sym trapped_other ∙ trapped in
-    let same : other ≡ trap = cc in
-    ap (view_after_trap state) same)
+    (λ some_trap some_trapped trapped.
+    let some_traps_equal : Some some_trap ≡ Some trap = sym some_trapped ∙ trapped in
+    let traps_equal : some_trap ≡ trap = cc in
+    ap (view_after_trap state) traps_equal)
 
 -- a step without a trap keeps the world
 pub quiet_world : (state : HartView) → (monitored_step state).outcome.step.trap ≡ None
     → (monitored_step state).state.hart_state.world ≡ state.hart_state.world
 quiet_world state =
-    step_cases state (λ after. after.outcome.step.trap ≡ None → after.state.hart_state.world ≡ state.hart_state.world) (λ no_trap quiet. refl)
-    (λ trap traps quiet. let contradiction : None ≡ Some trap = sym quiet ∙ traps in cc)
+    step_cases state (λ after. after.outcome.step.trap ≡ None → after.state.hart_state.world ≡ state.hart_state.world) (λ no_trap is_untrapped. refl)
+    (λ trap traps is_untrapped. let contradiction : None ≡ Some trap = sym is_untrapped ∙ traps in cc)

@@ -26,10 +26,11 @@ pub record IsAsCreated (k : ℕ) (shared : Shared) : Type 0 where
 -- each enclave that the step creates is as create made it, and each enclave that is as create made it stays so, unless the step enters or destroys it
 pub record KeepsAsCreated (before : MonitoredMachine) (after : MonitoredStepped) : Type 0 where
   -- an enclave that the step creates is as create made it
-  pub creates : (k : ℕ) → is_live before.shared.table k ≡ false → is_live after.state.shared.table k ≡ true → IsAsCreated k after.state.shared
+  pub creates : (slot : ℕ) → is_live before.shared.table slot ≡ false → is_live after.state.shared.table slot ≡ true
+      → IsAsCreated slot after.state.shared
   -- an enclave that is as create made it stays so, unless the step enters or destroys it
-  pub keeps : (k : ℕ) → IsAsCreated k before.shared → enters k after.outcome.entered ≡ false → is_live after.state.shared.table k ≡ true
-      → IsAsCreated k after.state.shared
+  pub keeps : (slot : ℕ) → IsAsCreated slot before.shared → enters slot after.outcome.entered ≡ false → is_live after.state.shared.table slot ≡ true
+      → IsAsCreated slot after.state.shared
 
 -- ---- the entry
 
@@ -47,22 +48,24 @@ pub record BothEnter (p q : Place) (one other : MonitoredMachine) : Type 0 where
 -- two enclaves with equal saved states take the same steps from their entry on, as long as they run
 abbrev pub ReentryLaw : Type 0
 ReentryLaw =
-    (p q : Place) (count : ℕ) (one other : MonitoredMachine) → Invariant one → Invariant other → SameSaved p.slot q.slot one.shared other.shared
-    → BothEnter p q one other → AreHighSteps p count (step_at p one).state
-    → SameEnclaveRun p q count (step_at p one).state (step_at q other).state
+    (place other_place : Place) (count : ℕ) (one other : MonitoredMachine) → Invariant one → Invariant other
+    → SameSaved place.slot other_place.slot one.shared other.shared
+    → BothEnter place other_place one other → AreHighSteps place count (step_at place one).state
+    → SameEnclaveRun place other_place count (step_at place one).state (step_at other_place other).state
 
 -- ---- the first run of the enclave
 
 -- both enclaves are as create made them, from equal measured bytes
-pub record SameIdentity (i j : ℕ) (one other : Shared) : Type 0 where
-  pub first : IsAsCreated i one
-  pub second : IsAsCreated j other
+pub record SameIdentity (slot other_slot : ℕ) (one other : Shared) : Type 0 where
+  pub first : IsAsCreated slot one
+  pub second : IsAsCreated other_slot other
   pub input : measured_bytes one.memory (args_of first.info) ≡ measured_bytes other.memory (args_of second.info)
 
 -- Let two machines have an enclave of the same identity, with equal bytes in its window and the same timer line, and let both enter it. The slots
 -- and the harts may differ. The enclave then takes the same steps in both machines, as long as the enclave runs.
 abbrev pub AttestationLaw : Type 0
 AttestationLaw =
-    (p q : Place) (count : ℕ) (one other : MonitoredMachine) → Invariant one → Invariant other → SameIdentity p.slot q.slot one.shared other.shared
-    → SameWindow p.slot one other → BothEnter p q one other → AreHighSteps p count (step_at p one).state
-    → SameEnclaveRun p q count (step_at p one).state (step_at q other).state
+    (place other_place : Place) (count : ℕ) (one other : MonitoredMachine) → Invariant one → Invariant other
+    → SameIdentity place.slot other_place.slot one.shared other.shared
+    → SameWindow place.slot one other → BothEnter place other_place one other → AreHighSteps place count (step_at place one).state
+    → SameEnclaveRun place other_place count (step_at place one).state (step_at other_place other).state

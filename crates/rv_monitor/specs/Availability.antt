@@ -22,7 +22,7 @@ pub record ExitsByTimer (hart slot : ℕ) (host : Context) (before : MonitoredMa
   -- a destroy of the enclave is not refused
   pub destroyable : first_refusal (state_refusals after.state.shared.table Destroy slot) ≡ None
 
--- if the timer line of a hart that runs an enclave is set, its next step exits to the host whose context is saved there
+-- if the timer line of a hart that runs an enclave is set, then the next step of the hart exits to the host whose context the hart saved
 abbrev pub TimerExits : ℕ → MonitoredMachine → MonitoredStepped → Type 0
 TimerExits hart before after =
     (slot : ℕ) (host : Context) → (hart_state_of hart before).world ≡ Enclave slot → (hart_state_of hart before).host_context ≡ Some host

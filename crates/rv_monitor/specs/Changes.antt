@@ -17,7 +17,7 @@ pub record IsStoredAccessible (world : World) (shared : Shared) (stored : Option
   pub high : byte < span.addr + bytes_in span.len
   pub accessible : is_accessible shared.memory shared.table world Write (bytes_from span.addr (bytes_in span.len)) ≡ true
 
--- a destroy ended an enclave, and the byte is in its region
+-- a destroy ended the enclave in the slot of a0 (x10), and the byte is in the region of this enclave
 pub record IsCleared (world : World) (regs : List ℕ) (before after : Slots) (byte : ℕ) : Type 0 where
   pub asked : requested_call world regs ≡ Some Destroy
   pub live : is_live before (register regs 10) ≡ true
@@ -48,7 +48,7 @@ abbrev pub IsChanged : HartView → HartViewStepped → ℕ → Type 0
 IsChanged before after byte =
     IsStoredAccessible before.hart_state.world before.shared after.outcome.step.touched.stored byte ⊎ ByCall before after byte
 
--- each byte is as before, or the step changed it
+-- each byte is unchanged, or is a byte that the step may change
 abbrev pub ChangesAccessible : HartView → HartViewStepped → Type 0
 ChangesAccessible before after =
     (byte : ℕ) → byte_at after.state.shared.memory byte ≡ byte_at before.shared.memory byte ⊎ IsChanged before after byte

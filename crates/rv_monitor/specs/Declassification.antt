@@ -1,5 +1,5 @@
--- Noninterference with declassification: what an enclave has and does has no influence on the others, except for what it hands over. It is
--- stated over a list of moves of two machines. The enclave may take any number of steps in either, between steps of the other harts. (Laws about
+-- Noninterference with declassification: what an enclave has and does has no influence on the others, except for what it hands over. The law
+-- is stated over a list of moves of two machines. The enclave may take any number of steps in either, between steps of the other harts. (Laws about
 -- the monitor's definitions, not rules of a standard; declassification: Sabelfeld and Sands, JCS 2009.)
 use Rattle.std.specs.Prelude.{◌≡◌, ◌⊎◌, ℕ, Bool, true, false, not, ◌&&◌, ◌||◌, List, [], ◌∷◌, Some}
 use Rattle.rv_enclaves.specs.Contexts.{no_supervisor}
@@ -23,7 +23,7 @@ EquivToGuests enclave one other = EquivExcept enclave (guest_view one) (guest_vi
 
 -- the CSRs that no context switch replaces: those of M-mode and the counters
 abbrev pub unswitched : CsrState → CsrState
-unswitched c = record (with_s_context c no_supervisor) { pmp = record { cfgs = []; addrs = [] }; mie = 0 }
+unswitched csrs = record (with_s_context csrs no_supervisor) { pmp = record { cfgs = []; addrs = [] }; mie = 0 }
 
 -- two hart states have the same saved context of the host, and equal CSRs that no context switch replaces
 pub record SameHost (one other : HartState) : Type 0 where
@@ -39,8 +39,7 @@ abbrev pub may_differ : Slots → ℕ → ℕ → Bool
 may_differ slots enclave byte = has (region slots enclave) byte || (runs slots enclave && has (window slots enclave) byte)
 
 -- Two machines are equivalent except `enclave` in the guest view, and except for the window of `enclave` while `enclave` runs. The saved contexts
--- of the host on the hart of
--- `enclave` are equal.
+-- of the host on the hart of `enclave` are equal.
 pub record AreRelated (enclave : ℕ) (one other : MonitoredMachine) : Type 0 where
   pub harts : count_of one ≡ count_of other
   pub hart_states : (hart : ℕ) → HartStatesEquivExcept enclave (guest_state (hart_state_of hart one)) (guest_state (hart_state_of hart other))

@@ -10,7 +10,7 @@ use Rattle.rv_monitor.specs.HartLaws.{sched}
 use Rattle.rv_monitor.specs.MonitoredMachine.{MonitoredMachine, Invariant, hart_state_of}
 use Rattle.rv_monitor.specs.Step.{MonitoredStepped, step_of}
 
--- whether a byte is in neither the region nor the window of slot k
+-- whether a byte is in neither the region nor the window of the slot
 abbrev pub is_beyond : Slots → ℕ → ℕ → Bool
 is_beyond slots k byte = not (has (region slots k) byte || has (window slots k) byte)
 
@@ -29,12 +29,12 @@ step_at place machine = step_of place.hart machine
 
 -- Two enclaves run and have the same state. Each hart is compared without the PMP entries, mie and the other registers of mode M, which no enclave
 -- reads.
-pub record SameEnclave (p q : Place) (one other : MonitoredMachine) : Type 0 where
-  pub first : runs_at p one ≡ true
-  pub second : runs_at q other ≡ true
-  pub hart : below_m_hart (hart_state_of p.hart one).hart ≡ below_m_hart (hart_state_of q.hart other).hart
-  pub slot : slot_at one.shared.table p.slot ≡ slot_at other.shared.table q.slot
-  pub memory : EqualOutside (is_beyond one.shared.table p.slot) one.shared.memory other.shared.memory
+pub record SameEnclave (place other_place : Place) (one other : MonitoredMachine) : Type 0 where
+  pub first : runs_at place one ≡ true
+  pub second : runs_at other_place other ≡ true
+  pub hart : below_m_hart (hart_state_of place.hart one).hart ≡ below_m_hart (hart_state_of other_place.hart other).hart
+  pub slot : slot_at one.shared.table place.slot ≡ slot_at other.shared.table other_place.slot
+  pub memory : EqualOutside (is_beyond one.shared.table place.slot) one.shared.memory other.shared.memory
 
 -- ---- the exit
 
@@ -53,30 +53,33 @@ pub record HasReturned (reason value hart : ℕ) (machine : MonitoredMachine) : 
   pub regs : (hart_state_of hart machine).hart.regs ≡ with_return_values host reason value
 
 -- both enclaves exited: the hosts received equal values, and the saved states of the enclaves are equal
-pub record SameExit (p q : Place) (one other : MonitoredMachine) : Type 0 where
+pub record SameExit (place other_place : Place) (one other : MonitoredMachine) : Type 0 where
   pub reason : ℕ
   pub value : ℕ
-  pub first : HasReturned reason value p.hart one
-  pub second : HasReturned reason value q.hart other
-  pub saved : SameSaved p.slot q.slot one.shared other.shared
+  pub first : HasReturned reason value place.hart one
+  pub second : HasReturned reason value other_place.hart other
+  pub saved : SameSaved place.slot other_place.slot one.shared other.shared
 
 -- ---- one step
 
 -- both enclaves still run and have the same state again, or both exited
-pub record SameAfter (p q : Place) (one other : MonitoredMachine) : Type 0 where
-  pub runs : runs_at p one ≡ true → SameEnclave p q one other
-  pub exits : runs_at p one ≡ false → SameExit p q one other
+pub record SameAfter (place other_place : Place) (one other : MonitoredMachine) : Type 0 where
+  pub runs : runs_at place one ≡ true → SameEnclave place other_place one other
+  pub exits : runs_at place one ≡ false → SameExit place other_place one other
 
 -- two steps have equal outcomes, and leave the enclaves in the same state or both exited
-pub record SameEnclaveStep (p q : Place) (one other : MonitoredStepped) : Type 0 where
+pub record SameEnclaveStep (place other_place : Place) (one other : MonitoredStepped) : Type 0 where
   pub outcome : one.outcome ≡ other.outcome
-  pub state : SameAfter p q one.state other.state
+  pub state : SameAfter place other_place one.state other.state
 
 -- a step of the enclave that runs on the hart is the same in every machine in which an enclave has the same state
 abbrev pub DependsOnEnclave : ℕ → MonitoredMachine → MonitoredStepped → Type 0
 DependsOnEnclave hart before after =
-    (k : ℕ) (q : Place) (other : MonitoredMachine) → Invariant other
-    → (let p : Place = record { slot = k; hart = hart } in SameEnclave p q before other → SameEnclaveStep p q after (step_at q other))
+    (slot : ℕ) (other_place : Place) (other : MonitoredMachine) → Invariant other
+    → (let place : Place = record {
+      slot = slot;
+      hart = hart;
+    } in SameEnclave place other_place before other → SameEnclaveStep place other_place after (step_at other_place other))
 
 -- ---- many steps of the enclave in a row
 
@@ -86,12 +89,12 @@ AreHighSteps place zero machine = Unit {0}
 AreHighSteps place (suc count) machine = (runs_at place machine ≡ true) × AreHighSteps place count (step_at place machine).state
 
 -- `count` steps of each hart have equal outcomes, and leave the enclaves in the same state or both exited
-pub record SameEnclaveRun (p q : Place) (count : ℕ) (one other : MonitoredMachine) : Type 0 where
-  pub outcomes : (sched (replicate count p.hart) one).outcomes ≡ (sched (replicate count q.hart) other).outcomes
-  pub state : SameAfter p q (sched (replicate count p.hart) one).state (sched (replicate count q.hart) other).state
+pub record SameEnclaveRun (place other_place : Place) (count : ℕ) (one other : MonitoredMachine) : Type 0 where
+  pub outcomes : (sched (replicate count place.hart) one).outcomes ≡ (sched (replicate count other_place.hart) other).outcomes
+  pub state : SameAfter place other_place (sched (replicate count place.hart) one).state (sched (replicate count other_place.hart) other).state
 
 -- if two enclaves have the same state, then many steps of one enclave are the same as many steps of the other
 abbrev pub EnclaveRunLaw : Type 0
 EnclaveRunLaw =
-    (p q : Place) (count : ℕ) (one other : MonitoredMachine) → Invariant one → Invariant other → SameEnclave p q one other
-    → AreHighSteps p count one → SameEnclaveRun p q count one other
+    (place other_place : Place) (count : ℕ) (one other : MonitoredMachine) → Invariant one → Invariant other → SameEnclave place other_place one other
+    → AreHighSteps place count one → SameEnclaveRun place other_place count one other

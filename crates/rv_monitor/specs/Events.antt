@@ -22,7 +22,7 @@ event_of (LineOf hart raised) machine = record (not_stepped machine) { state = w
 -- the state after each event in the list, in turn, and the outcome of each
 abbrev pub events : List Event → MonitoredMachine → Scheduled
 events [] machine = record { state = machine; outcomes = [] }
-events (event ∷ more) machine = first_then (event_of event machine).outcome (events more (event_of event machine).state)
+events (event ∷ rest_events) machine = first_then (event_of event machine).outcome (events rest_events (event_of event machine).state)
 
 -- every list of events preserves the invariant
 abbrev pub EventInvariantLaw : Type 0
@@ -38,7 +38,8 @@ IsLowEvent enclave (LineOf hart raised) machine = Unit {0}
 -- before each event in the list, the event is a low step or a change of a timer line
 abbrev pub AreLowEvents : ℕ → List Event → MonitoredMachine → Type 0
 AreLowEvents enclave [] machine = Unit {0}
-AreLowEvents enclave (event ∷ more) machine = IsLowEvent enclave event machine × AreLowEvents enclave more (event_of event machine).state
+AreLowEvents enclave (event ∷ rest_events) machine =
+    IsLowEvent enclave event machine × AreLowEvents enclave rest_events (event_of event machine).state
 
 -- the outcomes are the same, and the final states are equivalent except for `enclave`
 pub record EventsAlike (enclave : ℕ) (list : List Event) (one other : MonitoredMachine) : Type 0 where
@@ -59,13 +60,13 @@ abbrev pub IsUndisturbing : ℕ → Event → MonitoredMachine → Type 0
 IsUndisturbing slot (StepOf hart) machine = (runs_on slot hart machine ≡ false) × (enters slot (step_of hart machine).outcome.entered ≡ false)
 IsUndisturbing slot (LineOf hart raised) machine = Unit {0}
 
--- the enclave is live before, between and after the events, and no event disturbs it
+-- the enclave is live before, between and after the events, and no event disturbs the enclave
 abbrev pub AreUndisturbing : ℕ → List Event → MonitoredMachine → Type 0
 AreUndisturbing slot [] machine = is_live machine.shared.table slot ≡ true
-AreUndisturbing slot (event ∷ more) machine =
-    (is_live machine.shared.table slot ≡ true) × IsUndisturbing slot event machine × AreUndisturbing slot more (event_of event machine).state
+AreUndisturbing slot (event ∷ rest_events) machine =
+    (is_live machine.shared.table slot ≡ true) × IsUndisturbing slot event machine × AreUndisturbing slot rest_events (event_of event machine).state
 
--- as IsUntouched, except for the timer line of the hart on which it runs
+-- the enclave is untouched as in IsUntouched, except for the timer line of the hart on which the enclave runs
 pub record IsUntouchedButLine (slot : ℕ) (before after : MonitoredMachine) : Type 0 where
   pub preserved : IsPreserved slot before.shared after.shared
   pub hart_state : (hart : ℕ) → runs_on slot hart before ≡ true
@@ -80,12 +81,12 @@ EventIntegrityLaw =
 -- no event is a step of a hart on which the enclave runs
 abbrev pub StepsNone : ℕ → List Event → MonitoredMachine → Type 0
 StepsNone slot [] machine = Unit {0}
-StepsNone slot (StepOf hart ∷ more) machine = (runs_on slot hart machine ≡ false) × StepsNone slot more machine
-StepsNone slot (LineOf hart raised ∷ more) machine = StepsNone slot more machine
+StepsNone slot (StepOf hart ∷ rest_events) machine = (runs_on slot hart machine ≡ false) × StepsNone slot rest_events machine
+StepsNone slot (LineOf hart raised ∷ rest_events) machine = StepsNone slot rest_events machine
 
 -- an enclave that runs on a hart is left undisturbed by every list of steps of the other harts and of changes of any timer line
 abbrev pub RunningEventLaw : Type 0
 RunningEventLaw =
-    (slot own : ℕ) (list : List Event) (machine : MonitoredMachine) → Invariant machine → runs_on slot own machine ≡ true
+    (slot slot_hart : ℕ) (list : List Event) (machine : MonitoredMachine) → Invariant machine → runs_on slot slot_hart machine ≡ true
     → StepsNone slot list machine
     → AreUndisturbing slot list machine

@@ -57,9 +57,9 @@ redirected_hart hart trap = record { regs = hart.regs; csrs = redirected_csrs ha
 
 -- the machine after a redirected trap: only the hart that trapped changes
 abbrev pub redirected_machine : ℕ → MonitoredMachine → Trap → MonitoredMachine
-redirected_machine own before trap =
-    let hart_state = hart_state_of own before in
-    with_hart_state own (record hart_state { hart = redirected_hart hart_state.hart trap }) before
+redirected_machine hart before trap =
+    let hart_state = hart_state_of hart before in
+    with_hart_state hart (record hart_state { hart = redirected_hart hart_state.hart trap }) before
 
 -- ---- the law
 

@@ -39,7 +39,8 @@ pub record SameRead (hart_state : HartState) (cause : Cause) (one other : Shared
 -- the tables are equal after the trap, and each byte and each context that is equal before is equal after
 pub record SameWhereSame (one other one_after other_after : Shared) : Type 0 where
   pub table : one_after.table ≡ other_after.table
-  pub bytes : (i : ℕ) → slice_index one.memory i ≡ slice_index other.memory i → slice_index one_after.memory i ≡ slice_index other_after.memory i
+  pub bytes : (index : ℕ) → slice_index one.memory index ≡ slice_index other.memory index
+      → slice_index one_after.memory index ≡ slice_index other_after.memory index
   pub contexts : (slot : ℕ) → context_at one.contexts slot ≡ context_at other.contexts slot
       → context_at one_after.contexts slot ≡ context_at other_after.contexts slot
 

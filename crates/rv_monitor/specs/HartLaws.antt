@@ -41,15 +41,15 @@ RunsOnNone enclave (hart ∷ harts) machine = (runs_on enclave hart machine ≡ 
 abbrev pub IsNotEnteredBefore : ℕ → List ℕ → MonitoredMachine → Type 0
 IsNotEnteredBefore enclave [] machine = Unit {0}
 IsNotEnteredBefore enclave (hart ∷ []) machine = Unit {0}
-IsNotEnteredBefore enclave (hart ∷ next ∷ harts) machine =
-    (enters enclave (step_of hart machine).outcome.entered ≡ false) × IsNotEnteredBefore enclave (next ∷ harts) (step_of hart machine).state
+IsNotEnteredBefore enclave (hart ∷ next_hart ∷ harts) machine =
+    (enters enclave (step_of hart machine).outcome.entered ≡ false) × IsNotEnteredBefore enclave (next_hart ∷ harts) (step_of hart machine).state
 
--- a hart runs the enclave after a step only if it did so before, or the step entered it
+-- a hart runs the enclave after a step only if the hart ran the enclave before, or the step entered the enclave
 abbrev pub EntryLaw : Type 0
 EntryLaw =
-    (enclave hart own : ℕ) (machine : MonitoredMachine) → runs_on enclave own machine ≡ false
+    (enclave hart other_hart : ℕ) (machine : MonitoredMachine) → runs_on enclave other_hart machine ≡ false
     → enters enclave (step_of hart machine).outcome.entered ≡ false
-    → runs_on enclave own (step_of hart machine).state ≡ false
+    → runs_on enclave other_hart (step_of hart machine).state ≡ false
 
 -- steps of harts that did not run the enclave at first are low steps, up to and including the step that enters the enclave
 abbrev pub LowStepsLaw : Type 0

@@ -7,34 +7,36 @@ use Rattle.rv_monitor.specs.EquivExcept.{runs_on}
 use Rattle.rv_monitor.specs.MonitoredMachine.{MonitoredMachine, hart_state_of, reprogrammed}
 use Rattle.rv_monitor.specs.Step.{MonitoredStepped}
 
--- whether slot k was entered
+-- whether a step entered the slot; the second argument is the slot that the step entered, if any
 abbrev pub enters : ℕ → Option ℕ → Bool
-enters k None = false
-enters k (Some j) = j == k
+enters slot None = false
+enters slot (Some entered) = entered == slot
 
--- the record, the bytes of the region and the saved context are as before
-pub record IsPreserved (k : ℕ) (before after : Shared) : Type 0 where
-  pub slot : slot_at after.table k ≡ slot_at before.table k
-  pub bytes : (byte : ℕ) → has (region before.table k) byte ≡ true → byte_at after.memory byte ≡ byte_at before.memory byte
-  pub context : context_at after.contexts k ≡ context_at before.contexts k
+-- the record of the slot, the bytes of its region and its saved context are unchanged
+pub record IsPreserved (slot_number : ℕ) (before after : Shared) : Type 0 where
+  pub slot : slot_at after.table slot_number ≡ slot_at before.table slot_number
+  pub bytes : (byte : ℕ) → has (region before.table slot_number) byte ≡ true → byte_at after.memory byte ≡ byte_at before.memory byte
+  pub context : context_at after.contexts slot_number ≡ context_at before.contexts slot_number
 
 -- the enclave is preserved; if it runs, its hart keeps everything except the PMP entries and mie, which are those of the table and its world
-pub record IsUntouched (k : ℕ) (before after : MonitoredMachine) : Type 0 where
-  pub preserved : IsPreserved k before.shared after.shared
-  pub hart_state : (hart : ℕ) → runs_on k hart before ≡ true → hart_state_of hart after ≡ reprogrammed after.shared.table (hart_state_of hart before)
+pub record IsUntouched (slot : ℕ) (before after : MonitoredMachine) : Type 0 where
+  pub preserved : IsPreserved slot before.shared after.shared
+  pub hart_state : (hart : ℕ) → runs_on slot hart before ≡ true
+      → hart_state_of hart after ≡ reprogrammed after.shared.table (hart_state_of hart before)
 
 -- every live enclave is untouched if it is not the world of the hart that steps, is not entered, and is live after the step
 abbrev pub PreservesOthers : ℕ → MonitoredMachine → MonitoredStepped → Type 0
 PreservesOthers hart before after =
-    (k : ℕ) → runs_on k hart before ≡ false → is_live before.shared.table k ≡ true
-    → enters k after.outcome.entered ≡ false → is_live after.state.shared.table k ≡ true
-    → IsUntouched k before after.state
+    (slot : ℕ) → runs_on slot hart before ≡ false → is_live before.shared.table slot ≡ true
+    → enters slot after.outcome.entered ≡ false → is_live after.state.shared.table slot ≡ true
+    → IsUntouched slot before after.state
 
 -- the enclave is not entered, and it is live after the step
-pub record KeepsRunning (k : ℕ) (after : MonitoredStepped) : Type 0 where
-  pub passes : enters k after.outcome.entered ≡ false
-  pub live : is_live after.state.shared.table k ≡ true
+pub record KeepsRunning (slot : ℕ) (after : MonitoredStepped) : Type 0 where
+  pub passes : enters slot after.outcome.entered ≡ false
+  pub live : is_live after.state.shared.table slot ≡ true
 
 -- every enclave that runs on a hart other than the one that steps is not entered and stays live
 abbrev pub KeepsOthersRunning : ℕ → MonitoredMachine → MonitoredStepped → Type 0
-KeepsOthersRunning hart before after = (k own : ℕ) → runs_on k own before ≡ true → runs_on k hart before ≡ false → KeepsRunning k after
+KeepsOthersRunning hart before after =
+    (slot slot_hart : ℕ) → runs_on slot slot_hart before ≡ true → runs_on slot hart before ≡ false → KeepsRunning slot after

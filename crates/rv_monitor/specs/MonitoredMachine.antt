@@ -43,13 +43,13 @@ numbered_hart_state_at_start entry hart =
     let hart_state = hart_state_at_start entry in
     record hart_state { hart = record hart_state.hart { regs = with_register hart_state.hart.regs 10 hart } }
 
--- the states of so many harts at reset, each with its number in x10
+-- the states of `harts` harts at reset, each with its number in x10
 abbrev pub hart_states_at_start : ℕ → ℕ → List HartState
 hart_states_at_start harts entry = map (numbered_hart_state_at_start entry) (range_with_len 0 harts)
 
 -- the monitored machine at reset: its harts at the entry, its memory, and no enclave
 unfoldable pub at_start : List ℕ → ℕ → ℕ → MonitoredMachine
-at_start memory entry harts = record { hart_states = hart_states_at_start harts entry; shared = shared_at_start memory }
+at_start memory entry hart_count = record { hart_states = hart_states_at_start hart_count entry; shared = shared_at_start memory }
 
 -- ---- the harts
 
@@ -113,7 +113,7 @@ pub record HartViewInvariant (state : HartView) : Type 0 where
   pub valid : IsValid state.shared.memory state.shared.table
   pub hart : HartInvariant state.shared.table state.hart_state
 
--- each state after reset has these: the shared state and every hart fulfil their invariants
+-- The invariant of the machine, which holds at reset and after each step: the shared state and every hart have their invariants.
 pub record Invariant (machine : MonitoredMachine) : Type 0 where
   pub shared : SharedInvariant machine.shared (worlds machine)
   pub hart_states : (hart : ℕ) → hart < count_of machine → HartInvariant machine.shared.table (hart_state_of hart machine)
@@ -125,10 +125,11 @@ pub record FullInvariant (machine : MonitoredMachine) : Type 0 where
 
 -- ---- representation in the code
 
--- the first `harts` hart states
+-- the machine that the first `hart_count` elements of the code's array of hart states represent
 abbrev pub machine_of_parts : List HartState → ℕ → Shared → MonitoredMachine
-machine_of_parts by_hart harts shared = record { hart_states = take harts by_hart; shared = shared }
+machine_of_parts state_array hart_count shared = record { hart_states = take hart_count state_array; shared = shared }
 
 -- no PMP entry of the harts other than one is locked
 abbrev pub AreOthersUnlocked : List HartState → ℕ → ℕ → Type 0
-AreOthersUnlocked by_hart harts hart = (j : ℕ) → j < harts → j ≢ hart → IsUnlocked (hart_state_in by_hart j).hart.csrs.pmp
+AreOthersUnlocked state_array hart_count hart =
+    (other_hart : ℕ) → other_hart < hart_count → other_hart ≢ hart → IsUnlocked (hart_state_in state_array other_hart).hart.csrs.pmp

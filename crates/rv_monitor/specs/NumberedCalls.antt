@@ -38,18 +38,18 @@ status_at hart machine =
 -- The machine after a return to the caller. The caller continues in S after its ecall, with two values in a0 and a1. Its other registers, its S-mode
 -- CSRs and its world are unchanged. On every other hart only the PMP entries and mie change.
 abbrev pub answered_machine : ℕ → MonitoredMachine → Trap → Shared → ℕ → ℕ → MonitoredMachine
-answered_machine own before trap shared a0 a1 =
-    let hart_state = hart_state_of own before in
-    let hart = hart_state.hart in
+answered_machine hart before trap shared a0 a1 =
+    let hart_state = hart_state_of hart before in
+    let registers_before = hart_state.hart in
     record {
-      hart_states = slice_set (map (reprogrammed shared.table) before.hart_states) own (record hart_state {
+      hart_states = slice_set (map (reprogrammed shared.table) before.hart_states) hart (record hart_state {
         hart = record {
-          regs = with_register (with_register hart.regs 10 a0) 11 a1;
-          csrs = record (passed_csrs hart.csrs trap (past_ecall hart)) {
+          regs = with_register (with_register registers_before.regs 10 a0) 11 a1;
+          csrs = record (passed_csrs registers_before.csrs trap (past_ecall registers_before)) {
             pmp = layout shared.table hart_state.world;
             mie = mie_of hart_state.world;
           };
-          pc = past_ecall hart;
+          pc = past_ecall registers_before;
           mode = S;
         };
       });
@@ -105,8 +105,8 @@ switched_hart hart trap context slots world =
 
 -- the table with another state in the record of a slot
 abbrev pub slots_with_state : Slots → ℕ → EnclaveState → Slots
-slots_with_state slots k state =
-    option_case (slice_index_or slots k None) slots (λ info. slice_set slots k (Some (record info { state = state })))
+slots_with_state slots slot state =
+    option_case (slice_index_or slots slot None) slots (λ info. slice_set slots slot (Some (record info { state = state })))
 
 -- ---- a call that enters an enclave
 
@@ -125,20 +125,23 @@ entered_by_call own before k trap context =
       shared = record before.shared { table = slots; contexts = slice_set before.shared.contexts k None };
     }
 
--- the step enters slot k: the hart continues with the saved context of the enclave
-pub record EntersByCall (hart : ℕ) (before : MonitoredMachine) (after : MonitoredStepped) (trap : Trap) (k : ℕ) : Type 0 where
+-- the step enters the slot: the hart continues with the saved context of the enclave
+pub record EntersByCall (hart : ℕ) (before : MonitoredMachine) (after : MonitoredStepped) (trap : Trap) (slot : ℕ) : Type 0 where
   pub context : Context
-  pub kept : slice_index_or before.shared.contexts k None ≡ Some context
-  pub state : after.state ≡ entered_by_call hart before k trap context
-  pub entered : after.outcome.entered ≡ Some k
+  pub kept : slice_index_or before.shared.contexts slot None ≡ Some context
+  pub state : after.state ≡ entered_by_call hart before slot trap context
+  pub entered : after.outcome.entered ≡ Some slot
 
 -- ---- a step that leaves an enclave
 
 -- what an exit hands over: the new state of the enclave, its saved context, and the values that the host receives in a0 and a1
 pub record Handover : Type 0 where
   pub state : EnclaveState
+  -- the saved context of the enclave after the exit
   pub kept : Context
+  -- the value in a0 of the host
   pub reason : ℕ
+  -- the value in a1 of the host
   pub value : ℕ
   -- the timer line of the hart after the exit
   pub line : Bool
@@ -146,19 +149,19 @@ pub record Handover : Type 0 where
 -- The machine after an enclave exits. The host continues with its saved context, except for a0 and a1. On every other hart only the PMP entries and
 -- mie change.
 abbrev pub handed_over_machine : ℕ → MonitoredMachine → ℕ → Trap → Context → Handover → MonitoredMachine
-handed_over_machine own before k trap host over =
-    let slots = slots_with_state before.shared.table k over.state in
-    let back = switched_hart (hart_state_of own before).hart trap host slots Host in
+handed_over_machine hart before slot trap host handover =
+    let slots = slots_with_state before.shared.table slot handover.state in
+    let host_hart = switched_hart (hart_state_of hart before).hart trap host slots Host in
     record {
-      hart_states = slice_set (map (reprogrammed slots) before.hart_states) own (record {
-        hart = record back {
-          regs = with_register (with_register back.regs 10 over.reason) 11 over.value;
-          csrs = record back.csrs { timer = over.line };
+      hart_states = slice_set (map (reprogrammed slots) before.hart_states) hart (record {
+        hart = record host_hart {
+          regs = with_register (with_register host_hart.regs 10 handover.reason) 11 handover.value;
+          csrs = record host_hart.csrs { timer = handover.line };
         };
         host_context = None;
         world = Host;
       });
-      shared = record before.shared { table = slots; contexts = slice_set before.shared.contexts k (Some over.kept) };
+      shared = record before.shared { table = slots; contexts = slice_set before.shared.contexts slot (Some handover.kept) };
     }
 
 -- the exit by stop: the enclave will continue after its ecall, with 0 in a0 and a1; the host receives 1 and the enclave's a0
@@ -201,34 +204,41 @@ by_interrupt hart = record {
   line = false;
 }
 
--- the step ends the run of slot k: the monitor saves the enclave, and the hart continues with the context of the host
+-- the step ends the run of the slot: the monitor saves the context of the enclave, and the hart continues with the context of the host
 abbrev pub HandsOver : ℕ → MonitoredMachine → MonitoredStepped → ℕ → Trap → Context → Handover → Type 0
-HandsOver hart before after k trap host over =
-    (after.state ≡ handed_over_machine hart before k trap host over) × (after.outcome.entered ≡ None)
+HandsOver hart before after slot trap host handover =
+    (after.state ≡ handed_over_machine hart before slot trap host handover) × (after.outcome.entered ≡ None)
 
 -- ---- the law
 
 -- the result of an ecall from S, by its number and its status
 pub record AnswersInNumbers (hart : ℕ) (before : MonitoredMachine) (after : MonitoredStepped) (trap : Trap) : Type 0 where
-  -- any other status than 0 refuses: nothing that the harts share changes
+  -- a status other than 0 refuses the call: the table, the memory and the saved contexts are unchanged
   pub refuses : status_at hart before ≢ 0 → Returns hart before after trap before.shared (status_at hart before) 0
+  -- an accepted create returns the lowest free slot
   pub creates : call_at hart before ≡ Some Create → status_at hart before ≡ 0
       → Returns hart before after trap (shared_with_new before.shared (regs_at hart before)) 0
-      (option_case (lowest_free before.shared.table) 13 (λ k. k))
+      (option_case (lowest_free before.shared.table) 13 (λ slot. slot))
+  -- an accepted destroy frees the slot that a0 names
   pub destroys : call_at hart before ≡ Some Destroy → status_at hart before ≡ 0
       → Returns hart before after trap (shared_without before.shared (register (regs_at hart before) 10)) 0 0
+  -- an accepted measure stores the measurement of the named slot at the address in a1
   pub measures : call_at hart before ≡ Some Measure → status_at hart before ≡ 0
       → (let regs = regs_at hart before in
       Returns hart before after trap
       (shared_with_measurement before.shared (slot_named (hart_state_of hart before).world regs) (register regs 11)) 0 0)
+  -- an accepted run enters the slot that a0 names
   pub runs : (hart_state_of hart before).world ≡ Host → call_at hart before ≡ Some Run → status_at hart before ≡ 0
       → EntersByCall hart before after trap (register (regs_at hart before) 10)
+  -- an accepted resume enters the slot that a0 names
   pub resumes : (hart_state_of hart before).world ≡ Host → call_at hart before ≡ Some Resume → status_at hart before ≡ 0
       → EntersByCall hart before after trap (register (regs_at hart before) 10)
-  pub stops : (k : ℕ) (host : Context) → (hart_state_of hart before).world ≡ Enclave k → (hart_state_of hart before).host_context ≡ Some host
-      → call_at hart before ≡ Some Stop → HandsOver hart before after k trap host (by_stop_call (hart_state_of hart before).hart)
-  pub exits : (k : ℕ) (host : Context) → (hart_state_of hart before).world ≡ Enclave k → (hart_state_of hart before).host_context ≡ Some host
-      → call_at hart before ≡ Some Exit → HandsOver hart before after k trap host (by_exit_call (hart_state_of hart before).hart)
+  -- a stop exits to the host, and the enclave can be resumed after its ecall
+  pub stops : (slot : ℕ) (host : Context) → (hart_state_of hart before).world ≡ Enclave slot → (hart_state_of hart before).host_context ≡ Some host
+      → call_at hart before ≡ Some Stop → HandsOver hart before after slot trap host (by_stop_call (hart_state_of hart before).hart)
+  -- an exit returns to the host, and zeroes the saved context of the enclave
+  pub exits : (slot : ℕ) (host : Context) → (hart_state_of hart before).world ≡ Enclave slot → (hart_state_of hart before).host_context ≡ Some host
+      → call_at hart before ≡ Some Exit → HandsOver hart before after slot trap host (by_exit_call (hart_state_of hart before).hart)
 
 -- each ecall from S has the result of its number and its status
 abbrev pub AnswersCalls : ℕ → MonitoredMachine → MonitoredStepped → Type 0
@@ -239,24 +249,27 @@ AnswersCalls hart before after =
 -- every interrupt while an enclave runs ends its run: the monitor saves the enclave, and the host continues
 abbrev pub InterruptsEnclave : ℕ → MonitoredMachine → MonitoredStepped → Type 0
 InterruptsEnclave hart before after =
-    (k : ℕ) (host : Context) (trap : Trap) (interrupt : Interrupt) → (hart_state_of hart before).world ≡ Enclave k
+    (slot : ℕ) (host : Context) (trap : Trap) (interrupt : Interrupt) → (hart_state_of hart before).world ≡ Enclave slot
     → (hart_state_of hart before).host_context ≡ Some host → after.outcome.step.trap ≡ Some trap → trap.cause ≡ causes.Interrupt interrupt
-    → HandsOver hart before after k trap host (by_interrupt (hart_state_of hart before).hart)
+    → HandsOver hart before after slot trap host (by_interrupt (hart_state_of hart before).hart)
 
 -- ---- the calls that succeed
 
 -- the result of each call, under the conditions in numbers under which the call succeeds
 pub record SucceedsInNumbers (hart : ℕ) (before : MonitoredMachine) (after : MonitoredStepped) (trap : Trap) : Type 0 where
-  -- a create by the host, which gets the lowest free slot
+  -- a create by the host, which receives the lowest free slot
   pub create : (slot : ℕ) → (hart_state_of hart before).world ≡ Host → Requests 1 (regs_at hart before)
       → IsCreatable before.shared (regs_at hart before) slot
       → Returns hart before after trap (shared_with_new before.shared (regs_at hart before)) 0 slot
+  -- a destroy by the host of an enclave that does not run
   pub destroy : (hart_state_of hart before).world ≡ Host → Requests 2 (regs_at hart before)
       → IsAtRest before.shared.table (register (regs_at hart before) 10)
       → Returns hart before after trap (shared_without before.shared (register (regs_at hart before) 10)) 0 0
+  -- a run by the host of a Fresh enclave
   pub run : (hart_state_of hart before).world ≡ Host → Requests 3 (regs_at hart before)
       → HasState before.shared.table (register (regs_at hart before) 10) Fresh
       → EntersByCall hart before after trap (register (regs_at hart before) 10)
+  -- a resume by the host of a Stopped enclave
   pub resume : (hart_state_of hart before).world ≡ Host → Requests 4 (regs_at hart before)
       → HasState before.shared.table (register (regs_at hart before) 10) Stopped
       → EntersByCall hart before after trap (register (regs_at hart before) 10)
@@ -267,10 +280,11 @@ pub record SucceedsInNumbers (hart : ℕ) (before : MonitoredMachine) (after : M
       IsMeasurable before.shared hart_state.hart.csrs.pmp (slot_named hart_state.world regs) (register regs 11)
       → Returns hart before after trap (shared_with_measurement before.shared (slot_named hart_state.world regs) (register regs 11)) 0 0)
   -- a stop by an enclave whose host has a saved context
-  pub stop : (k : ℕ) (host : Context) → (hart_state_of hart before).world ≡ Enclave k → (hart_state_of hart before).host_context ≡ Some host
-      → Requests 6 (regs_at hart before) → HandsOver hart before after k trap host (by_stop_call (hart_state_of hart before).hart)
-  pub exit : (k : ℕ) (host : Context) → (hart_state_of hart before).world ≡ Enclave k → (hart_state_of hart before).host_context ≡ Some host
-      → Requests 7 (regs_at hart before) → HandsOver hart before after k trap host (by_exit_call (hart_state_of hart before).hart)
+  pub stop : (slot : ℕ) (host : Context) → (hart_state_of hart before).world ≡ Enclave slot → (hart_state_of hart before).host_context ≡ Some host
+      → Requests 6 (regs_at hart before) → HandsOver hart before after slot trap host (by_stop_call (hart_state_of hart before).hart)
+  -- an exit by an enclave whose host has a saved context
+  pub exit : (slot : ℕ) (host : Context) → (hart_state_of hart before).world ≡ Enclave slot → (hart_state_of hart before).host_context ≡ Some host
+      → Requests 7 (regs_at hart before) → HandsOver hart before after slot trap host (by_exit_call (hart_state_of hart before).hart)
 
 -- each ecall from S whose numbers meet the conditions of a call has the result of this call
 abbrev pub CallsSucceed : ℕ → MonitoredMachine → MonitoredStepped → Type 0

@@ -17,10 +17,10 @@ plain_step hart machine = step (record { hart = (hart_state_of hart machine).har
 
 -- the machine after a step without a trap: only the hart and the memory change, as in the plain step
 abbrev pub plainly_stepped : ℕ → MonitoredMachine → MonitoredMachine
-plainly_stepped own before =
-    let after = plain_step own before in
+plainly_stepped hart before =
+    let after = plain_step hart before in
     record {
-      hart_states = slice_set before.hart_states own (record (hart_state_of own before) { hart = after.state.hart });
+      hart_states = slice_set before.hart_states hart (record (hart_state_of hart before) { hart = after.state.hart });
       shared = record before.shared { memory = after.state.memory };
     }
 

@@ -12,7 +12,7 @@ use Rattle.rv_monitor.specs.Step.{step_of}
 abbrev pub block_of : Span → Block
 block_of span = record { base = span.addr; size = bytes_in span.len }
 
--- whether the byte is in the span, if there is one
+-- whether the byte is in the span; no byte is in an absent span
 abbrev pub in_span : Option Span → ℕ → Bool
 in_span None byte = false
 in_span (Some span) byte = has (block_of span) byte
@@ -21,14 +21,14 @@ in_span (Some span) byte = has (block_of span) byte
 abbrev pub reads_byte : Touched → ℕ → Bool
 reads_byte touched byte = in_span touched.fetched byte || in_span touched.loaded byte
 
--- the bytes of the window of slot e that the step of a hart reads in the first machine are equal in the second
+-- the bytes of the window of the slot that the step of a hart reads in the first machine are equal in the second machine
 abbrev pub SameWindowRead : ℕ → ℕ → MonitoredMachine → MonitoredMachine → Type 0
-SameWindowRead e hart one other =
-    EqualOutside (λ byte. not (has (window one.shared.table e) byte && reads_byte (step_of hart one).outcome.step.touched byte))
+SameWindowRead slot hart one other =
+    EqualOutside (λ byte. not (has (window one.shared.table slot) byte && reads_byte (step_of hart one).outcome.step.touched byte))
     one.shared.memory other.shared.memory
 
--- two memories m and n, and the same later: each byte is unchanged in both, or equal afterwards
+-- two memories, and both memories after a change: each byte is unchanged in both, or is equal in both after the change
 abbrev pub ChangeAlike : List ℕ → List ℕ → List ℕ → List ℕ → Type 0
-ChangeAlike m n m_after n_after =
-    (i : ℕ) → ((slice_index m_after i ≡ slice_index m i) × (slice_index n_after i ≡ slice_index n i)) ⊎
-    (slice_index m_after i ≡ slice_index n_after i)
+ChangeAlike memory other_memory after other_after =
+    (index : ℕ) → ((slice_index after index ≡ slice_index memory index) × (slice_index other_after index ≡ slice_index other_memory index)) ⊎
+    (slice_index after index ≡ slice_index other_after index)

@@ -13,7 +13,8 @@ use Rattle.rv_monitor.specs.SwitchLaws.{continuation, reason, value}
 -- an enclave runs on the hart before, between and after these steps
 abbrev pub RunsThrough : ℕ → List ℕ → MonitoredMachine → Type 0
 RunsThrough hart [] machine = is_host (hart_state_of hart machine).world ≡ false
-RunsThrough hart (named ∷ harts) machine = (is_host (hart_state_of hart machine).world ≡ false) × RunsThrough hart harts (step_of named machine).state
+RunsThrough hart (stepping_hart ∷ harts) machine =
+    (is_host (hart_state_of hart machine).world ≡ false) × RunsThrough hart harts (step_of stepping_hart machine).state
 
 -- the last step ends in a trap, and the host continues after its ecall as it was before the first step, except for a0 and a1
 pub record HostIsRestored (before last : HartView) (after : HartViewStepped) : Type 0 where

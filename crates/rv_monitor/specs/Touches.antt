@@ -7,7 +7,7 @@ use Rattle.rv_monitor.specs.Prelude.{bytes_from, bytes_in, is_accessible, span}
 use Rattle.rv_monitor.specs.MonitoredMachine.{HartView}
 use Rattle.rv_monitor.specs.Step.{HartViewStepped}
 
--- whether a step reached an instruction: it took no interrupt, and its fetch raised no access fault
+-- whether an exception comes from an instruction that the step fetched; only an instruction access fault does not
 abbrev pub is_after_fetch : Exception → Bool
 is_after_fetch InstructionAccessFault = false
 is_after_fetch _ = true
@@ -17,7 +17,7 @@ abbrev pub is_of_instruction : Cause → Bool
 is_of_instruction (causes.Interrupt interrupt) = false
 is_of_instruction (causes.Exception exception) = is_after_fetch exception
 
--- whether a step executed an instruction, with or without an exception of it
+-- whether a step executed an instruction, which may have raised an exception
 abbrev pub executes : Option Trap → Bool
 executes None = true
 executes (Some trap) = is_of_instruction trap.cause

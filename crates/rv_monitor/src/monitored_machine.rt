@@ -92,7 +92,7 @@ fn program_other_pmp(by_hart: &mut [HartState; HARTS], harts: u8, hart: u8, tabl
 
 /// Establishes that there are as many hart states as harts. Has no effect.
 #[inline(always)]
-#[tactic(auto, using(crate::proofs::Held::length_of))]
+#[tactic(auto, using(crate::proofs::Held::take_length))]
 const fn counts(by_hart: &[HartState; HARTS], harts: u8)
     requires { harts ≤ HARTS }
     ensures { length (take harts by_hart.now) ≡ harts }
@@ -398,7 +398,7 @@ impl MonitoredMachine {
 
     /// Returns the state of a hart.
     #[inline(always)]
-    #[tactic(auto, using(crate::proofs::Held::read_at, crate::proofs::Held::has_hart))]
+    #[tactic(auto, using(crate::proofs::Held::represented_hart_state, crate::proofs::Held::is_used_element))]
     fn hart_state(&self, hart: u8) -> &HartState
         requires { hart < count_of self.now }
         ensures { result.now ≡ hart_state_of hart self.now }

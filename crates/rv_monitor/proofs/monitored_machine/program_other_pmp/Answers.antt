@@ -7,7 +7,7 @@ use Rattle.rv_monitor.proofs.monitored_machine.program_other_pmp.Goals as goal
 -- `program_other_pmp` meets its contract if the test `harts > 1` fails
 pub returns-else-harts-gt1 : goal.returns-else-harts-gt1
 returns-else-harts-gt1 c =
-    let by_hart = c.args.by_hart.now in
-    let array_length : length by_hart ≡ HARTS = search rules in
-    single_as_is c.args.table.now by_hart c.args.harts c.args.hart c.requires.has (omega (arith, c.if-harts-gt1.false))
+    let state_array = c.args.by_hart.now in
+    let array_length : length state_array ≡ HARTS = search rules in
+    single_as_is c.args.table.now state_array c.args.harts c.args.hart c.requires.has (omega (arith, c.if-harts-gt1.false))
     (omega (arith, array_length, c.requires.few)) c.requires.own

@@ -1,14 +1,14 @@
 -- The proof obligations of `MonitoredMachine::set_reg` (src/monitored_machine.rt).
 use Rattle.rv_monitor.specs.Prelude.{with_register}
 use Rattle.rv_monitor.proofs.Prelude.{reg_set, hart_state_of}
-use Rattle.rv_monitor.proofs.Held.{put_at, written_holds}
+use Rattle.rv_monitor.proofs.Held.{element_change_is_hart_change, written_holds}
 use Rattle.rv_monitor.proofs.monitored_machine.MonitoredMachine.set_reg.Goals as goal
 
 -- `MonitoredMachine::set_reg` meets clause `meaning` of its contract
 pub returns-clause-meaning : goal.returns-clause-meaning
 returns-clause-meaning c =
     let inside = c.self.inside in
-    put_at inside.by_hart c.set_reg_in.new.by_hart inside.harts c.args.hart inside.shared (reg_set c.args.reg c.args.value)
+    element_change_is_hart_change inside.by_hart c.set_reg_in.new.by_hart inside.harts c.args.hart inside.shared (reg_set c.args.reg c.args.value)
     c.args.self.now c.self.view_is c.requires c.set_reg_in.ensures
 
 -- `self` has the invariant of its type when `MonitoredMachine::set_reg` returns

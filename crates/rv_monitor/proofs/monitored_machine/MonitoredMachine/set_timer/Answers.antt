@@ -1,13 +1,13 @@
 -- The proof obligations of `MonitoredMachine::set_timer` (src/monitored_machine.rt).
 use Rattle.rv_monitor.proofs.Prelude.{hart_state_of, timer_line_set}
-use Rattle.rv_monitor.proofs.Held.{put_at, written_holds}
+use Rattle.rv_monitor.proofs.Held.{element_change_is_hart_change, written_holds}
 use Rattle.rv_monitor.proofs.monitored_machine.MonitoredMachine.set_timer.Goals as goal
 
 -- `MonitoredMachine::set_timer` meets clause `meaning` of its contract
 pub returns-clause-meaning : goal.returns-clause-meaning
 returns-clause-meaning c =
     let inside = c.self.inside in
-    put_at inside.by_hart c.set_timer_in.new.by_hart inside.harts c.args.hart inside.shared (timer_line_set c.args.raised)
+    element_change_is_hart_change inside.by_hart c.set_timer_in.new.by_hart inside.harts c.args.hart inside.shared (timer_line_set c.args.raised)
     c.args.self.now c.self.view_is c.requires c.set_timer_in.ensures
 
 -- `self` has the invariant of its type when `MonitoredMachine::set_timer` returns
