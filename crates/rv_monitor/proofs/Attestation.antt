@@ -25,15 +25,15 @@ use Rattle.rv_monitor.proofs.Prelude.{Handled, HartInvariant, HartView, Invarian
 use Rattle.rv_monitor.proofs.Prelude.{bare_machine, both_ways, cases_eq, and_from, confined, enclave_state_after, le-leb, lt-ltb, entered_slot, free_slot_from, get_or-set_at, handled, hart_state_at_start}
 use Rattle.rv_monitor.proofs.Prelude.{hart_state_of, hart_view, left, length-map, reprogrammed, runs_on, step_of, a0}
 use Rattle.rv_monitor.proofs.Beside.{runs_among}
-use Rattle.rv_monitor.proofs.EnclaveMemory.{beyond_again, put_size, state_extent, state_slot}
-use Rattle.rv_monitor.proofs.EnclaveStays.{index_same}
+use Rattle.rv_monitor.proofs.EnclaveMemory.{within_before, write_keeps_size, new_state_keeps_extent, slot_with_new_state}
+use Rattle.rv_monitor.proofs.EnclaveStays.{equal_bytes_at_index}
 use Rattle.rv_monitor.proofs.EnclaveSteps.{enclave_run_law}
 use Rattle.rv_monitor.proofs.Entering.{enter_law}
 use Rattle.rv_monitor.proofs.HandlerCases.{handler_cases}
 use Rattle.rv_monitor.proofs.HartCases.{by_hart, is_trapping}
 use Rattle.rv_monitor.proofs.Integrity.{integrity}
 use Rattle.rv_monitor.proofs.InvariantLemmas.{invariant_law}
-use Rattle.rv_monitor.proofs.Records.{state_keeps}
+use Rattle.rv_monitor.proofs.Records.{new_state_keeps_identities}
 use Rattle.rv_monitor.specs.Records.{identity_at, identity_of}
 use Rattle.std.specs.Option.{option_map}
 use Rattle.rv_monitor.proofs.StepInvariant.{step_size}
@@ -49,9 +49,9 @@ unfolding created destroyed measured entered_slot left
 handled_size hart_state shared trap = handler_cases hart_state trap shared (λ result. length result.shared.memory ≡ length shared.memory) (record {
   answers = λ status result. refl;
   creates = λ requests no_refusal. refl;
-  destroys = λ requests is_taken. put_size shared.memory _ _ (write shared.memory _ _) refl;
-  measures = λ requests no_refusal. put_size shared.memory _ _ (write shared.memory _ _) refl;
-  enters = λ call requests is_entry_call from_host is_taken. refl;
+  destroys = λ requests slot_accepted. write_keeps_size shared.memory _ _ (write shared.memory _ _) refl;
+  measures = λ requests no_refusal. write_keeps_size shared.memory _ _ (write shared.memory _ _) refl;
+  enters = λ call requests is_entry_call from_host slot_accepted. refl;
   leaves = refl;
   redirects = refl;
 })
@@ -108,9 +108,9 @@ module _ (slot : ℕ) (shared : Shared) (valid : IsValid shared.memory shared.ta
       → is_live (destroyed shared other_slot).table slot ≡ true
       → IsAsCreated slot (destroyed shared other_slot)
   unfolding destroyed
-  destroy_makes_no_slot_live other_slot is_taken live_after = elim (cases_eq slot other_slot) [
+  destroy_makes_no_slot_live other_slot slot_accepted live_after = elim (cases_eq slot other_slot) [
     | inl equal ↦
-        let was_live : is_live shared.table other_slot ≡ true = ap (λ (maybe_info : Option SlotInfo). is_some maybe_info) is_taken.is in
+        let was_live : is_live shared.table other_slot ≡ true = ap (λ (maybe_info : Option SlotInfo). is_some maybe_info) slot_accepted.is in
         absurd (both_ways _ slot_is_free (rw equal was_live))
     | inr distinct ↦
         slot_still_free (destroyed shared other_slot)
@@ -123,7 +123,7 @@ module _ (slot : ℕ) (shared : Shared) (valid : IsValid shared.memory shared.ta
       → IsAsCreated slot after
   state_change_keeps_slot_free other_slot state after table live_after =
       let same_liveness : is_some (identity_at (with_state shared.table other_slot state) slot) ≡ is_some (identity_at shared.table slot) =
-      ap (λ (maybe_info : Option SlotInfo). is_some maybe_info) (state_keeps shared.table slot other_slot state valid.count) in
+      ap (λ (maybe_info : Option SlotInfo). is_some maybe_info) (new_state_keeps_identities shared.table slot other_slot state valid.count) in
       slot_still_free after (ap (λ (table : Slots). is_live table slot) table
       ∙ sym (some_identity (slot_at (with_state shared.table other_slot state) slot))
       ∙ same_liveness
@@ -135,9 +135,9 @@ module _ (slot : ℕ) (shared : Shared) (valid : IsValid shared.memory shared.ta
   handled_created hart_state trap = handler_cases hart_state trap shared Created (record {
     answers = λ status result live. slot_still_free shared refl live;
     creates = λ requests no_refusal live. create_gives_as_created (create_args_of hart_state.hart.regs) no_refusal live;
-    destroys = λ requests is_taken live. destroy_makes_no_slot_live (a0 hart_state) is_taken live;
+    destroys = λ requests slot_accepted live. destroy_makes_no_slot_live (a0 hart_state) slot_accepted live;
     measures = λ requests no_refusal live. slot_still_free _ refl live;
-    enters = λ call requests is_entry_call from_host is_taken live. state_change_keeps_slot_free (a0 hart_state) Running _ refl live;
+    enters = λ call requests is_entry_call from_host slot_accepted live. state_change_keeps_slot_free (a0 hart_state) Running _ refl live;
     leaves = λ live. state_change_keeps_slot_free (running_slot hart_state.world) (enclave_state_after trap.cause hart_state.hart.regs) _ refl live;
     redirects = λ live. slot_still_free shared refl live;
   })
@@ -159,7 +159,7 @@ equal_block_bytes memory other_memory block same_length inside same =
     (same_read (λ byte. not (has block byte)) memory other_memory block.base block.size (record {
       size = sym same_length;
       bytes =
-          λ index not_hidden. index_same memory other_memory index (sym same_length)
+          λ index not_hidden. equal_bytes_at_index memory other_memory index (sym same_length)
           (same (ram_base + index) (not-false (has block (ram_base + index)) not_hidden));
     }) inside (λ byte from_base are_high_steps. not_outside_block block byte from_base are_high_steps))
 
@@ -275,7 +275,7 @@ module _ (place : Place) (machine : MonitoredMachine) (context : Context) (invar
       ≡ option_case (slot_at machine.shared.table place.slot) None (λ info. Some (record info { state = Running }))
   slot_is_running =
       ap (λ (machine : MonitoredMachine). slot_at machine.shared.table place.slot) machine_after_entry
-      ∙ state_slot machine.shared.table place.slot (slot_at machine.shared.table place.slot) Running invariant.shared.valid.count refl
+      ∙ slot_with_new_state machine.shared.table place.slot (slot_at machine.shared.table place.slot) Running invariant.shared.valid.count refl
 
 -- two enclaves with equal saved states have the same state after their entries
 same_entry : (place other_place : Place) (one other : MonitoredMachine) → Invariant one → Invariant other
@@ -283,7 +283,7 @@ same_entry : (place other_place : Place) (one other : MonitoredMachine) → Inva
     → BothEnter place other_place one other → SameEnclave place other_place (step_at place one).state (step_at other_place other).state
 same_entry place other_place one other invariant_one invariant_other saved both_enter =
     let slot = place.slot in
-    let extent = state_extent one.shared.table slot (slot_at one.shared.table slot) Running invariant_one.shared.valid.count refl in
+    let extent = new_state_keeps_extent one.shared.table slot (slot_at one.shared.table slot) Running invariant_one.shared.valid.count refl in
     let first_shared_is =
     ap (λ (machine : MonitoredMachine). machine.shared) (machine_after_entry place one saved.context invariant_one saved.first both_enter.first) in
     let second_shared_is =
@@ -292,7 +292,7 @@ same_entry place other_place one other invariant_one invariant_other saved both_
     let bytes : EqualOutside (is_beyond (slots_with_state one.shared.table slot Running) slot) one.shared.memory other.shared.memory = record {
       size = saved.memory.size;
       bytes =
-          λ index byte_within. saved.memory.bytes index (beyond_again slot one.shared.table
+          λ index byte_within. saved.memory.bytes index (within_before slot one.shared.table
           (slots_with_state one.shared.table slot Running) _ extent byte_within);
     } in
     record {

@@ -11,7 +11,7 @@ use Rattle.rv_monitor.specs.Prelude.{mie_of, option_case, slot_at, state_refusal
 use Rattle.rv_monitor.proofs.Prelude.{Invariant, MonitoredMachine, HartViewStepped, SlotInfo, at_written_slot}
 use Rattle.rv_monitor.proofs.Prelude.{bare_machine, live_in_range, hart_state_of}
 use Rattle.rv_monitor.proofs.Prelude.{eq-eqb, hart_view, step_of}
-use Rattle.rv_monitor.proofs.Exits.{exits_law, runs_here, timer_or_none, waits}
+use Rattle.rv_monitor.proofs.Exits.{exits_law, hart_of_enclave_in_range, timer_or_none, pending_is_timer}
 use Rattle.rv_monitor.proofs.Beside.{running_is_live}
 use Rattle.rv_monitor.proofs.InvariantLemmas.{hart_view_invariant}
 use Rattle.rv_monitor.proofs.Leaving.{leave_law, left_hart_state}
@@ -27,9 +27,9 @@ unfolding step
 takes_timer state pending_is = rw pending_is refl
 
 -- a world that passes the test `is_host` is the host
-pub host_is : (world : World) → is_host world ≡ true → world ≡ Host
-host_is Host host_runs = refl
-host_is (Enclave slot) host_runs = cc
+pub world_is_host : (world : World) → is_host world ≡ true → world ≡ Host
+world_is_host Host host_runs = refl
+world_is_host (Enclave slot) host_runs = cc
 
 -- the monitor does not refuse a destroy of a live enclave with the state Stopped
 stopped_ends : (slots : Slots) (slot : ℕ) (maybe_info : Option SlotInfo) → length slots ≡ slot_count → slot_at slots slot ≡ maybe_info
@@ -46,16 +46,16 @@ stopped_ends slots slot (Some info) table_length slot_is is_live =
 -- proves that an enclave exits by the timer interrupt if the timer line of its hart is set
 pub timer_exits : (hart : ℕ) (machine : MonitoredMachine) → Invariant machine → TimerExits hart machine (step_of hart machine)
 timer_exits hart machine invariant slot host runs host_is_saved timer_set =
-    let in_range = runs_here slot hart machine runs in
+    let in_range = hart_of_enclave_in_range slot hart machine runs in
     let state = hart_view hart machine in
     let view_invariant = hart_view_invariant hart machine invariant in_range in
     let enabled : state.hart_state.hart.csrs.mie ≡ 0x80 = view_invariant.hart.layout.mie ∙ ap mie_of runs in
     let bare_step_traps = takes_timer (bare_machine state)
-    (waits state.hart_state.hart.csrs state.hart_state.hart.mode view_invariant.hart.layout.mode enabled ∙ ap timer_or_none timer_set) in
+    (pending_is_timer state.hart_state.hart.csrs state.hart_state.hart.mode view_invariant.hart.layout.mode enabled ∙ ap timer_or_none timer_set) in
     let trap_is : (step_of hart machine).outcome.step.trap ≡ Some timer_trap =
     ap (λ (after : HartViewStepped). after.outcome.step.trap) (step_of_view hart machine in_range)
     ∙ ap (λ (outcome : StepOutcome). outcome.trap) (same_outcome state) ∙ bare_step_traps in
-    let world = host_is _ ((exits_law hart machine invariant slot runs).exits timer_trap trap_is) in
+    let world = world_is_host _ ((exits_law hart machine invariant slot runs).exits timer_trap trap_is) in
     let exit = leave_law hart machine invariant slot host timer_trap runs host_is_saved trap_is world in
     let left_machine_is = exit.0 in
     let live : is_live machine.shared.table slot ≡ true =

@@ -60,12 +60,12 @@ destroyed_changes : (hart_state : HartState) (shared : Shared) (byte : ℕ) → 
     → SlotIsAccepted shared.table Destroy (a0 hart_state)
     → Changes hart_state.world hart_state.hart.regs shared byte (destroyed shared (a0 hart_state))
 unfolding destroyed
-destroyed_changes hart_state shared byte valid requested is_taken =
+destroyed_changes hart_state shared byte valid requested slot_accepted =
     let slot = a0 hart_state in
     elim (cases_Bool (has (region shared.table slot) byte)) [
       | inl in_region ↦
-          let slot_is = is_taken.is in
-          let slot_in_range = live_in_range shared.table slot is_taken.info valid.count is_taken.is in
+          let slot_is = slot_accepted.is in
+          let slot_in_range = live_in_range shared.table slot slot_accepted.info valid.count slot_accepted.is in
           let slot_is_free : slot_at (with_slot shared.table slot None) slot ≡ None = at_written_slot shared.table slot None
           (omega (arith, valid.count)) in
           inr (inl (record { asked = requested; live = rw slot_is refl; gone = rw slot_is_free refl; own = in_region }))
@@ -155,13 +155,13 @@ module _ (hart_state : HartState) (shared : Shared) (valid : IsValid shared.memo
     answers = λ status result. inl refl;
     creates = λ requests no_refusal. inl refl;
     destroys =
-        λ requests is_taken. change_by_call Destroy (destroyed shared (a0 hart_state)) requests
-        (destroyed_changes hart_state shared byte valid requests.asked is_taken);
+        λ requests slot_accepted. change_by_call Destroy (destroyed shared (a0 hart_state)) requests
+        (destroyed_changes hart_state shared byte valid requests.asked slot_accepted);
     measures = λ requests no_refusal.
         change_by_call Measure (measured shared (measured_slot hart_state.world (a0 hart_state)) (a1 hart_state)) requests
         (measured_changes hart_state shared valid byte requests.asked no_refusal.live
         (subst (λ (entries : Entries). may_store_all shared.memory entries (a1 hart_state) ≡ true) entries_are_layout no_refusal.stores));
-    enters = λ call requests is_entry_call from_host is_taken. inl refl;
+    enters = λ call requests is_entry_call from_host slot_accepted. inl refl;
     leaves = inl refl;
     redirects = inl refl;
   })

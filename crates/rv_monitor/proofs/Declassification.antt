@@ -15,7 +15,7 @@ use Rattle.rv_monitor.specs.Prelude.{is_world_of, ram_base, region}
 use Rattle.rv_monitor.proofs.Prelude.{Invariant, MonitoredMachine, both_ways, cases_eq, hart_state_of, runs_on, step_of}
 use Rattle.rv_monitor.proofs.Beside.{running_is_live, runs_among}
 use Rattle.rv_monitor.proofs.EnclaveMemory.{world_is_enclave}
-use Rattle.rv_monitor.proofs.EnclaveStays.{index_same, one_unchanged}
+use Rattle.rv_monitor.proofs.EnclaveStays.{equal_bytes_at_index, enclave_step_unchanged}
 use Rattle.rv_monitor.proofs.EquivLemmas.{hart_states_equiv}
 use Rattle.rv_monitor.proofs.Events.{line_invariant, line_related}
 use Rattle.rv_monitor.proofs.GuestEquiv.{equiv_from_guests, other_harts_keep_host, same_host_chain, guest_equiv, guest_invariant, guest_step_equiv, same_hosts_after, rest_of, ran_before, runs_too}
@@ -48,7 +48,10 @@ module _ (enclave : ℕ) (one other : MonitoredMachine) where
     harts = sym related.harts;
     hart_states = λ other_hart.
         let related_harts = related.hart_states other_hart in
-        record { world = sym related_harts.world; same = λ low. sym (related_harts.same (ap (is_world_of enclave) related_harts.world ∙ low)) };
+        record {
+          world = sym related_harts.world;
+          same = λ not_running. sym (related_harts.same (ap (is_world_of enclave) related_harts.world ∙ not_running));
+        };
     hosts = λ other_hart runs_other.
         let same_hosts = related.hosts other_hart (ap (is_world_of enclave) (related.hart_states other_hart).world ∙ runs_other) in
         record { host = sym same_hosts.host; rest = sym same_hosts.rest };
@@ -60,14 +63,16 @@ module _ (enclave : ℕ) (one other : MonitoredMachine) where
           (ap (λ (table : Slots). may_differ table enclave (ram_base + index)) related.table ∙ not_hidden));
     };
     contexts = record { size = sym related.contexts.size; others = λ slot distinct. sym (related.contexts.others slot distinct) };
-    gone = λ dead. sym (related.gone (ap (λ (table : Slots). is_live table enclave) related.table ∙ dead));
+    gone = λ not_live. sym (related.gone (ap (λ (table : Slots). is_live table enclave) related.table ∙ not_live));
   }
 
 -- proves the relation law: when equivalent machines are related, and when related machines are equivalent
 pub relation_law : RelationLaw
 relation_law = record {
   guests = guest_equiv;
-  begins = λ enclave one other equiv nowhere. equiv_related enclave one other equiv (λ hart runs_here. absurd (both_ways _ (nowhere hart) runs_here));
+  begins =
+      λ enclave one other equiv nowhere. equiv_related enclave one other equiv
+      (λ hart hart_of_enclave_in_range. absurd (both_ways _ (nowhere hart) hart_of_enclave_in_range));
   ends = λ enclave one other related idle. related_equiv enclave one other related (λ running. absurd (both_ways _ idle running));
 }
 
@@ -91,7 +96,7 @@ module _ (enclave hart : ℕ) (one other : MonitoredMachine) (invariant_one : In
   -- a step of the enclave that does not exit leaves the two machines related
   step_inside : AreRelated enclave after other
   step_inside =
-      let unchanged = one_unchanged enclave hart one invariant_one inside.before inside.after in
+      let unchanged = enclave_step_unchanged enclave hart one invariant_one inside.before inside.after in
       record {
         harts = sym unchanged.harts ∙ related.harts;
         -- the hart of the enclave runs `enclave` before and after the step, and the other harts keep their states
@@ -101,7 +106,7 @@ module _ (enclave hart : ℕ) (one other : MonitoredMachine) (invariant_one : In
                 world_is_enclave enclave (hart_state_of hart after).world inside.after
                 ∙ sym (world_is_enclave enclave (hart_state_of hart one).world inside.before)
                 ∙ (related.hart_states hart).world;
-            same = λ low. absurd (both_ways _ low inside.after);
+            same = λ not_running. absurd (both_ways _ not_running inside.after);
           })
           | inr distinct ↦
               hart_states_equiv enclave (guest_state (hart_state_of other_hart after)) (guest_state (hart_state_of other_hart one))
@@ -131,7 +136,8 @@ module _ (enclave hart : ℕ) (one other : MonitoredMachine) (invariant_one : In
               let running = invariant_one.shared.running enclave ∙ runs_among enclave hart one inside.before in
               let is_beyond_enclave = shown_is_beyond (has (region one.shared.table enclave) (ram_base + index)) (runs one.shared.table enclave)
               (has (window one.shared.table enclave) (ram_base + index)) running shown_before in
-              sym (index_same one.shared.memory after.shared.memory index unchanged.size (unchanged.bytes (ram_base + index) is_beyond_enclave))
+              sym (equal_bytes_at_index one.shared.memory after.shared.memory index unchanged.size
+              (unchanged.bytes (ram_base + index) is_beyond_enclave))
               ∙ related.memory.bytes index shown_before;
         };
         contexts = record {
@@ -140,7 +146,7 @@ module _ (enclave hart : ℕ) (one other : MonitoredMachine) (invariant_one : In
               λ slot distinct. ap (λ (contexts : Contexts). context_at contexts slot) (sym unchanged.contexts)
               ∙ related.contexts.others slot distinct;
         };
-        gone = λ dead. absurd (both_ways _ dead (running_is_live enclave hart after (invariant_law hart one invariant_one) inside.after));
+        gone = λ not_live. absurd (both_ways _ not_live (running_is_live enclave hart after (invariant_law hart one invariant_one) inside.after));
       }
 
 -- ---- a step of both
@@ -161,11 +167,11 @@ module _ (enclave hart : ℕ) (one other : MonitoredMachine) (invariant_one : In
   low_step low_both_steps = elim (cases_Bool (runs one.shared.table enclave)) [
     | inl running ↦
         let low_both = low_while_running enclave hart one other invariant_one invariant_other related low_both_steps running in
-        (λ low. low_both.0, low_both.1)
+        (λ not_running. low_both.0, low_both.1)
     | inr idle ↦
         let equiv = related_equiv enclave one other related (λ running. absurd (both_ways _ idle running)) in
         let step = guest_step_equiv enclave hart one other invariant_one invariant_other equiv low_both_steps.low in (
-          λ low. step.outcome,
+          λ not_running. step.outcome,
           equiv_related enclave (step_of hart one).state (step_of hart other).state step.state
               (same_hosts_after enclave hart one other invariant_one invariant_other equiv related.hosts low_both_steps.low),
         )
@@ -213,7 +219,7 @@ module _ (enclave hart : ℕ) (one other : MonitoredMachine) (invariant_one : In
   -- after an exit from both machines that hands over the same, the machines are related
   exit_step : ExitsAlike enclave hart one other → Outcomes × Related
   exit_step exits_alike = (
-    λ low. absurd (both_ways _ low exits_alike.runs),
+    λ not_running. absurd (both_ways _ not_running exits_alike.runs),
     equiv_related enclave (step_of hart one).state (step_of hart other).state (exit_equiv exits_alike)
         (λ other_hart runs_after. elim (cases_eq other_hart hart) [
           | inl equal ↦

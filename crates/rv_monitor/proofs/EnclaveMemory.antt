@@ -51,10 +51,10 @@ accessible_in_region_or_window memory table slot Write bytes accessible = elim (
 ]
 
 -- each byte that is accessible to an enclave is in its region or window
-pub own_seen : (memory : List ℕ) (table : Slots) (slot : ℕ) (access : Access) (start size : ℕ)
+pub accessible_bytes_are_own : (memory : List ℕ) (table : Slots) (slot : ℕ) (access : Access) (start size : ℕ)
     → is_accessible memory table (Enclave slot) access (bytes_from start size) ≡ true
     → IsSeen (is_beyond table slot) start size
-own_seen memory table slot access start size is_accessible_to_slot byte from_start before_end =
+accessible_bytes_are_own memory table slot access start size is_accessible_to_slot byte from_start before_end =
     elim (accessible_in_region_or_window memory table slot access (bytes_from start size) is_accessible_to_slot) [
       | inl all_in_region ↦
           let in_region = each_from_all (has (region table slot)) start size all_in_region byte from_start before_end in
@@ -74,7 +74,7 @@ module _ (slot : ℕ) (state : HartView) (view_invariant : HartViewInvariant sta
   accesses_own mode access span mode_below_m may_touch =
       let accessible =
       sym (access_control_law state mode access span.addr span.len view_invariant (below_M mode mode_below_m) may_touch.0) ∙ may_touch.1 in
-      own_seen state.shared.memory state.shared.table slot access span.addr (bytes_in span.len)
+      accessible_bytes_are_own state.shared.memory state.shared.table slot access span.addr (bytes_in span.len)
       (subst (λ (world : World). is_accessible state.shared.memory state.shared.table world access
       (bytes_from span.addr (bytes_in span.len)) ≡ true) runs_enclave accessible)
 
@@ -90,21 +90,21 @@ pub not_host : (P : Type 0) (slot : ℕ) (world : World) → world ≡ Enclave s
 not_host P slot world runs host = let contradiction : Host ≡ Enclave slot = sym host ∙ runs in cc
 
 -- a requested call is offered to the world that requests it
-asked_offered : (cause : Cause) (hart_state : HartState) (is_ecall : Bool) (call : Call) → is_call cause ≡ is_ecall
+request_is_offered : (cause : Cause) (hart_state : HartState) (is_ecall : Bool) (call : Call) → is_call cause ≡ is_ecall
     → requested_by cause hart_state ≡ Some call
     → is_offered hart_state.world call ≡ true
-asked_offered cause hart_state true call is_call_is requested =
+request_is_offered cause hart_state true call is_call_is requested =
     let request_is : requested_call hart_state.world hart_state.hart.regs ≡ Some call = rw is_call_is at requested in
     (requested-is_offered hart_state.world hart_state.hart.regs call request_is).1
-asked_offered cause hart_state false call is_call_is requested = let contradiction : None ≡ Some call = rw is_call_is at requested in cc
+request_is_offered cause hart_state false call is_call_is requested = let contradiction : None ≡ Some call = rw is_call_is at requested in cc
 
 -- create is offered to no enclave
-pub no_create : (P : Type 0) (slot : ℕ) (world : World) → world ≡ Enclave slot → is_offered world Create ≡ true → P
-no_create P slot world runs offered = let contradiction : false ≡ true = rw runs at offered in cc
+pub create_not_offered : (P : Type 0) (slot : ℕ) (world : World) → world ≡ Enclave slot → is_offered world Create ≡ true → P
+create_not_offered P slot world runs offered = let contradiction : false ≡ true = rw runs at offered in cc
 
 -- destroy is offered to no enclave
-pub no_destroy : (P : Type 0) (slot : ℕ) (world : World) → world ≡ Enclave slot → is_offered world Destroy ≡ true → P
-no_destroy P slot world runs offered = let contradiction : false ≡ true = rw runs at offered in cc
+pub destroy_not_offered : (P : Type 0) (slot : ℕ) (world : World) → world ≡ Enclave slot → is_offered world Destroy ≡ true → P
+destroy_not_offered P slot world runs offered = let contradiction : false ≡ true = rw runs at offered in cc
 
 -- no call that is offered to an enclave enters an enclave
 no_entering : (P : Type 0) (slot : ℕ) (cause : Cause) (hart_state : HartState) (maybe_call : Option Call) → hart_state.world ≡ Enclave slot
@@ -113,7 +113,7 @@ no_entering : (P : Type 0) (slot : ℕ) (cause : Cause) (hart_state : HartState)
 no_entering P slot cause hart_state None runs_enclave requested is_entry_call = cc
 no_entering P slot cause hart_state (Some call) runs_enclave requested is_entry_call =
     not_host P slot hart_state.world runs_enclave
-    (entered-by-host hart_state.world call is_entry_call (asked_offered cause hart_state (is_call cause) call refl requested))
+    (entered-by-host hart_state.world call is_entry_call (request_is_offered cause hart_state (is_call cause) call refl requested))
 
 -- `slot` has the same region and the same window in both tables
 pub record KeepsExtent (slot : ℕ) (before after : Slots) : Type 0 where
@@ -121,34 +121,34 @@ pub record KeepsExtent (slot : ℕ) (before after : Slots) : Type 0 where
   pub window : window after slot ≡ window before slot
 
 -- a new state of `slot` changes neither the region nor the window of `slot`
-pub state_extent : (same_context_count : Slots) (slot : ℕ) (maybe_info : Option SlotInfo) (state : EnclaveState)
+pub new_state_keeps_extent : (same_context_count : Slots) (slot : ℕ) (maybe_info : Option SlotInfo) (state : EnclaveState)
     → length same_context_count ≡ slot_count
     → slot_at same_context_count slot ≡ maybe_info
     → KeepsExtent slot same_context_count (option_case maybe_info same_context_count
     (λ info. with_slot same_context_count slot (Some (record info { state = state }))))
-state_extent same_context_count slot None state table_length slot_is = record { region = refl; window = refl }
-state_extent same_context_count slot (Some info) state table_length slot_is =
+new_state_keeps_extent same_context_count slot None state table_length slot_is = record { region = refl; window = refl }
+new_state_keeps_extent same_context_count slot (Some info) state table_length slot_is =
     let slot_in_range = live_in_range same_context_count slot info table_length slot_is in
     let written_record =
     at_written_slot same_context_count slot (Some (record info { state = state })) (omega (arith, table_length, slot_in_range)) in
     record { region = ap region_of written_record ∙ sym (ap region_of slot_is); window = ap window_of written_record ∙ sym (ap window_of slot_is) }
 
 -- a new state of `slot` changes only the state in the record of `slot`
-pub state_slot : (same_context_count : Slots) (slot : ℕ) (maybe_info : Option SlotInfo) (state : EnclaveState)
+pub slot_with_new_state : (same_context_count : Slots) (slot : ℕ) (maybe_info : Option SlotInfo) (state : EnclaveState)
     → length same_context_count ≡ slot_count
     → slot_at same_context_count slot ≡ maybe_info
     → slot_at (option_case maybe_info same_context_count (λ info. with_slot same_context_count slot (Some (record info { state = state })))) slot
     ≡ option_case maybe_info None (λ info. Some (record info { state = state }))
-state_slot same_context_count slot None state table_length slot_is = slot_is
-state_slot same_context_count slot (Some info) state table_length slot_is =
+slot_with_new_state same_context_count slot None state table_length slot_is = slot_is
+slot_with_new_state same_context_count slot (Some info) state table_length slot_is =
     let slot_in_range = live_in_range same_context_count slot info table_length slot_is in
     at_written_slot same_context_count slot (Some (record info { state = state })) (omega (arith, table_length, slot_in_range))
 
 -- a write, successful or not, keeps the size of the memory
-pub put_size : (memory : List ℕ) (address : ℕ) (bytes : List ℕ) (maybe_bytes : Option (List ℕ)) → write memory address bytes ≡ maybe_bytes
+pub write_keeps_size : (memory : List ℕ) (address : ℕ) (bytes : List ℕ) (maybe_bytes : Option (List ℕ)) → write memory address bytes ≡ maybe_bytes
     → length (option_case maybe_bytes memory (λ after. after)) ≡ length memory
-put_size memory address bytes None written = refl
-put_size memory address bytes (Some after) written = length-write memory address bytes after written
+write_keeps_size memory address bytes None written = refl
+write_keeps_size memory address bytes (Some after) written = length-write memory address bytes after written
 
 -- the hart runs enclave `slot`, and its step has this trap
 module _ (slot : ℕ) (hart_state : HartState) (runs_enclave : hart_state.world ≡ Enclave slot) (trap : Trap) where
@@ -164,17 +164,20 @@ module _ (slot : ℕ) (hart_state : HartState) (runs_enclave : hart_state.world 
     handled_keeps = handler_cases hart_state trap shared Keeps (record {
       answers = λ status result. (record { region = refl; window = refl }, refl);
       creates =
-          λ requests no_refusal. no_create _ slot hart_state.world runs_enclave
+          λ requests no_refusal. create_not_offered _ slot hart_state.world runs_enclave
           (requested-is_offered hart_state.world hart_state.hart.regs Create requests.asked).1;
       destroys =
-          λ requests is_taken. no_destroy _ slot hart_state.world runs_enclave
+          λ requests slot_accepted. destroy_not_offered _ slot hart_state.world runs_enclave
           (requested-is_offered hart_state.world hart_state.hart.regs Destroy requests.asked).1;
-      measures = λ requests no_refusal. (record { region = refl; window = refl }, put_size shared.memory _ _ (write shared.memory _ _) refl);
-      enters = λ call requests is_entry_call from_host is_taken. not_host _ slot hart_state.world runs_enclave from_host;
+      measures = λ requests no_refusal. (record { region = refl; window = refl }, write_keeps_size shared.memory _ _ (write shared.memory _ _) refl);
+      enters = λ call requests is_entry_call from_host slot_accepted. not_host _ slot hart_state.world runs_enclave from_host;
       leaves =
           let running_slot_is_slot : running_slot hart_state.world ≡ slot = rw runs_enclave refl in
-          rw running_slot_is_slot
-          (state_extent shared.table slot (slot_at shared.table slot) (enclave_state_after trap.cause hart_state.hart.regs) table_length refl, refl);
+          rw running_slot_is_slot (
+            new_state_keeps_extent shared.table slot (slot_at shared.table slot)
+                (enclave_state_after trap.cause hart_state.hart.regs) table_length refl,
+            refl,
+          );
       redirects = (record { region = refl; window = refl }, refl);
     })
 
@@ -186,8 +189,8 @@ module _ (slot : ℕ) (hart_state : HartState) (runs_enclave : hart_state.world 
     size = same_for_slot.memory.size;
     slots = same_context_count;
     measured =
-        λ is_requested. no_create _ slot hart_state.world runs_enclave
-        (asked_offered trap.cause hart_state (is_call trap.cause) Create refl is_requested);
+        λ is_requested. create_not_offered _ slot hart_state.world runs_enclave
+        (request_is_offered trap.cause hart_state (is_call trap.cause) Create refl is_requested);
     entered = λ enters. no_entering _ slot trap.cause hart_state (requested_by trap.cause hart_state) runs_enclave refl enters;
   }
 
@@ -199,24 +202,24 @@ pub record OwnAlike (slot : ℕ) (one other : HartViewStepped) : Type 0 where
   pub hart_state : one.state.hart_state ≡ other.state.hart_state
   pub shared : SharedFor slot one.state.shared other.state.shared
 
--- a byte within the region or window of `slot` before is within them after, if `slot` keeps its region and window
-pub beyond_again : (slot : ℕ) (before after : Slots) (byte : ℕ) → KeepsExtent slot before after → is_beyond after slot byte ≡ false
+-- a byte within the region or window of `slot` after a change was within them before, if `slot` keeps its region and window
+pub within_before : (slot : ℕ) (before after : Slots) (byte : ℕ) → KeepsExtent slot before after → is_beyond after slot byte ≡ false
     → is_beyond before slot byte ≡ false
-beyond_again slot before after byte keeps byte_within =
+within_before slot before after byte keeps byte_within =
     ap₂ (λ (region window : Block). not (has region byte || has window byte)) (sym keeps.region) (sym keeps.window) ∙ byte_within
 
 -- the end of the step, with or without a trap, is the same for both shared states
-trapped_own : (slot : ℕ) (outcome : StepOutcome) (maybe_trap : Option Trap) (hart_state : HartState) (one other : Shared)
+own_alike_after_trap : (slot : ℕ) (outcome : StepOutcome) (maybe_trap : Option Trap) (hart_state : HartState) (one other : Shared)
     → hart_state.world ≡ Enclave slot
     → length one.table ≡ slot_count → length one.contexts ≡ length other.contexts → SharedFor slot one other
     → OwnAlike slot (option_case maybe_trap (unhandled outcome hart_state one) (λ trap. returned outcome (handled hart_state one trap)))
     (option_case maybe_trap (unhandled outcome hart_state other) (λ trap. returned outcome (handled hart_state other trap)))
-trapped_own slot outcome None hart_state one other runs_enclave table_length same_context_count same_for_slot = record {
+own_alike_after_trap slot outcome None hart_state one other runs_enclave table_length same_context_count same_for_slot = record {
   outcome = refl;
   hart_state = refl;
   shared = same_for_slot;
 }
-trapped_own slot outcome (Some trap) hart_state one other runs_enclave table_length same_context_count same_for_slot =
+own_alike_after_trap slot outcome (Some trap) hart_state one other runs_enclave table_length same_context_count same_for_slot =
     let handler_results =
     handler_reads_law hart_state trap one other (handled_asked slot hart_state runs_enclave trap one other same_context_count same_for_slot) in
     let keeps_one = handled_keeps slot hart_state runs_enclave trap one table_length in
@@ -233,7 +236,7 @@ trapped_own slot outcome (Some trap) hart_state one other runs_enclave table_len
           size = keeps_one.1 ∙ same_for_slot.memory.size ∙ sym keeps_other.1;
           bytes =
               λ index not_hidden. handler_results.shared.bytes index
-              (same_for_slot.memory.bytes index (beyond_again slot one.table _ _ keeps_one.0 not_hidden));
+              (same_for_slot.memory.bytes index (within_before slot one.table _ _ keeps_one.0 not_hidden));
         };
         context = handler_results.shared.contexts slot same_for_slot.context;
       };
@@ -257,18 +260,19 @@ after_bare outcome hart_state shared =
     option_case outcome.trap (unhandled outcome hart_state shared) (λ trap. returned outcome (handled hart_state shared trap))
 
 -- a step of enclave `slot` has the same result on two shared states that are equal for `slot`
-pub step_own : (slot : ℕ) (hart_state : HartState) (one other : Shared) → HartViewInvariant (view_of hart_state one) → hart_state.world ≡ Enclave slot
+pub own_step_alike : (slot : ℕ) (hart_state : HartState) (one other : Shared) → HartViewInvariant (view_of hart_state one)
+    → hart_state.world ≡ Enclave slot
     → length one.contexts ≡ length other.contexts → SharedFor slot one other
     → OwnAlike slot (monitored_step (view_of hart_state one)) (monitored_step (view_of hart_state other))
 unfolding monitored_step
-step_own slot hart_state one other view_invariant_one runs_enclave same_context_count same_for_slot =
+own_step_alike slot hart_state one other view_invariant_one runs_enclave same_context_count same_for_slot =
     let first_bare = stepped hart_state one in
     let second_bare = stepped hart_state other in
     let alike = memory_step slot (view_of hart_state one) view_invariant_one runs_enclave other.memory same_for_slot.memory in
     let shared : SharedFor slot (stored hart_state one) (stored hart_state other) =
     record { table = same_for_slot.table; memory = alike.memory; context = same_for_slot.context } in
     let ended =
-    trapped_own slot first_bare.outcome first_bare.outcome.trap (record hart_state { hart = first_bare.state.hart }) (stored hart_state one)
+    own_alike_after_trap slot first_bare.outcome first_bare.outcome.trap (record hart_state { hart = first_bare.state.hart }) (stored hart_state one)
     (stored hart_state other) runs_enclave
     view_invariant_one.valid.count same_context_count shared in
     let OwnAlikeFor : Hart → StepOutcome → Type 0 = λ hart outcome. OwnAlike slot
@@ -278,6 +282,6 @@ step_own slot hart_state one other view_invariant_one runs_enclave same_context_
     (subst (λ outcome. OwnAlikeFor first_bare.state.hart outcome) (sym alike.outcome) ended)
 
 -- a world that passes the test `is_world_of slot` is not the host
-pub not_host_by : (slot : ℕ) (world : World) → is_world_of slot world ≡ true → is_host world ≡ false
-not_host_by slot Host runs_enclave = cc
-not_host_by slot (Enclave other_slot) runs_enclave = refl
+pub enclave_world_is_not_host : (slot : ℕ) (world : World) → is_world_of slot world ≡ true → is_host world ≡ false
+enclave_world_is_not_host slot Host runs_enclave = cc
+enclave_world_is_not_host slot (Enclave other_slot) runs_enclave = refl

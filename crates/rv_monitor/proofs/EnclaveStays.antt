@@ -14,7 +14,7 @@ use Rattle.rv_monitor.proofs.Prelude.{HartView, HartViewStepped, and_from, bare_
 use Rattle.rv_monitor.proofs.Prelude.{cases_lt, confined, count_of, with_redirected_trap, get_or_past, handled, keeps_machine_parts, le-leb}
 use Rattle.rv_monitor.proofs.Prelude.{left, monitored_step, returned, returned_to, runs_on, hart_state_of}
 use Rattle.rv_monitor.proofs.Prelude.{reprogrammed, hart_view, step_of}
-use Rattle.rv_monitor.proofs.Beside.{runs_inside}
+use Rattle.rv_monitor.proofs.Beside.{running_hart_in_range}
 use Rattle.rv_monitor.proofs.Changes.{changes}
 use Rattle.rv_monitor.proofs.InvariantLemmas.{hart_view_invariant}
 use Rattle.rv_monitor.proofs.PmpProgramming.{reprogramming_changes_nothing}
@@ -24,7 +24,7 @@ use Rattle.rv_monitor.proofs.TrapSteps.{step_cases, hart_state_after, view_witho
 use Rattle.rv_monitor.proofs.HandlerCases.{requested-is_offered, handler_cases}
 use Rattle.rv_monitor.specs.Declassification.{SameHostOn, unswitched}
 use Rattle.rv_monitor.specs.EnclaveSteps.{is_beyond}
-use Rattle.rv_monitor.proofs.EnclaveMemory.{handled_keeps, no_create, no_destroy, not_host, not_host_by, own_seen, world_is_enclave}
+use Rattle.rv_monitor.proofs.EnclaveMemory.{handled_keeps, create_not_offered, destroy_not_offered, not_host, enclave_world_is_not_host, accessible_bytes_are_own, world_is_enclave}
 
 -- ---- a step of the hart that runs the enclave
 
@@ -84,13 +84,13 @@ module _ (slot : ℕ) (state : HartView) (view_invariant : HartViewInvariant sta
         handler_cases hart_state trap state.shared StaysIfRunning (record {
           answers = λ status result enclave_runs_after. (refl, rw mprv refl, refl, refl);
           creates =
-              λ requests no_refusal. no_create _ slot hart_state.world runs_enclave
+              λ requests no_refusal. create_not_offered _ slot hart_state.world runs_enclave
               (requested-is_offered hart_state.world hart_state.hart.regs _ requests.asked).1;
           destroys =
-              λ requests is_taken. no_destroy _ slot hart_state.world runs_enclave
+              λ requests slot_accepted. destroy_not_offered _ slot hart_state.world runs_enclave
               (requested-is_offered hart_state.world hart_state.hart.regs _ requests.asked).1;
           measures = λ requests no_refusal enclave_runs_after. (refl, rw mprv refl, refl, refl);
-          enters = λ call requests is_entry_call from_host is_taken. not_host _ slot hart_state.world runs_enclave from_host;
+          enters = λ call requests is_entry_call from_host slot_accepted. not_host _ slot hart_state.world runs_enclave from_host;
           leaves = λ enclave_runs_after. cc;
           redirects = λ enclave_runs_after. (refl, rw mprv refl, refl, refl);
         })
@@ -123,7 +123,7 @@ module _ (slot : ℕ) (state : HartView) (view_invariant : HartViewInvariant sta
       → is_accessible state.shared.memory state.shared.table state.hart_state.world Write (bytes_from address size) ≡ true
       → address ≤ byte → byte < address + size → is_beyond state.shared.table slot byte ≡ false
   writes_within address size byte may_write from_start before_end =
-      own_seen state.shared.memory state.shared.table slot Write address size
+      accessible_bytes_are_own state.shared.memory state.shared.table slot Write address size
       (subst (λ (world : World). is_accessible state.shared.memory state.shared.table world Write
       (bytes_from address size) ≡ true) runs_enclave may_write) byte from_start before_end
 
@@ -137,15 +137,15 @@ module _ (slot : ℕ) (state : HartView) (view_invariant : HartViewInvariant sta
       (writes_within stored.span.addr (bytes_in stored.span.len) byte stored.accessible stored.low stored.high) byte_beyond _
   unchanged_beyond byte byte_beyond (inr (inr call)) = elim call.change [
     | inl destroyed ↦
-        no_destroy _ slot state.hart_state.world runs_enclave
+        destroy_not_offered _ slot state.hart_state.world runs_enclave
         (requested-is_offered state.hart_state.world state.hart_state.hart.regs _ destroyed.asked).1
     | inr measured ↦ not_within_and_beyond byte (writes_within byte 1 byte measured.accessible (omega arith) (omega arith)) byte_beyond _
   ]
 
   -- a step after which the enclave still runs changes no byte outside its region and window
-  pub own_bytes : (byte : ℕ) → is_beyond state.shared.table slot byte ≡ true
+  pub bytes_beyond_unchanged : (byte : ℕ) → is_beyond state.shared.table slot byte ≡ true
       → byte_at (monitored_step state).state.shared.memory byte ≡ byte_at state.shared.memory byte
-  own_bytes byte byte_beyond = unchanged_beyond byte byte_beyond (changes state view_invariant byte)
+  bytes_beyond_unchanged byte byte_beyond = unchanged_beyond byte byte_beyond (changes state view_invariant byte)
 
 -- ---- a step of the machine
 
@@ -160,11 +160,11 @@ pub record Unchanged (enclave hart : ℕ) (before after : MonitoredMachine) : Ty
   pub bytes : (byte : ℕ) → is_beyond before.shared.table enclave byte ≡ true → byte_at after.shared.memory byte ≡ byte_at before.shared.memory byte
 
 -- a step of an enclave after which the enclave still runs changes only its hart, its region and its window
-pub one_unchanged : (enclave hart : ℕ) (machine : MonitoredMachine) → Invariant machine → runs_on enclave hart machine ≡ true
+pub enclave_step_unchanged : (enclave hart : ℕ) (machine : MonitoredMachine) → Invariant machine → runs_on enclave hart machine ≡ true
     → runs_on enclave hart (step_of hart machine).state ≡ true
     → Unchanged enclave hart machine (step_of hart machine).state
-one_unchanged enclave hart machine invariant runs_on_hart runs_after =
-    let in_range = runs_inside enclave hart machine runs_on_hart in
+enclave_step_unchanged enclave hart machine invariant runs_on_hart runs_after =
+    let in_range = running_hart_in_range enclave hart machine runs_on_hart in
     let state = hart_view hart machine in
     let view_invariant = hart_view_invariant hart machine invariant in_range in
     let world_is = world_is_enclave enclave state.hart_state.world runs_on_hart in
@@ -172,7 +172,7 @@ one_unchanged enclave hart machine invariant runs_on_hart runs_after =
     let after = monitored_step state in
     let enclave_runs_after : is_host after.state.hart_state.world ≡ false =
     ap (λ (stepped : HartViewStepped). is_host stepped.state.hart_state.world) (sym step_is)
-    ∙ not_host_by enclave (hart_state_of hart (step_of hart machine).state).world runs_after in
+    ∙ enclave_world_is_not_host enclave (hart_state_of hart (step_of hart machine).state).world runs_after in
     let stays = stays_behind enclave state view_invariant world_is enclave_runs_after in
     let shared_is = ap (λ (stepped : HartViewStepped). stepped.state.shared) step_is in
     let hart_state_is = ap (λ (stepped : HartViewStepped). stepped.state.hart_state) step_is in
@@ -199,7 +199,7 @@ one_unchanged enclave hart machine invariant runs_on_hart runs_after =
       size = stays.size ∙ sym (ap (λ (shared_is : Shared). length shared_is.memory) shared_is);
       bytes =
           λ byte is_beyond_enclave. ap (λ (shared_is : Shared). byte_at shared_is.memory byte) shared_is
-          ∙ own_bytes enclave state view_invariant world_is byte is_beyond_enclave;
+          ∙ bytes_beyond_unchanged enclave state view_invariant world_is byte is_beyond_enclave;
     }
 
 -- ---- bytes of equal memories
@@ -214,10 +214,10 @@ byte_at_index memory index in_range =
     byte_at-index memory (ram_base + index) ∙ (rw (inside, index_is) refl)
 
 -- two memories of the same size with equal bytes at the address of an index have equal bytes at this index
-pub index_same : (memory other_memory : List ℕ) (index : ℕ) → length memory ≡ length other_memory
+pub equal_bytes_at_index : (memory other_memory : List ℕ) (index : ℕ) → length memory ≡ length other_memory
     → byte_at other_memory (ram_base + index) ≡ byte_at memory (ram_base + index)
     → slice_index memory index ≡ slice_index other_memory index
-index_same memory other_memory index same_length bytes_equal = elim (cases_lt index (length memory)) [
+equal_bytes_at_index memory other_memory index same_length bytes_equal = elim (cases_lt index (length memory)) [
   | inl in_range ↦
       let some_bytes_equal : Some (slice_index other_memory index) ≡ Some (slice_index memory index) =
       sym (byte_at_index other_memory index (omega (arith, same_length, in_range))) ∙ bytes_equal ∙ byte_at_index memory index in_range in

@@ -27,18 +27,18 @@ use Rattle.rv_monitor.specs.EnclaveSteps.{DependsOnEnclave, EnclaveRunLaw, HasRe
 use Rattle.rv_monitor.proofs.Prelude.{Handled, Invariant, HartViewInvariant, MonitoredMachine, HartView, HartViewStepped, a1, bare_machine, call_handled}
 use Rattle.rv_monitor.proofs.Prelude.{call_refusals, called, with_redirected_trap, handled, handled_cause, handled_exception, left, monitored_step, performed}
 use Rattle.rv_monitor.proofs.Prelude.{SlotInfo, returned_to_caller, count_of, refused, returned, hart_state_of, hart_view, step_of, timer_stopped}
-use Rattle.rv_monitor.proofs.Exits.{timer_or_none, waits, exits_law}
-use Rattle.rv_monitor.proofs.Beside.{runs_inside, running_is_live}
+use Rattle.rv_monitor.proofs.Exits.{timer_or_none, pending_is_timer, exits_law}
+use Rattle.rv_monitor.proofs.Beside.{running_hart_in_range, running_is_live}
 use Rattle.rv_monitor.proofs.InvariantLemmas.{invariant_by_size, invariant_law, hart_view_invariant}
 use Rattle.rv_monitor.proofs.AccessControlLemmas.{below_M, access_control_law}
-use Rattle.rv_monitor.proofs.EnclaveMemory.{OwnAlike, not_host_by, step_own, world_is_enclave, KeepsExtent, beyond_again, not_host, state_extent, state_slot}
+use Rattle.rv_monitor.proofs.EnclaveMemory.{OwnAlike, enclave_world_is_not_host, own_step_alike, world_is_enclave, KeepsExtent, within_before, not_host, new_state_keeps_extent, slot_with_new_state}
 use Rattle.rv_monitor.proofs.HartCases.{inside, step_of_view}
 use Rattle.rv_monitor.proofs.TrapSteps.{step_cases, hart_state_after, view_after_trap, view_without_trap, hart_after}
 use Rattle.rv_monitor.proofs.HandlerCases.{requested-is_offered}
 use Rattle.rv_monitor.specs.Prelude.{EnclaveState, EqualOutside, context_at}
 use Rattle.rv_monitor.proofs.Prelude.{false≢true, saved_after, both_ways, eq-eqb, at_written_slot, enclave_state_after, reason, value}
 use Rattle.rv_monitor.proofs.Leaving.{leave_law, left_hart_state}
-use Rattle.rv_monitor.proofs.Availability.{host_is}
+use Rattle.rv_monitor.proofs.Availability.{world_is_host}
 
 -- ---- the accesses that the PMP entries of an enclave permit
 
@@ -159,9 +159,10 @@ module _ (first_slot second_slot : ℕ) (first_state second_state : HartState) (
       let mode = first_state.hart.mode in
       record {
         -- only the timer interrupt is enabled, and both harts have the same timer line
-        pending = waits first_state.hart.csrs first_state.hart.mode first_below_m (view_invariant_one.hart.layout.mie ∙ ap mie_of alike.first)
+        pending =
+            pending_is_timer first_state.hart.csrs first_state.hart.mode first_below_m (view_invariant_one.hart.layout.mie ∙ ap mie_of alike.first)
             ∙ ap (λ (hart : Hart). timer_or_none hart.csrs.timer) alike.hart
-            ∙ sym (waits second_state.hart.csrs second_state.hart.mode view_invariant_two.hart.layout.mode
+            ∙ sym (pending_is_timer second_state.hart.csrs second_state.hart.mode view_invariant_two.hart.layout.mode
             (view_invariant_two.hart.layout.mie ∙ ap mie_of alike.second));
         -- both machines have the same permissions for the bytes of an access
         fetched =
@@ -487,7 +488,7 @@ pub exited : (place : Place) (machine : MonitoredMachine) (trap : Trap) → Inva
     → HasExited place trap.cause machine (step_at place machine).state
 -- a hart that runs an enclave has a saved context of the host
 exited place machine trap invariant runs trapped host_runs_after None host_context_is =
-    let in_range = runs_inside place.slot place.hart machine runs in
+    let in_range = running_hart_in_range place.slot place.hart machine runs in
     let world = world_is_enclave place.slot (hart_state_of place.hart machine).world runs in
     let contradiction : false ≡ true =
     ap (λ (maybe_context : Option Context). is_some maybe_context) (sym host_context_is) ∙ (invariant.hart_states place.hart in_range).host.kept
@@ -495,7 +496,7 @@ exited place machine trap invariant runs trapped host_runs_after None host_conte
     absurd (false≢true contradiction)
 -- the machine after the step is the machine that `leave_law` gives
 exited place machine trap invariant runs trapped host_runs_after (Some host) host_context_is =
-    let in_range = runs_inside place.slot place.hart machine runs in
+    let in_range = running_hart_in_range place.slot place.hart machine runs in
     let world = world_is_enclave place.slot (hart_state_of place.hart machine).world runs in
     let hart = (hart_state_of place.hart machine).hart in
     let table = machine.shared.table in
@@ -513,10 +514,10 @@ exited place machine trap invariant runs trapped host_runs_after (Some host) hos
         host = host.regs;
         regs = ap (λ (hart_state : HartState). hart_state.hart.regs) hart_state_is;
       };
-      slot = state_slot table place.slot slot after count refl;
+      slot = slot_with_new_state table place.slot slot after count refl;
       context = at_written_slot machine.shared.contexts place.slot (Some (saved_after trap.cause hart)) (omega (arith, slot_in_range, contexts));
       memory = refl;
-      extent = state_extent table place.slot slot after count refl;
+      extent = new_state_keeps_extent table place.slot slot after count refl;
     })
 
 -- the context that an exit saves does not depend on the M-mode parts of the hart
@@ -545,11 +546,11 @@ module _ (place other_place : Place) (one other : MonitoredMachine) (invariant_o
 
   -- the first machine has the hart of the first place, because an enclave runs on this hart
   pub has_one : place.hart < count_of one
-  has_one = runs_inside place.slot place.hart one same_enclave.first
+  has_one = running_hart_in_range place.slot place.hart one same_enclave.first
 
   -- the second machine has the hart of the second place, because an enclave runs on this hart
   pub has_other : other_place.hart < count_of other
-  has_other = runs_inside other_place.slot other_place.hart other same_enclave.second
+  has_other = running_hart_in_range other_place.slot other_place.hart other same_enclave.second
 
   -- the hart of the first place runs the enclave of the first place
   pub world_one : (hart_state_of place.hart one).world ≡ Enclave place.slot
@@ -571,15 +572,15 @@ module _ (place other_place : Place) (one other : MonitoredMachine) (invariant_o
   -- the steps of the mixed machine and of the second machine are equal for the enclave
   own_steps_alike : OwnAlike other_place.slot (monitored_step (hart_view other_place.hart mixed)) (monitored_step (hart_view other_place.hart other))
   own_steps_alike =
-      step_own other_place.slot (hart_state_of other_place.hart other) mixed.shared other.shared
+      own_step_alike other_place.slot (hart_state_of other_place.hart other) mixed.shared other.shared
       (hart_view_invariant other_place.hart mixed mixed_invariant has_other) world_other refl
       (record {
         table = refl;
         memory = record {
           size = same_enclave.memory.size;
           bytes =
-              λ index shown. same_enclave.memory.bytes index
-              (same_bytes_beyond one.shared.table other.shared.table place.slot other_place.slot (ram_base + index) same_enclave.slot ∙ shown);
+              λ index not_hidden. same_enclave.memory.bytes index
+              (same_bytes_beyond one.shared.table other.shared.table place.slot other_place.slot (ram_base + index) same_enclave.slot ∙ not_hidden);
         };
         context = refl;
       })
@@ -609,7 +610,7 @@ module _ (place other_place : Place) (one other : MonitoredMachine) (invariant_o
       let shared_one = ap (λ (stepped : HartViewStepped). stepped.state.shared) (step_of_view place.hart one has_one) in
       let shared_other = ap (λ (stepped : HartViewStepped). stepped.state.shared) (step_of_view other_place.hart other has_other) in
       let alike = first_steps_alike.runs (sym (ap (λ (hart_state : HartState). is_host hart_state.world) first_state_of_view)
-      ∙ not_host_by place.slot (hart_state_of place.hart (step_at place one).state).world runs_after) in
+      ∙ enclave_world_is_not_host place.slot (hart_state_of place.hart (step_at place one).state).world runs_after) in
       let bytes : EqualOutside (is_beyond after_one.shared.table place.slot) after_one.shared.memory
       (monitored_step (hart_view other_place.hart other)).state.shared.memory =
       record {
@@ -644,7 +645,7 @@ module _ (place other_place : Place) (one other : MonitoredMachine) (invariant_o
   -- if the first enclave does not run after the step, then its hart runs the host
   first_runs_host : runs_at place (step_at place one).state ≡ false → (hart_state_of place.hart (step_at place one).state).world ≡ Host
   first_runs_host not_running = elim (cases_Bool (is_host (monitored_step (hart_view place.hart one)).state.hart_state.world)) [
-    | inl host_runs_after ↦ host_is _ (ap (λ (hart_state : HartState). is_host hart_state.world) first_state_of_view ∙ host_runs_after)
+    | inl host_runs_after ↦ world_is_host _ (ap (λ (hart_state : HartState). is_host hart_state.world) first_state_of_view ∙ host_runs_after)
     | inr enclave_runs_after ↦
         let runs =
         ap (λ (hart_state : HartState). is_world_of place.slot hart_state.world) first_state_of_view
@@ -657,7 +658,7 @@ module _ (place other_place : Place) (one other : MonitoredMachine) (invariant_o
   second_runs_host : (hart_state_of place.hart (step_at place one).state).world ≡ Host
       → (hart_state_of other_place.hart (step_at other_place other).state).world ≡ Host
   second_runs_host host_runs_after =
-      host_is _ (ap (λ (hart_state : HartState). is_host hart_state.world) (sym second_state_of_mixed_view) ∙ sym first_steps_alike.hosts
+      world_is_host _ (ap (λ (hart_state : HartState). is_host hart_state.world) (sym second_state_of_mixed_view) ∙ sym first_steps_alike.hosts
       ∙ sym (ap (λ (hart_state : HartState). is_host hart_state.world) first_state_of_view)
       ∙ ap is_host host_runs_after)
 
@@ -702,8 +703,8 @@ module _ (place other_place : Place) (one other : MonitoredMachine) (invariant_o
                 ap (λ (memory : List ℕ). length memory) exited_one.memory ∙ same_enclave.memory.size
                 ∙ sym (ap (λ (memory : List ℕ). length memory) exited_other.memory);
             bytes =
-                λ index shown. ap (λ (memory : List ℕ). slice_index memory index) exited_one.memory
-                ∙ same_enclave.memory.bytes index (beyond_again place.slot _ _ (ram_base + index) exited_one.extent shown)
+                λ index not_hidden. ap (λ (memory : List ℕ). slice_index memory index) exited_one.memory
+                ∙ same_enclave.memory.bytes index (within_before place.slot _ _ (ram_base + index) exited_one.extent not_hidden)
                 ∙ sym (ap (λ (memory : List ℕ). slice_index memory index) exited_other.memory);
           };
         };

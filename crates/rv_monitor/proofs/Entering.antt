@@ -13,7 +13,7 @@ use Rattle.rv_monitor.proofs.Prelude.{Handled, HartViewInvariant, Invariant, Slo
 use Rattle.rv_monitor.proofs.Prelude.{monitored_step, returned, saved, hart_state_of, hart_view, step_of, with_reprogrammed_hart}
 use Rattle.rv_monitor.proofs.InvariantLemmas.{hart_view_invariant}
 use Rattle.rv_monitor.proofs.HartCases.{is_trapping, outside, programmed_by, step_of_view}
-use Rattle.rv_monitor.proofs.Switched.{aligned_again}
+use Rattle.rv_monitor.proofs.Switched.{pc_is_aligned}
 use Rattle.rv_monitor.proofs.TrapSteps.{hart_state_after, quiet_world, trapped_step}
 use Rattle.rv_monitor.proofs.HandlerCases.{handler_cases, entering}
 
@@ -38,9 +38,9 @@ module _ (before : HartView) (slot : ℕ) (context : Context) (from_host : befor
   handled_host_or_entry = handler_cases hart_state trap before.shared HostOrEntry (record {
     answers = λ status result. inl from_host;
     creates = λ requests no_refusal. inl from_host;
-    destroys = λ requests is_taken. inl from_host;
+    destroys = λ requests slot_accepted. inl from_host;
     measures = λ requests no_refusal. inl from_host;
-    enters = λ call requests is_entry_call from_host is_taken. inr refl;
+    enters = λ call requests is_entry_call from_host slot_accepted. inr refl;
     leaves = inl refl;
     redirects = inl from_host;
   })
@@ -70,7 +70,7 @@ module _ (before : HartView) (slot : ℕ) (context : Context) (from_host : befor
       → Entered (returned outcome (with_reprogrammed_hart entering_now))
   unfolding entered_slot
   returned_entered outcome view_invariant can_continue a0_is_slot =
-      let aligned = aligned_again context.mode context.pc can_continue in
+      let aligned = pc_is_aligned context.mode context.pc can_continue in
       let mprv = view_invariant.hart.layout.mprv in
       rw (a0_is_slot, has_context, aligned, or-false (is_set before.hart_state.hart.csrs.mcountinhibit 0), mprv) (refl, refl)
 
@@ -118,10 +118,10 @@ module _ (before : HartView) (saves : SavedContextsInvariant before.shared) (run
   accepted_slot_has_context : (call : Call) (named_slot : ℕ) → SlotIsAccepted before.shared.table call named_slot → (slot : ℕ)
       → Enclave named_slot ≡ Enclave slot
       → is_some (context_at before.shared.contexts slot) ≡ true
-  accepted_slot_has_context call named_slot is_taken slot same_enclave =
+  accepted_slot_has_context call named_slot slot_accepted slot same_enclave =
       let slots_equal : named_slot ≡ slot = cc in
       subst (λ (some_slot : ℕ). is_some (context_at before.shared.contexts some_slot) ≡ true) slots_equal
-      (saves.kept named_slot ∙ ap is_held is_taken.is ∙ ap not (takes_rests call is_taken.info.state is_taken.taken))
+      (saves.kept named_slot ∙ ap is_held slot_accepted.is ∙ ap not (takes_rests call slot_accepted.info.state slot_accepted.taken))
 
   -- the trap handler enters only a slot with a saved context
   handled_had_context : HadContext (handled (hart_state_after before.hart_state trap) before.shared trap)
@@ -129,9 +129,11 @@ module _ (before : HartView) (saves : SavedContextsInvariant before.shared) (run
   handled_had_context = handler_cases (hart_state_after before.hart_state trap) trap before.shared HadContext (record {
     answers = λ status result. no_entry _ runs;
     creates = λ requests no_refusal. no_entry _ runs;
-    destroys = λ requests is_taken. no_entry _ runs;
+    destroys = λ requests slot_accepted. no_entry _ runs;
     measures = λ requests no_refusal. no_entry _ runs;
-    enters = λ call requests is_entry_call from_host is_taken. accepted_slot_has_context call (a0 (hart_state_after before.hart_state trap)) is_taken;
+    enters =
+        λ call requests is_entry_call from_host slot_accepted. accepted_slot_has_context call
+        (a0 (hart_state_after before.hart_state trap)) slot_accepted;
     leaves = no_entry Host refl;
     redirects = no_entry _ runs;
   })

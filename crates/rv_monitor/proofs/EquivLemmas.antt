@@ -2,7 +2,7 @@
 use Rattle.std.proofs.Common.{◌≡◌, ◌<◌, ℕ, refl, sym, ◌∙◌, ap, subst, inl, inr, arith}
 use Rattle.rv_monitor.specs.Prelude.{HartState, Shared, SharedEquivExcept, is_world_of}
 use Rattle.rv_monitor.proofs.Prelude.{EquivExcept, MonitoredMachine, HartStatesEquivExcept, cases_lt, changed, count_of, length-set, hart_state_of}
-use Rattle.rv_monitor.proofs.InvariantLemmas.{past_as_is}
+use Rattle.rv_monitor.proofs.InvariantLemmas.{no_hart_unchanged}
 use Rattle.rv_monitor.proofs.HartCases.{hart_cases_of_both}
 
 -- hart states are equivalent except `enclave`, if they are equal to hart states that are equivalent except `enclave`
@@ -57,7 +57,7 @@ changed_equiv enclave hart change one other keeps_world equiv = elim (cases_lt h
   | inl in_range ↦ changed_in_range enclave hart change one other keeps_world in_range equiv
   | inr past_last ↦
       let same_harts = equiv.harts in
-      let one_unchanged = past_as_is hart (change (hart_state_of hart one)) one past_last in
-      let other_unchanged = past_as_is hart (change (hart_state_of hart other)) other (omega (arith, same_harts, past_last)) in
-      rw (one_unchanged, other_unchanged) equiv
+      let first_unchanged = no_hart_unchanged hart (change (hart_state_of hart one)) one past_last in
+      let second_unchanged = no_hart_unchanged hart (change (hart_state_of hart other)) other (omega (arith, same_harts, past_last)) in
+      rw (first_unchanged, second_unchanged) equiv
 ]

@@ -8,14 +8,14 @@ use Rattle.rv_monitor.specs.Events.{StepOf, StepsNone, event_of, events}
 use Rattle.rv_monitor.specs.Prelude.{CsrState, HartState, Outcome, is_live, is_world_of}
 use Rattle.rv_monitor.proofs.Prelude.{EquivExcept, HartStatesEquivExcept, Invariant, IsUntouched, MonitoredMachine, cases_lt, count_of, enters, length-set}
 use Rattle.rv_monitor.proofs.Prelude.{hart_state_of, reprogrammed, runs_on, step_of}
-use Rattle.rv_monitor.proofs.Beside.{running_is_live, runs_inside}
+use Rattle.rv_monitor.proofs.Beside.{running_is_live, running_hart_in_range}
 use Rattle.rv_monitor.proofs.HartCases.{hart_cases_of_both}
 use Rattle.rv_monitor.proofs.Integrity.{integrity}
-use Rattle.rv_monitor.proofs.InvariantLemmas.{change_preserves, invariant_law, past_as_is, written_invariant}
+use Rattle.rv_monitor.proofs.InvariantLemmas.{change_preserves, invariant_law, no_hart_unchanged, written_invariant}
 use Rattle.rv_monitor.proofs.MonitoredAlike.{noninterference}
 use Rattle.rv_monitor.proofs.PmpProgramming.{reprogramming_changes_nothing}
 use Rattle.rv_monitor.proofs.RelatedChanges.{changed_related}
-use Rattle.rv_monitor.proofs.SchedIntegrity.{go_on_law, preserved_twice}
+use Rattle.rv_monitor.proofs.SchedIntegrity.{others_keep_running_law, preserved_twice}
 use Rattle.rv_monitor.proofs.SchedNoninterference.{entry_law}
 
 -- ---- the invariant
@@ -51,19 +51,23 @@ module _ (enclave hart : ℕ) (raised : Bool) (one other : MonitoredMachine) whe
           hart_states =
               hart_cases_of_both one.hart_states other.hart_states hart first_changed second_changed
               (λ some_hart first_state second_state. HartStatesEquivExcept enclave first_state second_state) same_harts in_range
-              (record { world = same_hart.world; same = λ low. ap (timer_line_set raised) (same_hart.same low) })
+              (record { world = same_hart.world; same = λ not_running. ap (timer_line_set raised) (same_hart.same not_running) })
               (λ some_hart distinct. equiv.hart_states some_hart);
           shared = equiv.shared;
         }
         | inr past_last ↦
-            rw (past_as_is hart first_changed one past_last, past_as_is hart second_changed other (omega (arith, same_harts, past_last))) equiv
+            rw (
+              no_hart_unchanged hart first_changed one past_last,
+              no_hart_unchanged hart second_changed other
+                  (omega (arith, same_harts, past_last)),
+            ) equiv
       ]
 
   -- the same change of a timer line leaves related machines related
   pub line_related : AreRelated enclave one other → AreRelated enclave (with_timer hart one raised) (with_timer hart other raised)
   line_related related = changed_related enclave hart (timer_line_set raised) (timer_line_set raised) one other related (record {
     world = refl;
-    state = λ parts. record { world = parts.world; same = λ low. ap (timer_line_set raised) (parts.same low) };
+    state = λ parts. record { world = parts.world; same = λ not_running. ap (timer_line_set raised) (parts.same not_running) };
     host = λ parts. record { host = parts.host; rest = ap (λ (csrs : CsrState). record csrs { timer = raised }) parts.rest };
   })
 
@@ -111,7 +115,7 @@ line_only slot hart raised machine invariant = record {
       change_preserves (timer_line_set false) (timer_line_set raised) (λ hart_state. refl) hart other_hart machine
       ∙ ap (timer_line_set false)
       (sym (reprogramming_changes_nothing machine.shared.table (hart_state_of other_hart machine)
-      (invariant.hart_states other_hart (runs_inside slot other_hart machine runs))));
+      (invariant.hart_states other_hart (running_hart_in_range slot other_hart machine runs))));
 }
 
 -- an enclave that is untouched is untouched except for the timer line
@@ -132,7 +136,7 @@ event_integrity slot [] machine invariant undisturbed = record {
   hart_state = λ hart runs.
       ap (timer_line_set false)
       (sym (reprogramming_changes_nothing machine.shared.table (hart_state_of hart machine)
-      (invariant.hart_states hart (runs_inside slot hart machine runs))));
+      (invariant.hart_states hart (running_hart_in_range slot hart machine runs))));
 }
 event_integrity slot (StepOf hart ∷ rest_events) machine invariant undisturbed =
     let after = (step_of hart machine).state in
@@ -178,7 +182,7 @@ running_events slot running_hart [] machine invariant runs_on_hart steps_none = 
 running_events slot running_hart (StepOf hart ∷ rest_events) machine invariant runs_on_hart steps_none =
     let after = (step_of hart machine).state in
     let live = running_is_live slot running_hart machine invariant runs_on_hart in
-    let continues = go_on_law hart machine invariant slot running_hart runs_on_hart steps_none.0 in
+    let continues = others_keep_running_law hart machine invariant slot running_hart runs_on_hart steps_none.0 in
     let preserved = integrity hart machine invariant slot steps_none.0 live continues.passes continues.live in
     let runs_after : runs_on slot running_hart after ≡ true =
     ap (λ (hart_state : HartState). is_world_of slot hart_state.world) (preserved.hart_state running_hart runs_on_hart) ∙ runs_on_hart in (

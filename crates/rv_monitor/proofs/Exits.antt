@@ -17,9 +17,9 @@ use Rattle.rv_monitor.proofs.Prelude.{HartViewInvariant, Invariant, MonitoredMac
 use Rattle.rv_monitor.proofs.Prelude.{eq-eqb, redirected, with_redirected_trap, handled, handled_cause, left, monitored_step, performed, refused, returned, hart_view}
 use Rattle.rv_monitor.proofs.Prelude.{hart_state_of, step_of, timer_stopped, with_reprogrammed_hart}
 use Rattle.rv_monitor.specs.Step.{is_supervisor}
-use Rattle.rv_monitor.proofs.Beside.{runs_inside}
+use Rattle.rv_monitor.proofs.Beside.{running_hart_in_range}
 use Rattle.rv_monitor.proofs.InvariantLemmas.{hart_view_invariant}
-use Rattle.rv_monitor.proofs.PmpProgramming.{all_as_are}
+use Rattle.rv_monitor.proofs.PmpProgramming.{programmed_harts_unchanged}
 use Rattle.rv_monitor.proofs.HartCases.{is_trapping, programmed_by, step_of_view}
 use Rattle.rv_monitor.proofs.TrapSteps.{same_outcome, hart_state_after, quiet_world, trapped_step}
 use Rattle.rv_monitor.proofs.HandlerCases.{requested-is_offered}
@@ -139,7 +139,7 @@ redirects_step hart machine invariant trap trapped is_redirection =
       trapping.state ∙ ap (programmed_by hart machine) view_is.0
           ∙ ap (λ (hart_states : List HartState). let after : MonitoredMachine =
           record { hart_states = slice_set hart_states hart left; shared = machine.shared } in after)
-          (all_as_are machine.shared.table machine.hart_states invariant.hart_states),
+          (programmed_harts_unchanged machine.shared.table machine.hart_states invariant.hart_states),
       ap (λ (outcome : Outcome). outcome.entered) trapping.outcome ∙ view_is.1,
     )
 
@@ -172,8 +172,8 @@ find_timer is_external is_software is_timer is_s_external is_s_software is_s_tim
     rw (and-false is_s_external, and-false is_s_software, and-false is_s_timer) refl)
 
 -- if mie enables only the timer interrupt, then a hart below M has a pending interrupt if and only if its timer line is set
-pub waits : (csrs : CsrState) (mode : Mode) → is_machine mode ≡ false → csrs.mie ≡ 0x80 → pending csrs mode ≡ timer_or_none csrs.timer
-waits csrs mode mode_below_m enabled =
+pub pending_is_timer : (csrs : CsrState) (mode : Mode) → is_machine mode ≡ false → csrs.mie ≡ 0x80 → pending csrs mode ≡ timer_or_none csrs.timer
+pending_is_timer csrs mode mode_below_m enabled =
     let mip = mip_word csrs in
     let timer_bit_is_line : is_set mip 7 ≡ csrs.timer = timer_part csrs.software_pending csrs.timer in
     rw (mode_below_m, enabled)
@@ -187,8 +187,9 @@ timer_only false interrupt timer_or_none_is = cc
 -- ---- the step
 
 -- a hart that runs an enclave is a hart of the machine
-pub runs_here : (slot hart : ℕ) (machine : MonitoredMachine) → (hart_state_of hart machine).world ≡ Enclave slot → hart < count_of machine
-runs_here slot hart machine runs = runs_inside slot hart machine (ap (is_world_of slot) runs ∙ eq-eqb slot slot refl)
+pub hart_of_enclave_in_range : (slot hart : ℕ) (machine : MonitoredMachine) → (hart_state_of hart machine).world ≡ Enclave slot
+    → hart < count_of machine
+hart_of_enclave_in_range slot hart machine runs = running_hart_in_range slot hart machine (ap (is_world_of slot) runs ∙ eq-eqb slot slot refl)
 
 -- the world of the hart after the step is the world in the hart's view after its step
 world_of_view : (hart : ℕ) (machine : MonitoredMachine) → hart < count_of machine
@@ -199,7 +200,7 @@ world_of_view hart machine in_range = ap (λ (after : HartViewStepped). after.st
 pub exits_law : (hart : ℕ) (machine : MonitoredMachine) → Invariant machine → ExitsOnRequest hart machine (step_of hart machine)
 exits_law hart machine invariant slot runs = record {
   quiet = λ no_trap.
-      let in_range = runs_here slot hart machine runs in
+      let in_range = hart_of_enclave_in_range slot hart machine runs in
       world_of_view hart machine in_range
       ∙ quiet_world (hart_view hart machine)
       (sym (ap (λ (after : HartViewStepped). after.outcome.step.trap) (step_of_view hart machine in_range)) ∙ no_trap) ∙ runs;
@@ -216,7 +217,7 @@ exits_law hart machine invariant slot runs = record {
       sym (ap (λ (outcome : StepOutcome). outcome.trap) (same_outcome state)) ∙ trapping.trapped in
       let pending_timer = takes_pending (bare_machine state) trap interrupt bare_step_traps cause_is in
       timer_only state.hart_state.hart.csrs.timer interrupt
-      (sym (waits state.hart_state.hart.csrs state.hart_state.hart.mode view_invariant.hart.layout.mode
+      (sym (pending_is_timer state.hart_state.hart.csrs state.hart_state.hart.mode view_invariant.hart.layout.mode
       (view_invariant.hart.layout.mie ∙ ap mie_of runs)) ∙ pending_timer);
   redirects = redirects_step hart machine invariant;
 }

@@ -15,7 +15,7 @@ use Rattle.rv_monitor.proofs.Prelude.{count_of, entered_slot, with_redirected_tr
 use Rattle.rv_monitor.proofs.Prelude.{left, length-map, monitored_step, runs_on, hart_state_of}
 use Rattle.rv_monitor.proofs.Prelude.{hart_view, step_of, continuing_from}
 use Rattle.rv_monitor.proofs.EquivLemmas.{hart_states_equiv}
-use Rattle.rv_monitor.proofs.Beside.{runs_inside}
+use Rattle.rv_monitor.proofs.Beside.{running_hart_in_range}
 use Rattle.rv_monitor.proofs.GuestView.{guest_hart_state, guest_step_of}
 use Rattle.rv_monitor.proofs.InvariantLemmas.{hart_view_invariant}
 use Rattle.rv_monitor.proofs.MonitoredAlike.{noninterference}
@@ -67,7 +67,7 @@ guest_equiv enclave one other equiv = record {
       hart_states_equiv enclave (hart_state_of hart (guest_view one)) (guest_state (hart_state_of hart one)) (hart_state_of hart (guest_view other))
       (guest_state (hart_state_of hart other))
       (guest_hart_state hart one) (guest_hart_state hart other)
-      (record { world = hart_states.world; same = λ low. ap guest_state (hart_states.same low) });
+      (record { world = hart_states.world; same = λ not_running. ap guest_state (hart_states.same not_running) });
   shared = equiv.shared;
 }
 
@@ -126,9 +126,9 @@ module _ (hart_state : HartState) (mprv : hart_state.hart.csrs.mstatus.mprv ≡ 
       handler_cases_of_both hart_state trap table memory other_memory contexts other_contexts SameHostHandled (record {
         answers = λ status result. record { host = refl; rest = rw mprv refl };
         creates = λ requests no_refusal. record { host = refl; rest = rw mprv refl };
-        destroys = λ requests is_taken. record { host = refl; rest = rw mprv refl };
+        destroys = λ requests slot_accepted. record { host = refl; rest = rw mprv refl };
         measures = λ requests no_refusal. record { host = refl; rest = rw mprv refl };
-        enters = λ call requests is_entry_call from_host is_taken. record { host = refl; rest = rw mprv refl };
+        enters = λ call requests is_entry_call from_host slot_accepted. record { host = refl; rest = rw mprv refl };
         leaves = record { host = refl; rest = rw mprv refl };
         redirects = record { host = refl; rest = rw mprv refl };
       }) same_length
@@ -247,7 +247,7 @@ module _ (enclave hart : ℕ) (one other : MonitoredMachine) (invariant_one : In
   pub same_hosts_after : (other_hart : ℕ) → runs_on enclave other_hart (step_of hart one).state ≡ true
       → SameHostOn other_hart (step_of hart one).state (step_of hart other).state
   same_hosts_after other_hart runs_after =
-      let in_range = runs_inside enclave other_hart (step_of hart one).state runs_after in
+      let in_range = running_hart_in_range enclave other_hart (step_of hart one).state runs_after in
       let count = step_count hart one in
       elim (cases_eq other_hart hart) [
         | inl equal ↦ rw equal (stepped_hart_keeps_host (omega (arith, in_range, count, equal)))

@@ -83,9 +83,9 @@ module _ (enclave : ℕ) (table : Slots) (memory other_memory : List ℕ) (conte
   handled_alike = handler_cases_of_both hart_state trap table memory other_memory contexts other_contexts (HandledAlike enclave) (record {
     answers = λ status result. returned_alike first_shared second_shared status result cases.before;
     creates = λ requests no_refusal. returned_alike _ _ 0 (new_slot table) (cases.creates (create_args_of hart_state.hart.regs) no_refusal);
-    destroys = λ requests is_taken. returned_alike _ _ 0 0 (cases.destroys (a0 hart_state) is_taken);
+    destroys = λ requests slot_accepted. returned_alike _ _ 0 0 (cases.destroys (a0 hart_state) slot_accepted);
     measures = λ requests no_refusal. returned_alike _ _ 0 0 (cases.measures (measured_slot hart_state.world (a0 hart_state)) (a1 hart_state));
-    enters = λ call requests is_entry_call from_host is_taken. enters_alike;
+    enters = λ call requests is_entry_call from_host slot_accepted. enters_alike;
     leaves = leaves_alike;
     redirects = record { entered = refl; hart_state = record { world = refl; same = λ not_running. refl }; shared = cases.before };
   })

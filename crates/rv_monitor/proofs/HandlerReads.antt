@@ -154,9 +154,9 @@ module _ (table : Slots) (memory other_memory : List ℕ) (contexts other_contex
       creates =
           λ requests no_refusal. caller_same _ _ 0 (new_slot table)
           (created_same (create_args_of hart_state.hart.regs) (same_read.measured (requested_call_is Create requests)));
-      destroys = λ requests is_taken. caller_same _ _ 0 0 (destroyed_same (a0 hart_state));
+      destroys = λ requests slot_accepted. caller_same _ _ 0 0 (destroyed_same (a0 hart_state));
       measures = λ requests no_refusal. caller_same _ _ 0 0 (measured_same (measured_slot hart_state.world (a0 hart_state)) (a1 hart_state));
-      enters = λ call requests is_entry_call from_host is_taken. enters_same (same_read.entered (entering_call call is_entry_call requests));
+      enters = λ call requests is_entry_call from_host slot_accepted. enters_same (same_read.entered (entering_call call is_entry_call requests));
       leaves =
           let slot = running_slot hart_state.world in
           let after = with_state table slot (enclave_state_after trap.cause hart_state.hart.regs) in

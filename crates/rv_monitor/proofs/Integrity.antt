@@ -20,7 +20,7 @@ use Rattle.rv_monitor.proofs.InvariantLemmas.{hart_view_invariant}
 use Rattle.rv_monitor.proofs.HartCases.{by_hart}
 use Rattle.rv_monitor.proofs.TrapSteps.{step_cases, hart_state_after}
 use Rattle.rv_monitor.proofs.HandlerCases.{handler_cases, context_saved_by}
-use Rattle.rv_monitor.proofs.Records.{state_other}
+use Rattle.rv_monitor.proofs.Records.{new_state_keeps_other_slot}
 
 -- ---- the record and the saved context of the enclave
 
@@ -39,7 +39,7 @@ state_keeps_other_slots : (other_slot slot : ℕ) (shared : Shared) (state : Enc
 state_keeps_other_slots other_slot slot shared state maybe_context distinct =
     let is_other_slot : other_slot ≢ slot = λ slots_equal. both_ways _ distinct (eq-eqb slot other_slot (sym slots_equal)) in
     record {
-      slot = state_other shared.table other_slot slot (slot_at shared.table slot) state is_other_slot;
+      slot = new_state_keeps_other_slot shared.table other_slot slot (slot_at shared.table slot) state is_other_slot;
       context = at_other_slot shared.contexts slot other_slot maybe_context is_other_slot;
     }
 
@@ -73,9 +73,9 @@ module _ (slot : ℕ) (hart_state : HartState) (shared : Shared) (valid : IsVali
   destroyed_keeps : (other_slot : ℕ) → SlotIsAccepted shared.table Destroy other_slot → is_live (destroyed shared other_slot).table slot ≡ true
       → KeepsSlot slot shared (destroyed shared other_slot)
   unfolding destroyed
-  destroyed_keeps other_slot is_taken live_after = elim (cases_eq slot other_slot) [
+  destroyed_keeps other_slot slot_accepted live_after = elim (cases_eq slot other_slot) [
     | inl equal ↦
-        let slot_in_range = live_in_range shared.table other_slot is_taken.info valid.count is_taken.is in
+        let slot_in_range = live_in_range shared.table other_slot slot_accepted.info valid.count slot_accepted.is in
         let slot_is_free : slot_at (with_slot shared.table other_slot None) other_slot ≡ None =
         at_written_slot shared.table other_slot None (omega (arith, valid.count)) in
         absurd (both_ways _ (ap (λ (maybe_info : Option SlotInfo). is_some maybe_info) slot_is_free) (rw equal at live_after))
@@ -92,10 +92,10 @@ module _ (slot : ℕ) (hart_state : HartState) (shared : Shared) (valid : IsVali
   handled_keeps trap = handler_cases hart_state trap shared (Keeps slot shared) (record {
     answers = λ status result not_entered live_after. record { slot = refl; context = refl };
     creates = λ requests no_refusal not_entered live_after. created_keeps (create_args_of hart_state.hart.regs) no_refusal;
-    destroys = λ requests is_taken not_entered live_after. destroyed_keeps (a0 hart_state) is_taken live_after;
+    destroys = λ requests slot_accepted not_entered live_after. destroyed_keeps (a0 hart_state) slot_accepted live_after;
     measures = λ requests no_refusal not_entered live_after. record { slot = refl; context = refl };
     enters =
-        λ call requests is_entry_call from_host is_taken not_entered live_after. state_keeps_other_slots slot
+        λ call requests is_entry_call from_host slot_accepted not_entered live_after. state_keeps_other_slots slot
         (a0 hart_state) shared Running None not_entered;
     leaves = λ not_entered live_after.
         state_keeps_other_slots slot (running_slot hart_state.world) shared (enclave_state_after trap.cause hart_state.hart.regs)
@@ -108,10 +108,10 @@ module _ (slot : ℕ) (hart_state : HartState) (shared : Shared) (valid : IsVali
 -- ---- the bytes in the region of the enclave
 
 -- a step changes no byte in the region of an enclave that is not the running world and is live after the step
-not_changed : (state : HartView) (slot byte : ℕ) → HartViewInvariant state → is_world_of slot state.hart_state.world ≡ false
+region_byte_unchanged : (state : HartView) (slot byte : ℕ) → HartViewInvariant state → is_world_of slot state.hart_state.world ≡ false
     → is_live (monitored_step state).state.shared.table slot ≡ true
     → has (region state.shared.table slot) byte ≡ true → byte_at (monitored_step state).state.shared.memory byte ≡ byte_at state.shared.memory byte
-not_changed state slot byte view_invariant not_running live_after in_region =
+region_byte_unchanged state slot byte view_invariant not_running live_after in_region =
     let shared = state.shared in
     let valid = view_invariant.valid in
     let outside_other_regions = accessible_apart shared.memory shared.table state.hart_state.world Write in
@@ -152,7 +152,7 @@ integrity_in state view_invariant slot not_running live not_entered live_after =
     let kept_slot = keeps not_entered live_after in
     record {
       slot = kept_slot.slot;
-      bytes = λ byte in_its_region. not_changed state slot byte view_invariant not_running live_after in_its_region;
+      bytes = λ byte in_its_region. region_byte_unchanged state slot byte view_invariant not_running live_after in_its_region;
       context = kept_slot.context;
     }
 

@@ -9,7 +9,7 @@ use Rattle.rv_monitor.proofs.Prelude.{changed, count_of, get_or-map, length-map,
 use Rattle.rv_monitor.proofs.Prelude.{hart_state_of, reprogrammed, hart_states_reprogrammed, hart_view, set-get_or, set_past, sound_by_size}
 use Rattle.rv_monitor.proofs.Prelude.{step_of, stepped_by}
 use Rattle.rv_monitor.proofs.Prelude.{with_hart_state, worlds}
-use Rattle.rv_monitor.proofs.Others.{sound_back, shared_invariant-moved_to_front, without}
+use Rattle.rv_monitor.proofs.Others.{shared_invariant-moved_back, shared_invariant-moved_to_front, without}
 use Rattle.rv_monitor.proofs.HartCases.{behind_seated, by_hart, hart_cases, stepped_count, other_hart_state, own_hart_state}
 use Rattle.rv_monitor.proofs.StepInvariant.{InvariantBeside, reprogrammed_invariant, hart_view_of, reprogrammed_by, step_invariant}
 
@@ -20,8 +20,8 @@ abbrev world_of : HartState → World
 world_of hart_state = hart_state.world
 
 -- each hart of the machine has its world in the list of worlds
-pub has_world : (hart : ℕ) (machine : MonitoredMachine) → hart < count_of machine → hart < length (worlds machine)
-has_world hart machine in_range = let same_length = length-map machine.hart_states world_of in omega (arith, same_length, in_range)
+pub world_index_in_range : (hart : ℕ) (machine : MonitoredMachine) → hart < count_of machine → hart < length (worlds machine)
+world_index_in_range hart machine in_range = let same_length = length-map machine.hart_states world_of in omega (arith, same_length, in_range)
 
 -- the world in the list at the number of a hart is the world of this hart
 pub world_at : (hart : ℕ) (machine : MonitoredMachine) → hart < count_of machine
@@ -44,7 +44,8 @@ world_write_changes_nothing hart machine in_range =
 pub shared_invariant_in_front : (hart : ℕ) (machine : MonitoredMachine) → Invariant machine → hart < count_of machine
     → SharedInvariant machine.shared ((hart_state_of hart machine).world ∷ beside hart machine)
 shared_invariant_in_front hart machine invariant in_range =
-    shared_invariant-moved_to_front machine.shared (worlds machine) hart (hart_state_of hart machine).world (has_world hart machine in_range)
+    shared_invariant-moved_to_front machine.shared (worlds machine) hart (hart_state_of hart machine).world
+    (world_index_in_range hart machine in_range)
     (subst (SharedInvariant machine.shared) (sym (world_write_changes_nothing hart machine in_range)) invariant.shared)
 
 -- the view of each hart of a machine with the invariant has the invariant
@@ -82,7 +83,8 @@ invariant_after_step hart machine invariant in_range =
           (sym (map-set world_of (hart_states_reprogrammed trap slots machine.hart_states) hart after.state.hart_state
           ∙ ap (λ (worlds : List World). slice_set worlds hart after.state.hart_state.world)
           (reprogramming_keeps_worlds trap slots machine.hart_states)))
-          (sound_back after.state.shared (worlds machine) hart after.state.hart_state.world (has_world hart machine in_range) view_invariant_after.0);
+          (shared_invariant-moved_back after.state.shared (worlds machine) hart after.state.hart_state.world
+          (world_index_in_range hart machine in_range) view_invariant_after.0);
       hart_states = λ other_hart other_in_new_range.
           let other_in_range : other_hart < count_of machine = omega (arith, same_length, other_in_new_range) in
           elim (cases_eq other_hart hart) [
@@ -140,9 +142,9 @@ written_invariant_of_hart hart regs raised machine invariant in_range =
     }
 
 -- a write with a number that is not the number of a hart has no effect
-pub past_as_is : (hart : ℕ) (hart_state : HartState) (machine : MonitoredMachine) → count_of machine ≤ hart
+pub no_hart_unchanged : (hart : ℕ) (hart_state : HartState) (machine : MonitoredMachine) → count_of machine ≤ hart
     → with_hart_state hart hart_state machine ≡ machine
-past_as_is hart hart_state machine past_last =
+no_hart_unchanged hart hart_state machine past_last =
     ap (λ (hart_states : List HartState). let after : MonitoredMachine = record { hart_states = hart_states; shared = machine.shared } in after)
     (set_past machine.hart_states hart hart_state past_last)
 
@@ -151,7 +153,7 @@ pub written_invariant : (hart : ℕ) (regs : List ℕ) (raised : Bool) (machine 
     → Invariant (with_hart_state hart (written regs raised (hart_state_of hart machine)) machine)
 written_invariant hart regs raised machine invariant = elim (cases_lt hart (count_of machine)) [
   | inl in_range ↦ written_invariant_of_hart hart regs raised machine invariant in_range
-  | inr past_last ↦ subst Invariant (sym (past_as_is hart (written regs raised (hart_state_of hart machine)) machine past_last)) invariant
+  | inr past_last ↦ subst Invariant (sym (no_hart_unchanged hart (written regs raised (hart_state_of hart machine)) machine past_last)) invariant
 ]
 
 -- the saved host contexts of a machine stay legal if one hart gets a state with a legal saved host context
@@ -170,7 +172,7 @@ pub change_preserves : {X : Type 0} (property : HartState → X) (change : HartS
 change_preserves property change preserved hart other_hart machine = elim (cases_lt hart (count_of machine)) [
   | inr past_last ↦
       ap (λ (machine : MonitoredMachine). property (hart_state_of other_hart machine))
-      (past_as_is hart (change (hart_state_of hart machine)) machine past_last)
+      (no_hart_unchanged hart (change (hart_state_of hart machine)) machine past_last)
   | inl in_range ↦
       hart_cases machine.hart_states hart (change (hart_state_of hart machine))
       (λ hart some_state. property some_state ≡ property (hart_state_of hart machine)) in_range

@@ -8,7 +8,7 @@ use Rattle.rv_monitor.proofs.Prelude.{Handled, HartViewInvariant, HartView, Hart
 use Rattle.rv_monitor.proofs.Prelude.{left, left_shared, monitored_step, returned, hart_view, with_reprogrammed_hart, Invariant, MonitoredMachine, step_of}
 use Rattle.rv_monitor.proofs.InvariantLemmas.{hart_view_invariant}
 use Rattle.rv_monitor.proofs.HartCases.{is_trapping, programmed_by, step_of_view}
-use Rattle.rv_monitor.proofs.Switched.{aligned_again}
+use Rattle.rv_monitor.proofs.Switched.{pc_is_aligned}
 use Rattle.rv_monitor.proofs.TrapSteps.{hart_state_after, trapped_step}
 use Rattle.rv_monitor.proofs.HandlerCases.{handler_cases, context_saved_by, enclave_exit_of, lowered_by}
 use Rattle.std.specs.Prelude.{map}
@@ -50,9 +50,9 @@ module _ (before : HartView) (slot : ℕ) (host : Context) (runs_enclave : befor
   handled_stays_or_exits = handler_cases hart_state trap before.shared StaysOrExits (record {
     answers = λ status result. inl runs_enclave;
     creates = λ requests no_refusal. inl runs_enclave;
-    destroys = λ requests is_taken. inl runs_enclave;
+    destroys = λ requests slot_accepted. inl runs_enclave;
     measures = λ requests no_refusal. inl runs_enclave;
-    enters = λ call requests is_entry_call from_host is_taken. enters_never from_host _;
+    enters = λ call requests is_entry_call from_host slot_accepted. enters_never from_host _;
     leaves = inr (ap (λ (host : Context). with_reprogrammed_hart (leaving_with host)) (saved_context_is trap.cause));
     redirects = inl runs_enclave;
   })
@@ -77,7 +77,7 @@ module _ (before : HartView) (slot : ℕ) (host : Context) (runs_enclave : befor
   unfolding left
   returned_left outcome view_invariant =
       let CanGoOnIfSome : Option Context → Type 0 = λ maybe_context. IfSome maybe_context (λ some_context. can_go_on some_context ≡ true) in
-      let aligned = aligned_again host.mode host.pc (subst CanGoOnIfSome host_is_saved view_invariant.hart.host.held) in
+      let aligned = pc_is_aligned host.mode host.pc (subst CanGoOnIfSome host_is_saved view_invariant.hart.host.held) in
       let mprv = view_invariant.hart.layout.mprv in
       (rw (runs_enclave, host_is_saved, aligned, or-false (is_set before.hart_state.hart.csrs.mcountinhibit 0), mprv) refl, refl)
 

@@ -95,12 +95,12 @@ module _ (hart_state : HartState) (shared : Shared) (trap : Trap) (legal : Legal
           contexts = legal_set shared.contexts _ _ all_legal
               (nothing_legal (first_context (recorded shared.memory (create_args_of hart_state.hart.regs))) refl refl);
         };
-        destroys = λ requests is_taken. record {
+        destroys = λ requests slot_accepted. record {
           supervisor = record { stvec = legal.stvec; sepc = legal.sepc };
           contexts = legal_set shared.contexts _ None all_legal tt;
         };
         measures = λ requests no_refusal. record { supervisor = record { stvec = legal.stvec; sepc = legal.sepc }; contexts = all_legal };
-        enters = λ call requests is_entry_call from_host is_taken.
+        enters = λ call requests is_entry_call from_host slot_accepted.
             let restored = restored_legal hart_state.hart.csrs (saved_context shared.contexts (a0 hart_state)).supervisor in
             record { supervisor = record { stvec = restored.stvec; sepc = restored.sepc }; contexts = legal_set shared.contexts _ None all_legal tt };
         leaves =

@@ -36,9 +36,9 @@ use Rattle.rv_monitor.proofs.Prelude.{cases_Bool, cases_lt, count_of, enters, eq
 use Rattle.rv_monitor.proofs.Prelude.{hart_view, length-map, monitored_step, reprogrammed, runs_on, saved_after, step_of, worlds}
 use Rattle.rv_monitor.proofs.Attestation.{same_info, same_size, some_identity, valid_slot}
 use Rattle.rv_monitor.proofs.Availability.{timer_exits}
-use Rattle.rv_monitor.proofs.Beside.{running_is_live, runs_among, runs_inside}
-use Rattle.rv_monitor.proofs.EnclaveMemory.{not_host_by, own_seen, world_is_enclave}
-use Rattle.rv_monitor.proofs.EnclaveStays.{index_same, own_bytes}
+use Rattle.rv_monitor.proofs.Beside.{running_is_live, runs_among, running_hart_in_range}
+use Rattle.rv_monitor.proofs.EnclaveMemory.{enclave_world_is_not_host, accessible_bytes_are_own, world_is_enclave}
+use Rattle.rv_monitor.proofs.EnclaveStays.{equal_bytes_at_index, bytes_beyond_unchanged}
 use Rattle.rv_monitor.proofs.EnclaveSteps.{enclave_step, exited}
 use Rattle.rv_monitor.proofs.Entering.{enter_law}
 use Rattle.rv_monitor.proofs.Events.{event_invariant, line_worlds}
@@ -89,8 +89,8 @@ runs_on_one_hart : (slot hart other_hart : ℕ) (machine : MonitoredMachine) →
     → runs_on slot other_hart machine ≡ true → hart ≡ other_hart
 runs_on_one_hart slot hart other_hart machine invariant runs_on_hart runs_on_other =
     runs_at_one_index slot (worlds machine) invariant.shared.apart hart other_hart
-    (ap (is_world_of slot) (world_at hart machine (runs_inside slot hart machine runs_on_hart)) ∙ runs_on_hart)
-    (ap (is_world_of slot) (world_at other_hart machine (runs_inside slot other_hart machine runs_on_other)) ∙ runs_on_other)
+    (ap (is_world_of slot) (world_at hart machine (running_hart_in_range slot hart machine runs_on_hart)) ∙ runs_on_hart)
+    (ap (is_world_of slot) (world_at other_hart machine (running_hart_in_range slot other_hart machine runs_on_other)) ∙ runs_on_other)
 
 -- an enclave that runs on a hart has the state Running
 runs_if_on_hart : (slot hart : ℕ) (machine : MonitoredMachine) → Invariant machine → runs_on slot hart machine ≡ true
@@ -332,7 +332,8 @@ module _ (slot hart : ℕ) (machine : MonitoredMachine) (context : Context) (inv
         size = same_length;
         bytes =
             λ index in_region. sym
-            (index_same machine.shared.memory after.shared.memory index (sym same_length) (preserved.preserved.bytes (ram_base + index) in_region));
+            (equal_bytes_at_index machine.shared.memory after.shared.memory index (sym same_length)
+            (preserved.preserved.bytes (ram_base + index) in_region));
       }
 
   -- a step that enters the enclave leaves the enclave at its point
@@ -377,7 +378,7 @@ module _ (slot hart : ℕ) (machine : MonitoredMachine) (context : Context) (inv
       let world = world_is_enclave slot (hart_state_of hart machine).world runs_on_hart in
       let contradiction : false ≡ true =
       ap (λ (maybe_context : Option Context). is_some maybe_context) (sym host_context_is)
-      ∙ (invariant.hart_states hart (runs_inside slot hart machine runs_on_hart)).host.kept
+      ∙ (invariant.hart_states hart (running_hart_in_range slot hart machine runs_on_hart)).host.kept
       ∙ ap (λ (world : World). not (is_host world)) world in
       cc
   timer_exit (Some host) host_context_is runs_on_hart timer_set = (
@@ -409,7 +410,8 @@ module _ (slot hart : ℕ) (machine : MonitoredMachine) (context : Context) (inv
   step_stays : (runs_on slot hart machine ≡ false) ⊎ ((hart_state_of hart machine).hart.csrs.timer ≡ true)
       → StaysAtPoint slot context machine (step_of hart machine).state
   step_stays foreign = elim (cases_Bool (runs_on slot hart machine)) [
-    | inl runs_on_hart ↦ elim foreign [ inl low ↦ absurd (both_ways _ low runs_on_hart) | inr line ↦ interrupted_stays runs_on_hart line ]
+    | inl runs_on_hart ↦
+        elim foreign [ inl not_running ↦ absurd (both_ways _ not_running runs_on_hart) | inr line ↦ interrupted_stays runs_on_hart line ]
     | inr not_running ↦ elim (cases_Bool (enters slot (step_of hart machine).outcome.entered)) [
       | inl entered ↦ entered_stays entered
       | inr not_entered ↦ undisturbed_stays not_running not_entered
@@ -476,7 +478,7 @@ accessible_span_is_own : (slot : ℕ) (machine : MonitoredMachine) (hart : ℕ) 
 accessible_span_is_own slot machine hart access None world is_accessible_span byte byte_in_span = cc
 accessible_span_is_own slot machine hart access (Some span) world is_accessible_span byte byte_in_span =
     let parts = and_parts _ _ byte_in_span in
-    own_seen machine.shared.memory machine.shared.table slot access span.addr (bytes_in span.len)
+    accessible_bytes_are_own machine.shared.memory machine.shared.table slot access span.addr (bytes_in span.len)
     (subst (λ (world : World). is_accessible machine.shared.memory machine.shared.table world access
     (bytes_from span.addr (bytes_in span.len)) ≡ true) world is_accessible_span)
     byte (leb-true _ _ parts.0) (ltb-true _ _ parts.1)
@@ -485,7 +487,7 @@ accessible_span_is_own slot machine hart access (Some span) world is_accessible_
 reads_only_own_bytes : (place : Place) (machine : MonitoredMachine) → Invariant machine → runs_at place machine ≡ true → (byte : ℕ)
     → reads_byte (step_at place machine).outcome.step.touched byte ≡ true → is_beyond machine.shared.table place.slot byte ≡ false
 reads_only_own_bytes place machine invariant runs byte byte_read =
-    let in_range = runs_inside place.slot place.hart machine runs in
+    let in_range = running_hart_in_range place.slot place.hart machine runs in
     let world = world_is_enclave place.slot (hart_state_of place.hart machine).world runs in
     let state = hart_view place.hart machine in
     let step_is : (step_at place machine).outcome.step ≡ (monitored_step state).outcome.step =
@@ -504,14 +506,14 @@ changes_only_own_bytes : (place : Place) (machine : MonitoredMachine) → Invari
     → is_beyond machine.shared.table place.slot (ram_base + index) ≡ true
     → slice_index (step_at place machine).state.shared.memory index ≡ slice_index machine.shared.memory index
 changes_only_own_bytes place machine invariant runs index byte_beyond =
-    let in_range = runs_inside place.slot place.hart machine runs in
+    let in_range = running_hart_in_range place.slot place.hart machine runs in
     let world = world_is_enclave place.slot (hart_state_of place.hart machine).world runs in
     let state = hart_view place.hart machine in
     let memory_of_view = ap (λ (stepped : HartViewStepped). stepped.state.shared.memory) (step_of_view place.hart machine in_range) in
     let byte_unchanged =
-    own_bytes place.slot state (hart_view_invariant place.hart machine invariant in_range) world (ram_base + index) byte_beyond in
+    bytes_beyond_unchanged place.slot state (hart_view_invariant place.hart machine invariant in_range) world (ram_base + index) byte_beyond in
     let same_length = same_size place.hart machine in
-    sym (index_same machine.shared.memory (step_at place machine).state.shared.memory index (sym same_length)
+    sym (equal_bytes_at_index machine.shared.memory (step_at place machine).state.shared.memory index (sym same_length)
     (subst (λ (memory : List ℕ). byte_at memory (ram_base + index) ≡ byte_at machine.shared.memory (ram_base + index))
     (sym memory_of_view) byte_unchanged))
 
@@ -547,10 +549,10 @@ module _ (place other_place : Place) (one other : MonitoredMachine) (invariant_o
   same_hart =
       let below_one =
       below_m_hart_of_context one.shared.table (hart_state_of place.hart one)
-      (invariant_one.hart_states place.hart (runs_inside first_slot place.hart one own_step_premises.first)) in
+      (invariant_one.hart_states place.hart (running_hart_in_range first_slot place.hart one own_step_premises.first)) in
       let below_other =
       below_m_hart_of_context other.shared.table (hart_state_of other_place.hart other)
-      (invariant_other.hart_states other_place.hart (runs_inside second_slot other_place.hart other own_step_premises.second)) in
+      (invariant_other.hart_states other_place.hart (running_hart_in_range second_slot other_place.hart other own_step_premises.second)) in
       below_one
       ∙ ap₂ context_hart (own_step_premises.line ∙ sym own_step_premises.line_too)
       (point.first.running place.hart own_step_premises.first ∙ sym (point.second.running other_place.hart own_step_premises.second))
@@ -563,7 +565,7 @@ module _ (place other_place : Place) (one other : MonitoredMachine) (invariant_o
     second = own_step_premises.second;
     hart = same_hart;
     slot = same_record;
-    memory = record { size = refl; bytes = λ n shown. refl };
+    memory = record { size = refl; bytes = λ n not_hidden. refl };
   }
 
   -- the step of the enclave is the same in the first machine and in the mixed machine
@@ -590,7 +592,7 @@ module _ (place other_place : Place) (one other : MonitoredMachine) (invariant_o
   measures_seen : MeasuresSeen (differs one.shared.memory other.shared.memory)
       (hart_state_of other_place.hart mixed).world mixed.shared.table mixed.shared.contexts
   measures_seen from_host memory new no_refusal index in_region =
-      absurd (both_ways _ (not_host_by second_slot (hart_state_of other_place.hart other).world own_step_premises.second) from_host)
+      absurd (both_ways _ (enclave_world_is_not_host second_slot (hart_state_of other_place.hart other).world own_step_premises.second) from_host)
 
   -- the steps of the mixed machine and of the second machine differ only in bytes that the step does not change
   same_over_memory : MachineOver one.shared.memory other.shared.memory (step_at other_place mixed) (step_at other_place other)

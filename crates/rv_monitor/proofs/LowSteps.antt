@@ -22,7 +22,7 @@ use Rattle.rv_monitor.specs.MonitoredMachine.{hart_state_in}
 use Rattle.rv_monitor.proofs.Integrity.{integrity}
 use Rattle.rv_monitor.proofs.InvariantLemmas.{hart_view_invariant, invariant_by_size}
 use Rattle.rv_monitor.proofs.RelatedEquiv.{equiv_related, related_equiv}
-use Rattle.rv_monitor.proofs.SchedIntegrity.{go_on_law}
+use Rattle.rv_monitor.proofs.SchedIntegrity.{others_keep_running_law}
 use Rattle.rv_monitor.proofs.SteppedOver.{MachineOver, MeasuresSeen, ReadsSeen, machine_over, over_bytes}
 use Rattle.rv_monitor.proofs.Touched.{touch_law}
 use Rattle.std.proofs.lemmas.Bool.{leb-true, ltb-true, not-false}
@@ -121,7 +121,7 @@ may_not_differ in_region false in_window outside_region outside_window = rw outs
 -- two machines are related, and the same hart makes a low step in both while `enclave` runs on another hart
 module _ (enclave hart : ℕ) (one other : MonitoredMachine) (invariant_one : Invariant one) (invariant_other : Invariant other)
     (related : AreRelated enclave one other)
-    (low : IsLowStep enclave hart one other) (running : runs one.shared.table enclave ≡ true) where
+    (low_step : IsLowStep enclave hart one other) (running : runs one.shared.table enclave ≡ true) where
   -- The mixed machine: the second machine with the memory of the first one.
   abbrev mixed : MonitoredMachine
   mixed = over_bytes other one.shared.memory
@@ -137,33 +137,33 @@ module _ (enclave hart : ℕ) (one other : MonitoredMachine) (invariant_one : In
     hart_states = related.hart_states;
     hosts = related.hosts;
     table = related.table;
-    memory = record { size = refl; bytes = λ index shown. refl };
+    memory = record { size = refl; bytes = λ index not_hidden. refl };
     contexts = related.contexts;
-    gone = λ dead. ap (λ (shared : Shared). record shared { memory = one.shared.memory }) (related.gone dead);
+    gone = λ not_live. ap (λ (shared : Shared). record shared { memory = one.shared.memory }) (related.gone not_live);
   }
 
   -- the first machine and the mixed machine are equivalent except `enclave` in the guest view
   mixed_equiv : EquivToGuests enclave one mixed
-  mixed_equiv = related_equiv enclave one mixed mixed_related (λ enclave_runs. record { size = refl; bytes = λ index shown. refl })
+  mixed_equiv = related_equiv enclave one mixed mixed_related (λ enclave_runs. record { size = refl; bytes = λ index not_hidden. refl })
 
   -- the low steps of the first machine and of the mixed machine have equal outcomes, and leave machines that are equivalent in the guest view
   first_step : GuestStepEquiv enclave (step_of hart one) (step_of hart mixed)
-  first_step = guest_step_equiv enclave hart one mixed invariant_one mixed_invariant mixed_equiv low.low
+  first_step = guest_step_equiv enclave hart one mixed invariant_one mixed_invariant mixed_equiv low_step.low
 
   -- the first machine and the mixed machine are related after the step
   related_after : AreRelated enclave (step_of hart one).state (step_of hart mixed).state
   related_after =
       equiv_related enclave (step_of hart one).state (step_of hart mixed).state first_step.state
-      (same_hosts_after enclave hart one mixed invariant_one mixed_invariant mixed_equiv mixed_related.hosts low.low)
+      (same_hosts_after enclave hart one mixed invariant_one mixed_invariant mixed_equiv mixed_related.hosts low_step.low)
 
   -- each byte that the step reads is equal in the memories of both machines
   read_bytes_equal : (index : ℕ) → reads_byte (step_of hart one).outcome.step.touched (ram_base + index) ≡ true
       → slice_index one.shared.memory index ≡ slice_index other.shared.memory index
   read_bytes_equal index byte_read = elim (cases_Bool (has (window one.shared.table enclave) (ram_base + index))) [
-    | inl in_window ↦ (low.window running).bytes index (nand_fails _ _ in_window byte_read)
+    | inl in_window ↦ (low_step.window running).bytes index (nand_fails _ _ in_window byte_read)
     | inr outside_window ↦
         related.memory.bytes index
-        (may_not_differ _ _ _ (reads_apart enclave hart one invariant_one low.low (ram_base + index) byte_read) (λ enclave_runs. outside_window))
+        (may_not_differ _ _ _ (reads_apart enclave hart one invariant_one low_step.low (ram_base + index) byte_read) (λ enclave_runs. outside_window))
   ]
 
   -- the step reads no byte in which the memories of both machines differ
@@ -197,9 +197,9 @@ module _ (enclave hart : ℕ) (one other : MonitoredMachine) (invariant_one : In
       × (is_live (step_of hart one).state.shared.table enclave ≡ true)
   record_unchanged =
       let somewhere = runs_somewhere enclave one invariant_one running in
-      let continues = go_on_law hart one invariant_one enclave somewhere.hart somewhere.runs low.low in
+      let continues = others_keep_running_law hart one invariant_one enclave somewhere.hart somewhere.runs low_step.low in
       let live = running_is_live enclave somewhere.hart one invariant_one somewhere.runs in
-      ((integrity hart one invariant_one enclave low.low live continues.passes continues.live).preserved.slot, continues.live)
+      ((integrity hart one invariant_one enclave low_step.low live continues.passes continues.live).preserved.slot, continues.live)
 
   -- a low step of two related machines, while the enclave runs on another hart, has equal outcomes and leaves the machines related
   pub low_while_running : ((step_of hart one).outcome ≡ (step_of hart other).outcome)
@@ -239,7 +239,7 @@ module _ (enclave hart : ℕ) (one other : MonitoredMachine) (invariant_one : In
                 λ slot distinct. related_after.contexts.others slot distinct
                 ∙ ap (λ (contexts : Contexts). context_at contexts slot) mixed_step.shared.contexts;
           };
-          gone = λ dead. absurd (both_ways _ dead record_unchanged.1);
+          gone = λ not_live. absurd (both_ways _ not_live record_unchanged.1);
         },
       )
 
@@ -248,4 +248,4 @@ module _ (enclave hart : ℕ) (one other : MonitoredMachine) (invariant_one : In
 -- if all bytes of the window are equal in two machines, then so are the bytes of the window that a step reads
 pub window_read : (enclave hart : ℕ) (one other : MonitoredMachine) → SameWindow enclave one other → SameWindowRead enclave hart one other
 window_read enclave hart one other bytes_equal =
-    record { size = bytes_equal.size; bytes = λ index shown. bytes_equal.bytes index (left_if_nand_fails _ _ shown) }
+    record { size = bytes_equal.size; bytes = λ index not_hidden. bytes_equal.bytes index (left_if_nand_fails _ _ not_hidden) }

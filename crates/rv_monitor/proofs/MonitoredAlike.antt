@@ -76,7 +76,7 @@ step_equiv enclave hart_state worlds one other view_invariant_one shared_invaria
       table = shared_equiv.table;
       memory = bare_steps_alike.memory;
       contexts = shared_equiv.contexts;
-      gone = λ dead. ap (stored hart_state) (shared_equiv.gone dead);
+      gone = λ not_live. ap (stored hart_state) (shared_equiv.gone not_live);
     } in
     let ended =
     trapped_equiv enclave first_bare.outcome first_bare.outcome.trap worlds (record hart_state { hart = first_bare.state.hart })

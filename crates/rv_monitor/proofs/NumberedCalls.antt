@@ -22,7 +22,7 @@ use Rattle.rv_monitor.specs.Prelude.{call_number, requested_call, saved_context,
 use Rattle.rv_monitor.proofs.Prelude.{Handled, HartViewInvariant, Invariant, MonitoredMachine, HartView, HartViewStepped, a0, a1, bare_machine}
 use Rattle.rv_monitor.proofs.Prelude.{call_handled, call_refusals, called, entered_slot, handled, handled_cause, hart_state_of, hart_view}
 use Rattle.rv_monitor.proofs.Prelude.{performed, refused, returned, returned_to_caller, step_of, with_reprogrammed_hart, past_call}
-use Rattle.rv_monitor.proofs.Availability.{host_is}
+use Rattle.rv_monitor.proofs.Availability.{world_is_host}
 use Rattle.rv_monitor.proofs.Entering.{enter_law}
 use Rattle.rv_monitor.proofs.Exits.{exits_law}
 use Rattle.rv_monitor.proofs.InvariantLemmas.{hart_view_invariant}
@@ -318,7 +318,7 @@ module _ (hart : ℕ) (machine : MonitoredMachine) (slot : ℕ) (trap : Trap) (h
 pub interrupts_enclave : (hart : ℕ) (machine : MonitoredMachine) → Invariant machine → InterruptsEnclave hart machine (step_of hart machine)
 interrupts_enclave hart machine invariant slot host trap interrupt runs host_is_saved traps cause_is =
     let left = leave_law hart machine invariant slot host trap runs host_is_saved traps
-    (host_is _ ((exits_law hart machine invariant slot runs).exits trap traps ∙ ap (causes_exit (hart_state_of hart machine)) cause_is)) in
+    (world_is_host _ ((exits_law hart machine invariant slot runs).exits trap traps ∙ ap (causes_exit (hart_state_of hart machine)) cause_is)) in
     (left.0 ∙ machines_after_interrupt_equal hart machine slot trap host interrupt cause_is, left.1)
 
 -- proves the result of each call by its number and its status
@@ -339,7 +339,7 @@ answers_calls hart machine invariant trap traps by_ecall =
     → ((step_of hart machine).state ≡ left_machine hart machine slot trap host) × ((step_of hart machine).outcome.entered ≡ None) =
     λ slot host call runs host_is_saved is_call exits.
     leave_law hart machine invariant slot host trap runs host_is_saved traps
-    (host_is _ ((exits_law hart machine invariant slot runs).exits trap traps
+    (world_is_host _ ((exits_law hart machine invariant slot runs).exits trap traps
     ∙ exit_call_is_exit_cause before trap.cause call by_ecall (asks before shared call is_call) exits)) in
     -- the numbers in a7 and a6 are those of the call
     let numbers_of_call : (slot : ℕ) (call : Call) → before.world ≡ Enclave slot → call_at hart machine ≡ Some call

@@ -70,10 +70,10 @@ shared_invariant-moved_to_front shared worlds index world in_range shared_invari
 }
 
 -- the shared invariant for a list of worlds holds for the list with the first world moved to the index
-pub sound_back : (shared : Shared) (worlds : List World) (index : ℕ) (world : World) → index < length worlds
+pub shared_invariant-moved_back : (shared : Shared) (worlds : List World) (index : ℕ) (world : World) → index < length worlds
     → SharedInvariant shared (world ∷ without worlds index)
     → SharedInvariant shared (slice_set worlds index world)
-sound_back shared worlds index world in_range shared_invariant = record {
+shared_invariant-moved_back shared worlds index world in_range shared_invariant = record {
   valid = shared_invariant.valid;
   contexts = shared_invariant.contexts;
   running = λ slot. shared_invariant.running slot ∙ sym (any_prefix (is_world_of slot) worlds index world in_range);

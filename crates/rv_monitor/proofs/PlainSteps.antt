@@ -36,8 +36,8 @@ find_none is_external is_software is_timer is_s_external is_s_software is_s_time
     rw (and-false is_external, and-false is_software, and-false is_timer, and-false is_s_external, and-false is_s_software, and-false is_s_timer) refl
 
 -- below mode M, no interrupt is pending if mie is 0
-nothing_waits : (csrs : CsrState) (mode : Mode) → is_machine mode ≡ false → csrs.mie ≡ 0 → pending csrs mode ≡ None
-nothing_waits csrs mode mode_below_m disabled =
+pending_is_none : (csrs : CsrState) (mode : Mode) → is_machine mode ≡ false → csrs.mie ≡ 0 → pending csrs mode ≡ None
+pending_is_none csrs mode mode_below_m disabled =
     let mip = mip_word csrs in
     rw (mode_below_m, disabled) (find_none (is_set mip 11) (is_set mip 3) (is_set mip 7) (is_set mip 9) (is_set mip 1) (is_set mip 5))
 
@@ -80,7 +80,7 @@ host_continues hart machine invariant host = record {
       sym (ap (λ (outcome : StepOutcome). outcome.trap) (same_outcome state)) ∙ trapping.trapped in
       let disabled : state.hart_state.hart.csrs.mie ≡ 0 = view_invariant.hart.layout.mie ∙ ap mie_of host in
       let contradiction : None ≡ Some interrupt =
-      sym (nothing_waits state.hart_state.hart.csrs state.hart_state.hart.mode view_invariant.hart.layout.mode disabled)
+      sym (pending_is_none state.hart_state.hart.csrs state.hart_state.hart.mode view_invariant.hart.layout.mode disabled)
       ∙ takes_pending (bare_machine state) trap interrupt bare_step_traps cause_is in
       cc;
   redirects = redirects_step hart machine invariant;

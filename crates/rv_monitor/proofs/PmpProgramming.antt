@@ -18,12 +18,12 @@ reprogramming_changes_nothing slots hart_state hart_invariant =
     rw (← entries, ← mie) refl
 
 -- reprogramming changes no hart, if each hart has the invariant
-pub all_as_are : (slots : Slots) (hart_states : List HartState)
+pub programmed_harts_unchanged : (slots : Slots) (hart_states : List HartState)
     → ((hart : ℕ) → hart < length hart_states → HartInvariant slots (slice_index_or hart_states hart (hart_state_at_start 0)))
     → map (reprogrammed slots) hart_states ≡ hart_states
-all_as_are slots [] each = refl
-all_as_are slots (hart_state ∷ hart_states) each =
-    let rest_unchanged = all_as_are slots hart_states (λ hart in_range. each (suc hart) (omega (arith, in_range))) in
+programmed_harts_unchanged slots [] each = refl
+programmed_harts_unchanged slots (hart_state ∷ hart_states) each =
+    let rest_unchanged = programmed_harts_unchanged slots hart_states (λ hart in_range. each (suc hart) (omega (arith, in_range))) in
     ap (λ (hart_state : HartState). hart_state ∷ map (reprogrammed slots) hart_states)
     (reprogramming_changes_nothing slots hart_state (each 0 (omega arith))) ∙ ap
     (λ (hart_states : List HartState). hart_state ∷ hart_states) rest_unchanged
@@ -53,9 +53,9 @@ work_entries hart_state shared trap =
     (record {
       answers = λ status result. refl;
       creates = λ requests no_refusal. refl;
-      destroys = λ requests is_taken. refl;
+      destroys = λ requests slot_accepted. refl;
       measures = λ requests no_refusal. refl;
-      enters = λ call requests is_entry_call from_host is_taken. refl;
+      enters = λ call requests is_entry_call from_host slot_accepted. refl;
       leaves = refl;
       redirects = refl;
     }) refl

@@ -37,8 +37,9 @@ module _ (slots : Slots) (original current : List HartState) (hart : ℕ) (so_fa
       }
 
   -- one iteration of the loop changes nothing if the next hart is already programmed
-  pub one_as_is : reprogrammed slots (hart_state_in original hart) ≡ hart_state_in original hart → AreProgrammed slots original current (hart + 1)
-  one_as_is reprogrammed_is = record {
+  pub next_hart_unchanged : reprogrammed slots (hart_state_in original hart) ≡ hart_state_in original hart
+      → AreProgrammed slots original current (hart + 1)
+  next_hart_unchanged reprogrammed_is = record {
     size = so_far.size;
     done = below_more _ _ so_far.done (so_far.rest hart (omega arith) ∙ sym reprogrammed_is);
     rest = λ other_hart above. so_far.rest other_hart (omega (arith, above));
@@ -60,15 +61,15 @@ module _ (slots : Slots) (original current : List HartState) (hart : ℕ) (so_fa
       ∙ sym (get_or-map (reprogrammed slots) (take hart original) index default some_default (omega (arith, original_length, below))))
 
 -- the loop changes nothing on a machine with one hart that is already programmed
-pub single_as_is : (slots : Slots) (state_array : List HartState) (hart_count hart : ℕ) → hart < hart_count → hart_count ≤ 1
+pub single_hart_unchanged : (slots : Slots) (state_array : List HartState) (hart_count hart : ℕ) → hart < hart_count → hart_count ≤ 1
     → hart_count ≤ length state_array
     → reprogrammed slots (hart_state_in state_array hart) ≡ hart_state_in state_array hart
     → take hart_count state_array ≡ map (reprogrammed slots) (take hart_count state_array)
-single_as_is slots state_array hart_count hart in_range at_most_one in_array is_programmed =
+single_hart_unchanged slots state_array hart_count hart in_range at_most_one in_array is_programmed =
     let hart_is_0 : hart ≡ 0 = omega (arith, in_range, at_most_one) in
     let one_hart : 1 ≡ hart_count = omega (arith, in_range, at_most_one) in
     let IsProgrammed : ℕ → Type 0 = λ hart. reprogrammed slots (hart_state_in state_array hart) ≡ hart_state_in state_array hart in
     let programmed : AreProgrammed slots state_array state_array 1 =
-    one_as_is slots state_array state_array 0 (none_programmed slots state_array) (subst IsProgrammed hart_is_0 is_programmed) in
+    next_hart_unchanged slots state_array state_array 0 (none_programmed slots state_array) (subst IsProgrammed hart_is_0 is_programmed) in
     subst (λ (count : ℕ). take count state_array ≡ map (reprogrammed slots) (take count state_array)) one_hart
     (all_programmed slots state_array state_array 1 programmed (omega (arith, one_hart, in_array)))

@@ -15,27 +15,28 @@ use Rattle.rv_monitor.proofs.TrapSteps.{step_cases, hart_state_after}
 use Rattle.rv_monitor.proofs.HandlerCases.{handler_cases}
 
 -- a new state of one slot leaves the record of each other slot unchanged
-pub state_other : (slots : Slots) (slot other_slot : ℕ) (maybe_info : Option SlotInfo) (state : EnclaveState) → slot ≢ other_slot
+pub new_state_keeps_other_slot : (slots : Slots) (slot other_slot : ℕ) (maybe_info : Option SlotInfo) (state : EnclaveState) → slot ≢ other_slot
     → slot_at (option_case maybe_info slots (λ info. with_slot slots other_slot (Some (record info { state = state })))) slot ≡ slot_at slots slot
-state_other slots slot other_slot None state distinct = refl
-state_other slots slot other_slot (Some info) state distinct = at_other_slot slots other_slot slot (Some (record info { state = state })) distinct
+new_state_keeps_other_slot slots slot other_slot None state distinct = refl
+new_state_keeps_other_slot slots slot other_slot (Some info) state distinct =
+    at_other_slot slots other_slot slot (Some (record info { state = state })) distinct
 
 -- a new state of `slot` leaves the identity of `slot` unchanged
-state_same : (slots : Slots) (slot : ℕ) (maybe_info : Option SlotInfo) (state : EnclaveState) → length slots ≡ slot_count
+new_state_keeps_identity : (slots : Slots) (slot : ℕ) (maybe_info : Option SlotInfo) (state : EnclaveState) → length slots ≡ slot_count
     → slot_at slots slot ≡ maybe_info
     → identity_at (option_case maybe_info slots (λ info. with_slot slots slot (Some (record info { state = state })))) slot ≡ identity_at slots slot
-state_same slots slot None state table_length slot_is = refl
-state_same slots slot (Some info) state table_length slot_is =
+new_state_keeps_identity slots slot None state table_length slot_is = refl
+new_state_keeps_identity slots slot (Some info) state table_length slot_is =
     let slot_in_range = live_in_range slots slot info table_length slot_is in
     let written_record = at_written_slot slots slot (Some (record info { state = state })) (omega (arith, table_length, slot_in_range)) in
     ap (option_map identity_of) written_record ∙ sym (ap (option_map identity_of) slot_is)
 
 -- a new state of the other slot leaves the identity of each slot unchanged
-pub state_keeps : (slots : Slots) (slot other_slot : ℕ) (state : EnclaveState) → length slots ≡ slot_count
+pub new_state_keeps_identities : (slots : Slots) (slot other_slot : ℕ) (state : EnclaveState) → length slots ≡ slot_count
     → identity_at (with_state slots other_slot state) slot ≡ identity_at slots slot
-state_keeps slots slot other_slot state table_length = elim (cases_eq slot other_slot) [
-  | inl equal ↦ rw (← equal) (state_same slots slot (slot_at slots slot) state table_length refl)
-  | inr distinct ↦ ap (option_map identity_of) (state_other slots slot other_slot (slot_at slots other_slot) state distinct)
+new_state_keeps_identities slots slot other_slot state table_length = elim (cases_eq slot other_slot) [
+  | inl equal ↦ rw (← equal) (new_state_keeps_identity slots slot (slot_at slots slot) state table_length refl)
+  | inr distinct ↦ ap (option_map identity_of) (new_state_keeps_other_slot slots slot other_slot (slot_at slots other_slot) state distinct)
 ]
 
 -- enclave `slot` is live before the trap handler
@@ -54,9 +55,9 @@ module _ (slot : ℕ) (hart_state : HartState) (shared : Shared) (valid : IsVali
   destroyed_keeps : (other_slot : ℕ) → SlotIsAccepted shared.table Destroy other_slot → is_live (destroyed shared other_slot).table slot ≡ true
       → identity_at (destroyed shared other_slot).table slot ≡ identity_at shared.table slot
   unfolding destroyed
-  destroyed_keeps other_slot is_taken live_after = elim (cases_eq slot other_slot) [
+  destroyed_keeps other_slot slot_accepted live_after = elim (cases_eq slot other_slot) [
     | inl equal ↦
-        let slot_in_range = live_in_range shared.table other_slot is_taken.info valid.count is_taken.is in
+        let slot_in_range = live_in_range shared.table other_slot slot_accepted.info valid.count slot_accepted.is in
         let slot_is_free : slot_at (with_slot shared.table other_slot None) other_slot ≡ None =
         at_written_slot shared.table other_slot None (omega (arith, valid.count)) in
         absurd (both_ways _ (ap (λ (maybe_info : Option SlotInfo). is_some maybe_info) slot_is_free) (rw equal at live_after))
@@ -73,11 +74,14 @@ module _ (slot : ℕ) (hart_state : HartState) (shared : Shared) (valid : IsVali
   handled_keeps trap = handler_cases hart_state trap shared Keeps (record {
     answers = λ status result live_after. refl;
     creates = λ requests no_refusal live_after. created_keeps (create_args_of hart_state.hart.regs) no_refusal;
-    destroys = λ requests is_taken live_after. destroyed_keeps (a0 hart_state) is_taken live_after;
+    destroys = λ requests slot_accepted live_after. destroyed_keeps (a0 hart_state) slot_accepted live_after;
     measures = λ requests no_refusal live_after. refl;
-    enters = λ call requests is_entry_call from_host is_taken live_after. state_keeps shared.table slot (a0 hart_state) Running valid.count;
+    enters =
+        λ call requests is_entry_call from_host slot_accepted live_after. new_state_keeps_identities shared.table slot
+        (a0 hart_state) Running valid.count;
     leaves =
-        λ live_after. state_keeps shared.table slot (running_slot hart_state.world) (enclave_state_after trap.cause hart_state.hart.regs) valid.count;
+        λ live_after. new_state_keeps_identities shared.table slot (running_slot hart_state.world)
+        (enclave_state_after trap.cause hart_state.hart.regs) valid.count;
     redirects = λ live_after. refl;
   })
 

@@ -7,7 +7,7 @@ use Rattle.rv_monitor.specs.GuestView.{guest_state}
 use Rattle.rv_monitor.specs.Prelude.{EqualOutside, HartState, is_live, is_world_of}
 use Rattle.rv_monitor.proofs.Prelude.{HartStatesEquivExcept, MonitoredMachine, cases_lt, count_of, hart_state_of, length-set}
 use Rattle.rv_monitor.proofs.HartCases.{hart_cases_of_both}
-use Rattle.rv_monitor.proofs.InvariantLemmas.{past_as_is}
+use Rattle.rv_monitor.proofs.InvariantLemmas.{no_hart_unchanged}
 
 -- `change` of the first hart state and `other_change` of the second keep the world, and keep related hart states related
 pub record ChangesAlike (enclave : ℕ) (one other : HartState) (change other_change : HartState → HartState) : Type 0 where
@@ -48,9 +48,9 @@ module _ (enclave hart : ℕ) (change other_change : HartState → HartState) (o
     | inl in_range ↦ changed_in_range in_range
     | inr past_last ↦
         let same_harts = related.harts in
-        let one_unchanged = past_as_is hart (change (hart_state_of hart one)) one past_last in
-        let other_unchanged = past_as_is hart (other_change (hart_state_of hart other)) other (omega (arith, same_harts, past_last)) in
-        rw (one_unchanged, other_unchanged) related
+        let first_unchanged = no_hart_unchanged hart (change (hart_state_of hart one)) one past_last in
+        let second_unchanged = no_hart_unchanged hart (other_change (hart_state_of hart other)) other (omega (arith, same_harts, past_last)) in
+        rw (first_unchanged, second_unchanged) related
   ]
 
 -- two related machines stay related with two memories that are equal outside the bytes that may differ, and that are equal if the enclave is not live
@@ -64,17 +64,17 @@ memory_related enclave one other memory other_memory related equal_outside same_
   table = related.table;
   memory = equal_outside;
   contexts = related.contexts;
-  gone = λ dead. ap₂ (λ (shared : Shared) (memory : List ℕ). record shared { memory = memory }) (related.gone dead) (same_once_dead dead);
+  gone = λ not_live. ap₂ (λ (shared : Shared) (memory : List ℕ). record shared { memory = memory }) (related.gone not_live) (same_once_dead not_live);
 }
 
 -- a machine is related to itself
 pub related_itself : (enclave : ℕ) (machine : MonitoredMachine) → AreRelated enclave machine machine
 related_itself enclave machine = record {
   harts = refl;
-  hart_states = λ hart. record { world = refl; same = λ low. refl };
+  hart_states = λ hart. record { world = refl; same = λ not_running. refl };
   hosts = λ hart runs. record { host = refl; rest = refl };
   table = refl;
-  memory = record { size = refl; bytes = λ index shown. refl };
+  memory = record { size = refl; bytes = λ index not_hidden. refl };
   contexts = record { size = refl; others = λ slot distinct. refl };
-  gone = λ dead. refl;
+  gone = λ not_live. refl;
 }

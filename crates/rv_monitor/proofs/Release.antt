@@ -11,9 +11,9 @@ use Rattle.rv_monitor.specs.Declassification.{SameHandoverBy, SameHost, unswitch
 use Rattle.rv_monitor.proofs.Prelude.{EquivExcept, Invariant, MonitoredMachine, HartStatesEquivExcept, SlotInfo, at_other_slot, at_written_slot, both_ways, cases_lt, count_of}
 use Rattle.rv_monitor.proofs.Prelude.{enclave_state_after, get_or-map, saved_after, left_hart, length-map, length-set, live_in_range}
 use Rattle.rv_monitor.proofs.Prelude.{reason, runs_on, hart_state_at_start, hart_state_of, reprogrammed, step_of, value}
-use Rattle.rv_monitor.proofs.Beside.{running_is_live, runs_inside}
+use Rattle.rv_monitor.proofs.Beside.{running_is_live, running_hart_in_range}
 use Rattle.rv_monitor.proofs.Leaving.{leave_law}
-use Rattle.rv_monitor.proofs.EnclaveMemory.{state_extent, world_is_enclave}
+use Rattle.rv_monitor.proofs.EnclaveMemory.{new_state_keeps_extent, world_is_enclave}
 use Rattle.rv_monitor.proofs.HartCases.{hart_cases_of_both, past_hart_state}
 use Rattle.rv_monitor.specs.MonitoredMachine.{hart_state_in}
 use Rattle.rv_enclaves.specs.SlotNumbers.{slot_count}
@@ -35,11 +35,11 @@ same_value (causes.Interrupt interrupt) one other same_handover = refl
 same_value (causes.Exception exception) one other same_handover = same_handover.a0
 
 -- a new state of `slot` does not change whether `slot` is live
-state_live : (slots : Slots) (slot : ℕ) (maybe_info : Option SlotInfo) (state : EnclaveState) → length slots ≡ slot_count
+new_state_keeps_liveness : (slots : Slots) (slot : ℕ) (maybe_info : Option SlotInfo) (state : EnclaveState) → length slots ≡ slot_count
     → slot_at slots slot ≡ maybe_info
     → is_live (option_case maybe_info slots (λ info. with_slot slots slot (Some (record info { state = state })))) slot ≡ is_some maybe_info
-state_live slots slot None state table_length slot_is = ap (λ (maybe_info : Option SlotInfo). is_some maybe_info) slot_is
-state_live slots slot (Some info) state table_length slot_is =
+new_state_keeps_liveness slots slot None state table_length slot_is = ap (λ (maybe_info : Option SlotInfo). is_some maybe_info) slot_is
+new_state_keeps_liveness slots slot (Some info) state table_length slot_is =
     let slot_in_range = live_in_range slots slot info table_length slot_is in
     ap (λ (maybe_info : Option SlotInfo). is_some maybe_info)
     (at_written_slot slots slot (Some (record info { state = state })) (omega (arith, table_length, slot_in_range)))
@@ -123,7 +123,7 @@ module _ (enclave hart : ℕ) (one other : MonitoredMachine) (trap : Trap) (host
             (reprogrammed second_table (hart_state_of hart other)) =
             record {
               world = hart_states.world;
-              same = λ low. ap₂ (λ (table : Slots) (state : HartState). reprogrammed table state) same_table (hart_states.same low);
+              same = λ not_running. ap₂ (λ (table : Slots) (state : HartState). reprogrammed table state) same_table (hart_states.same not_running);
             } in
             subst (λ (hart_state : HartState). HartStatesEquivExcept enclave hart_state
             (hart_state_in (map (reprogrammed second_table) other.hart_states) hart))
@@ -134,7 +134,7 @@ module _ (enclave hart : ℕ) (one other : MonitoredMachine) (trap : Trap) (host
             let second_state_is =
             past_hart_state (map (reprogrammed second_table) other.hart_states) hart (omega (arith, second_length, same_harts, past_last)) in
             let reset_states_equiv : HartStatesEquivExcept enclave (hart_state_at_start 0) (hart_state_at_start 0) =
-            record { world = refl; same = λ low. refl } in
+            record { world = refl; same = λ not_running. refl } in
             subst (λ (hart_state : HartState). HartStatesEquivExcept enclave hart_state
             (hart_state_in (map (reprogrammed second_table) other.hart_states) hart))
             (sym first_state_is)
@@ -145,7 +145,7 @@ module _ (enclave hart : ℕ) (one other : MonitoredMachine) (trap : Trap) (host
   machines_equiv_after_exit : EquivExcept enclave (left_machine hart one enclave trap host) (left_machine hart other enclave trap host)
   machines_equiv_after_exit =
       let first_length = length-map one.hart_states (reprogrammed first_table) in
-      let extent = state_extent one.shared.table enclave (slot_at one.shared.table enclave) state_after table_length refl in
+      let extent = new_state_keeps_extent one.shared.table enclave (slot_at one.shared.table enclave) state_after table_length refl in
       let first_contexts = one.shared.contexts in
       let second_contexts = other.shared.contexts in
       let first_saved = Some (saved_after trap.cause first_hart) in
@@ -160,7 +160,7 @@ module _ (enclave hart : ℕ) (one other : MonitoredMachine) (trap : Trap) (host
             (host_state (left_hart second_hart second_table trap host))
             (λ some_hart first_state second_state. HartStatesEquivExcept enclave first_state second_state) same_count
             (omega (arith, first_length, in_range))
-            (record { world = refl; same = λ low. ap host_state same_hart_after_exit }) (λ some_hart distinct. other_harts_equiv some_hart);
+            (record { world = refl; same = λ not_running. ap host_state same_hart_after_exit }) (λ some_hart distinct. other_harts_equiv some_hart);
         shared = record {
           table = same_table;
           memory = record {
@@ -175,7 +175,9 @@ module _ (enclave hart : ℕ) (one other : MonitoredMachine) (trap : Trap) (host
                 λ slot distinct. at_other_slot first_contexts enclave slot first_saved distinct ∙ equiv.shared.contexts.others slot distinct
                 ∙ sym (at_other_slot second_contexts enclave slot second_saved distinct);
           };
-          gone = λ dead. absurd (both_ways _ dead (state_live one.shared.table enclave (slot_at one.shared.table enclave) state_after table_length
+          gone =
+              λ not_live. absurd (both_ways _ not_live (new_state_keeps_liveness one.shared.table enclave
+              (slot_at one.shared.table enclave) state_after table_length
               refl ∙ live));
         };
       }
@@ -193,7 +195,7 @@ equiv_after_exit : (enclave hart : ℕ) (one other : MonitoredMachine) (trap : T
     → EquivExcept enclave (step_of hart one).state (step_of hart other).state
 equiv_after_exit enclave hart one other trap None host_context_is invariant_one invariant_other equiv runs_enclave same_host same_handover traps
     other_traps one_exits other_exits =
-    let in_range = runs_inside enclave hart one runs_enclave in
+    let in_range = running_hart_in_range enclave hart one runs_enclave in
     let world = world_is_enclave enclave (hart_state_of hart one).world runs_enclave in
     let has_host_context = (invariant_one.hart_states hart in_range).host.kept in
     let contradiction : false ≡ true =
@@ -202,7 +204,7 @@ equiv_after_exit enclave hart one other trap None host_context_is invariant_one 
     cc
 equiv_after_exit enclave hart one other trap (Some host) host_context_is invariant_one invariant_other equiv runs_enclave same_host same_handover
     traps other_traps one_exits other_exits =
-    let in_range = runs_inside enclave hart one runs_enclave in
+    let in_range = running_hart_in_range enclave hart one runs_enclave in
     let world = world_is_enclave enclave (hart_state_of hart one).world runs_enclave in
     let first_exit = (leave_law hart one invariant_one enclave host trap world host_context_is traps one_exits).0 in
     let second_exit =

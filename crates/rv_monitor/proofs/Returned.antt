@@ -10,7 +10,7 @@ use Rattle.rv_monitor.proofs.Prelude.{both_ways, cases_eq, cases_lt, count_of, m
 use Rattle.rv_monitor.proofs.Prelude.{step_of, value}
 use Rattle.rv_monitor.proofs.InvariantLemmas.{invariant_law, sched_invariant}
 use Rattle.rv_monitor.proofs.HartCases.{past_hart_state, other_harts_keep, step_count, step_of_view}
-use Rattle.rv_monitor.proofs.Switched.{KeptStored, kept_between, switch_law}
+use Rattle.rv_monitor.proofs.Switched.{KeptStored, enclave_step_keeps_host, switch_law}
 
 -- no saved context of the host is a legal saved context of the host
 no_context_is_legal : (maybe_context : Option Context) → is_some maybe_context ≡ false → KeptStored maybe_context
@@ -55,8 +55,8 @@ abbrev pub host_on : ℕ → MonitoredMachine → Option Context
 host_on hart machine = (hart_state_of hart machine).host_context
 
 -- a hart that runs an enclave is a hart of the machine
-pub runs_there : (hart : ℕ) (machine : MonitoredMachine) → is_host (hart_state_of hart machine).world ≡ false → hart < count_of machine
-runs_there hart machine enclave_runs = elim (cases_lt hart (count_of machine)) [
+pub enclave_hart_in_range : (hart : ℕ) (machine : MonitoredMachine) → is_host (hart_state_of hart machine).world ≡ false → hart < count_of machine
+enclave_hart_in_range hart machine enclave_runs = elim (cases_lt hart (count_of machine)) [
   | inl in_range ↦ in_range
   | inr past_last ↦
       let contradiction : true ≡ false =
@@ -70,9 +70,9 @@ runs_there hart machine enclave_runs = elim (cases_lt hart (count_of machine)) [
 own_step_keeps_context : (hart : ℕ) (machine : MonitoredMachine) → is_host (hart_state_of hart machine).world ≡ false
     → is_host (hart_state_of hart (step_of hart machine).state).world ≡ false → host_on hart (step_of hart machine).state ≡ host_on hart machine
 own_step_keeps_context hart machine enclave_runs enclave_runs_after =
-    let step_is = step_of_view hart machine (runs_there hart machine enclave_runs) in
+    let step_is = step_of_view hart machine (enclave_hart_in_range hart machine enclave_runs) in
     ap (λ (after : HartViewStepped). after.state.hart_state.host_context) step_is
-    ∙ kept_between (hart_view hart machine) enclave_runs
+    ∙ enclave_step_keeps_host (hart_view hart machine) enclave_runs
     (sym (ap (λ (after : HartViewStepped). is_host after.state.hart_state.world) step_is) ∙ enclave_runs_after)
 
 -- a step of any hart keeps the saved context of the host on each hart that runs an enclave before and after the step
@@ -118,7 +118,7 @@ entering_hart_in_range : (hart : ℕ) (machine : MonitoredMachine) → is_host (
     → hart < count_of machine
 entering_hart_in_range hart machine enclave_runs_after =
     let after = (step_of hart machine).state in
-    let in_range = runs_there hart after enclave_runs_after in
+    let in_range = enclave_hart_in_range hart after enclave_runs_after in
     subst (λ (hart_count : ℕ). hart < hart_count) (step_count hart machine) in_range
 
 -- the entry saves the context of the host after its ecall
@@ -143,7 +143,7 @@ pub comes_back : (hart : ℕ) (before : HartView) (machine : MonitoredMachine) �
 comes_back hart before machine invariant legal host_on_is runs host =
     let view = hart_view hart machine in
     back_from before view (monitored_step view)
-    (switch_law view (invariant.hart_states hart (runs_there hart machine runs)).host legal) host_on_is runs host
+    (switch_law view (invariant.hart_states hart (enclave_hart_in_range hart machine runs)).host legal) host_on_is runs host
 
 -- proves that the host gets its own context back when the enclave exits
 pub return_law : ReturnLaw

@@ -6,7 +6,7 @@ use Rattle.rv_monitor.specs.Integrity.{KeepsOthersRunning}
 use Rattle.rv_monitor.proofs.Prelude.{KeepsRunning, IsChanged, Invariant, IsUndisturbed, IsPreserved, IsUntouched, MonitoredMachine, MonitoredStepped}
 use Rattle.rv_monitor.proofs.Prelude.{HartViewStepped, RunningLaw, SchedChangeLaw, SchedIntegrityLaw, both_ways, cases_lt, count_of}
 use Rattle.rv_monitor.proofs.Prelude.{monitored_step, runs_on, sched, hart_state_of, reprogrammed, hart_view_after, hart_view, step_of}
-use Rattle.rv_monitor.proofs.Beside.{live_if_running, runs_beside, runs_inside, running_is_live}
+use Rattle.rv_monitor.proofs.Beside.{live_if_running, runs_among_others, running_hart_in_range, running_is_live}
 use Rattle.rv_monitor.proofs.Changes.{changes}
 use Rattle.rv_monitor.proofs.SchedNoninterference.{entered_by, is_entered, still_runs_on_none}
 use Rattle.rv_monitor.proofs.Integrity.{integrity}
@@ -44,7 +44,7 @@ untouched_itself slot machine invariant = record {
   preserved = record { slot = refl; bytes = λ byte in_region. refl; context = refl };
   hart_state =
       λ hart runs. sym (reprogramming_changes_nothing machine.shared.table (hart_state_of hart machine)
-      (invariant.hart_states hart (runs_inside slot hart machine runs)));
+      (invariant.hart_states hart (running_hart_in_range slot hart machine runs)));
 }
 
 -- ---- every order of steps
@@ -66,13 +66,13 @@ sched_integrity slot (hart ∷ harts) machine invariant undisturbed =
 -- ---- a running enclave is neither entered nor ended by another hart
 
 -- proves that a step neither enters nor destroys an enclave that runs on another hart
-pub go_on_law : (hart : ℕ) (machine : MonitoredMachine) → Invariant machine → KeepsOthersRunning hart machine (step_of hart machine)
-go_on_law hart machine invariant slot slot_hart runs not_running = by_hart hart machine (KeepsRunning slot)
+pub others_keep_running_law : (hart : ℕ) (machine : MonitoredMachine) → Invariant machine → KeepsOthersRunning hart machine (step_of hart machine)
+others_keep_running_law hart machine invariant slot slot_hart runs not_running = by_hart hart machine (KeepsRunning slot)
     (record { passes = refl; live = running_is_live slot slot_hart machine invariant runs })
     (λ in_range.
     let after = monitored_step (hart_view hart machine) in
     let sound = (invariant_of_others hart machine invariant in_range).0 in
-    let runs_on_other_hart = runs_beside slot hart slot_hart machine in_range runs not_running in
+    let runs_on_other_hart = runs_among_others slot hart slot_hart machine in_range runs not_running in
     record {
       passes = entered_by slot after.outcome.entered
           (λ enters_slot. both_ways _ (sound.apart.0 slot (is_entered slot (hart_view hart machine) enters_slot)) runs_on_other_hart);
@@ -87,7 +87,7 @@ running_law slot slot_hart [] machine invariant runs runs_on_none = running_is_l
 running_law slot slot_hart (hart ∷ harts) machine invariant runs runs_on_none =
     let after = (step_of hart machine).state in
     let live = running_is_live slot slot_hart machine invariant runs in
-    let continues = go_on_law hart machine invariant slot slot_hart runs runs_on_none.0 in
+    let continues = others_keep_running_law hart machine invariant slot slot_hart runs runs_on_none.0 in
     let preserved = integrity hart machine invariant slot runs_on_none.0 live continues.passes continues.live in
     let runs_after : runs_on slot slot_hart after ≡ true =
     ap (λ (hart_state : HartState). is_world_of slot hart_state.world) (preserved.hart_state slot_hart runs) ∙ runs in (

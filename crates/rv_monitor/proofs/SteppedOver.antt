@@ -21,16 +21,16 @@ use Rattle.rv_monitor.proofs.Prelude.{handled, hart_states_reprogrammed, hart_vi
 use Rattle.rv_monitor.proofs.Prelude.{returned_to, returned_to_caller, step_of, touches_permitted, unhandled, with_reprogrammed_hart}
 use Rattle.rv_monitor.proofs.HandlerCases.{requested-is_offered, handler_cases_of_both, over}
 use Rattle.rv_monitor.proofs.HartCases.{inside, outside}
-use Rattle.rv_monitor.proofs.EnclaveMemory.{put_size}
+use Rattle.rv_monitor.proofs.EnclaveMemory.{write_keeps_size}
 use Rattle.rv_monitor.proofs.TrapSteps.{same_outcome}
 
 -- ---- changes of two memories
 
 -- the same write changes two memories alike
-pub put_alike : (memory other_memory : List ℕ) (address : ℕ) (bytes : List ℕ) → length memory ≡ length other_memory
+pub writes_change_alike : (memory other_memory : List ℕ) (address : ℕ) (bytes : List ℕ) → length memory ≡ length other_memory
     → ChangeAlike memory other_memory (or_unchanged memory (write memory address bytes))
     (or_unchanged other_memory (write other_memory address bytes))
-put_alike memory other_memory address bytes same_length position = elim (cases_Bool (is_inside memory address (length bytes))) [
+writes_change_alike memory other_memory address bytes same_length position = elim (cases_Bool (is_inside memory address (length bytes))) [
   | inr outside ↦
       let first_write = write-none memory address bytes outside in
       let second_write = write-none other_memory address bytes (rw (← same_length) outside) in
@@ -95,7 +95,7 @@ stored_alike (Some span) bytes memory other_memory after other_after same_length
     subst (λ (maybe_bytes : Option (List ℕ)). ChangeAlike memory other_memory (or_unchanged memory maybe_bytes) other_after) stores.1
     (subst (λ (maybe_bytes : Option (List ℕ)). ChangeAlike memory other_memory (or_unchanged memory (write memory span.addr bytes))
     (or_unchanged other_memory maybe_bytes)) stores_other.1
-    (put_alike memory other_memory span.addr bytes same_length))
+    (writes_change_alike memory other_memory span.addr bytes same_length))
 
 -- a store does not change the size of the memory
 stored_size : (stored : Option Span) (bytes memory after : List ℕ) → Stores bytes memory after stored → length after ≡ length memory
@@ -166,9 +166,9 @@ module _ (hidden : ℕ → Bool) (hart_state : HartState) (trap : Trap) (table :
     table = refl;
     contexts = refl;
     size =
-        put_size memory address bytes (write memory address bytes) refl ∙ equal_outside.size
-        ∙ sym (put_size other_memory address bytes (write other_memory address bytes) refl);
-    changes = put_alike memory other_memory address bytes equal_outside.size;
+        write_keeps_size memory address bytes (write memory address bytes) refl ∙ equal_outside.size
+        ∙ sym (write_keeps_size other_memory address bytes (write other_memory address bytes) refl);
+    changes = writes_change_alike memory other_memory address bytes equal_outside.size;
   }
 
   -- the bytes of a region that the host creates are equal in both memories
@@ -219,9 +219,9 @@ module _ (hidden : ℕ → Bool) (hart_state : HartState) (trap : Trap) (table :
         let host = offered_host hart_state.world (requested-is_offered hart_state.world hart_state.hart.regs Create is_request.asked).1 in
         caller_over _ _ 0 (new_slot table)
         (created_over (create_args_of hart_state.hart.regs) (region_bytes_equal (create_args_of hart_state.hart.regs) host no_refusal));
-    destroys = λ is_request is_taken. caller_over _ _ 0 0 (destroyed_over (a0 hart_state));
+    destroys = λ is_request slot_accepted. caller_over _ _ 0 0 (destroyed_over (a0 hart_state));
     measures = λ is_request no_refusal. caller_over _ _ 0 0 (measured_over (measured_slot hart_state.world (a0 hart_state)) (a1 hart_state));
-    enters = λ call is_request is_entry_call from_host is_taken.
+    enters = λ call is_request is_entry_call from_host slot_accepted.
         record {
           hart_state = refl;
           next = refl;

@@ -48,10 +48,10 @@ unfolding entered_slot left
 handled_stays_or_switches hart_state shared trap = handler_cases hart_state trap shared (Turns hart_state trap) (record {
   answers = λ status result. inl (record { world = refl; host = refl; entered = refl });
   creates = λ requests no_refusal. inl (record { world = refl; host = refl; entered = refl });
-  destroys = λ requests is_taken. inl (record { world = refl; host = refl; entered = refl });
+  destroys = λ requests slot_accepted. inl (record { world = refl; host = refl; entered = refl });
   measures = λ requests no_refusal. inl (record { world = refl; host = refl; entered = refl });
   enters =
-      λ call requests is_entry_call from_host is_taken. inr
+      λ call requests is_entry_call from_host slot_accepted. inr
       (inl (record { slot = a0 hart_state; from_host = from_host; world = refl; host = refl; entered = refl }));
   leaves = inr (inr (record { world = refl; regs = refl; pc = refl; mode = refl; supervisor = refl; forgotten = refl; entered = refl }));
   redirects = inl (record { world = refl; host = refl; entered = refl });
@@ -96,9 +96,10 @@ host_context_kept hart_state trap result (inr (inr leaves)) enclave_runs enclave
     absurd (both_ways _ enclave_runs_after (ap is_host leaves.world))
 
 -- a step before and after which an enclave runs keeps the saved context of the host
-pub kept_between : (state : HartView) → is_host state.hart_state.world ≡ false → is_host (monitored_step state).state.hart_state.world ≡ false
+pub enclave_step_keeps_host : (state : HartView) → is_host state.hart_state.world ≡ false
+    → is_host (monitored_step state).state.hart_state.world ≡ false
     → (monitored_step state).state.hart_state.host_context ≡ state.hart_state.host_context
-kept_between state enclave_runs =
+enclave_step_keeps_host state enclave_runs =
     step_cases state
     (λ after. is_host after.state.hart_state.world ≡ false → after.state.hart_state.host_context ≡ state.hart_state.host_context)
     (λ no_trap enclave_runs_after. refl)
@@ -114,8 +115,8 @@ pub restored_context_same : (csrs : CsrState) (supervisor : SContext) → IsLega
 restored_context_same csrs supervisor legal = let stvec = legal.stvec in let sepc = legal.sepc in rw (stvec, sepc) refl
 
 -- the pc of a context with which a hart can continue is unchanged if it is rounded down to a multiple of 4
-pub aligned_again : (mode : Mode) (pc : ℕ) → (not (is_machine mode) && pc % 4 == 0) ≡ true → aligned_to_4 pc ≡ pc
-aligned_again mode pc can_continue =
+pub pc_is_aligned : (mode : Mode) (pc : ℕ) → (not (is_machine mode) && pc % 4 == 0) ≡ true → aligned_to_4 pc ≡ pc
+pc_is_aligned mode pc can_continue =
     let is_multiple_test : (pc % 4 == 0) ≡ true = (and_parts (not (is_machine mode)) (pc % 4 == 0) can_continue).1 in
     let multiple : pc % 4 ≡ 0 = grind (arith, nat_tests) in
     omega arith
@@ -155,7 +156,7 @@ module _ (state : HartView) (host_invariant : HostContextInvariant state.hart_st
         again =
             same_context host result.hart_state.hart.regs (aligned_to_4 result.next.pc) result.next.mode
             (s_context result.hart_state.hart.csrs) _ host_leaves.regs
-            (ap aligned_to_4 host_leaves.pc ∙ aligned_again host.mode host.pc can_continue) host_leaves.mode
+            (ap aligned_to_4 host_leaves.pc ∙ pc_is_aligned host.mode host.pc can_continue) host_leaves.mode
             (host_leaves.supervisor ∙ restored_context_same state.hart_state.hart.csrs host.supervisor host_stored);
         forgotten = host_leaves.forgotten;
         entered = host_leaves.entered;

@@ -1,13 +1,13 @@
 -- The proof obligations of `MonitoredMachine::new` (src/monitored_machine.rt).
 use Rattle.std.proofs.Common.{refl, ◌∙◌}
 use Rattle.rv_memory.specs.Harts.{number_of_harts}
-use Rattle.rv_monitor.proofs.Start.{parts_are, start_full, start_is_reset}
+use Rattle.rv_monitor.proofs.Start.{parts_represent_start, start_full, start_is_reset}
 use Rattle.rv_monitor.proofs.monitored_machine.MonitoredMachine.new.Goals as goal
 
 -- `MonitoredMachine::new` meets clause `start` of its contract
 pub returns-clause-start : goal.returns-clause-start
 returns-clause-start c =
-    parts_are c.args.ram c.args.entry c.args.harts _ _ _ c.count.ensures c.all_at_start.ensures (rw (c.new.ensures) refl)
+    parts_represent_start c.args.ram c.args.entry c.args.harts _ _ _ c.count.ensures c.all_at_start.ensures (rw (c.new.ensures) refl)
 
 -- `MonitoredMachine::new` meets clause `reset` of its contract
 pub returns-clause-reset : goal.returns-clause-reset
