@@ -87,6 +87,7 @@ module _ (slot : ℕ) (shared : Shared) (valid : IsValid shared.memory shared.ta
       → IsAsCreated slot (created shared new)
   unfolding created
   create_gives_as_created new no_refusal live_after = elim (cases_eq slot (new_slot shared.table)) [
+    -- the slot is the one that create filled: each field of the new record is the value that create wrote
     | inl equal ↦
         let free = free_slot_from shared.table (new_slot shared.table) no_refusal.free in
         let slot_in_range = free.in_range in
@@ -98,6 +99,7 @@ module _ (slot : ℕ) (shared : Shared) (valid : IsValid shared.memory shared.ta
           context = at_written_slot shared.contexts (new_slot shared.table) (Some (first_context info)) (omega (arith, slot_in_range, contexts));
           measurement = refl;
         })
+    -- create filled another slot, so the slot is still free
     | inr distinct ↦
         slot_still_free (created shared new)
         (ap (λ (maybe_info : Option SlotInfo). is_some maybe_info) (at_other_slot shared.table (new_slot shared.table) slot _ distinct)) live_after
@@ -283,12 +285,14 @@ same_entry : (place other_place : Place) (one other : MonitoredMachine) → Inva
     → BothEnter place other_place one other → SameEnclave place other_place (step_at place one).state (step_at other_place other).state
 same_entry place other_place one other invariant_one invariant_other saved both_enter =
     let slot = place.slot in
+    -- the entry changes only the state in the record, so the region and the window stay the same
     let extent = new_state_keeps_extent one.shared.table slot (slot_at one.shared.table slot) Running invariant_one.shared.valid.count refl in
     let first_shared_is =
     ap (λ (machine : MonitoredMachine). machine.shared) (machine_after_entry place one saved.context invariant_one saved.first both_enter.first) in
     let second_shared_is =
     ap (λ (machine : MonitoredMachine). machine.shared) (machine_after_entry other_place other saved.context invariant_other saved.second
     both_enter.second) in
+    -- no byte of memory changes in an entry, so bytes that were equal stay equal
     let bytes : EqualOutside (is_beyond (slots_with_state one.shared.table slot Running) slot) one.shared.memory other.shared.memory = record {
       size = saved.memory.size;
       bytes =
@@ -298,6 +302,7 @@ same_entry place other_place one other invariant_one invariant_other saved both_
     record {
       first = runs_after_entry place one saved.context invariant_one saved.first both_enter.first;
       second = runs_after_entry other_place other saved.context invariant_other saved.second both_enter.second;
+      -- both harts after the entry follow from the same saved context and equal timer lines
       hart = hart_is_entered place one saved.context invariant_one saved.first both_enter.first
           ∙ ap (λ (b : Bool). hart_after_entry (plain_csrs b) [] 0 saved.context) both_enter.timer
           ∙ sym (hart_is_entered other_place other saved.context invariant_other saved.second both_enter.second);

@@ -112,12 +112,15 @@ module _ (hart_state : HartState) (shared : Shared) (valid : IsValid shared.memo
         })
     put_changes None slot_valid is_live = cc
     put_changes (Some info) slot_valid is_live = elim (cases_lt byte (a1 hart_state)) [
+      -- the byte is before the 32 bytes of the measurement, so the write leaves the byte unchanged
       | inl before_start ↦
           inl
           (unchanged_outside_write shared.memory (a1 hart_state) info.measurement byte (write shared.memory (a1 hart_state) info.measurement) refl
           (inl before_start))
       | inr from_start ↦ elim (cases_lt byte (a1 hart_state + 32)) [
+        -- the byte is one of the 32 bytes of the measurement
         | inl before_end ↦ inr (inr (is_measured from_start before_end))
+        -- the byte is after the 32 bytes of the measurement, so the write leaves the byte unchanged
         | inr after_end ↦
             let measurement_length = slot_valid.measured in
             inl
@@ -182,8 +185,10 @@ module _ (state : HartView) (view_invariant : HartViewInvariant state) (byte : �
       let stored_size = stores.0 in
       let mode_below_m = below_M (data_mode state.hart_state.hart) (data_below state view_invariant) in
       elim (cases_lt byte span.addr) [
+        -- the byte is before the stored bytes, so the store leaves the byte unchanged
         | inl before_start ↦ inl (byte_at-write state.shared.memory span.addr bytes after byte stores.1 (inl before_start))
         | inr from_start ↦ elim (cases_lt byte (span.addr + bytes_in span.len)) [
+          -- the byte is a stored byte, and the PMP permitted the store
           | inl before_end ↦
               inr (record {
                 span = span;
@@ -194,6 +199,7 @@ module _ (state : HartView) (view_invariant : HartViewInvariant state) (byte : �
                     sym (access_control_law state (data_mode state.hart_state.hart) Write span.addr span.len view_invariant mode_below_m may_touch.0)
                     ∙ may_touch.1;
               })
+          -- the byte is after the stored bytes, so the store leaves the byte unchanged
           | inr after_end ↦ inl (byte_at-write state.shared.memory span.addr bytes after byte stores.1 (inr (rw stored_size after_end)))
         ]
       ]

@@ -198,7 +198,9 @@ module _ (enclave hart : ℕ) (one other : MonitoredMachine) (invariant_one : In
   exit_equiv exits_alike =
       let first_view = guest_view one in
       let second_view = guest_view other in
+      -- both machines are equivalent in the guest view, because the windows are equal
       let equiv = related_equiv enclave one other related (λ running. exits_alike.window) in
+      -- the guest views have the same saved host, and hand over the same a0 and a6
       let host : SameHost (hart_state_of hart first_view) (hart_state_of hart second_view) =
       subst (λ (hart_state : HartState). SameHost hart_state (hart_state_of hart second_view)) (sym (guest_hart_state hart one))
       (subst (SameHost (guest_state (hart_state_of hart one))) (sym (guest_hart_state hart other)) (related.hosts hart exits_alike.runs)) in
@@ -208,6 +210,7 @@ module _ (enclave hart : ℕ) (one other : MonitoredMachine) (invariant_one : In
       (subst (λ (hart_state : HartState). SameHandoverBy exits_alike.trap.cause (guest_state (hart_state_of hart one)).hart hart_state.hart)
       (sym (guest_hart_state hart other))
       (to_guests exits_alike.trap.cause (hart_state_of hart one) (hart_state_of hart other) exits_alike.handover)) in
+      -- `release` gives equivalent machines after the exits of the guest views
       equiv_from_guests enclave hart one other invariant_one invariant_other
       (release enclave hart first_view second_view exits_alike.trap (guest_invariant one invariant_one) (guest_invariant other invariant_other) equiv
       (runs_too enclave hart one ∙ exits_alike.runs) host handover
@@ -245,15 +248,18 @@ module _ (enclave hart : ℕ) (one other : MonitoredMachine) (invariant_one : In
 -- proves the declassification law, by induction on the list of moves
 pub declassification_law : DeclassificationLaw
 declassification_law enclave [] one other invariant_one invariant_other related are_moves = record { outcomes = tt; state = related }
+-- the first machine alone makes a step of the enclave, which leaves the machines related
 declassification_law enclave (First hart ∷ moves) one other invariant_one invariant_other related are_moves =
     let remaining = declassification_law enclave moves (step_of hart one).state other (invariant_law hart one invariant_one) invariant_other
     (step_inside enclave hart one other invariant_one related are_moves.0) are_moves.1 in
     record { outcomes = remaining.outcomes; state = remaining.state }
+-- the second machine alone makes a step of the enclave; the relation is symmetric
 declassification_law enclave (Second hart ∷ moves) one other invariant_one invariant_other related are_moves =
     let after = (step_of hart other).state in
     let remaining = declassification_law enclave moves one after invariant_one (invariant_law hart other invariant_other)
     (swapped enclave after one (step_inside enclave hart other one invariant_other (swapped enclave one other related) are_moves.0)) are_moves.1 in
     record { outcomes = remaining.outcomes; state = remaining.state }
+-- both machines make a low step or an exit
 declassification_law enclave (Both (StepOf hart) ∷ moves) one other invariant_one invariant_other related are_moves =
     let step = both_step enclave hart one other invariant_one invariant_other related are_moves.0 in
     let remaining =
@@ -261,6 +267,7 @@ declassification_law enclave (Both (StepOf hart) ∷ moves) one other invariant_
     (invariant_law hart other invariant_other)
     step.1 are_moves.1 in
     record { outcomes = (step.0, remaining.outcomes); state = remaining.state }
+-- the same timer line changes in both machines
 declassification_law enclave (Both (LineOf hart raised) ∷ moves) one other invariant_one invariant_other related are_moves =
     let remaining = declassification_law enclave moves (with_timer hart one raised) (with_timer hart other raised)
     (line_invariant hart raised one invariant_one)

@@ -163,6 +163,7 @@ module _ (slot : ℕ) (hart_state : HartState) (runs_enclave : hart_state.world 
     unfolding measured left
     handled_keeps = handler_cases hart_state trap shared Keeps (record {
       answers = λ status result. (record { region = refl; window = refl }, refl);
+      -- an enclave may neither create, destroy nor enter, so these cases have a false premise
       creates =
           λ requests no_refusal. create_not_offered _ slot hart_state.world runs_enclave
           (requested-is_offered hart_state.world hart_state.hart.regs Create requests.asked).1;
@@ -171,6 +172,7 @@ module _ (slot : ℕ) (hart_state : HartState) (runs_enclave : hart_state.world 
           (requested-is_offered hart_state.world hart_state.hart.regs Destroy requests.asked).1;
       measures = λ requests no_refusal. (record { region = refl; window = refl }, write_keeps_size shared.memory _ _ (write shared.memory _ _) refl);
       enters = λ call requests is_entry_call from_host slot_accepted. not_host _ slot hart_state.world runs_enclave from_host;
+      -- an exit changes only the state in the record of `slot`
       leaves =
           let running_slot_is_slot : running_slot hart_state.world ≡ slot = rw runs_enclave refl in
           rw running_slot_is_slot (
@@ -220,8 +222,10 @@ own_alike_after_trap slot outcome None hart_state one other runs_enclave table_l
   shared = same_for_slot;
 }
 own_alike_after_trap slot outcome (Some trap) hart_state one other runs_enclave table_length same_context_count same_for_slot =
+    -- the trap handler reads only what is equal in both shared states
     let handler_results =
     handler_reads_law hart_state trap one other (handled_asked slot hart_state runs_enclave trap one other same_context_count same_for_slot) in
+    -- the trap handler keeps the region and the window, so a byte that is within them after the step was within them before
     let keeps_one = handled_keeps slot hart_state runs_enclave trap one table_length in
     let keeps_other =
     handled_keeps slot hart_state runs_enclave trap other (ap (λ (table : Slots). length table) (sym same_for_slot.table) ∙ table_length) in
@@ -268,9 +272,11 @@ unfolding monitored_step
 own_step_alike slot hart_state one other view_invariant_one runs_enclave same_context_count same_for_slot =
     let first_bare = stepped hart_state one in
     let second_bare = stepped hart_state other in
+    -- the bare steps are alike, because the enclave accesses only its region and window
     let alike = memory_step slot (view_of hart_state one) view_invariant_one runs_enclave other.memory same_for_slot.memory in
     let shared : SharedFor slot (stored hart_state one) (stored hart_state other) =
     record { table = same_for_slot.table; memory = alike.memory; context = same_for_slot.context } in
+    -- the trap handler, if the bare steps trap, leaves both shared states equal for the enclave
     let ended =
     own_alike_after_trap slot first_bare.outcome first_bare.outcome.trap (record hart_state { hart = first_bare.state.hart }) (stored hart_state one)
     (stored hart_state other) runs_enclave

@@ -416,8 +416,10 @@ module _ (first_slot second_slot : ℕ) (first_state second_state : HartState) (
   trapped_alike trap =
       let bare_outcome = (step (bare_machine (view_of first_state first_shared))).outcome in
       let state_with : Option Context → Hart → World → HartState = λ host hart world. record { hart = hart; host_context = host; world = world } in
+      -- the first hart at the trap
       let first : hart_state_after first_state trap ≡ running first_slot first_state.host_context (hart_after first_state.hart trap) =
       ap (state_with first_state.host_context (hart_after first_state.hart trap)) alike.first in
+      -- the second hart at the trap is the first one with other M-mode parts
       let second : hart_state_after second_state trap
       ≡ running second_slot second_state.host_context (with_m_parts (hart_after second_state.hart trap).csrs (hart_after second_state.hart trap).pc
       (hart_after first_state.hart trap)) =
@@ -426,6 +428,7 @@ module _ (first_slot second_slot : ℕ) (first_state second_state : HartState) (
       let StepAlikeFor : StepOutcome → HartState → HartState → Type 0 =
       λ outcome some_hart other_state. StepAlike first_slot second_slot (returned bare_outcome (handled some_hart first_shared trap))
       (returned outcome (handled other_state second_shared trap)) in
+      -- the trap handler gives results that are alike, for these harts and the equal bare outcomes
       subst (λ (outcome : StepOutcome). StepAlikeFor outcome (hart_state_after first_state trap) (hart_state_after second_state trap)) bare.outcome
       (subst (λ (hart_state : HartState). StepAlikeFor bare_outcome hart_state (hart_state_after second_state trap)) (sym first)
       (subst (λ (hart_state : HartState). StepAlikeFor bare_outcome
@@ -453,10 +456,12 @@ module _ (first_slot second_slot : ℕ) (first_state second_state : HartState) (
       let same_traps = ap (λ (outcome : StepOutcome). outcome.trap) bare.outcome in
       step_cases (view_of first_state first_shared) (λ after. StepAlike first_slot second_slot after
       (monitored_step (view_of second_state second_shared)))
+      -- without a trap in the first step, there is none in the second, because the bare outcomes are equal
       (λ no_trap. step_cases (view_of second_state second_shared)
       (λ after. StepAlike first_slot second_slot (view_without_trap (view_of first_state first_shared)) after)
       (λ no_second_trap. untrapped_alike no_trap)
       (λ trap trapped. let contradiction : None ≡ Some trap = sym no_trap ∙ same_traps ∙ trapped in cc))
+      -- with a trap in the first step, the second step has the same trap
       (λ trap trapped. step_cases (view_of second_state second_shared)
       (λ after. StepAlike first_slot second_slot (view_after_trap (view_of first_state first_shared) trap) after)
       (λ no_trap. let contradiction : Some trap ≡ None = sym trapped ∙ same_traps ∙ no_trap in cc)
@@ -609,8 +614,10 @@ module _ (place other_place : Place) (one other : MonitoredMachine) (invariant_o
       let after_mixed = (monitored_step (hart_view other_place.hart mixed)).state in
       let shared_one = ap (λ (stepped : HartViewStepped). stepped.state.shared) (step_of_view place.hart one has_one) in
       let shared_other = ap (λ (stepped : HartViewStepped). stepped.state.shared) (step_of_view other_place.hart other has_other) in
+      -- the first machine and the mixed machine are alike after the step, because the enclave still runs
       let alike = first_steps_alike.runs (sym (ap (λ (hart_state : HartState). is_host hart_state.world) first_state_of_view)
       ∙ enclave_world_is_not_host place.slot (hart_state_of place.hart (step_at place one).state).world runs_after) in
+      -- bytes within the region and the window are equal in the first, the mixed and the second machine
       let bytes : EqualOutside (is_beyond after_one.shared.table place.slot) after_one.shared.memory
       (monitored_step (hart_view other_place.hart other)).state.shared.memory =
       record {
@@ -726,14 +733,17 @@ enclave_step_law hart machine invariant slot other_place other invariant_other s
 
 -- proves the law of many steps of an enclave, by induction on the number of steps
 pub enclave_run_law : EnclaveRunLaw
+-- no step: both enclaves keep the same state
 enclave_run_law place other_place zero one other _ _ same_enclave are_high_steps =
     record {
       outcomes = refl;
       state = record { runs = λ runs. same_enclave; exits = λ not_running. absurd (both_ways _ not_running same_enclave.first) };
     }
+-- one step: `enclave_step`
 enclave_run_law place other_place (suc zero) one other invariant_one invariant_other same_enclave are_high_steps =
     let step = enclave_step place other_place one other invariant_one invariant_other same_enclave in
     record { outcomes = ap (λ (outcome : Outcome). outcome ∷ []) step.outcome; state = step.state }
+-- several steps: the first one leaves both enclaves in the same state, because the enclave runs before the second one
 enclave_run_law place other_place (suc (suc count)) one other invariant_one invariant_other same_enclave are_high_steps =
     let step = enclave_step place other_place one other invariant_one invariant_other same_enclave in
     let remaining =

@@ -40,6 +40,7 @@ changed_in_range enclave hart change one other keeps_world in_range equiv =
     let same_hart = equiv.hart_states hart in
     record {
       harts = length-set one.hart_states hart first_changed ∙ equiv.harts ∙ sym (length-set other.hart_states hart second_changed);
+      -- the changed hart states are equivalent, and every other hart state is unchanged
       hart_states =
           hart_cases_of_both one.hart_states other.hart_states hart first_changed second_changed
           (λ some_hart first_state second_state. HartStatesEquivExcept enclave first_state second_state) same_harts in_range (record {

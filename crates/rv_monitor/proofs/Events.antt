@@ -74,6 +74,7 @@ module _ (enclave hart : ℕ) (raised : Bool) (one other : MonitoredMachine) whe
 -- proves the noninterference law for events, by induction on the list
 pub event_law : EventLaw
 event_law enclave [] one other invariant_one invariant_other equiv low_steps = record { outcomes = refl; state = equiv }
+-- a low step has equal outcomes and leaves equivalent machines
 event_law enclave (StepOf hart ∷ rest_events) one other invariant_one invariant_other equiv low_steps =
     let first_step = noninterference hart one invariant_one enclave other invariant_other equiv low_steps.0 in
     let remaining =
@@ -84,6 +85,7 @@ event_law enclave (StepOf hart ∷ rest_events) one other invariant_one invarian
       outcomes = ap₂ (λ (outcome : Outcome) (outcomes : List Outcome). outcome ∷ outcomes) first_step.outcome remaining.outcomes;
       state = remaining.state;
     }
+-- a change of a timer line has no outcome and leaves equivalent machines
 event_law enclave (LineOf hart raised ∷ rest_events) one other invariant_one invariant_other equiv low_steps =
     let remaining =
     event_law enclave rest_events (with_timer hart one raised) (with_timer hart other raised) (line_invariant hart raised one invariant_one)
@@ -138,12 +140,14 @@ event_integrity slot [] machine invariant undisturbed = record {
       (sym (reprogramming_changes_nothing machine.shared.table (hart_state_of hart machine)
       (invariant.hart_states hart (running_hart_in_range slot hart machine runs))));
 }
+-- a step leaves the enclave untouched, by the integrity of one step
 event_integrity slot (StepOf hart ∷ rest_events) machine invariant undisturbed =
     let after = (step_of hart machine).state in
     but_line_twice slot machine after (events rest_events after).state
     (untouched_but_line slot machine after
     (integrity hart machine invariant slot undisturbed.1.0 undisturbed.0 undisturbed.1.1 (undisturbed_live slot rest_events after undisturbed.2)))
     (event_integrity slot rest_events after (invariant_law hart machine invariant) undisturbed.2)
+-- a change of a timer line leaves the enclave untouched, except for the timer line
 event_integrity slot (LineOf hart raised ∷ rest_events) machine invariant undisturbed =
     let after = with_timer hart machine raised in
     but_line_twice slot machine after (events rest_events after).state (line_only slot hart raised machine invariant)
@@ -179,6 +183,7 @@ none_after_step slot hart (LineOf running_hart is_raised ∷ rest_events) machin
 -- proves that events of other harts leave a running enclave undisturbed
 pub running_events : RunningEventLaw
 running_events slot running_hart [] machine invariant runs_on_hart steps_none = running_is_live slot running_hart machine invariant runs_on_hart
+-- a step of another hart neither enters nor destroys the enclave, and the enclave still runs on its hart
 running_events slot running_hart (StepOf hart ∷ rest_events) machine invariant runs_on_hart steps_none =
     let after = (step_of hart machine).state in
     let live = running_is_live slot running_hart machine invariant runs_on_hart in
@@ -191,6 +196,7 @@ running_events slot running_hart (StepOf hart ∷ rest_events) machine invariant
       running_events slot running_hart rest_events after (invariant_law hart machine invariant) runs_after
           (none_after_step slot hart rest_events machine steps_none.1 continues.passes),
     )
+-- a change of a timer line does not change which enclave runs on which hart
 running_events slot running_hart (LineOf hart raised ∷ rest_events) machine invariant runs_on_hart steps_none = (
   running_is_live slot running_hart machine invariant runs_on_hart,
   tt,

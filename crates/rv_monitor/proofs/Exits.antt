@@ -199,16 +199,19 @@ world_of_view hart machine in_range = ap (λ (after : HartViewStepped). after.st
 -- proves that an enclave exits only by stop, by exit or by the timer interrupt
 pub exits_law : (hart : ℕ) (machine : MonitoredMachine) → Invariant machine → ExitsOnRequest hart machine (step_of hart machine)
 exits_law hart machine invariant slot runs = record {
+  -- a step without a trap keeps the world
   quiet = λ no_trap.
       let in_range = hart_of_enclave_in_range slot hart machine runs in
       world_of_view hart machine in_range
       ∙ quiet_world (hart_view hart machine)
       (sym (ap (λ (after : HartViewStepped). after.outcome.step.trap) (step_of_view hart machine in_range)) ∙ no_trap) ∙ runs;
+  -- after a trap, the host runs if and only if the cause is one that exits
   exits = λ trap trapped.
       let trapping = is_trapping hart machine trap trapped in
       let state = hart_view hart machine in
       ap is_host (world_of_view hart machine trapping.has)
       ∙ exits_by_cause slot state runs trap trapping.trapped;
+  -- mie enables only the timer interrupt, so a pending interrupt is the timer interrupt, and the timer line is set
   timer = λ trap interrupt trapped cause_is.
       let trapping = is_trapping hart machine trap trapped in
       let state = hart_view hart machine in

@@ -186,10 +186,12 @@ stepped_same hart machine stepped other_stepped same_shown_after =
     let same_trap = ap (λ (outcome : Outcome). outcome.step.trap) same_shown_after.outcome in
     let same_table = ap (λ (shared : Shared). shared.table) same_shown_after.shared in
     let machine_of : List HartState → Shared → MonitoredMachine = λ hart_states shared. record { hart_states = hart_states; shared = shared } in
+    -- the guest states of a written list are the written list of guest states
     let first_states = map-set guest_state (hart_states_reprogrammed first_trap first_table hart_states) hart stepped.state.hart_state in
     let second_states =
     map-set guest_state (hart_states_reprogrammed other_stepped.outcome.step.trap other_stepped.state.shared.table guest_states) hart
     other_stepped.state.hart_state in
+    -- both reprogrammings give the same guest states, because the traps and the tables are equal
     let reprogrammed_alike : map guest_state (hart_states_reprogrammed first_trap first_table hart_states) ≡ map guest_state
     (hart_states_reprogrammed other_stepped.outcome.step.trap other_stepped.state.shared.table guest_states) =
     reprogrammed_same first_trap first_table hart_states
@@ -204,6 +206,7 @@ stepped_same hart machine stepped other_stepped same_shown_after =
 pub guest_step_of : (hart : ℕ) (machine : MonitoredMachine) → Invariant machine
     → SameGuestView (step_of hart machine) (step_of hart (guest_view machine))
 guest_step_of hart machine invariant = elim (cases_lt hart (count_of machine)) [
+  -- a hart that the machine does not have makes no step
   | inr past_last ↦
       let same_length = length-map machine.hart_states guest_state in
       let guest_outside = outside hart (guest_view machine) (omega (arith, same_length, past_last)) in
@@ -212,6 +215,7 @@ guest_step_of hart machine invariant = elim (cases_lt hart (count_of machine)) [
         outcome = refl;
         state = ap (λ (hart_states : List HartState). record machine { hart_states = hart_states }) (guest_states_twice machine.hart_states);
       })
+  -- the step of the hart's view and the step of its guest view are the same to guests
   | inl in_range ↦
       let size = length-map machine.hart_states guest_state in
       let state = hart_view hart machine in

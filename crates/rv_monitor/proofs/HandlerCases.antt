@@ -160,10 +160,12 @@ module _ (hart_state : HartState) (trap : Trap) (table : Slots) (memory other_me
     by-accepted Measure requests no_refusal =
         cases.measures requests
         (may_measure first_shared hart_state.hart.csrs.pmp (measured_slot hart_state.world (a0 hart_state)) (a1 hart_state) no_refusal)
+    -- a6 has the number of stop, so the exit is that of stop
     by-accepted Stop requests no_refusal =
         let a6_test =
         stop_is_not_exit (register hart_state.hart.regs 16) (requested-is_offered hart_state.world hart_state.hart.regs Stop requests.asked).0 in
         rw a6_test at (by-leaving (causes.Exception EnvironmentCallFromS) requests.is_call)
+    -- a6 has the number of exit, so the exit is that of the call exit
     by-accepted Exit requests no_refusal =
         let a6_test =
         exit_is_exit (register hart_state.hart.regs 16) (requested-is_offered hart_state.world hart_state.hart.regs Exit requests.asked).0 in

@@ -31,6 +31,7 @@ same_byte memory other_memory address bytes index same_length same_element =
       size = same_length;
       bytes = λ other_index not_hidden. elim (cases_eq other_index index) [
         | inl indices_equal ↦ rw indices_equal same_element
+        -- every other byte counts as hidden, so nothing is to show
         | inr indices_differ ↦
             let distinct_addresses : (ram_base + other_index == ram_base + index) ≡ false =
             ne_eqb (ram_base + other_index) (ram_base + index) (λ sums. indices_differ (omega arith)) in
@@ -231,12 +232,14 @@ step_reads_law hart machine other trap hart_states trapped second_trapped same_r
     let same_hart_state = ap hart_state hart_states in
     let SameStepFrom : HartState → Type 0 =
     λ hart_state. SameHartStep machine.shared other.shared (monitored_step (hart_view hart machine)) (monitored_step (view_of hart_state)) in
+    -- the second view has the first hart state, because the hart states of both machines are equal
     let second_view_traps =
     subst (λ (hart_state : HartState). (monitored_step (view_of hart_state)).outcome.step.trap ≡ Some trap)
     (sym same_hart_state) second_trapping.trapped in
     let view_steps =
     subst SameStepFrom same_hart_state
     (same_step (hart_state machine.hart_states) machine.shared other.shared trap first_trapping.trapped second_view_traps same_reads) in
+    -- after a trap, all harts are reprogrammed for the new table, and the stepping hart gets its new state
     let states_after : List HartState → Slots → HartState → List HartState =
     λ hart_states slots hart_state. slice_set (map (reprogrammed slots) hart_states) hart hart_state in
     let table = view_steps.shared.table in
