@@ -200,7 +200,7 @@ module _ (enclave hart : ℕ) (one other : MonitoredMachine) (invariant_one : In
       let second_view = guest_view other in
       -- both machines are equivalent in the guest view, because the windows are equal
       let equiv = related_equiv enclave one other related (λ running. exits_alike.window) in
-      -- the guest views have the same saved host, and hand over the same a0 and a6
+      -- the guest views have the same saved host, and hand over the same
       let host : SameHost (hart_state_of hart first_view) (hart_state_of hart second_view) =
       subst (λ (hart_state : HartState). SameHost hart_state (hart_state_of hart second_view)) (sym (guest_hart_state hart one))
       (subst (SameHost (guest_state (hart_state_of hart one))) (sym (guest_hart_state hart other)) (related.hosts hart exits_alike.runs)) in

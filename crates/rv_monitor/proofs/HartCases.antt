@@ -27,11 +27,13 @@ hart_cases_of_both hart_states other_states hart hart_state other_state Claim sa
     let FirstClaim : HartState → Type 0 =
     λ some_state. Claim other_hart some_state (hart_state_in (slice_set other_states hart other_state) other_hart) in
     elim (cases_eq other_hart hart) [
+      -- the hart is the one that changed: the claim holds for the new states
       | inl equal ↦
           subst FirstClaim (sym (get_or-set_at hart_states hart other_hart hart_state (hart_state_at_start 0) equal in_range))
           (subst (Claim other_hart hart_state) (sym (get_or-set_at other_states hart other_hart other_state (hart_state_at_start 0) equal
           (omega (arith, same_length, in_range))))
           (subst (λ (some_hart : ℕ). Claim some_hart hart_state other_state) (sym equal) claim_for_hart))
+      -- every other hart keeps its state: the claim holds for the old states
       | inr distinct ↦
           subst FirstClaim (sym (get_or-set_other hart_states hart other_hart hart_state (hart_state_at_start 0) distinct))
           (subst (Claim other_hart (hart_state_in hart_states other_hart))
@@ -218,10 +220,12 @@ pub record IsTrapping (hart : ℕ) (machine : MonitoredMachine) (trap : Trap) : 
 pub is_trapping : (hart : ℕ) (machine : MonitoredMachine) (trap : Trap) → (step_of hart machine).outcome.step.trap ≡ Some trap
     → IsTrapping hart machine trap
 is_trapping hart machine trap traps = elim (cases_lt hart (count_of machine)) [
+  -- a step with the number of no hart has no trap
   | inr past_last ↦
       let contradiction : None ≡ Some trap =
       sym (ap (λ (after : MonitoredStepped). after.outcome.step.trap) (outside hart machine past_last)) ∙ traps in
       cc
+  -- the step of the machine has the outcome of the view's step, so the view traps too
   | inl in_range ↦
       let after = monitored_step (hart_view hart machine) in
       let step_is = inside hart machine in_range in

@@ -116,19 +116,23 @@ region_byte_unchanged state slot byte view_invariant not_running live_after in_r
     let valid = view_invariant.valid in
     let outside_other_regions = accessible_apart shared.memory shared.table state.hart_state.world Write in
     elim (changes state view_invariant byte) [
+      -- a byte that no instruction and no call changed
       | inl unchanged ↦ unchanged
       | inr changed ↦ elim changed [
+        -- the instruction can store only bytes that are accessible to the running world, and the region of another enclave is not
         | inl stored ↦
             absurd
             (both_ways _ (outside_other_regions stored.span.addr
             (bytes_in stored.span.len) slot valid not_running stored.accessible byte stored.low stored.high) in_region)
         | inr call ↦ elim call.change [
+          -- a destroy zeroes the region of the destroyed enclave, which is not live after the step, or is another enclave with another region
           | inl destroyed ↦ elim (cases_eq slot (register state.hart_state.hart.regs 10)) [
             | inl equal ↦ absurd (both_ways _ (rw (← equal) at destroyed.gone) live_after)
             | inr distinct ↦
                 absurd (both_ways _ (apart_at (region shared.table slot) (region shared.table (register state.hart_state.hart.regs 10)) byte
                 (valid.regions_apart slot (register state.hart_state.hart.regs 10) distinct) in_region) destroyed.own)
           ]
+          -- a measure writes only bytes that are accessible to the running world
           | inr measured ↦
               absurd (both_ways _ (outside_other_regions byte 1 slot valid not_running measured.accessible byte (omega arith)
               (omega arith)) in_region)

@@ -79,12 +79,14 @@ invariant_after_step hart machine invariant in_range =
     let view_invariant_after = invariant_of_others hart machine invariant in_range in
     let same_length = stepped_count hart machine after in
     record {
+      -- the shared invariant holds for the world of the stepping hart in front, and so for the list of worlds in the order of the harts
       shared = subst (SharedInvariant after.state.shared)
           (sym (map-set world_of (hart_states_reprogrammed trap slots machine.hart_states) hart after.state.hart_state
           ∙ ap (λ (worlds : List World). slice_set worlds hart after.state.hart_state.world)
           (reprogramming_keeps_worlds trap slots machine.hart_states)))
           (shared_invariant-moved_back after.state.shared (worlds machine) hart after.state.hart_state.world
           (world_index_in_range hart machine in_range) view_invariant_after.0);
+      -- the stepping hart keeps its invariant, and each other hart is reprogrammed for the new table
       hart_states = λ other_hart other_in_new_range.
           let other_in_range : other_hart < count_of machine = omega (arith, same_length, other_in_new_range) in
           elim (cases_eq other_hart hart) [

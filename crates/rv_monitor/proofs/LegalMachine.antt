@@ -144,6 +144,7 @@ view_stored state view_invariant legal = step_cases state (λ after. ViewStored 
 -- a step of a legal machine leaves a legal machine
 step_stored : (hart : ℕ) (machine : MonitoredMachine) → Invariant machine → IsLegalMachine machine → IsLegalMachine (step_of hart machine).state
 step_stored hart machine invariant legal = elim (cases_lt hart (count_of machine)) [
+  -- a step with the number of no hart changes nothing
   | inr past_last ↦ subst (λ (after : MonitoredStepped). IsLegalMachine after.state) (sym (outside hart machine past_last)) legal
   | inl in_range ↦
       let state = hart_view hart machine in
@@ -153,9 +154,11 @@ step_stored hart machine invariant legal = elim (cases_lt hart (count_of machine
       let view_legal = subst (λ (stepped : HartViewStepped). ViewStored stepped.state) (sym (step_of_view hart machine in_range)) after in
       record {
         harts = λ other_hart. elim (cases_eq other_hart hart) [
+          -- the stepping hart is legal, because the step of its view leaves legal registers
           | inl is_stepping_hart ↦
               subst (λ (some_hart : ℕ). IsLegalHartState (hart_state_of some_hart (step_of hart machine).state)) (sym is_stepping_hart)
               (record { pc = view_legal.pc; supervisor = view_legal.supervisor })
+          -- every other hart keeps its pc and its S-mode registers
           | inr is_other_hart ↦
               let pc_unchanged =
               other_harts_keep (λ (hart_state : HartState). hart_state.hart.pc) (λ slots hart_state. refl) hart other_hart machine is_other_hart in

@@ -311,14 +311,17 @@ module _ (slot hart : ℕ) (machine : MonitoredMachine) (context : Context) (inv
   undisturbed_stays : runs_on slot hart machine ≡ false → enters slot (step_of hart machine).outcome.entered ≡ false
       → StaysAtPoint slot context machine (step_of hart machine).state
   undisturbed_stays not_running not_entered =
+      -- by integrity, the step preserves an enclave that is not the running world and is neither entered nor destroyed
       let preserved = integrity hart machine invariant slot not_running live not_entered live_after in
       let same_length = same_size hart machine in
       record {
         continues = record {
           running = λ other_hart in_region. elim (cases_Bool (runs_on slot other_hart machine)) [
+            -- an enclave that ran before the step keeps its hart state
             | inl ran_before ↦
                 ap (λ (hart_state : HartState). continuation hart_state.hart) (preserved.hart_state other_hart ran_before)
                 ∙ continues.running other_hart ran_before
+            -- an enclave that did not run before the step does not run after it, because the step does not enter the enclave
             | inr idle_before ↦ absurd (both_ways _ (entry_law slot hart other_hart machine idle_before not_entered) in_region)
           ];
           resting = λ not_running_now.
@@ -340,12 +343,14 @@ module _ (slot hart : ℕ) (machine : MonitoredMachine) (context : Context) (inv
   entered_stays : enters slot (step_of hart machine).outcome.entered ≡ true → StaysAtPoint slot context machine (step_of hart machine).state
   entered_stays enters_slot =
       let worlds_of_step = worlds_around_entry slot hart machine (entered_some slot (step_of hart machine).outcome.entered enters_slot) in
+      -- the step is an entry by a call, which restores the saved context of the slot
       let entry = enter_law hart machine invariant slot worlds_of_step.0 worlds_of_step.1 in
       let saved = entry.call.kept in
       let saved_context = entry.call.context in
       let saved_contexts_equal : Some saved_context ≡ Some context =
       sym saved ∙ continues.resting (saved_enclave_not_running slot machine saved_context invariant saved) in
       let contexts_equal : saved_context ≡ context = cc in
+      -- a legal context has the same S-mode registers after the monitor restores it
       let context_is_legal : IsLegal saved_context.supervisor =
       subst (λ (maybe_context : Option Context). IfSome maybe_context (λ context. IsLegal context.supervisor)) saved (legal_machine.contexts slot) in
       let table_after = slots_with_state machine.shared.table slot Running in
@@ -355,6 +360,7 @@ module _ (slot hart : ℕ) (machine : MonitoredMachine) (context : Context) (inv
       get_or-set_at (map (reprogrammed table_after) machine.hart_states) hart hart _ (hart_state_at_start 0) refl
       (omega (arith, same_length, in_range)) in
       let runs_after : runs_on slot hart (step_of hart machine).state ≡ true = ap (is_world_of slot) worlds_of_step.1 ∙ eq-eqb slot slot refl in
+      -- the hart continues with the saved context
       let continuation_is : continuation (hart_state_of hart (step_of hart machine).state).hart
       ≡ record saved_context { supervisor = s_context (with_s_context (hart_state_of hart machine).hart.csrs saved_context.supervisor) } =
       ap (λ (machine : MonitoredMachine). continuation (hart_state_of hart machine).hart) entry.call.state
@@ -433,6 +439,7 @@ foreign_event_keeps_point : (slot other_slot : ℕ) (event : Event) (one other :
     → IsForeign slot event one
     → AreAtOnePoint slot other_slot (event_of event one).state other
 foreign_event_keeps_point slot other_slot event one other invariant_one legal point foreign =
+    -- the event leaves the first enclave at its point
     let stays_alike = foreign_stays slot event one point.context invariant_one legal point.first point.live foreign in
     let table_after = (event_of event one).state.shared.table in
     let block = same_region table_after one.shared.table slot slot stays_alike.identity in
@@ -644,6 +651,7 @@ module _ (place other_place : Place) (one other : MonitoredMachine) (invariant_o
   -- a byte is either unchanged in both machines, or equal in both machines after the step
   changes : ChangeAlike one.shared.memory other.shared.memory after_one.shared.memory after_other.shared.memory
   changes index = elim (cases_Bool (is_beyond one.shared.table first_slot (ram_base + index))) [
+    -- an own step changes no byte beyond the region and the window, in either machine
     | inl byte_beyond ↦
         let beyond_other =
         sym (same_beyond one.shared.table other.shared.table first_slot second_slot (ram_base + index) point.identity) ∙ byte_beyond in
@@ -651,6 +659,7 @@ module _ (place other_place : Place) (one other : MonitoredMachine) (invariant_o
           changes_only_own_bytes place one invariant_one own_step_premises.first index byte_beyond,
           changes_only_own_bytes other_place other invariant_other own_step_premises.second index beyond_other,
         )
+    -- a byte within them is equal in the first and the mixed machine, and changes alike in the mixed and the second machine
     | inr byte_within ↦
         let bytes_equal =
         own_bytes_equal index (same_beyond after_one.shared.table one.shared.table first_slot first_slot (ram_base + index) identity_kept
@@ -683,6 +692,7 @@ module _ (place other_place : Place) (one other : MonitoredMachine) (invariant_o
   -- both enclaves continue with the same context after the step
   continue_alike : ContinueAlike
   continue_alike = elim (cases_Bool (runs_at place after_one)) [
+    -- the enclave still runs: both harts are equal as S and U see them, so both continue with the same context
     | inl runs_still ↦
         let still_same_enclave = same_own_step.state.runs runs_still in
         let other_runs : runs_at other_place after_other ≡ true =
@@ -696,6 +706,7 @@ module _ (place other_place : Place) (one other : MonitoredMachine) (invariant_o
           second = running_continues second_slot other_place.hart after_other _ invariant_after_other other_runs
               (ap (λ (hart_state : HartState). continuation hart_state.hart) (sym same_hart_after) ∙ sym continuations_equal);
         }
+    -- the enclave has exited: the monitor saved the same context in both machines
     | inr has_left ↦
         let saved_alike = (same_own_step.state.exits has_left).saved in
         record {
@@ -720,6 +731,7 @@ module _ (place other_place : Place) (one other : MonitoredMachine) (invariant_o
         identity = ap (option_map identity_of) same_record_after;
         memory = record {
           size = same_size place.hart one ∙ point.memory.size ∙ sym (same_size other_place.hart other);
+          -- an unchanged byte was equal before the step, and a changed byte is equal after the step
           bytes = λ index outside_region.
               let was_outside =
               ap (λ (block : Block). not (has block (ram_base + index))) (sym region_unchanged) ∙ outside_region in
@@ -754,12 +766,14 @@ module _ (place other_place : Place) (one other : MonitoredMachine) (invariant_o
 -- proves the law of whole lives, by induction on the list of moves
 pub life_law : LifeLaw
 life_law slot other_slot [] one other invariant_one invariant_other legal_one legal_other point are_moves = record { steps = tt; point = point }
+-- a foreign event of the first machine keeps both enclaves at one point
 life_law slot other_slot (InFirst event ∷ moves) one other invariant_one invariant_other legal_one legal_other point are_moves =
     let remaining =
     life_law slot other_slot moves (event_of event one).state other (event_invariant event one invariant_one) invariant_other
     (event_stored event one invariant_one legal_one) legal_other
     (foreign_event_keeps_point slot other_slot event one other invariant_one legal_one point are_moves.0) are_moves.1 in
     record { steps = remaining.steps; point = remaining.point }
+-- a foreign event of the second machine does so by symmetry
 life_law slot other_slot (InSecond event ∷ moves) one other invariant_one invariant_other legal_one legal_other point are_moves =
     let after = (event_of event other).state in
     let next =
@@ -769,6 +783,7 @@ life_law slot other_slot (InSecond event ∷ moves) one other invariant_one inva
     life_law slot other_slot moves one after invariant_one (event_invariant event other invariant_other) legal_one
     (event_stored event other invariant_other legal_other) next are_moves.1 in
     record { steps = remaining.steps; point = remaining.point }
+-- an own step is the same in both machines
 life_law slot other_slot (Own hart other_hart ∷ moves) one other invariant_one invariant_other legal_one legal_other point are_moves =
     let place = at slot hart in
     let other_place = at other_slot other_hart in
@@ -791,10 +806,12 @@ life_begins slot other_slot one other invariant_one invariant_other same_identit
     let second_enclave = same_identity.second in
     let memory = one.shared.memory in
     let other_memory = other.shared.memory in
+    -- equal measured bytes give equal create arguments and equal bytes in the region
     let measured =
     measurement_law memory other_memory first_enclave.info second_enclave.info invariant_one.shared.valid.ram size
     (valid_slot slot one invariant_one first_enclave)
     (valid_slot other_slot other invariant_other second_enclave) same_identity.input in
+    -- equal measured bytes give equal digests
     let digest : first_enclave.info.measurement ≡ second_enclave.info.measurement =
     first_enclave.measurement ∙ same_digest memory other_memory (args_of first_enclave.info) (args_of second_enclave.info) same_identity.input
     ∙ sym second_enclave.measurement in

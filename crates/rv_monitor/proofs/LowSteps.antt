@@ -92,10 +92,12 @@ span_apart enclave machine hart access (Some span) invariant in_range not_runnin
 pub reads_apart : (enclave hart : ℕ) (machine : MonitoredMachine) → Invariant machine → runs_on enclave hart machine ≡ false → (byte : ℕ)
     → reads_byte (step_of hart machine).outcome.step.touched byte ≡ true → has (region machine.shared.table enclave) byte ≡ false
 reads_apart enclave hart machine invariant not_running byte byte_read = elim (cases_lt hart (count_of machine)) [
+  -- a step with the number of no hart reads nothing
   | inr past_last ↦
       let contradiction : false ≡ true =
       sym (ap (λ (stepped : MonitoredStepped). reads_byte stepped.outcome.step.touched byte) (outside hart machine past_last)) ∙ byte_read in
       cc
+  -- each byte that the step fetches or loads is accessible to the running world, which is not `enclave`
   | inl in_range ↦
       let state = hart_view hart machine in
       let step_is : (step_of hart machine).outcome.step ≡ (monitored_step state).outcome.step =

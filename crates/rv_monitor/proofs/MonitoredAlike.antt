@@ -71,6 +71,7 @@ unfolding monitored_step
 step_equiv enclave hart_state worlds one other view_invariant_one shared_invariant_one shared_invariant_other not_running shared_equiv =
     let first_bare = stepped hart_state one in
     let second_bare = stepped hart_state other in
+    -- the bare steps are alike, because they access no byte in the region of `enclave`
     let bare_steps_alike = bare_law enclave (view_of hart_state one) other.memory view_invariant_one not_running shared_equiv.memory in
     let shared : SharedEquivExcept enclave (stored hart_state one) (stored hart_state other) = record {
       table = shared_equiv.table;
@@ -78,6 +79,7 @@ step_equiv enclave hart_state worlds one other view_invariant_one shared_invaria
       contexts = shared_equiv.contexts;
       gone = λ not_live. ap (stored hart_state) (shared_equiv.gone not_live);
     } in
+    -- the trap handler, if the bare steps trap, keeps the shared states equivalent
     let ended =
     trapped_equiv enclave first_bare.outcome first_bare.outcome.trap worlds (record hart_state { hart = first_bare.state.hart })
     (stored hart_state one)
@@ -133,6 +135,7 @@ stepped_equiv : (enclave hart : ℕ) (one other : MonitoredMachine) (stepped oth
 stepped_equiv enclave hart one other stepped other_stepped equiv in_range view_steps_agree other_hart =
     let same_harts = equiv.harts in
     elim (cases_lt other_hart (count_of one)) [
+      -- neither machine has this hart
       | inr past_last ↦
           let first_count = stepped_count hart one stepped in
           let second_count = stepped_count hart other other_stepped in
@@ -141,8 +144,10 @@ stepped_equiv enclave hart one other stepped other_stepped equiv in_range view_s
           ∙ sym (past_hart_state (stepped_by hart other other_stepped).state.hart_states other_hart
           (omega (arith, second_count, same_harts, past_last))))
       | inl other_in_range ↦ elim (cases_eq other_hart hart) [
+        -- the stepping hart has the state of its view after the step, and the views agree
         | inl equal ↦ hart_states_equiv enclave _ _ _ _ (own_hart_state hart one stepped other_hart equal in_range)
             (own_hart_state hart other other_stepped other_hart equal (omega (arith, same_harts, in_range))) view_steps_agree.hart_state
+        -- every other hart is reprogrammed alike, because the traps and the tables are equal
         | inr distinct ↦
             let traps = ap (λ (outcome : Outcome). outcome.step.trap) view_steps_agree.outcome in
             let ReprogrammedEquiv : Option Trap → Slots → Type 0 =
@@ -164,6 +169,7 @@ pub noninterference : (hart : ℕ) (machine : MonitoredMachine) → Invariant ma
 noninterference hart one invariant enclave other invariant_other equiv not_running =
     let same_harts = equiv.harts in
     elim (cases_lt hart (count_of one)) [
+      -- a step with the number of no hart changes neither machine
       | inr past_last ↦
           rw (outside hart one past_last, outside hart other (omega (arith, same_harts, past_last))) (record { outcome = refl; state = equiv })
       | inl in_range ↦

@@ -51,6 +51,7 @@ steps_plainly hart machine in_range =
     ap (λ (after : HartViewStepped). after.outcome.step) (step_of_view hart machine in_range) ∙ same_outcome state in
     record {
       outcome = outcome;
+      -- without a trap, the trap handler does not run, and no hart is reprogrammed
       quiet = λ no_trap.
           let bare_step_untrapped : (step (bare_machine state)).outcome.trap ≡ None =
           sym (ap (λ (outcome : StepOutcome). outcome.trap) outcome) ∙ no_trap in

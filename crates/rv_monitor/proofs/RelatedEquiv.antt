@@ -53,6 +53,7 @@ module _ (enclave : ℕ) (one other : MonitoredMachine) where
     table = equiv.shared.table;
     memory = record {
       size = equiv.shared.memory.size;
+      -- a byte that may not differ is outside the region of `enclave`
       bytes =
           λ index not_hidden. equiv.shared.memory.bytes index (or_parts (has (region one.shared.table enclave) (ram_base + index)) _ not_hidden).0;
     };

@@ -112,6 +112,7 @@ module _ (enclave hart : ℕ) (one other : MonitoredMachine) (trap : Trap) (host
       let first_length = length-map one.hart_states (reprogrammed first_table) in
       let second_length = length-map other.hart_states (reprogrammed second_table) in
       elim (cases_lt hart (count_of one)) [
+        -- both machines have this hart: its two states are reprogrammed for equal tables
         | inl in_range ↦
             let first_state_is =
             get_or-map (reprogrammed first_table) one.hart_states hart (hart_state_at_start 0) (hart_state_at_start 0) in_range in
@@ -129,6 +130,7 @@ module _ (enclave hart : ℕ) (one other : MonitoredMachine) (trap : Trap) (host
             (hart_state_in (map (reprogrammed second_table) other.hart_states) hart))
             (sym first_state_is)
             (subst (HartStatesEquivExcept enclave (reprogrammed first_table (hart_state_of hart one))) (sym second_state_is) harts_alike)
+        -- neither machine has this hart
         | inr past_last ↦
             let first_state_is = past_hart_state (map (reprogrammed first_table) one.hart_states) hart (omega (arith, first_length, past_last)) in
             let second_state_is =
@@ -154,6 +156,7 @@ module _ (enclave hart : ℕ) (one other : MonitoredMachine) (trap : Trap) (host
         harts =
             length-set (map (reprogrammed first_table) one.hart_states) hart (host_state (left_hart first_hart first_table trap host)) ∙ same_count
             ∙ sym (length-set (map (reprogrammed second_table) other.hart_states) hart (host_state (left_hart second_hart second_table trap host)));
+        -- the hart that exits has the same state in both machines, and the other harts are equivalent
         hart_states =
             hart_cases_of_both (map (reprogrammed first_table) one.hart_states) (map (reprogrammed second_table) other.hart_states) hart
             (host_state (left_hart first_hart first_table trap host))
@@ -165,6 +168,7 @@ module _ (enclave hart : ℕ) (one other : MonitoredMachine) (trap : Trap) (host
           table = same_table;
           memory = record {
             size = equiv.shared.memory.size;
+            -- the exit keeps the region of `enclave`, in which alone the memories may differ
             bytes =
                 λ index not_hidden. equiv.shared.memory.bytes index
                 (ap (λ (block : Block). has block (ram_base + index)) (sym extent.region) ∙ not_hidden);
@@ -193,6 +197,7 @@ equiv_after_exit : (enclave hart : ℕ) (one other : MonitoredMachine) (trap : T
     → (step_of hart one).outcome.step.trap ≡ Some trap → (step_of hart other).outcome.step.trap ≡ Some trap
     → (hart_state_of hart (step_of hart one).state).world ≡ Host → (hart_state_of hart (step_of hart other).state).world ≡ Host
     → EquivExcept enclave (step_of hart one).state (step_of hart other).state
+-- a hart that runs an enclave has a saved host context
 equiv_after_exit enclave hart one other trap None host_context_is invariant_one invariant_other equiv runs_enclave same_host same_handover traps
     other_traps one_exits other_exits =
     let in_range = running_hart_in_range enclave hart one runs_enclave in
@@ -202,6 +207,7 @@ equiv_after_exit enclave hart one other trap None host_context_is invariant_one 
     ap (λ (maybe_context : Option Context). is_some maybe_context) (sym host_context_is) ∙ has_host_context
     ∙ ap (λ world. not (is_host world)) world in
     cc
+-- both machines are those that `leave_law` gives
 equiv_after_exit enclave hart one other trap (Some host) host_context_is invariant_one invariant_other equiv runs_enclave same_host same_handover
     traps other_traps one_exits other_exits =
     let in_range = running_hart_in_range enclave hart one runs_enclave in

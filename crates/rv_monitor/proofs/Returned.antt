@@ -33,10 +33,13 @@ entered_from state after (inr (inr leaves)) host_runs enclave_runs_after = absur
 pub back_from : (before state : HartView) (after : HartViewStepped) → StaysOrSwitches state after
     → state.hart_state.host_context ≡ Some (saved before.hart_state.hart (past_ecall before.hart_state.hart) S)
     → is_host state.hart_state.world ≡ false → is_host after.state.hart_state.world ≡ true → HostIsRestored before state after
+-- the hart runs an enclave before the step and the host after it, so the world does not continue
 back_from before state after (inl stays) host_is_saved enclave_runs host_runs_after =
     absurd (both_ways _ enclave_runs (sym (ap is_host stays.world) ∙ host_runs_after))
+-- the hart runs an enclave before the step, so the step is not an entry
 back_from before state after (inr (inl enters)) host_is_saved enclave_runs host_runs_after =
     absurd (both_ways _ enclave_runs (ap is_host enters.from_host))
+-- the step is an exit, which restores the context that the entry saved
 back_from before state after (inr (inr leaves)) host_is_saved enclave_runs host_runs_after =
     let some_contexts_equal = sym leaves.kept ∙ host_is_saved in
     let contexts_equal : leaves.host ≡ saved before.hart_state.hart (past_ecall before.hart_state.hart) S = cc in

@@ -175,7 +175,9 @@ module _ (beside : List World) (hart_state : HartState) (shared : Shared) (share
       let hart = after.state.hart in
       let same_machine_parts = same_parts hart.csrs hart_state.hart.csrs stays_below.0 in
       let layout = hart_invariant.layout in (
+        -- the memory keeps its size
         sound_by_size shared (hart_state.world ∷ beside) after.state.memory shared_invariant (step_size (bare_machine state) after confined),
+        -- the hart keeps its PMP entries, mie and the fixed bits of mstatus
         invariant_with_hart shared.table hart_state hart hart_invariant.host (record {
           entries = same_machine_parts.0 ∙ layout.entries;
           mie = same_machine_parts.1 ∙ layout.mie;
@@ -197,9 +199,11 @@ module _ (beside : List World) (hart_state : HartState) (shared : Shared) (share
         ready.sound,
         invariant_with_hart result.shared.table result.hart_state (returned_to result.hart_state.hart result.next.pc result.next.mode) ready.host
             (record {
+              -- the trap handler programmed the PMP entries and mie last
               entries = is_laid_out.entries;
               mie = is_laid_out.mie;
               mode = invariant_after.mode;
+              -- the return from the trap copies MPIE to MIE, and MPRV stays 0
               mstatus_mie = ready.quiet.mpie;
               mprv = rw ready.quiet.mprv refl;
               tvm = ready.quiet.tvm;

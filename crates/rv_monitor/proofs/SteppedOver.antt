@@ -31,10 +31,12 @@ pub writes_change_alike : (memory other_memory : List ℕ) (address : ℕ) (byte
     → ChangeAlike memory other_memory (or_unchanged memory (write memory address bytes))
     (or_unchanged other_memory (write other_memory address bytes))
 writes_change_alike memory other_memory address bytes same_length position = elim (cases_Bool (is_inside memory address (length bytes))) [
+  -- both writes fail, because the memories have the same size
   | inr outside ↦
       let first_write = write-none memory address bytes outside in
       let second_write = write-none other_memory address bytes (rw (← same_length) outside) in
       rw (first_write, second_write) (inl (refl, refl))
+  -- both writes succeed, and write the same bytes at the same indices
   | inl is_inside_memory ↦
       let first_write = write-some memory address bytes is_inside_memory in
       let second_write = write-some other_memory address bytes (rw (← same_length) is_inside_memory) in
@@ -43,13 +45,16 @@ writes_change_alike memory other_memory address bytes same_length position = eli
       let fits : start + length bytes ≤ length memory = omega (arith, bounds.0, bounds.1) in
       let fits_other : start + length bytes ≤ length other_memory = omega (arith, bounds.0, bounds.1, same_length) in
       rw (first_write, second_write) (elim (cases_lt position start) [
+        -- an index before the written bytes keeps its byte in both memories
         | inl before_start ↦
             inl (index-below memory start bytes position fits before_start, index-below other_memory start bytes position fits_other before_start)
         | inr from_start ↦ elim (cases_lt position (start + length bytes)) [
+          -- an index within the written bytes gets the same byte in both memories
           | inl before_end ↦
               inr
               (index-within memory start bytes position fits from_start before_end
               ∙ sym (index-within other_memory start bytes position fits_other from_start before_end))
+          -- an index after the written bytes keeps its byte in both memories
           | inr after_end ↦
               inl (index-above memory start bytes position fits after_end, index-above other_memory start bytes position fits_other after_end)
         ]
@@ -215,12 +220,15 @@ module _ (hidden : ℕ → Bool) (hart_state : HartState) (trap : Trap) (table :
   unfolding left entered_slot
   handled_over = handler_cases_of_both hart_state trap table memory other_memory saved_contexts saved_contexts DifferInMemory (record {
     answers = λ status result. caller_over first_shared second_shared status result same_shared;
+    -- only the host creates, and the region of the new enclave has no hidden byte
     creates = λ is_request no_refusal.
         let host = offered_host hart_state.world (requested-is_offered hart_state.world hart_state.hart.regs Create is_request.asked).1 in
         caller_over _ _ 0 (new_slot table)
         (created_over (create_args_of hart_state.hart.regs) (region_bytes_equal (create_args_of hart_state.hart.regs) host no_refusal));
+    -- a destroy and a measure write the same bytes to both memories
     destroys = λ is_request slot_accepted. caller_over _ _ 0 0 (destroyed_over (a0 hart_state));
     measures = λ is_request no_refusal. caller_over _ _ 0 0 (measured_over (measured_slot hart_state.world (a0 hart_state)) (a1 hart_state));
+    -- an entry, an exit and a redirection change no byte
     enters = λ call is_request is_entry_call from_host slot_accepted.
         record {
           hart_state = refl;
@@ -258,8 +266,10 @@ ended_over : (hidden : ℕ → Bool) (outcome : StepOutcome) (maybe_trap : Optio
     (λ trap. returned outcome (handled hart_state (with_bytes shared after) trap)))
     (option_case maybe_trap (unhandled outcome hart_state (with_bytes shared other_after))
     (λ trap. returned outcome (handled hart_state (with_bytes shared other_after) trap)))
+-- without a trap, the bare steps are the whole steps
 ended_over hidden outcome None hart_state shared memory other_memory after other_after equal_outside same_length changes measures_seen =
     record { outcome = refl; hart_state = refl; shared = record { table = refl; contexts = refl; size = same_length; changes = changes } }
+-- with a trap, the trap handler changes both memories alike once more
 ended_over hidden outcome (Some trap) hart_state shared memory other_memory after other_after equal_outside same_length changes measures_seen =
     let handler_results =
     handled_over hidden hart_state trap shared.table after other_after shared.contexts
@@ -342,7 +352,9 @@ module _ (hidden : ℕ → Bool) (hart_state : HartState) (shared : Shared) (oth
       let first_bare = stepped hart_state shared in
       let second_bare = stepped hart_state (with_bytes shared other_memory) in
       let is_confined = confined before in
+      -- the bare steps are alike, because they read no hidden byte
       let alike = is_confined.alike other_memory accesses_equal in
+      -- equal stores change both memories alike
       let changes =
       stored_alike first_bare.outcome.touched.stored is_confined.bytes shared.memory other_memory first_bare.state.memory second_bare.state.memory
       equal_outside.size

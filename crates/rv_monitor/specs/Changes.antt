@@ -20,8 +20,10 @@ pub record IsStoredAccessible (world : World) (shared : Shared) (stored : Option
 -- a destroy ended the enclave in the slot of a0 (x10), and the byte is in the region of this enclave
 pub record IsCleared (world : World) (regs : List ℕ) (before after : Slots) (byte : ℕ) : Type 0 where
   pub asked : requested_call world regs ≡ Some Destroy
+  -- the enclave is live before the step and not live after the step
   pub live : is_live before (register regs 10) ≡ true
   pub gone : is_live after (register regs 10) ≡ false
+  -- the byte is in the region of the enclave
   pub own : has (region before (register regs 10)) byte ≡ true
 
 -- a measure that is not refused wrote the byte; it is one of the 32 bytes from a1 on, and the caller may store to it

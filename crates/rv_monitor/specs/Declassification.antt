@@ -43,10 +43,12 @@ may_differ slots enclave byte = has (region slots enclave) byte || (runs slots e
 pub record AreRelated (enclave : ℕ) (one other : MonitoredMachine) : Type 0 where
   pub harts : count_of one ≡ count_of other
   pub hart_states : (hart : ℕ) → HartStatesEquivExcept enclave (guest_state (hart_state_of hart one)) (guest_state (hart_state_of hart other))
+  -- the saved host context of the hart on which `enclave` runs is equal in both machines
   pub hosts : (hart : ℕ) → runs_on enclave hart one ≡ true → SameHostOn hart one other
   pub table : one.shared.table ≡ other.shared.table
   pub memory : EqualOutside (may_differ one.shared.table enclave) one.shared.memory other.shared.memory
   pub contexts : SameContexts enclave one.shared.contexts other.shared.contexts
+  -- if `enclave` is not live, then the shared states are equal
   pub gone : is_live one.shared.table enclave ≡ false → one.shared ≡ other.shared
 
 -- ---- what the enclave hands over

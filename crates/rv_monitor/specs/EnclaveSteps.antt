@@ -49,6 +49,7 @@ pub record SameSaved (i j : ℕ) (one other : Shared) : Type 0 where
 -- the hart runs the host, which received a reason and a value in a0 and a1
 pub record HasReturned (reason value hart : ℕ) (machine : MonitoredMachine) : Type 0 where
   pub world : (hart_state_of hart machine).world ≡ Host
+  -- the registers of the host before it receives the reason and the value
   pub host : List ℕ
   pub regs : (hart_state_of hart machine).hart.regs ≡ with_return_values host reason value
 

@@ -30,9 +30,11 @@ pub record SameRead (hart_state : HartState) (cause : Cause) (one other : Shared
   pub table : one.table ≡ other.table
   pub size : length one.memory ≡ length other.memory
   pub slots : length one.contexts ≡ length other.contexts
+  -- the bytes of the region that a requested create would measure are equal
   pub measured : requested_by cause hart_state ≡ Some Create
       → bytes_of_block one.memory (create_args_of hart_state.hart.regs).region
       ≡ bytes_of_block other.memory (create_args_of hart_state.hart.regs).region
+  -- the saved context of the slot that a requested run or resume would enter is equal
   pub entered : is_entering (requested_by cause hart_state) ≡ true
       → context_at one.contexts (a0 hart_state) ≡ context_at other.contexts (a0 hart_state)
 

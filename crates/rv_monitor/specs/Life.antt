@@ -20,7 +20,9 @@ use Rattle.rv_monitor.specs.SwitchLaws.{continuation}
 
 -- the enclave continues with this context: it is the context of the hart while the enclave runs, and the saved context otherwise
 pub record ContinuesWith (slot : ℕ) (context : Context) (machine : MonitoredMachine) : Type 0 where
+  -- while the enclave runs on a hart, the hart continues with this context
   pub running : (hart : ℕ) → runs_on slot hart machine ≡ true → continuation (hart_state_of hart machine).hart ≡ context
+  -- while the enclave runs on no hart, this context is its saved context
   pub resting : runs machine.shared.table slot ≡ false → context_at machine.shared.contexts slot ≡ Some context
 
 -- Two enclaves continue with the same context. They have the same region, window, entry and measurement, and the same bytes in the region. Whether

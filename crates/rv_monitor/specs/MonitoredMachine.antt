@@ -92,7 +92,9 @@ pub record HasPmpLayout (slots : Slots) (hart_state : HartState) : Type 0 where
 
 -- the host has a saved context if and only if an enclave runs, and a hart can continue with it
 pub record HostContextInvariant (hart_state : HartState) : Type 0 where
+  -- the context is saved if and only if an enclave runs on the hart
   pub kept : is_some hart_state.host_context ≡ not (is_host hart_state.world)
+  -- the saved context has a mode below M and a pc that is a multiple of 4
   pub held : IfSome hart_state.host_context (λ context. can_go_on context ≡ true)
 
 -- the S-mode registers of the host's saved context are as a hart stores them
