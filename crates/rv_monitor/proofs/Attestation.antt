@@ -59,10 +59,10 @@ handled_size hart_state shared trap = handler_cases hart_state trap shared (λ r
 -- a step does not change the size of the memory
 pub same_size : (hart : ℕ) (machine : MonitoredMachine) → length (step_of hart machine).state.shared.memory ≡ length machine.shared.memory
 same_size hart machine = by_hart hart machine (λ after. length after.state.shared.memory ≡ length machine.shared.memory) refl (λ in_range.
-    let state : HartView = hart_view hart machine in
-    step_cases state (λ after. length after.state.shared.memory ≡ length state.shared.memory)
-    (λ no_trap. sym (step_size (bare_machine state) (step (bare_machine state)) (confined (bare_machine state))))
-    (λ trap trapped. handled_size (hart_state_after state.hart_state trap) state.shared trap))
+    let view : HartView = hart_view hart machine in
+    step_cases view (λ after. length after.state.shared.memory ≡ length view.shared.memory)
+    (λ no_trap. sym (step_size (bare_machine view) (step (bare_machine view)) (confined (bare_machine view))))
+    (λ trap trapped. handled_size (hart_state_after view.hart_state trap) view.shared trap))
 
 -- ---- create
 
@@ -210,11 +210,11 @@ as_created_law hart machine invariant = record {
   creates = λ slot slot_is_free.
       by_hart hart machine (λ after. is_live after.state.shared.table slot ≡ true → IsAsCreated slot after.state.shared)
       (λ live_after. absurd (both_ways _ slot_is_free live_after)) (λ in_range.
-      let state : HartView = hart_view hart machine in
-      step_cases state (λ after. is_live after.state.shared.table slot ≡ true → IsAsCreated slot after.state.shared)
+      let view : HartView = hart_view hart machine in
+      step_cases view (λ after. is_live after.state.shared.table slot ≡ true → IsAsCreated slot after.state.shared)
       (λ no_trap live_after. absurd (both_ways _ slot_is_free live_after))
-      (λ trap trapped. handled_created slot state.shared invariant.shared.valid invariant.shared.contexts.count slot_is_free
-      (hart_state_after state.hart_state trap) trap));
+      (λ trap trapped. handled_created slot view.shared invariant.shared.valid invariant.shared.contexts.count slot_is_free
+      (hart_state_after view.hart_state trap) trap));
   keeps = λ slot as_created. stays_as_created slot machine invariant as_created hart;
 }
 

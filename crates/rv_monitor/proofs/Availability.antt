@@ -47,15 +47,15 @@ stopped_ends slots slot (Some info) table_length slot_is is_live =
 pub timer_exits : (hart : ℕ) (machine : MonitoredMachine) → Invariant machine → TimerExits hart machine (step_of hart machine)
 timer_exits hart machine invariant slot host runs host_is_saved timer_set =
     let in_range = hart_of_enclave_in_range slot hart machine runs in
-    let state = hart_view hart machine in
+    let view = hart_view hart machine in
     let view_invariant = hart_view_invariant hart machine invariant in_range in
     -- mie enables only the timer interrupt while an enclave runs, and the timer line is set, so the bare step takes this interrupt
-    let enabled : state.hart_state.hart.csrs.mie ≡ 0x80 = view_invariant.hart.layout.mie ∙ ap mie_of runs in
-    let bare_step_traps = takes_timer (bare_machine state)
-    (pending_is_timer state.hart_state.hart.csrs state.hart_state.hart.mode view_invariant.hart.layout.mode enabled ∙ ap timer_or_none timer_set) in
+    let enabled : view.hart_state.hart.csrs.mie ≡ 0x80 = view_invariant.hart.layout.mie ∙ ap mie_of runs in
+    let bare_step_traps = takes_timer (bare_machine view)
+    (pending_is_timer view.hart_state.hart.csrs view.hart_state.hart.mode view_invariant.hart.layout.mode enabled ∙ ap timer_or_none timer_set) in
     let trap_is : (step_of hart machine).outcome.step.trap ≡ Some timer_trap =
     ap (λ (after : HartViewStepped). after.outcome.step.trap) (step_of_view hart machine in_range)
-    ∙ ap (λ (outcome : StepOutcome). outcome.trap) (same_outcome state) ∙ bare_step_traps in
+    ∙ ap (λ (outcome : StepOutcome). outcome.trap) (same_outcome view) ∙ bare_step_traps in
     let world = world_is_host _ ((exits_law hart machine invariant slot runs).exits timer_trap trap_is) in
     -- the interrupt exits to the host, and `leave_law` gives the machine after the exit
     let exit = leave_law hart machine invariant slot host timer_trap runs host_is_saved trap_is world in

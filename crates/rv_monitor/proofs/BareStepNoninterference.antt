@@ -12,12 +12,12 @@ use Rattle.rv_monitor.proofs.AccessControlLemmas.{below_M, data_below}
 
 -- A bare step over the memory of the state, and over another memory with equal bytes outside the hidden bytes. No permitted access of the step has
 -- a hidden byte.
-module _ (hidden : ℕ → Bool) (state : HartView) (view_invariant : HartViewInvariant state)
-    (not_hidden : (mode : Mode) (access : Access) (span : Span) → is_machine mode ≡ false → MayTouch (bare_machine state) mode access (Some span)
+module _ (hidden : ℕ → Bool) (view : HartView) (view_invariant : HartViewInvariant view)
+    (not_hidden : (mode : Mode) (access : Access) (span : Span) → is_machine mode ≡ false → MayTouch (bare_machine view) mode access (Some span)
     → IsSeen hidden span.addr (bytes_in span.len)) where
   -- the bare machine before the step: the hart with the memory of the state
   abbrev before : Machine
-  before = bare_machine state
+  before = bare_machine view
 
   -- both memories have equal bytes in each permitted access below M
   accessed_bytes_equal : (mode : Mode) (access : Access) (touched : Option Span) (other_memory : List ℕ) → is_machine mode ≡ false
@@ -38,7 +38,7 @@ module _ (hidden : ℕ → Bool) (state : HartView) (view_invariant : HartViewIn
         equal_outside;
     loaded =
         accessed_bytes_equal (data_mode before.hart) Read touched.loaded other_memory
-        (data_below state view_invariant) touches_permitted_bytes.loaded equal_outside;
+        (data_below view view_invariant) touches_permitted_bytes.loaded equal_outside;
   }
 
   -- equal stores leave both memories equal outside the hidden bytes
@@ -68,18 +68,18 @@ module _ (hidden : ℕ → Bool) (state : HartView) (view_invariant : HartViewIn
 -- ---- the hidden bytes are the region of an enclave other than the running world
 
 -- the hart of the view does not run `enclave`
-module _ (enclave : ℕ) (state : HartView) (view_invariant : HartViewInvariant state)
-    (runs_other_world : is_world_of enclave state.hart_state.world ≡ false) where
+module _ (enclave : ℕ) (view : HartView) (view_invariant : HartViewInvariant view)
+    (runs_other_world : is_world_of enclave view.hart_state.world ≡ false) where
   -- a permitted access of the running world has no byte in the region of another enclave
   accesses_no_private_byte : (mode : Mode) (access : Access) (span : Span) → is_machine mode ≡ false
-      → MayTouch (bare_machine state) mode access (Some span)
-      → IsSeen (is_private state.shared.table enclave) span.addr (bytes_in span.len)
+      → MayTouch (bare_machine view) mode access (Some span)
+      → IsSeen (is_private view.shared.table enclave) span.addr (bytes_in span.len)
   accesses_no_private_byte mode access span mode_below_m may_touch byte from_start before_end =
       let entries = view_invariant.hart.layout.entries in
       let outside_other_regions =
-      permitted_apart state.shared.memory state.shared.table state.hart_state.world mode access span.addr (bytes_in span.len)
-      (small_ram state.shared.memory view_invariant.valid.ram) view_invariant.valid (below_M mode mode_below_m) (some_bytes span.len)
-      (inside-bounds state.shared.memory span.addr (bytes_in span.len) may_touch.0) in
+      permitted_apart view.shared.memory view.shared.table view.hart_state.world mode access span.addr (bytes_in span.len)
+      (small_ram view.shared.memory view_invariant.valid.ram) view_invariant.valid (below_M mode mode_below_m) (some_bytes span.len)
+      (inside-bounds view.shared.memory span.addr (bytes_in span.len) may_touch.0) in
       outside_other_regions enclave runs_other_world (rw (← entries) may_touch.1) byte from_start before_end
 
 -- proves the bare law: a bare step depends on no byte in the region of another enclave

@@ -172,21 +172,21 @@ module _ (hart_state : HartState) (shared : Shared) (valid : IsValid shared.memo
 -- ---- the bare step
 
 -- the bare step of a view with the invariant, and one byte of memory
-module _ (state : HartView) (view_invariant : HartViewInvariant state) (byte : ℕ) where
+module _ (view : HartView) (view_invariant : HartViewInvariant view) (byte : ℕ) where
   -- a byte outside the store of the step is unchanged
   abbrev Stored : Option Span → List ℕ → Type 0
-  Stored stored memory = byte_at memory byte ≡ byte_at state.shared.memory byte ⊎ IsStoredAccessible state.hart_state.world state.shared stored byte
+  Stored stored memory = byte_at memory byte ≡ byte_at view.shared.memory byte ⊎ IsStoredAccessible view.hart_state.world view.shared stored byte
 
   -- a permitted store changes only bytes that the running world may write
-  stored_by : (stored : Option Span) (bytes after : List ℕ) → MayTouch (bare_machine state) (data_mode state.hart_state.hart) Write stored
-      → Stores bytes state.shared.memory after stored → Stored stored after
+  stored_by : (stored : Option Span) (bytes after : List ℕ) → MayTouch (bare_machine view) (data_mode view.hart_state.hart) Write stored
+      → Stores bytes view.shared.memory after stored → Stored stored after
   stored_by None bytes after may_touch after_is = inl (ap (λ (memory : List ℕ). byte_at memory byte) after_is)
   stored_by (Some span) bytes after may_touch stores =
       let stored_size = stores.0 in
-      let mode_below_m = below_M (data_mode state.hart_state.hart) (data_below state view_invariant) in
+      let mode_below_m = below_M (data_mode view.hart_state.hart) (data_below view view_invariant) in
       elim (cases_lt byte span.addr) [
         -- the byte is before the stored bytes, so the store leaves the byte unchanged
-        | inl before_start ↦ inl (byte_at-write state.shared.memory span.addr bytes after byte stores.1 (inl before_start))
+        | inl before_start ↦ inl (byte_at-write view.shared.memory span.addr bytes after byte stores.1 (inl before_start))
         | inr from_start ↦ elim (cases_lt byte (span.addr + bytes_in span.len)) [
           -- the byte is a stored byte, and the PMP permitted the store
           | inl before_end ↦
@@ -196,33 +196,33 @@ module _ (state : HartView) (view_invariant : HartViewInvariant state) (byte : �
                 low = from_start;
                 high = before_end;
                 accessible =
-                    sym (access_control_law state (data_mode state.hart_state.hart) Write span.addr span.len view_invariant mode_below_m may_touch.0)
+                    sym (access_control_law view (data_mode view.hart_state.hart) Write span.addr span.len view_invariant mode_below_m may_touch.0)
                     ∙ may_touch.1;
               })
           -- the byte is after the stored bytes, so the store leaves the byte unchanged
-          | inr after_end ↦ inl (byte_at-write state.shared.memory span.addr bytes after byte stores.1 (inr (rw stored_size after_end)))
+          | inr after_end ↦ inl (byte_at-write view.shared.memory span.addr bytes after byte stores.1 (inr (rw stored_size after_end)))
         ]
       ]
 
   -- the bare step changes only bytes that the running world may write
-  bare_changes : (after : Stepped) → IsConfined (bare_machine state) after → TouchesPermitted (bare_machine state) after
+  bare_changes : (after : Stepped) → IsConfined (bare_machine view) after → TouchesPermitted (bare_machine view) after
       → Stored after.outcome.touched.stored after.state.memory
   bare_changes after confined_after touches_permitted_bytes =
-      let same_memory = equal_to_itself state.shared.memory after.outcome.touched in
+      let same_memory = equal_to_itself view.shared.memory after.outcome.touched in
       stored_by after.outcome.touched.stored confined_after.bytes after.state.memory touches_permitted_bytes.stored
-      (confined_after.alike state.shared.memory same_memory).here
+      (confined_after.alike view.shared.memory same_memory).here
 
 -- proves that a step changes only bytes that its world may write, or bytes that its call of the monitor may change
-pub changes : (state : HartView) → HartViewInvariant state → ChangesAccessible state (monitored_step state)
-changes state view_invariant byte =
-    step_cases state (λ after. byte_at after.state.shared.memory byte ≡ byte_at state.shared.memory byte ⊎ IsChanged state after byte)
-    (λ no_trap. elim (bare_changes state view_invariant byte (step (bare_machine state)) (confined (bare_machine state))
-    (touches_permitted (bare_machine state))) [
+pub changes : (view : HartView) → HartViewInvariant view → ChangesAccessible view (monitored_step view)
+changes view view_invariant byte =
+    step_cases view (λ after. byte_at after.state.shared.memory byte ≡ byte_at view.shared.memory byte ⊎ IsChanged view after byte)
+    (λ no_trap. elim (bare_changes view view_invariant byte (step (bare_machine view)) (confined (bare_machine view))
+    (touches_permitted (bare_machine view))) [
       | inl unchanged ↦ inl unchanged
       | inr stored ↦ inr (inl stored)
     ])
     (λ trap trapped. elim (handled_changes
-    (hart_state_after state.hart_state trap) state.shared view_invariant.valid view_invariant.hart.layout.entries byte trap) [
+    (hart_state_after view.hart_state trap) view.shared view_invariant.valid view_invariant.hart.layout.entries byte trap) [
       | inl unchanged ↦ inl unchanged
       | inr changed ↦ inr (inr (record { trap = trap; trapped = trapped; is = changed.0; change = changed.1 }))
     ])

@@ -67,21 +67,21 @@ accessible_bytes_are_own memory table slot access start size is_accessible_to_sl
 -- ---- the bare step
 
 -- the hart of the view runs enclave `slot`
-module _ (slot : ℕ) (state : HartView) (view_invariant : HartViewInvariant state) (runs_enclave : state.hart_state.world ≡ Enclave slot) where
+module _ (slot : ℕ) (view : HartView) (view_invariant : HartViewInvariant view) (runs_enclave : view.hart_state.world ≡ Enclave slot) where
   -- each byte of a permitted access of the enclave is in its region or window
-  accesses_own : (mode : Mode) (access : Access) (span : Span) → is_machine mode ≡ false → MayTouch (bare_machine state) mode access (Some span)
-      → IsSeen (is_beyond state.shared.table slot) span.addr (bytes_in span.len)
+  accesses_own : (mode : Mode) (access : Access) (span : Span) → is_machine mode ≡ false → MayTouch (bare_machine view) mode access (Some span)
+      → IsSeen (is_beyond view.shared.table slot) span.addr (bytes_in span.len)
   accesses_own mode access span mode_below_m may_touch =
       let accessible =
-      sym (access_control_law state mode access span.addr span.len view_invariant (below_M mode mode_below_m) may_touch.0) ∙ may_touch.1 in
-      accessible_bytes_are_own state.shared.memory state.shared.table slot access span.addr (bytes_in span.len)
-      (subst (λ (world : World). is_accessible state.shared.memory state.shared.table world access
+      sym (access_control_law view mode access span.addr span.len view_invariant (below_M mode mode_below_m) may_touch.0) ∙ may_touch.1 in
+      accessible_bytes_are_own view.shared.memory view.shared.table slot access span.addr (bytes_in span.len)
+      (subst (λ (world : World). is_accessible view.shared.memory view.shared.table world access
       (bytes_from span.addr (bytes_in span.len)) ≡ true) runs_enclave accessible)
 
   -- the bare step of the enclave has the same result over each memory with equal bytes in its region and window
-  memory_step : (memory : List ℕ) → EqualOutside (is_beyond state.shared.table slot) state.shared.memory memory
-      → StepAlike (is_beyond state.shared.table slot) (step (bare_machine state)) (step (record (bare_machine state) { memory = memory }))
-  memory_step = bare_step_alike (is_beyond state.shared.table slot) state view_invariant accesses_own
+  memory_step : (memory : List ℕ) → EqualOutside (is_beyond view.shared.table slot) view.shared.memory memory
+      → StepAlike (is_beyond view.shared.table slot) (step (bare_machine view)) (step (record (bare_machine view) { memory = memory }))
+  memory_step = bare_step_alike (is_beyond view.shared.table slot) view view_invariant accesses_own
 
 -- ---- the trap handler
 

@@ -46,42 +46,42 @@ unfolding machine_parts
 rest_ignores_machine_parts csrs = refl
 
 -- the hart of the view runs the enclave in `slot`
-module _ (slot : ℕ) (state : HartView) (view_invariant : HartViewInvariant state) (runs_enclave : state.hart_state.world ≡ Enclave slot) where
+module _ (slot : ℕ) (view : HartView) (view_invariant : HartViewInvariant view) (runs_enclave : view.hart_state.world ≡ Enclave slot) where
   -- a step of an enclave without a trap leaves unchanged what `StaysBehind` names
-  stays_without_trap : (step (bare_machine state)).outcome.trap ≡ None → StaysBehind state (view_without_trap state)
+  stays_without_trap : (step (bare_machine view)).outcome.trap ≡ None → StaysBehind view (view_without_trap view)
   stays_without_trap no_trap =
-      let after = step (bare_machine state) in
-      let parts_and_mode_kept = without_trap after.outcome.trap (StaysBelow state.hart_state.hart after.state.hart) no_trap
-      (keeps_machine_parts (bare_machine state) view_invariant.hart.layout.mode view_invariant.hart.layout.mprv) in
+      let after = step (bare_machine view) in
+      let parts_and_mode_kept = without_trap after.outcome.trap (StaysBelow view.hart_state.hart after.state.hart) no_trap
+      (keeps_machine_parts (bare_machine view) view_invariant.hart.layout.mode view_invariant.hart.layout.mprv) in
       record {
         host = refl;
         rest =
-            sym (rest_ignores_machine_parts state.hart_state.hart.csrs) ∙ ap rest (sym parts_and_mode_kept.0)
+            sym (rest_ignores_machine_parts view.hart_state.hart.csrs) ∙ ap rest (sym parts_and_mode_kept.0)
             ∙ rest_ignores_machine_parts after.state.hart.csrs;
         table = refl;
         contexts = refl;
-        size = step_size (bare_machine state) after (confined (bare_machine state));
+        size = step_size (bare_machine view) after (confined (bare_machine view));
       }
 
   -- the bare step has this trap and this outcome
   module _ (trap : Trap) (outcome : StepOutcome) where
     -- the hart state at the trap, before the trap handler
     abbrev hart_state : HartState
-    hart_state = hart_state_after state.hart_state trap
+    hart_state = hart_state_after view.hart_state trap
 
     -- if an enclave still runs after the trap handler, then what `StaysBehind` names is unchanged, except for the size of memory
     abbrev StaysIfRunning : Handled → Type 0
     StaysIfRunning result = is_host result.hart_state.world ≡ false
-        → (state.hart_state.host_context ≡ result.hart_state.host_context)
-        × (rest state.hart_state.hart.csrs ≡ rest (returned_to result.hart_state.hart result.next.pc result.next.mode).csrs)
-        × (state.shared.table ≡ result.shared.table) × (state.shared.contexts ≡ result.shared.contexts)
+        → (view.hart_state.host_context ≡ result.hart_state.host_context)
+        × (rest view.hart_state.hart.csrs ≡ rest (returned_to result.hart_state.hart result.next.pc result.next.mode).csrs)
+        × (view.shared.table ≡ result.shared.table) × (view.shared.contexts ≡ result.shared.contexts)
 
     -- the result of the trap handler satisfies `Stays`
-    handler_stays : StaysIfRunning (handled hart_state state.shared trap)
+    handler_stays : StaysIfRunning (handled hart_state view.shared trap)
     unfolding measured left with_redirected_trap
     handler_stays =
         let mprv = view_invariant.hart.layout.mprv in
-        handler_cases hart_state trap state.shared StaysIfRunning (record {
+        handler_cases hart_state trap view.shared StaysIfRunning (record {
           answers = λ status result enclave_runs_after. (refl, rw mprv refl, refl, refl);
           creates =
               λ requests no_refusal. create_not_offered _ slot hart_state.world runs_enclave
@@ -96,8 +96,8 @@ module _ (slot : ℕ) (state : HartView) (view_invariant : HartViewInvariant sta
         })
 
     -- a step with a trap after which an enclave still runs leaves unchanged what `StaysBehind` names
-    stays_with_trap : is_host (returned outcome (handled hart_state state.shared trap)).state.hart_state.world ≡ false
-        → StaysBehind state (returned outcome (handled hart_state state.shared trap))
+    stays_with_trap : is_host (returned outcome (handled hart_state view.shared trap)).state.hart_state.world ≡ false
+        → StaysBehind view (returned outcome (handled hart_state view.shared trap))
     stays_with_trap enclave_runs_after =
         let stays = handler_stays enclave_runs_after in
         record {
@@ -105,47 +105,47 @@ module _ (slot : ℕ) (state : HartView) (view_invariant : HartViewInvariant sta
           rest = stays.1;
           table = stays.2;
           contexts = stays.3;
-          size = sym (handled_keeps slot hart_state runs_enclave trap state.shared view_invariant.valid.count).1;
+          size = sym (handled_keeps slot hart_state runs_enclave trap view.shared view_invariant.valid.count).1;
         }
 
   -- each step after which an enclave still runs leaves unchanged what `StaysBehind` names
-  stays_behind : is_host (monitored_step state).state.hart_state.world ≡ false → StaysBehind state (monitored_step state)
-  stays_behind = step_cases state (λ after. is_host after.state.hart_state.world ≡ false → StaysBehind state after)
-      (λ no_trap enclave_runs_after. stays_without_trap no_trap) (λ trap trapped. stays_with_trap trap (step (bare_machine state)).outcome)
+  stays_behind : is_host (monitored_step view).state.hart_state.world ≡ false → StaysBehind view (monitored_step view)
+  stays_behind = step_cases view (λ after. is_host after.state.hart_state.world ≡ false → StaysBehind view after)
+      (λ no_trap enclave_runs_after. stays_without_trap no_trap) (λ trap trapped. stays_with_trap trap (step (bare_machine view)).outcome)
 
   -- a byte is not both within the enclave's memory and beyond it
-  not_within_and_beyond : (byte : ℕ) → is_beyond state.shared.table slot byte ≡ false → is_beyond state.shared.table slot byte ≡ true
+  not_within_and_beyond : (byte : ℕ) → is_beyond view.shared.table slot byte ≡ false → is_beyond view.shared.table slot byte ≡ true
       → (Claim : Type 0) → Claim
   not_within_and_beyond byte byte_within byte_beyond Claim = let contradiction : false ≡ true = sym byte_within ∙ byte_beyond in cc
 
   -- each byte that the enclave may write is in its region or window
   writes_within : (address size byte : ℕ)
-      → is_accessible state.shared.memory state.shared.table state.hart_state.world Write (bytes_from address size) ≡ true
-      → address ≤ byte → byte < address + size → is_beyond state.shared.table slot byte ≡ false
+      → is_accessible view.shared.memory view.shared.table view.hart_state.world Write (bytes_from address size) ≡ true
+      → address ≤ byte → byte < address + size → is_beyond view.shared.table slot byte ≡ false
   writes_within address size byte may_write from_start before_end =
-      accessible_bytes_are_own state.shared.memory state.shared.table slot Write address size
-      (subst (λ (world : World). is_accessible state.shared.memory state.shared.table world Write
+      accessible_bytes_are_own view.shared.memory view.shared.table slot Write address size
+      (subst (λ (world : World). is_accessible view.shared.memory view.shared.table world Write
       (bytes_from address size) ≡ true) runs_enclave may_write) byte from_start before_end
 
   -- a byte that the step leaves unchanged, or changes as the enclave may, is unchanged if it is beyond the enclave's memory
-  unchanged_beyond : (byte : ℕ) → is_beyond state.shared.table slot byte ≡ true
-      → byte_at (monitored_step state).state.shared.memory byte ≡ byte_at state.shared.memory byte ⊎ IsChanged state (monitored_step state) byte
-      → byte_at (monitored_step state).state.shared.memory byte ≡ byte_at state.shared.memory byte
+  unchanged_beyond : (byte : ℕ) → is_beyond view.shared.table slot byte ≡ true
+      → byte_at (monitored_step view).state.shared.memory byte ≡ byte_at view.shared.memory byte ⊎ IsChanged view (monitored_step view) byte
+      → byte_at (monitored_step view).state.shared.memory byte ≡ byte_at view.shared.memory byte
   unchanged_beyond byte byte_beyond (inl unchanged) = unchanged
   unchanged_beyond byte byte_beyond (inr (inl stored)) =
       not_within_and_beyond byte
       (writes_within stored.span.addr (bytes_in stored.span.len) byte stored.accessible stored.low stored.high) byte_beyond _
   unchanged_beyond byte byte_beyond (inr (inr call)) = elim call.change [
     | inl destroyed ↦
-        destroy_not_offered _ slot state.hart_state.world runs_enclave
-        (requested-is_offered state.hart_state.world state.hart_state.hart.regs _ destroyed.asked).1
+        destroy_not_offered _ slot view.hart_state.world runs_enclave
+        (requested-is_offered view.hart_state.world view.hart_state.hart.regs _ destroyed.asked).1
     | inr measured ↦ not_within_and_beyond byte (writes_within byte 1 byte measured.accessible (omega arith) (omega arith)) byte_beyond _
   ]
 
   -- a step after which the enclave still runs changes no byte outside its region and window
-  pub bytes_beyond_unchanged : (byte : ℕ) → is_beyond state.shared.table slot byte ≡ true
-      → byte_at (monitored_step state).state.shared.memory byte ≡ byte_at state.shared.memory byte
-  bytes_beyond_unchanged byte byte_beyond = unchanged_beyond byte byte_beyond (changes state view_invariant byte)
+  pub bytes_beyond_unchanged : (byte : ℕ) → is_beyond view.shared.table slot byte ≡ true
+      → byte_at (monitored_step view).state.shared.memory byte ≡ byte_at view.shared.memory byte
+  bytes_beyond_unchanged byte byte_beyond = unchanged_beyond byte byte_beyond (changes view view_invariant byte)
 
 -- ---- a step of the machine
 
@@ -165,15 +165,15 @@ pub enclave_step_unchanged : (enclave hart : ℕ) (machine : MonitoredMachine) �
     → Unchanged enclave hart machine (step_of hart machine).state
 enclave_step_unchanged enclave hart machine invariant runs_on_hart runs_after =
     let in_range = running_hart_in_range enclave hart machine runs_on_hart in
-    let state = hart_view hart machine in
+    let view = hart_view hart machine in
     let view_invariant = hart_view_invariant hart machine invariant in_range in
-    let world_is = world_is_enclave enclave state.hart_state.world runs_on_hart in
+    let world_is = world_is_enclave enclave view.hart_state.world runs_on_hart in
     let step_is = step_of_view hart machine in_range in
-    let after = monitored_step state in
+    let after = monitored_step view in
     let enclave_runs_after : is_host after.state.hart_state.world ≡ false =
     ap (λ (stepped : HartViewStepped). is_host stepped.state.hart_state.world) (sym step_is)
     ∙ enclave_world_is_not_host enclave (hart_state_of hart (step_of hart machine).state).world runs_after in
-    let stays = stays_behind enclave state view_invariant world_is enclave_runs_after in
+    let stays = stays_behind enclave view view_invariant world_is enclave_runs_after in
     let shared_is = ap (λ (stepped : HartViewStepped). stepped.state.shared) step_is in
     let hart_state_is = ap (λ (stepped : HartViewStepped). stepped.state.hart_state) step_is in
     let table_unchanged = stays.table ∙ sym (ap (λ (shared_is : Shared). shared_is.table) shared_is) in
@@ -199,7 +199,7 @@ enclave_step_unchanged enclave hart machine invariant runs_on_hart runs_after =
       size = stays.size ∙ sym (ap (λ (shared_is : Shared). length shared_is.memory) shared_is);
       bytes =
           λ byte is_beyond_enclave. ap (λ (shared_is : Shared). byte_at shared_is.memory byte) shared_is
-          ∙ bytes_beyond_unchanged enclave state view_invariant world_is byte is_beyond_enclave;
+          ∙ bytes_beyond_unchanged enclave view view_invariant world_is byte is_beyond_enclave;
     }
 
 -- ---- bytes of equal memories

@@ -172,8 +172,8 @@ module _ (hart slot : ℕ) (machine : MonitoredMachine) (invariant : Invariant m
       sym (ap (λ (after : HartViewStepped). after.state.hart_state.world) (step_of_view hart machine in_range)) ∙ enclave_runs_after
 
   -- if a step without a trap ended in `slot`, then the host would be an enclave
-  has_trap : (step_of hart machine).outcome.step.trap ≡ None → Host ≡ Enclave slot
-  has_trap no_trap = elim (cases_lt hart (count_of machine)) [
+  no_trap_contradicts : (step_of hart machine).outcome.step.trap ≡ None → Host ≡ Enclave slot
+  no_trap_contradicts no_trap = elim (cases_lt hart (count_of machine)) [
     | inr past_last ↦
         sym (ap (λ (after : MonitoredStepped). (hart_state_of hart after.state).world) (outside hart machine past_last) ∙ from_host)
         ∙ enclave_runs_after
@@ -199,7 +199,7 @@ module _ (hart slot : ℕ) (machine : MonitoredMachine) (invariant : Invariant m
   -- a step that ends in `slot` has a trap, and enters `slot` with its saved context
   entry_by_trap : (maybe_trap : Option Trap) → (step_of hart machine).outcome.step.trap ≡ maybe_trap
       → HasEntered hart slot machine (step_of hart machine)
-  entry_by_trap None no_trap = let contradiction = has_trap no_trap in cc
+  entry_by_trap None no_trap = let contradiction = no_trap_contradicts no_trap in cc
   entry_by_trap (Some trap) trapped = entry_with_context trap trapped (context_at machine.shared.contexts slot) refl
 
 -- proves that a hart which enters an enclave continues with exactly the saved context of this enclave

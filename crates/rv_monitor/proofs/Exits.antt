@@ -144,14 +144,14 @@ redirects_step hart machine invariant trap trapped is_redirection =
     )
 
 -- the hart of the view runs the enclave in `slot`, and its step has this trap
-module _ (slot : ℕ) (state : HartView) (runs_enclave : state.hart_state.world ≡ Enclave slot) (trap : Trap) where
+module _ (slot : ℕ) (view : HartView) (runs_enclave : view.hart_state.world ≡ Enclave slot) (trap : Trap) where
   -- after a step with a trap, the host runs if and only if the cause is one that exits
-  exits_by_cause : (monitored_step state).outcome.step.trap ≡ Some trap
-      → is_host (monitored_step state).state.hart_state.world ≡ causes_exit state.hart_state trap.cause
+  exits_by_cause : (monitored_step view).outcome.step.trap ≡ Some trap
+      → is_host (monitored_step view).state.hart_state.world ≡ causes_exit view.hart_state trap.cause
   unfolding handled
-  exits_by_cause trapped = subst (λ (after : HartViewStepped). is_host after.state.hart_state.world ≡ causes_exit state.hart_state trap.cause)
-      (sym (trapped_step state trap trapped)) (exits_by_cause_of_trap slot
-      (hart_state_after state.hart_state trap) state.shared runs_enclave trap trap.cause)
+  exits_by_cause trapped = subst (λ (after : HartViewStepped). is_host after.state.hart_state.world ≡ causes_exit view.hart_state trap.cause)
+      (sym (trapped_step view trap trapped)) (exits_by_cause_of_trap slot
+      (hart_state_after view.hart_state trap) view.shared runs_enclave trap trap.cause)
 
 -- ---- the interrupt that the hart of an enclave takes
 
@@ -208,19 +208,19 @@ exits_law hart machine invariant slot runs = record {
   -- after a trap, the host runs if and only if the cause is one that exits
   exits = λ trap trapped.
       let trapping = is_trapping hart machine trap trapped in
-      let state = hart_view hart machine in
+      let view = hart_view hart machine in
       ap is_host (world_of_view hart machine trapping.has)
-      ∙ exits_by_cause slot state runs trap trapping.trapped;
+      ∙ exits_by_cause slot view runs trap trapping.trapped;
   -- mie enables only the timer interrupt, so a pending interrupt is the timer interrupt, and the timer line is set
   timer = λ trap interrupt trapped cause_is.
       let trapping = is_trapping hart machine trap trapped in
-      let state = hart_view hart machine in
+      let view = hart_view hart machine in
       let view_invariant = hart_view_invariant hart machine invariant trapping.has in
-      let bare_step_traps : (step (bare_machine state)).outcome.trap ≡ Some trap =
-      sym (ap (λ (outcome : StepOutcome). outcome.trap) (same_outcome state)) ∙ trapping.trapped in
-      let pending_timer = takes_pending (bare_machine state) trap interrupt bare_step_traps cause_is in
-      timer_only state.hart_state.hart.csrs.timer interrupt
-      (sym (pending_is_timer state.hart_state.hart.csrs state.hart_state.hart.mode view_invariant.hart.layout.mode
+      let bare_step_traps : (step (bare_machine view)).outcome.trap ≡ Some trap =
+      sym (ap (λ (outcome : StepOutcome). outcome.trap) (same_outcome view)) ∙ trapping.trapped in
+      let pending_timer = takes_pending (bare_machine view) trap interrupt bare_step_traps cause_is in
+      timer_only view.hart_state.hart.csrs.timer interrupt
+      (sym (pending_is_timer view.hart_state.hart.csrs view.hart_state.hart.mode view_invariant.hart.layout.mode
       (view_invariant.hart.layout.mie ∙ ap mie_of runs)) ∙ pending_timer);
   redirects = redirects_step hart machine invariant;
 }

@@ -105,47 +105,47 @@ same_returned : (outcome : StepOutcome) (result : Handled) (mcycle minstret : �
 same_returned outcome result mcycle minstret = record { outcome = refl; shared = refl; hart_state = refl }
 
 -- the bare steps of the view and of the view with the guest state are the same to guests
-module _ (state : HartView) (alike : SameToGuests (step (bare_machine state)) (step (guest_machine (bare_machine state)))) where
+module _ (view : HartView) (alike : SameToGuests (step (bare_machine view)) (step (guest_machine (bare_machine view)))) where
   -- the view with the guest state of the hart
   abbrev guest_state_view : HartView
-  guest_state_view = record state { hart_state = guest_state state.hart_state }
+  guest_state_view = record view { hart_state = guest_state view.hart_state }
 
   -- a step without a trap is the same to guests from the view and from the view with the guest state
-  untrapped_same : SameShown (view_without_trap state) (view_without_trap guest_state_view)
+  untrapped_same : SameShown (view_without_trap view) (view_without_trap guest_state_view)
   untrapped_same = record {
     outcome = ap (λ (outcome : StepOutcome). let shown : Outcome = record { step = outcome; entered = None } in shown) alike.outcome;
-    shared = ap (λ (memory : List ℕ). record state.shared { memory = memory }) alike.memory;
-    hart_state = ap (λ (hart : Hart). record state.hart_state { hart = hart }) alike.hart;
+    shared = ap (λ (memory : List ℕ). record view.shared { memory = memory }) alike.memory;
+    hart_state = ap (λ (hart : Hart). record view.hart_state { hart = hart }) alike.hart;
   }
 
   -- a step with a trap is the same to guests from the view and from the view with the guest state
-  trapped_same : (trap : Trap) → SameShown (view_after_trap state trap) (view_after_trap guest_state_view trap)
+  trapped_same : (trap : Trap) → SameShown (view_after_trap view trap) (view_after_trap guest_state_view trap)
   trapped_same trap =
-      let hart_state = hart_state_after state.hart_state trap in
-      let guest_at_trap = hart_state_after (guest_state state.hart_state) trap in
+      let hart_state = hart_state_after view.hart_state trap in
+      let guest_at_trap = hart_state_after (guest_state view.hart_state) trap in
       let mcycle = guest_at_trap.hart.csrs.mcycle in
       let minstret = guest_at_trap.hart.csrs.minstret in
-      let handled_state = handled hart_state state.shared trap in
-      let bare_outcome = (step (bare_machine state)).outcome in
+      let handled_state = handled hart_state view.shared trap in
+      let bare_outcome = (step (bare_machine view)).outcome in
       let SameShownFor : StepOutcome → Handled → Type 0 =
       λ outcome result. SameShown (returned bare_outcome handled_state) (returned outcome result) in
-      subst (λ (outcome : StepOutcome). SameShownFor outcome (handled guest_at_trap state.shared trap)) alike.outcome
-      (subst (SameShownFor bare_outcome) (sym (same_handled mcycle minstret hart_state state.shared trap))
+      subst (λ (outcome : StepOutcome). SameShownFor outcome (handled guest_at_trap view.shared trap)) alike.outcome
+      (subst (SameShownFor bare_outcome) (sym (same_handled mcycle minstret hart_state view.shared trap))
       (same_returned bare_outcome handled_state mcycle minstret))
 
   -- a step is the same to guests from the view and from the view with the guest state
-  same_shown : SameShown (monitored_step state) (monitored_step guest_state_view)
+  same_shown : SameShown (monitored_step view) (monitored_step guest_state_view)
   same_shown =
       let traps = ap (λ (outcome : StepOutcome). outcome.trap) alike.outcome in
-      step_cases state (λ after. SameShown after (monitored_step guest_state_view))
-      (λ no_trap. step_cases guest_state_view (λ after. SameShown (view_without_trap state) after) (λ no_second_trap. untrapped_same)
+      step_cases view (λ after. SameShown after (monitored_step guest_state_view))
+      (λ no_trap. step_cases guest_state_view (λ after. SameShown (view_without_trap view) after) (λ no_second_trap. untrapped_same)
       (λ trap trapped. let contradiction : None ≡ Some trap = sym no_trap ∙ traps ∙ trapped in cc))
-      (λ trap trapped. step_cases guest_state_view (λ after. SameShown (view_after_trap state trap) after)
+      (λ trap trapped. step_cases guest_state_view (λ after. SameShown (view_after_trap view trap) after)
       (λ no_trap. let contradiction : Some trap ≡ None = sym trapped ∙ traps ∙ no_trap in cc)
       (λ second_trap second_trapped.
       let some_traps_equal : Some trap ≡ Some second_trap = sym trapped ∙ traps ∙ second_trapped in
       let traps_equal : trap ≡ second_trap = cc in
-      subst (λ (some_trap : Trap). SameShown (view_after_trap state trap) (view_after_trap guest_state_view some_trap)) traps_equal
+      subst (λ (some_trap : Trap). SameShown (view_after_trap view trap) (view_after_trap guest_state_view some_trap)) traps_equal
       (trapped_same trap)))
 
 -- ---- the step of the machine
@@ -218,18 +218,18 @@ guest_step_of hart machine invariant = elim (cases_lt hart (count_of machine)) [
   -- the step of the hart's view and the step of its guest view are the same to guests
   | inl in_range ↦
       let size = length-map machine.hart_states guest_state in
-      let state = hart_view hart machine in
+      let view = hart_view hart machine in
       let view_invariant = hart_view_invariant hart machine invariant in_range in
-      let alike = guest_step (bare_machine state) view_invariant.hart.layout.mode view_invariant.hart.layout.mprv in
+      let alike = guest_step (bare_machine view) view_invariant.hart.layout.mode view_invariant.hart.layout.mprv in
       let view_with : HartState → HartView = λ hart_state. record { hart_state = hart_state; shared = machine.shared } in
-      let same_to_guests : SameShown (monitored_step state) (monitored_step (hart_view hart (guest_view machine))) =
-      subst (λ (hart_state : HartState). SameShown (monitored_step state) (monitored_step (view_with hart_state)))
+      let same_to_guests : SameShown (monitored_step view) (monitored_step (hart_view hart (guest_view machine))) =
+      subst (λ (hart_state : HartState). SameShown (monitored_step view) (monitored_step (view_with hart_state)))
       (sym (guest_hart_state hart machine))
-      (same_shown state alike) in
+      (same_shown view alike) in
       let guest_inside = inside hart (guest_view machine) (omega (arith, size, in_range)) in
       rw (inside hart machine in_range, guest_inside) (record {
         outcome = same_to_guests.outcome;
-        state = stepped_same hart machine (monitored_step state) (monitored_step (hart_view hart (guest_view machine))) same_to_guests;
+        state = stepped_same hart machine (monitored_step view) (monitored_step (hart_view hart (guest_view machine))) same_to_guests;
       })
 ]
 

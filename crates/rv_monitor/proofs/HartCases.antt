@@ -166,10 +166,10 @@ other_harts_keep property preserved hart other_hart machine distinct =
       by_trap (Some trap) slots = preserved slots (hart_state_of other_hart machine)
 
 -- a step without a trap leaves the table unchanged
-pub untrapped_table_unchanged : (state : HartView) → (monitored_step state).outcome.step.trap ≡ None
-    → (monitored_step state).state.shared.table ≡ state.shared.table
-untrapped_table_unchanged state =
-    step_cases state (λ after. after.outcome.step.trap ≡ None → after.state.shared.table ≡ state.shared.table) (λ no_trap is_untrapped. refl)
+pub untrapped_table_unchanged : (view : HartView) → (monitored_step view).outcome.step.trap ≡ None
+    → (monitored_step view).state.shared.table ≡ view.shared.table
+untrapped_table_unchanged view =
+    step_cases view (λ after. after.outcome.step.trap ≡ None → after.state.shared.table ≡ view.shared.table) (λ no_trap is_untrapped. refl)
     (λ trap traps is_untrapped. let contradiction : None ≡ Some trap = sym is_untrapped ∙ traps in cc)
 
 -- after a step of another hart, a hart with the invariant has the state that a reprogramming for the new table gives

@@ -108,14 +108,14 @@ module _ (slot : ℕ) (hart_state : HartState) (shared : Shared) (valid : IsVali
 -- ---- the bytes in the region of the enclave
 
 -- a step changes no byte in the region of an enclave that is not the running world and is live after the step
-region_byte_unchanged : (state : HartView) (slot byte : ℕ) → HartViewInvariant state → is_world_of slot state.hart_state.world ≡ false
-    → is_live (monitored_step state).state.shared.table slot ≡ true
-    → has (region state.shared.table slot) byte ≡ true → byte_at (monitored_step state).state.shared.memory byte ≡ byte_at state.shared.memory byte
-region_byte_unchanged state slot byte view_invariant not_running live_after in_region =
-    let shared = state.shared in
+region_byte_unchanged : (view : HartView) (slot byte : ℕ) → HartViewInvariant view → is_world_of slot view.hart_state.world ≡ false
+    → is_live (monitored_step view).state.shared.table slot ≡ true
+    → has (region view.shared.table slot) byte ≡ true → byte_at (monitored_step view).state.shared.memory byte ≡ byte_at view.shared.memory byte
+region_byte_unchanged view slot byte view_invariant not_running live_after in_region =
+    let shared = view.shared in
     let valid = view_invariant.valid in
-    let outside_other_regions = accessible_apart shared.memory shared.table state.hart_state.world Write in
-    elim (changes state view_invariant byte) [
+    let outside_other_regions = accessible_apart shared.memory shared.table view.hart_state.world Write in
+    elim (changes view view_invariant byte) [
       -- a byte that no instruction and no call changed
       | inl unchanged ↦ unchanged
       | inr changed ↦ elim changed [
@@ -126,11 +126,11 @@ region_byte_unchanged state slot byte view_invariant not_running live_after in_r
             (bytes_in stored.span.len) slot valid not_running stored.accessible byte stored.low stored.high) in_region)
         | inr call ↦ elim call.change [
           -- a destroy zeroes the region of the destroyed enclave, which is not live after the step, or is another enclave with another region
-          | inl destroyed ↦ elim (cases_eq slot (register state.hart_state.hart.regs 10)) [
+          | inl destroyed ↦ elim (cases_eq slot (register view.hart_state.hart.regs 10)) [
             | inl equal ↦ absurd (both_ways _ (rw (← equal) at destroyed.gone) live_after)
             | inr distinct ↦
-                absurd (both_ways _ (apart_at (region shared.table slot) (region shared.table (register state.hart_state.hart.regs 10)) byte
-                (valid.regions_apart slot (register state.hart_state.hart.regs 10) distinct) in_region) destroyed.own)
+                absurd (both_ways _ (apart_at (region shared.table slot) (region shared.table (register view.hart_state.hart.regs 10)) byte
+                (valid.regions_apart slot (register view.hart_state.hart.regs 10) distinct) in_region) destroyed.own)
           ]
           -- a measure writes only bytes that are accessible to the running world
           | inr measured ↦
@@ -143,20 +143,20 @@ region_byte_unchanged state slot byte view_invariant not_running live_after in_r
 -- ---- the step
 
 -- a step of a view preserves each live enclave that is not the running world, unless the step enters or destroys this enclave
-pub integrity_in : (state : HartView) → HartViewInvariant state → (slot : ℕ) → is_world_of slot state.hart_state.world ≡ false
-    → is_live state.shared.table slot ≡ true
-    → enters slot (monitored_step state).outcome.entered ≡ false → is_live (monitored_step state).state.shared.table slot ≡ true
-    → IsPreserved slot state.shared (monitored_step state).state.shared
-integrity_in state view_invariant slot not_running live not_entered live_after =
-    let keeps = step_cases state
+pub integrity_in : (view : HartView) → HartViewInvariant view → (slot : ℕ) → is_world_of slot view.hart_state.world ≡ false
+    → is_live view.shared.table slot ≡ true
+    → enters slot (monitored_step view).outcome.entered ≡ false → is_live (monitored_step view).state.shared.table slot ≡ true
+    → IsPreserved slot view.shared (monitored_step view).state.shared
+integrity_in view view_invariant slot not_running live not_entered live_after =
+    let keeps = step_cases view
     (λ after. enters slot after.outcome.entered ≡ false → is_live after.state.shared.table slot ≡ true
-    → KeepsSlot slot state.shared after.state.shared)
+    → KeepsSlot slot view.shared after.state.shared)
     (λ no_trap not_entered live_after. record { slot = refl; context = refl })
-    (λ trap trapped. handled_keeps slot (hart_state_after state.hart_state trap) state.shared view_invariant.valid not_running live trap) in
+    (λ trap trapped. handled_keeps slot (hart_state_after view.hart_state trap) view.shared view_invariant.valid not_running live trap) in
     let kept_slot = keeps not_entered live_after in
     record {
       slot = kept_slot.slot;
-      bytes = λ byte in_its_region. region_byte_unchanged state slot byte view_invariant not_running live_after in_its_region;
+      bytes = λ byte in_its_region. region_byte_unchanged view slot byte view_invariant not_running live_after in_its_region;
       context = kept_slot.context;
     }
 

@@ -115,26 +115,26 @@ module _ (hart_state : HartState) (shared : Shared) (trap : Trap) (legal : Legal
 -- ---- the step of one hart
 
 -- pc, the S-mode registers and the saved contexts of the view are legal
-record ViewStored (state : HartView) : Type 0 where
-  pc : aligned_to_4 state.hart_state.hart.pc ≡ state.hart_state.hart.pc
-  supervisor : IsLegal (s_context state.hart_state.hart.csrs)
-  contexts : AllLegal state.shared.contexts
+record ViewStored (view : HartView) : Type 0 where
+  pc : aligned_to_4 view.hart_state.hart.pc ≡ view.hart_state.hart.pc
+  supervisor : IsLegal (s_context view.hart_state.hart.csrs)
+  contexts : AllLegal view.shared.contexts
 
 -- a step of a view leaves pc, the S-mode registers and the saved contexts legal
-view_stored : (state : HartView) → HartViewInvariant state → ViewStored state → ViewStored (monitored_step state).state
-view_stored state view_invariant legal = step_cases state (λ after. ViewStored after.state)
+view_stored : (view : HartView) → HartViewInvariant view → ViewStored view → ViewStored (monitored_step view).state
+view_stored view view_invariant legal = step_cases view (λ after. ViewStored after.state)
     (λ no_trap.
-    let hart = without_trap _ _ no_trap (keeps_stored (bare_machine state) view_invariant.hart.layout.mode (record {
+    let hart = without_trap _ _ no_trap (keeps_stored (bare_machine view) view_invariant.hart.layout.mode (record {
       pc = legal.pc;
       csrs = record { stvec = legal.supervisor.stvec; sepc = legal.supervisor.sepc };
     })) in
     record { pc = hart.pc; supervisor = record { stvec = hart.csrs.stvec; sepc = hart.csrs.sepc }; contexts = legal.contexts })
     (λ trap trapped.
-    let hart_state = hart_state_after state.hart_state trap in
-    let legal_after = handled_stored hart_state state.shared trap
-    (record { stvec = legal.supervisor.stvec; sepc = legal.supervisor.sepc }) (aligned_twice state.hart_state.hart.pc) legal.contexts in
+    let hart_state = hart_state_after view.hart_state trap in
+    let legal_after = handled_stored hart_state view.shared trap
+    (record { stvec = legal.supervisor.stvec; sepc = legal.supervisor.sepc }) (aligned_twice view.hart_state.hart.pc) legal.contexts in
     record {
-      pc = aligned_twice (handled hart_state state.shared trap).next.pc;
+      pc = aligned_twice (handled hart_state view.shared trap).next.pc;
       supervisor = record { stvec = legal_after.supervisor.stvec; sepc = legal_after.supervisor.sepc };
       contexts = legal_after.contexts;
     })
@@ -147,9 +147,9 @@ step_stored hart machine invariant legal = elim (cases_lt hart (count_of machine
   -- a step with the number of no hart changes nothing
   | inr past_last ↦ subst (λ (after : MonitoredStepped). IsLegalMachine after.state) (sym (outside hart machine past_last)) legal
   | inl in_range ↦
-      let state = hart_view hart machine in
+      let view = hart_view hart machine in
       let legal_hart = legal.harts hart in
-      let after = view_stored state (hart_view_invariant hart machine invariant in_range)
+      let after = view_stored view (hart_view_invariant hart machine invariant in_range)
       (record { pc = legal_hart.pc; supervisor = legal_hart.supervisor; contexts = legal.contexts }) in
       let view_legal = subst (λ (stepped : HartViewStepped). ViewStored stepped.state) (sym (step_of_view hart machine in_range)) after in
       record {

@@ -273,11 +273,11 @@ abbrev EntersFromHost : ℕ → HartView → HartViewStepped → Type 0
 EntersFromHost slot state after = after.outcome.entered ≡ Some slot → (state.hart_state.world ≡ Host) × (after.state.hart_state.world ≡ Enclave slot)
 
 -- each step of a view satisfies `EntersHere`
-entry_from_host : (slot : ℕ) (state : HartView) → EntersFromHost slot state (monitored_step state)
-entry_from_host slot state = step_cases state (EntersFromHost slot state) (λ no_trap enters_slot. cc)
+entry_from_host : (slot : ℕ) (view : HartView) → EntersFromHost slot view (monitored_step view)
+entry_from_host slot view = step_cases view (EntersFromHost slot view) (λ no_trap enters_slot. cc)
     (λ trap traps enters_slot.
-    handled_entry_from_host slot (hart_state_after state.hart_state trap) trap (handled (hart_state_after state.hart_state trap) state.shared trap)
-    (handled_stays_or_switches (hart_state_after state.hart_state trap) state.shared trap) enters_slot)
+    handled_entry_from_host slot (hart_state_after view.hart_state trap) trap (handled (hart_state_after view.hart_state trap) view.shared trap)
+    (handled_stays_or_switches (hart_state_after view.hart_state trap) view.shared trap) enters_slot)
 
 -- if a step of the machine enters the slot, then its hart ran the host before the step, and runs the enclave after it
 worlds_around_entry : (slot hart : ℕ) (machine : MonitoredMachine) → (step_of hart machine).outcome.entered ≡ Some slot
@@ -496,10 +496,10 @@ reads_only_own_bytes : (place : Place) (machine : MonitoredMachine) → Invarian
 reads_only_own_bytes place machine invariant runs byte byte_read =
     let in_range = running_hart_in_range place.slot place.hart machine runs in
     let world = world_is_enclave place.slot (hart_state_of place.hart machine).world runs in
-    let state = hart_view place.hart machine in
-    let step_is : (step_at place machine).outcome.step ≡ (monitored_step state).outcome.step =
+    let view = hart_view place.hart machine in
+    let step_is : (step_at place machine).outcome.step ≡ (monitored_step view).outcome.step =
     ap (λ (stepped : HartViewStepped). stepped.outcome.step) (step_of_view place.hart machine in_range) in
-    let accessed = subst (IsTouchedAccessible state) (sym step_is) (touch_law state (hart_view_invariant place.hart machine invariant in_range)) in
+    let accessed = subst (IsTouchedAccessible view) (sym step_is) (touch_law view (hart_view_invariant place.hart machine invariant in_range)) in
     let touched = (step_at place machine).outcome.step.touched in
     elim (cases_Bool (in_span touched.fetched byte)) [
       | inl is_fetched ↦ accessible_span_is_own place.slot machine place.hart Fetch touched.fetched world accessed.fetched byte is_fetched
@@ -515,10 +515,10 @@ changes_only_own_bytes : (place : Place) (machine : MonitoredMachine) → Invari
 changes_only_own_bytes place machine invariant runs index byte_beyond =
     let in_range = running_hart_in_range place.slot place.hart machine runs in
     let world = world_is_enclave place.slot (hart_state_of place.hart machine).world runs in
-    let state = hart_view place.hart machine in
+    let view = hart_view place.hart machine in
     let memory_of_view = ap (λ (stepped : HartViewStepped). stepped.state.shared.memory) (step_of_view place.hart machine in_range) in
     let byte_unchanged =
-    bytes_beyond_unchanged place.slot state (hart_view_invariant place.hart machine invariant in_range) world (ram_base + index) byte_beyond in
+    bytes_beyond_unchanged place.slot view (hart_view_invariant place.hart machine invariant in_range) world (ram_base + index) byte_beyond in
     let same_length = same_size place.hart machine in
     sym (equal_bytes_at_index machine.shared.memory (step_at place machine).state.shared.memory index (sym same_length)
     (subst (λ (memory : List ℕ). byte_at memory (ram_base + index) ≡ byte_at machine.shared.memory (ram_base + index))

@@ -99,10 +99,10 @@ reads_apart enclave hart machine invariant not_running byte byte_read = elim (ca
       cc
   -- each byte that the step fetches or loads is accessible to the running world, which is not `enclave`
   | inl in_range ↦
-      let state = hart_view hart machine in
-      let step_is : (step_of hart machine).outcome.step ≡ (monitored_step state).outcome.step =
+      let view = hart_view hart machine in
+      let step_is : (step_of hart machine).outcome.step ≡ (monitored_step view).outcome.step =
       ap (λ (stepped : HartViewStepped). stepped.outcome.step) (step_of_view hart machine in_range) in
-      let accessed = subst (IsTouchedAccessible state) (sym step_is) (touch_law state (hart_view_invariant hart machine invariant in_range)) in
+      let accessed = subst (IsTouchedAccessible view) (sym step_is) (touch_law view (hart_view_invariant hart machine invariant in_range)) in
       let touched = (step_of hart machine).outcome.step.touched in
       elim (cases_Bool (in_span touched.fetched byte)) [
         | inl is_fetched ↦ span_apart enclave machine hart Fetch touched.fetched invariant in_range not_running accessed.fetched byte is_fetched

@@ -179,25 +179,25 @@ answered_view state trap shared a0_value a1_value =
     record { hart_state = hart_state_of 0 (answered_machine 0 machine trap shared a0_value a1_value); shared = shared }
 
 -- the trap handler returns to the caller with values in a0 and a1, and leaves this shared state
-module _ (state : HartView) (view_invariant : HartViewInvariant state) (trap : Trap) (shared : Shared) (a0_value a1_value : ℕ) where
+module _ (view : HartView) (view_invariant : HartViewInvariant view) (trap : Trap) (shared : Shared) (a0_value a1_value : ℕ) where
   -- the return to the caller gives the view after a return to the caller
   returned_answered : (outcome : StepOutcome)
-      → (returned outcome (with_reprogrammed_hart (returned_to_caller (hart_state_after state.hart_state trap) shared a0_value a1_value))).state
-      ≡ answered_view state trap shared a0_value a1_value
+      → (returned outcome (with_reprogrammed_hart (returned_to_caller (hart_state_after view.hart_state trap) shared a0_value a1_value))).state
+      ≡ answered_view view trap shared a0_value a1_value
   returned_answered outcome =
-      let hart = state.hart_state.hart in
+      let hart = view.hart_state.hart in
       let mprv = view_invariant.hart.layout.mprv in
       rw (next_is_aligned hart.pc, or-false (is_set hart.csrs.mcountinhibit 0), mprv) refl
 
   -- the view after the step is the view after a return to the caller, and the step enters no slot
   abbrev StepAnswers : HartViewStepped → Type 0
-  StepAnswers after = (after.state ≡ answered_view state trap shared a0_value a1_value) × (after.outcome.entered ≡ None)
+  StepAnswers after = (after.state ≡ answered_view view trap shared a0_value a1_value) × (after.outcome.entered ≡ None)
 
   -- if the trap handler returns to the caller, then the step satisfies `Answered`
   handler_answer_is_step_answer : (outcome : StepOutcome)
-      → handled_cause (hart_state_after state.hart_state trap) state.shared trap trap.cause
-      ≡ returned_to_caller (hart_state_after state.hart_state trap) shared a0_value a1_value
-      → StepAnswers (returned outcome (handled (hart_state_after state.hart_state trap) state.shared trap))
+      → handled_cause (hart_state_after view.hart_state trap) view.shared trap trap.cause
+      ≡ returned_to_caller (hart_state_after view.hart_state trap) shared a0_value a1_value
+      → StepAnswers (returned outcome (handled (hart_state_after view.hart_state trap) view.shared trap))
   unfolding handled
   handler_answer_is_step_answer outcome handled_is = rw handled_is (returned_answered outcome, refl)
 

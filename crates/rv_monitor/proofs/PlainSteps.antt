@@ -18,8 +18,8 @@ use Rattle.rv_monitor.proofs.TrapSteps.{same_outcome, step_cases, view_without_t
 -- ---- without a trap
 
 -- a step of a view without a trap is the bare step
-step_without_trap : (state : HartView) → (monitored_step state).outcome.step.trap ≡ None → monitored_step state ≡ view_without_trap state
-step_without_trap state = step_cases state (λ after. after.outcome.step.trap ≡ None → after ≡ view_without_trap state) (λ no_trap is_untrapped. refl)
+step_without_trap : (view : HartView) → (monitored_step view).outcome.step.trap ≡ None → monitored_step view ≡ view_without_trap view
+step_without_trap view = step_cases view (λ after. after.outcome.step.trap ≡ None → after ≡ view_without_trap view) (λ no_trap is_untrapped. refl)
     (λ trap traps is_untrapped. let contradiction : None ≡ Some trap = sym is_untrapped ∙ traps in cc)
 
 -- ---- no interrupt
@@ -46,23 +46,23 @@ pending_is_none csrs mode mode_below_m disabled =
 -- proves that a step of the machine is the step of the hart without the monitor, up to the trap handler
 pub steps_plainly : (hart : ℕ) (machine : MonitoredMachine) → StepsPlainly hart machine (step_of hart machine)
 steps_plainly hart machine in_range =
-    let state = hart_view hart machine in
-    let outcome : (step_of hart machine).outcome.step ≡ (step (bare_machine state)).outcome =
-    ap (λ (after : HartViewStepped). after.outcome.step) (step_of_view hart machine in_range) ∙ same_outcome state in
+    let view = hart_view hart machine in
+    let outcome : (step_of hart machine).outcome.step ≡ (step (bare_machine view)).outcome =
+    ap (λ (after : HartViewStepped). after.outcome.step) (step_of_view hart machine in_range) ∙ same_outcome view in
     record {
       outcome = outcome;
       -- without a trap, the trap handler does not run, and no hart is reprogrammed
       quiet = λ no_trap.
-          let bare_step_untrapped : (step (bare_machine state)).outcome.trap ≡ None =
+          let bare_step_untrapped : (step (bare_machine view)).outcome.trap ≡ None =
           sym (ap (λ (outcome : StepOutcome). outcome.trap) outcome) ∙ no_trap in
-          let view_step_is = step_without_trap state (ap (λ (outcome : StepOutcome). outcome.trap) (same_outcome state) ∙ bare_step_untrapped) in
-          let step_is : step_of hart machine ≡ stepped_by hart machine (view_without_trap state) =
+          let view_step_is = step_without_trap view (ap (λ (outcome : StepOutcome). outcome.trap) (same_outcome view) ∙ bare_step_untrapped) in
+          let step_is : step_of hart machine ≡ stepped_by hart machine (view_without_trap view) =
           inside hart machine in_range ∙ ap (stepped_by hart machine) view_step_is in
           let machine_after : Option Trap → MonitoredMachine = λ maybe_trap. record {
             hart_states =
                 slice_set (hart_states_reprogrammed maybe_trap machine.shared.table machine.hart_states) hart
-                (view_without_trap state).state.hart_state;
-            shared = (view_without_trap state).state.shared;
+                (view_without_trap view).state.hart_state;
+            shared = (view_without_trap view).state.shared;
           } in (
             ap (λ (after : MonitoredStepped). after.state) step_is
                 ∙ ap machine_after bare_step_untrapped,
@@ -75,14 +75,14 @@ pub host_continues : (hart : ℕ) (machine : MonitoredMachine) → Invariant mac
 host_continues hart machine invariant host = record {
   uninterrupted = λ trap interrupt trapped cause_is.
       let trapping = is_trapping hart machine trap trapped in
-      let state = hart_view hart machine in
+      let view = hart_view hart machine in
       let view_invariant = hart_view_invariant hart machine invariant trapping.has in
-      let bare_step_traps : (step (bare_machine state)).outcome.trap ≡ Some trap =
-      sym (ap (λ (outcome : StepOutcome). outcome.trap) (same_outcome state)) ∙ trapping.trapped in
-      let disabled : state.hart_state.hart.csrs.mie ≡ 0 = view_invariant.hart.layout.mie ∙ ap mie_of host in
+      let bare_step_traps : (step (bare_machine view)).outcome.trap ≡ Some trap =
+      sym (ap (λ (outcome : StepOutcome). outcome.trap) (same_outcome view)) ∙ trapping.trapped in
+      let disabled : view.hart_state.hart.csrs.mie ≡ 0 = view_invariant.hart.layout.mie ∙ ap mie_of host in
       let contradiction : None ≡ Some interrupt =
-      sym (pending_is_none state.hart_state.hart.csrs state.hart_state.hart.mode view_invariant.hart.layout.mode disabled)
-      ∙ takes_pending (bare_machine state) trap interrupt bare_step_traps cause_is in
+      sym (pending_is_none view.hart_state.hart.csrs view.hart_state.hart.mode view_invariant.hart.layout.mode disabled)
+      ∙ takes_pending (bare_machine view) trap interrupt bare_step_traps cause_is in
       cc;
   redirects = redirects_step hart machine invariant;
 }

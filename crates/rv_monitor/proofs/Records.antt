@@ -92,9 +92,9 @@ record_law hart machine invariant slot live =
     (λ after. is_live after.state.shared.table slot ≡ true → identity_at after.state.shared.table slot ≡ identity_at machine.shared.table slot)
     (λ live_after. refl)
     (λ in_range.
-    let state : HartView = hart_view hart machine in
+    let view : HartView = hart_view hart machine in
     let view_invariant = hart_view_invariant hart machine invariant in_range in
-    step_cases state (λ after. is_live after.state.shared.table slot ≡ true
-    → identity_at after.state.shared.table slot ≡ identity_at state.shared.table slot)
+    step_cases view (λ after. is_live after.state.shared.table slot ≡ true
+    → identity_at after.state.shared.table slot ≡ identity_at view.shared.table slot)
     (λ no_trap live_after. refl)
-    (λ trap trapped. handled_keeps slot (hart_state_after state.hart_state trap) state.shared view_invariant.valid live trap))
+    (λ trap trapped. handled_keeps slot (hart_state_after view.hart_state trap) view.shared view_invariant.valid live trap))

@@ -22,12 +22,12 @@ pub host_stored : (hart_state : HartState) → HostContextInvariant hart_state �
 host_stored hart_state keeps host_runs = no_context_is_legal hart_state.host_context (keeps.kept ∙ ap not host_runs)
 
 -- the step that enters an enclave saves the context of the host after its ecall
-pub entered_from : (state : HartView) (after : HartViewStepped) → StaysOrSwitches state after → is_host state.hart_state.world ≡ true
+pub entered_from : (view : HartView) (after : HartViewStepped) → StaysOrSwitches view after → is_host view.hart_state.world ≡ true
     → is_host after.state.hart_state.world ≡ false
-    → after.state.hart_state.host_context ≡ Some (saved state.hart_state.hart (past_ecall state.hart_state.hart) S)
-entered_from state after (inl stays) host_runs enclave_runs_after = absurd (both_ways _ enclave_runs_after (ap is_host stays.world ∙ host_runs))
-entered_from state after (inr (inl enters)) host_runs enclave_runs_after = enters.host
-entered_from state after (inr (inr leaves)) host_runs enclave_runs_after = absurd (both_ways _ enclave_runs_after (ap is_host leaves.world))
+    → after.state.hart_state.host_context ≡ Some (saved view.hart_state.hart (past_ecall view.hart_state.hart) S)
+entered_from view after (inl stays) host_runs enclave_runs_after = absurd (both_ways _ enclave_runs_after (ap is_host stays.world ∙ host_runs))
+entered_from view after (inr (inl enters)) host_runs enclave_runs_after = enters.host
+entered_from view after (inr (inr leaves)) host_runs enclave_runs_after = absurd (both_ways _ enclave_runs_after (ap is_host leaves.world))
 
 -- the step with which the enclave exits restores the saved context of the host
 pub back_from : (before state : HartView) (after : HartViewStepped) → StaysOrSwitches state after

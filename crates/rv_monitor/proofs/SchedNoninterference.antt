@@ -44,14 +44,14 @@ runs_after_entry enclave hart_state trap result (inr (inr leaves)) enters_slot =
     ∙ enters_slot in cc
 
 -- if a step reports an entry of `enclave`, then the hart runs `enclave` after the step
-pub is_entered : (enclave : ℕ) (state : HartView) → (monitored_step state).outcome.entered ≡ Some enclave
-    → is_world_of enclave (monitored_step state).state.hart_state.world ≡ true
-is_entered enclave state = step_cases state (λ after. after.outcome.entered ≡ Some enclave → is_world_of enclave after.state.hart_state.world ≡ true)
+pub is_entered : (enclave : ℕ) (view : HartView) → (monitored_step view).outcome.entered ≡ Some enclave
+    → is_world_of enclave (monitored_step view).state.hart_state.world ≡ true
+is_entered enclave view = step_cases view (λ after. after.outcome.entered ≡ Some enclave → is_world_of enclave after.state.hart_state.world ≡ true)
     (λ no_trap enters_slot. cc)
     (λ trap traps enters_slot.
-    let hart_state = hart_state_after state.hart_state trap in
-    runs_after_entry enclave hart_state trap (handled hart_state state.shared trap)
-    (handled_stays_or_switches hart_state state.shared trap) enters_slot)
+    let hart_state = hart_state_after view.hart_state trap in
+    runs_after_entry enclave hart_state trap (handled hart_state view.shared trap)
+    (handled_stays_or_switches hart_state view.shared trap) enters_slot)
 
 -- the test `enters` fails for an outcome that names no entry of the slot
 pub entered_by : (slot : ℕ) (maybe_entered : Option ℕ) → (maybe_entered ≡ Some slot → ⊥) → enters slot maybe_entered ≡ false
@@ -75,16 +75,16 @@ still_not_running enclave hart_state trap result (inr (inl enter)) not_running n
 still_not_running enclave hart_state trap result (inr (inr leaves)) not_running not_entered = ap (is_world_of enclave) leaves.world
 
 -- the view of a hart that does not run `enclave` before a step that does not enter `enclave` does not run `enclave` after the step
-pub view_still_not_running : (enclave : ℕ) (state : HartView) → is_world_of enclave state.hart_state.world ≡ false
-    → enters enclave (monitored_step state).outcome.entered ≡ false
-    → is_world_of enclave (monitored_step state).state.hart_state.world ≡ false
-view_still_not_running enclave state not_running =
-    step_cases state (λ after. enters enclave after.outcome.entered ≡ false → is_world_of enclave after.state.hart_state.world ≡ false)
+pub view_still_not_running : (enclave : ℕ) (view : HartView) → is_world_of enclave view.hart_state.world ≡ false
+    → enters enclave (monitored_step view).outcome.entered ≡ false
+    → is_world_of enclave (monitored_step view).state.hart_state.world ≡ false
+view_still_not_running enclave view not_running =
+    step_cases view (λ after. enters enclave after.outcome.entered ≡ false → is_world_of enclave after.state.hart_state.world ≡ false)
     (λ no_trap not_entered. not_running)
     (λ trap traps not_entered.
-    let hart_state = hart_state_after state.hart_state trap in
-    still_not_running enclave hart_state trap (handled hart_state state.shared trap)
-    (handled_stays_or_switches hart_state state.shared trap) not_running not_entered)
+    let hart_state = hart_state_after view.hart_state trap in
+    still_not_running enclave hart_state trap (handled hart_state view.shared trap)
+    (handled_stays_or_switches hart_state view.shared trap) not_running not_entered)
 
 -- the hart that steps does not run `enclave` after the step, if it did not run `enclave` before and the step does not enter `enclave`
 hart_still_not_running : (enclave hart : ℕ) (machine : MonitoredMachine) → runs_on enclave hart machine ≡ false

@@ -96,17 +96,17 @@ host_context_kept hart_state trap result (inr (inr leaves)) enclave_runs enclave
     absurd (both_ways _ enclave_runs_after (ap is_host leaves.world))
 
 -- a step before and after which an enclave runs keeps the saved context of the host
-pub enclave_step_keeps_host : (state : HartView) → is_host state.hart_state.world ≡ false
-    → is_host (monitored_step state).state.hart_state.world ≡ false
-    → (monitored_step state).state.hart_state.host_context ≡ state.hart_state.host_context
-enclave_step_keeps_host state enclave_runs =
-    step_cases state
-    (λ after. is_host after.state.hart_state.world ≡ false → after.state.hart_state.host_context ≡ state.hart_state.host_context)
+pub enclave_step_keeps_host : (view : HartView) → is_host view.hart_state.world ≡ false
+    → is_host (monitored_step view).state.hart_state.world ≡ false
+    → (monitored_step view).state.hart_state.host_context ≡ view.hart_state.host_context
+enclave_step_keeps_host view enclave_runs =
+    step_cases view
+    (λ after. is_host after.state.hart_state.world ≡ false → after.state.hart_state.host_context ≡ view.hart_state.host_context)
     (λ no_trap enclave_runs_after. refl)
     (λ trap trapped enclave_runs_after.
-    let hart_state = hart_state_after state.hart_state trap in
-    host_context_kept hart_state trap (handled hart_state state.shared trap)
-    (handled_stays_or_switches hart_state state.shared trap) enclave_runs enclave_runs_after)
+    let hart_state = hart_state_after view.hart_state trap in
+    host_context_kept hart_state trap (handled hart_state view.shared trap)
+    (handled_stays_or_switches hart_state view.shared trap) enclave_runs enclave_runs_after)
 
 -- ---- the step
 
@@ -129,13 +129,13 @@ same_context : (host : Context) (regs : List ℕ) (pc : ℕ) (mode : Mode) (supe
 same_context host regs pc mode supervisor new_regs regs_is pc_is mode_is supervisor_is = rw (regs_is, pc_is, mode_is, supervisor_is) refl
 
 -- the saved context of the host is legal and agrees with the world, and the step has this trap
-module _ (state : HartView) (host_invariant : HostContextInvariant state.hart_state) (legal : HostContextIsLegal state.hart_state) (trap : Trap) where
+module _ (view : HartView) (host_invariant : HostContextInvariant view.hart_state) (legal : HostContextIsLegal view.hart_state) (trap : Trap) where
   -- the return from an exit to the host satisfies `StaysOrSwitches`
   returned_leaves : (outcome : StepOutcome) (result : Handled) → outcome.trap ≡ Some trap
-      → LeavesFor (hart_state_after state.hart_state trap) trap result
-      → (world : World) (saved_host : Option Context) → state.hart_state.world ≡ world → state.hart_state.host_context ≡ saved_host
+      → LeavesFor (hart_state_after view.hart_state trap) trap result
+      → (world : World) (saved_host : Option Context) → view.hart_state.world ≡ world → view.hart_state.host_context ≡ saved_host
       → is_some saved_host ≡ not (is_host world)
-      → StaysOrSwitches state (returned outcome result)
+      → StaysOrSwitches view (returned outcome result)
   returned_leaves outcome result outcome_trap_is leaves Host None world_is host_context_is saved_if_enclave =
       inl (record { world = leaves.world ∙ sym world_is; host = leaves.forgotten ∙ sym host_context_is; entered = leaves.entered })
   returned_leaves outcome result outcome_trap_is leaves Host (Some host) world_is host_context_is saved_if_enclave = cc
@@ -157,24 +157,24 @@ module _ (state : HartView) (host_invariant : HostContextInvariant state.hart_st
             same_context host result.hart_state.hart.regs (aligned_to_4 result.next.pc) result.next.mode
             (s_context result.hart_state.hart.csrs) _ host_leaves.regs
             (ap aligned_to_4 host_leaves.pc ∙ pc_is_aligned host.mode host.pc can_continue) host_leaves.mode
-            (host_leaves.supervisor ∙ restored_context_same state.hart_state.hart.csrs host.supervisor host_stored);
+            (host_leaves.supervisor ∙ restored_context_same view.hart_state.hart.csrs host.supervisor host_stored);
         forgotten = host_leaves.forgotten;
         entered = host_leaves.entered;
       }))
 
   -- the return from each kind of result satisfies `StaysOrSwitches`
   returned_turns : (outcome : StepOutcome) (result : Handled) → outcome.trap ≡ Some trap
-      → Turns (hart_state_after state.hart_state trap) trap result → StaysOrSwitches state (returned outcome result)
+      → Turns (hart_state_after view.hart_state trap) trap result → StaysOrSwitches view (returned outcome result)
   returned_turns outcome result outcome_trap_is (inl stays) = inl (record { world = stays.world; host = stays.host; entered = stays.entered })
   returned_turns outcome result outcome_trap_is (inr (inl enters)) =
       inr (inl (record { slot = enters.slot; from_host = enters.from_host; world = enters.world; host = enters.host; entered = enters.entered }))
   returned_turns outcome result outcome_trap_is (inr (inr leaves)) =
-      returned_leaves outcome result outcome_trap_is leaves state.hart_state.world state.hart_state.host_context refl refl host_invariant.kept
+      returned_leaves outcome result outcome_trap_is leaves view.hart_state.world view.hart_state.host_context refl refl host_invariant.kept
 
 -- proves that each step continues its world, enters an enclave, or exits to the host
-pub switch_law : (state : HartView) → HostContextInvariant state.hart_state → HostContextIsLegal state.hart_state
-    → StaysOrSwitches state (monitored_step state)
-switch_law state host_invariant legal = step_cases state (StaysOrSwitches state)
+pub switch_law : (view : HartView) → HostContextInvariant view.hart_state → HostContextIsLegal view.hart_state
+    → StaysOrSwitches view (monitored_step view)
+switch_law view host_invariant legal = step_cases view (StaysOrSwitches view)
     (λ no_trap. inl (record { world = refl; host = refl; entered = refl }))
-    (λ trap trapped. returned_turns state host_invariant legal trap (step (bare_machine state)).outcome _ trapped
-    (handled_stays_or_switches (hart_state_after state.hart_state trap) state.shared trap))
+    (λ trap trapped. returned_turns view host_invariant legal trap (step (bare_machine view)).outcome _ trapped
+    (handled_stays_or_switches (hart_state_after view.hart_state trap) view.shared trap))

@@ -40,28 +40,28 @@ fetches_at_pc state = step_ways state (FetchesAtPc state.hart.pc) (record {
 -- ---- the accesses
 
 -- a view with the invariant
-module _ (state : HartView) (view_invariant : HartViewInvariant state) where
+module _ (view : HartView) (view_invariant : HartViewInvariant view) where
   -- a permitted access below M is accessible to the running world
   accessible : (mode : Mode) (access : Access) (maybe_span : Option Span) → is_machine mode ≡ false
-      → MayTouch (bare_machine state) mode access maybe_span
-      → SpanIsAccessible state access maybe_span
+      → MayTouch (bare_machine view) mode access maybe_span
+      → SpanIsAccessible view access maybe_span
   accessible mode access None mode_below_m may_touch = tt
   accessible mode access (Some span) mode_below_m may_touch =
-      sym (access_control_law state mode access span.addr span.len view_invariant (below_M mode mode_below_m) may_touch.0) ∙ may_touch.1
+      sym (access_control_law view mode access span.addr span.len view_invariant (below_M mode mode_below_m) may_touch.0) ∙ may_touch.1
 
   -- each access of the bare step is accessible to the running world
-  touches_accessible : IsTouchedAccessible state (step (bare_machine state)).outcome
+  touches_accessible : IsTouchedAccessible view (step (bare_machine view)).outcome
   touches_accessible =
-      let touches_permitted_bytes = touches_permitted (bare_machine state) in
-      let mode_below_m = data_below state view_invariant in
-      let touched = (step (bare_machine state)).outcome.touched in
+      let touches_permitted_bytes = touches_permitted (bare_machine view) in
+      let mode_below_m = data_below view view_invariant in
+      let touched = (step (bare_machine view)).outcome.touched in
       record {
-        at_pc = fetches_at_pc (bare_machine state);
-        fetched = accessible state.hart_state.hart.mode Fetch touched.fetched view_invariant.hart.layout.mode touches_permitted_bytes.fetched;
-        loaded = accessible (data_mode state.hart_state.hart) Read touched.loaded mode_below_m touches_permitted_bytes.loaded;
-        stored = accessible (data_mode state.hart_state.hart) Write touched.stored mode_below_m touches_permitted_bytes.stored;
+        at_pc = fetches_at_pc (bare_machine view);
+        fetched = accessible view.hart_state.hart.mode Fetch touched.fetched view_invariant.hart.layout.mode touches_permitted_bytes.fetched;
+        loaded = accessible (data_mode view.hart_state.hart) Read touched.loaded mode_below_m touches_permitted_bytes.loaded;
+        stored = accessible (data_mode view.hart_state.hart) Write touched.stored mode_below_m touches_permitted_bytes.stored;
       }
 
 -- proves that a step accesses only bytes that its world may access
-pub touch_law : (state : HartView) → HartViewInvariant state → TouchesAccessible state (monitored_step state)
-touch_law state view_invariant = subst (IsTouchedAccessible state) (sym (same_outcome state)) (touches_accessible state view_invariant)
+pub touch_law : (view : HartView) → HartViewInvariant view → TouchesAccessible view (monitored_step view)
+touch_law view view_invariant = subst (IsTouchedAccessible view) (sym (same_outcome view)) (touches_accessible view view_invariant)

@@ -26,48 +26,48 @@ abbrev pub view_after_trap : HartView → Trap → HartViewStepped
 view_after_trap state trap = returned (step (bare_machine state)).outcome (handled (hart_state_after state.hart_state trap) state.shared trap)
 
 -- the claim holds for the end of a step, with a trap or without
-by-end : (state : HartView) (Claim : HartViewStepped → Type 0) (maybe_trap : Option Trap) (outcome : StepOutcome) (hart : Hart) (memory : List ℕ)
-    → IfSome maybe_trap (λ trap. (hart ≡ hart_after state.hart_state.hart trap) × (memory ≡ state.shared.memory))
-    → (let hart_state = record state.hart_state { hart = hart } in
-    let shared = record state.shared { memory = memory } in
+by-end : (view : HartView) (Claim : HartViewStepped → Type 0) (maybe_trap : Option Trap) (outcome : StepOutcome) (hart : Hart) (memory : List ℕ)
+    → IfSome maybe_trap (λ trap. (hart ≡ hart_after view.hart_state.hart trap) × (memory ≡ view.shared.memory))
+    → (let hart_state = record view.hart_state { hart = hart } in
+    let shared = record view.shared { memory = memory } in
     (maybe_trap ≡ None → Claim (unhandled outcome hart_state shared))
-    → ((trap : Trap) → maybe_trap ≡ Some trap → Claim (returned outcome (handled (hart_state_after state.hart_state trap) state.shared trap)))
+    → ((trap : Trap) → maybe_trap ≡ Some trap → Claim (returned outcome (handled (hart_state_after view.hart_state trap) view.shared trap)))
     → Claim (option_case maybe_trap (unhandled outcome hart_state shared) (λ trap. returned outcome (handled hart_state shared trap))))
-by-end state Claim None outcome hart memory keeps claim_without_trap claim_with_trap = claim_without_trap refl
-by-end state Claim (Some trap) outcome hart memory keeps claim_without_trap claim_with_trap =
+by-end view Claim None outcome hart memory keeps claim_without_trap claim_with_trap = claim_without_trap refl
+by-end view Claim (Some trap) outcome hart memory keeps claim_without_trap claim_with_trap =
     let hart_is = keeps.0 in
     let memory_is = keeps.1 in
     rw (hart_is, memory_is) (claim_with_trap trap refl)
 
 -- Case analysis of a step of a view. A claim holds for the step if it holds for a step without a trap, and for a step with each trap.
-pub step_cases : (state : HartView) (Claim : HartViewStepped → Type 0)
-    → ((step (bare_machine state)).outcome.trap ≡ None → Claim (view_without_trap state))
-    → ((trap : Trap) → (step (bare_machine state)).outcome.trap ≡ Some trap → Claim (view_after_trap state trap)) → Claim (monitored_step state)
+pub step_cases : (view : HartView) (Claim : HartViewStepped → Type 0)
+    → ((step (bare_machine view)).outcome.trap ≡ None → Claim (view_without_trap view))
+    → ((trap : Trap) → (step (bare_machine view)).outcome.trap ≡ Some trap → Claim (view_after_trap view trap)) → Claim (monitored_step view)
 unfolding monitored_step
-step_cases state Claim claim_without_trap claim_with_trap =
-    let after = step (bare_machine state) in
-    by-end state Claim after.outcome.trap after.outcome after.state.hart after.state.memory
-    (trap_keeps (bare_machine state)) claim_without_trap claim_with_trap
+step_cases view Claim claim_without_trap claim_with_trap =
+    let after = step (bare_machine view) in
+    by-end view Claim after.outcome.trap after.outcome after.state.hart after.state.memory
+    (trap_keeps (bare_machine view)) claim_without_trap claim_with_trap
 
 -- the outcome of the step of a view contains the outcome of the bare step
-pub same_outcome : (state : HartView) → (monitored_step state).outcome.step ≡ (step (bare_machine state)).outcome
-same_outcome state =
-    step_cases state (λ after. after.outcome.step ≡ (step (bare_machine state)).outcome) (λ no_trap. refl) (λ trap trapped. refl)
+pub same_outcome : (view : HartView) → (monitored_step view).outcome.step ≡ (step (bare_machine view)).outcome
+same_outcome view =
+    step_cases view (λ after. after.outcome.step ≡ (step (bare_machine view)).outcome) (λ no_trap. refl) (λ trap trapped. refl)
 
 -- a step with a trap is the trap handler on the hart state at the trap, followed by the return
-pub trapped_step : (state : HartView) (trap : Trap) → (monitored_step state).outcome.step.trap ≡ Some trap
-    → monitored_step state ≡ view_after_trap state trap
-trapped_step state trap =
-    step_cases state (λ after. after.outcome.step.trap ≡ Some trap → after ≡ view_after_trap state trap)
+pub trapped_step : (view : HartView) (trap : Trap) → (monitored_step view).outcome.step.trap ≡ Some trap
+    → monitored_step view ≡ view_after_trap view trap
+trapped_step view trap =
+    step_cases view (λ after. after.outcome.step.trap ≡ Some trap → after ≡ view_after_trap view trap)
     (λ no_trap trapped. let contradiction : None ≡ Some trap = sym no_trap ∙ trapped in cc)
     (λ some_trap some_trapped trapped.
     let some_traps_equal : Some some_trap ≡ Some trap = sym some_trapped ∙ trapped in
     let traps_equal : some_trap ≡ trap = cc in
-    ap (view_after_trap state) traps_equal)
+    ap (view_after_trap view) traps_equal)
 
 -- a step without a trap keeps the world
-pub quiet_world : (state : HartView) → (monitored_step state).outcome.step.trap ≡ None
-    → (monitored_step state).state.hart_state.world ≡ state.hart_state.world
-quiet_world state =
-    step_cases state (λ after. after.outcome.step.trap ≡ None → after.state.hart_state.world ≡ state.hart_state.world) (λ no_trap is_untrapped. refl)
+pub quiet_world : (view : HartView) → (monitored_step view).outcome.step.trap ≡ None
+    → (monitored_step view).state.hart_state.world ≡ view.hart_state.world
+quiet_world view =
+    step_cases view (λ after. after.outcome.step.trap ≡ None → after.state.hart_state.world ≡ view.hart_state.world) (λ no_trap is_untrapped. refl)
     (λ trap traps is_untrapped. let contradiction : None ≡ Some trap = sym is_untrapped ∙ traps in cc)

@@ -58,9 +58,9 @@ fn step_hart<Site>(hart_state: &mut HartState, shared: &mut Shared) -> Outcome
     }
 }
 
-/// Programs the PMP entries and mie of every hart but `hart` for a table and the hart's own world. Those of `hart` are already programmed.
+/// Programs the PMP entries and mie of every hart except `hart`, for a table and the world of each hart. `hart` itself is already programmed.
 ///
-/// This loop is apart, so that a step of a machine with one hart only tests the number of harts.
+/// The loop is a function of its own, so that a step of a machine with one hart only tests the number of harts.
 #[inline(never)]
 fn program_each_other(by_hart: &mut [HartState; HARTS], harts: u8, hart: u8, table: &Table)
     requires few { harts ≤ HARTS }
@@ -76,7 +76,7 @@ fn program_each_other(by_hart: &mut [HartState; HARTS], harts: u8, hart: u8, tab
     }
 }
 
-/// Does the same, if there are other harts.
+/// Programs the PMP entries and mie of every hart except `hart`, if the machine has other harts.
 #[inline(always)]
 fn program_other_pmp(by_hart: &mut [HartState; HARTS], harts: u8, hart: u8, table: &Table)
     requires has { hart < harts }
@@ -90,7 +90,7 @@ fn program_other_pmp(by_hart: &mut [HartState; HARTS], harts: u8, hart: u8, tabl
     }
 }
 
-/// Establishes that there are as many hart states as harts. Has no effect.
+/// Establishes that the array has at least `harts` hart states. Has no effect.
 #[inline(always)]
 #[tactic(auto, using(crate::proofs::Held::take_length))]
 const fn counts(by_hart: &[HartState; HARTS], harts: u8)
@@ -101,7 +101,7 @@ const fn counts(by_hart: &[HartState; HARTS], harts: u8)
 }
 
 /// Executes one step of a hart over the shared state. If the step traps, programs the PMP entries and mie of the other harts again. A redirected
-/// trap changes neither the table nor the world of a hart, so they need no reprogramming.
+/// trap changes neither the table nor the world of a hart, so the other harts need no reprogramming after it.
 #[inline(always)]
 fn step_in<Site>(
     by_hart: &mut [HartState; HARTS],
@@ -129,8 +129,8 @@ fn step_in<Site>(
     }
 }
 
-/// Executes at most `count` steps of a hart over the shared state, and returns how many it executed. Each ends in no trap and accesses nothing
-/// outside the limits, so the trap handler does not run.
+/// Executes at most `count` steps of a hart over the shared state, and returns the number of steps. Each step ends without a trap and accesses
+/// nothing outside the limits, so the trap handler does not run.
 fn run_fast_in(
     by_hart: &mut [HartState; HARTS],
     harts: u8,
@@ -192,7 +192,7 @@ impl HartState {
         hart_state
     }
 
-    /// Returns the same for the hart with a number, which starts with its number in x10.
+    /// Returns the state of the hart with number `hart` at reset, which starts with this number in x10.
     fn numbered(entry: u32, hart: u32) -> Self
         requires { entry % 4 ≡ 0 }
         ensures { result ≡ numbered_hart_state_at_start entry hart }
@@ -218,7 +218,7 @@ fn all_at_start(entry: u32) -> [HartState; HARTS]
 /// a hart stores it.
 #[derive(Drop)]
 pub struct MonitoredMachine {
-    /// The states of the harts, by number. Those from `harts` on are never read.
+    /// The states of the harts, by hart number. Elements from index `harts` on are never read.
     by_hart: [HartState; HARTS],
     /// The number of harts.
     harts: u8,
