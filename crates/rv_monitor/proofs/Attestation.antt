@@ -75,8 +75,8 @@ some_identity (Some info) = refl
 module _ (slot : ℕ) (shared : Shared) (valid : IsValid shared.memory shared.table) (contexts : length shared.contexts ≡ slot_count)
     (slot_is_free : is_live shared.table slot ≡ false) where
   -- if the slot is live after the trap handler, then it has an enclave that is as create made it
-  abbrev Created : Handled → Type 0
-  Created result = is_live result.shared.table slot ≡ true → IsAsCreated slot result.shared
+  abbrev AsCreatedIfLive : Handled → Type 0
+  AsCreatedIfLive result = is_live result.shared.table slot ≡ true → IsAsCreated slot result.shared
 
   -- If the trap handler does not change whether the slot is live, then the slot stays free. A claim about the slot as live then has a false premise.
   slot_still_free : (after : Shared) → is_live after.table slot ≡ is_live shared.table slot → is_live after.table slot ≡ true → IsAsCreated slot after
@@ -132,9 +132,9 @@ module _ (slot : ℕ) (shared : Shared) (valid : IsValid shared.memory shared.ta
       ∙ some_identity (slot_at shared.table slot)) live_after
 
   -- if the trap handler makes the slot live, then the enclave in the slot is as create made it
-  handled_created : (hart_state : HartState) (trap : Trap) → Created (handled hart_state shared trap)
+  handled_created : (hart_state : HartState) (trap : Trap) → AsCreatedIfLive (handled hart_state shared trap)
   unfolding measured entered_slot left
-  handled_created hart_state trap = handler_cases hart_state trap shared Created (record {
+  handled_created hart_state trap = handler_cases hart_state trap shared AsCreatedIfLive (record {
     answers = λ status result live. slot_still_free shared refl live;
     creates = λ requests no_refusal live. create_gives_as_created (create_args_of hart_state.hart.regs) no_refusal live;
     destroys = λ requests slot_accepted live. destroy_makes_no_slot_live (a0 hart_state) slot_accepted live;
@@ -221,8 +221,8 @@ as_created_law hart machine invariant = record {
 -- ---- the step that enters the enclave
 
 -- the CSRs at reset, with the given timer line
-abbrev plain_csrs : Bool → CsrState
-plain_csrs timer = record at_reset { timer = timer }
+abbrev reset_csrs_with_timer : Bool → CsrState
+reset_csrs_with_timer timer = record at_reset { timer = timer }
 
 -- the hart after the entry of an enclave, as S and U see the hart; `csrs` are the CSRs before the entry
 abbrev hart_after_entry : CsrState → Slots → ℕ → Context → Hart
@@ -231,9 +231,9 @@ hart_after_entry csrs slots slot context =
     below_m_hart (switched_hart (record { regs = []; csrs = csrs; pc = 0; mode = context.mode }) trap context slots (Enclave slot))
 
 -- the hart after an entry depends on the hart before the entry only by its timer line
-plain_entry : (hart_state : HartState) (old slots : Slots) (slot : ℕ) (context : Context) → HartInvariant old hart_state
-    → hart_after_entry hart_state.hart.csrs slots slot context ≡ hart_after_entry (plain_csrs hart_state.hart.csrs.timer) [] 0 context
-plain_entry hart_state old slots slot context hart_invariant =
+entry_depends_on_timer_line : (hart_state : HartState) (old slots : Slots) (slot : ℕ) (context : Context) → HartInvariant old hart_state
+    → hart_after_entry hart_state.hart.csrs slots slot context ≡ hart_after_entry (reset_csrs_with_timer hart_state.hart.csrs.timer) [] 0 context
+entry_depends_on_timer_line hart_state old slots slot context hart_invariant =
     let mie = hart_invariant.layout.mstatus_mie in
     let mprv = hart_invariant.layout.mprv in
     let tvm = hart_invariant.layout.tvm in
@@ -260,9 +260,9 @@ module _ (place : Place) (machine : MonitoredMachine) (context : Context) (invar
   runs_after_entry = ap (is_world_of place.slot) enters.world ∙ eq-eqb place.slot place.slot refl
 
   -- the hart after the step is the hart after an entry, as S and U see it
-  hart_is_entered : below_m_hart (hart_state_of place.hart (step_at place machine).state).hart
-      ≡ hart_after_entry (plain_csrs (hart_state_of place.hart machine).hart.csrs.timer) [] 0 context
-  hart_is_entered =
+  hart_after_step_is_entered : below_m_hart (hart_state_of place.hart (step_at place machine).state).hart
+      ≡ hart_after_entry (reset_csrs_with_timer (hart_state_of place.hart machine).hart.csrs.timer) [] 0 context
+  hart_after_step_is_entered =
       let slots = slots_with_state machine.shared.table place.slot Running in
       let in_range = (is_trapping place.hart machine entry.trap entry.trapped).has in
       let same_length = length-map machine.hart_states (reprogrammed slots) in
@@ -270,7 +270,8 @@ module _ (place : Place) (machine : MonitoredMachine) (context : Context) (invar
       ∙ ap (λ (hart_state : HartState). below_m_hart hart_state.hart)
       (get_or-set_at (map (reprogrammed slots) machine.hart_states) place.hart place.hart _ (hart_state_at_start 0) refl
       (omega (arith, same_length, in_range)))
-      ∙ plain_entry (hart_state_of place.hart machine) machine.shared.table slots place.slot context (invariant.hart_states place.hart in_range)
+      ∙ entry_depends_on_timer_line (hart_state_of place.hart machine) machine.shared.table slots place.slot context
+      (invariant.hart_states place.hart in_range)
 
   -- the record of the enclave after the step is the old record with the state Running
   slot_is_running : slot_at (step_at place machine).state.shared.table place.slot
@@ -303,9 +304,9 @@ same_entry place other_place one other invariant_one invariant_other saved both_
       first = runs_after_entry place one saved.context invariant_one saved.first both_enter.first;
       second = runs_after_entry other_place other saved.context invariant_other saved.second both_enter.second;
       -- both harts after the entry follow from the same saved context and equal timer lines
-      hart = hart_is_entered place one saved.context invariant_one saved.first both_enter.first
-          ∙ ap (λ (b : Bool). hart_after_entry (plain_csrs b) [] 0 saved.context) both_enter.timer
-          ∙ sym (hart_is_entered other_place other saved.context invariant_other saved.second both_enter.second);
+      hart = hart_after_step_is_entered place one saved.context invariant_one saved.first both_enter.first
+          ∙ ap (λ (b : Bool). hart_after_entry (reset_csrs_with_timer b) [] 0 saved.context) both_enter.timer
+          ∙ sym (hart_after_step_is_entered other_place other saved.context invariant_other saved.second both_enter.second);
       slot = slot_is_running place one saved.context invariant_one saved.first both_enter.first
           ∙ ap (λ (maybe_info : Option SlotInfo). option_case maybe_info None (λ info. Some (record info { state = Running }))) saved.slot
           ∙ sym (slot_is_running other_place other saved.context invariant_other saved.second both_enter.second);
@@ -326,9 +327,10 @@ reentry_law place other_place count one other invariant_one invariant_other save
 -- ---- the law
 
 -- two Fresh records are equal if their create arguments and their measurements are equal
-pub same_info : (one other : SlotInfo) → args_of one ≡ args_of other → one.measurement ≡ other.measurement → one.state ≡ Fresh → other.state ≡ Fresh
+pub equal_fresh_records : (one other : SlotInfo) → args_of one ≡ args_of other → one.measurement ≡ other.measurement → one.state ≡ Fresh
+    → other.state ≡ Fresh
     → one ≡ other
-same_info one other args same_digests fresh other_fresh =
+equal_fresh_records one other args same_digests fresh other_fresh =
     let record_of : CreateArgs → List ℕ → SlotInfo = λ new same_digests.
     record { region = new.region; window = new.window; entry = new.entry; measurement = same_digests; state = Fresh } in
     ap (λ (state : EnclaveState). record one { state = state }) fresh ∙ ap₂ record_of args same_digests
@@ -349,7 +351,7 @@ attestation_law place other_place count one other invariant_one invariant_other 
     first_enclave.measurement ∙ same_digest memory other_memory (args_of first_enclave.info) (args_of second_enclave.info) same.input
     ∙ sym second_enclave.measurement in
     -- equal measured bytes give equal create arguments and equal measurements, so both records are equal
-    let info = same_info first_enclave.info second_enclave.info measured.args same_digests first_enclave.fresh second_enclave.fresh in
+    let info = equal_fresh_records first_enclave.info second_enclave.info measured.args same_digests first_enclave.fresh second_enclave.fresh in
     let some_info : SlotInfo → Option SlotInfo = λ info. Some info in
     let some_first_context : SlotInfo → Option Context = λ info. Some (first_context info) in
     reentry_law place other_place count one other invariant_one invariant_other (record {

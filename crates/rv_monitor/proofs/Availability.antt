@@ -22,9 +22,9 @@ use Rattle.rv_enclaves.specs.SlotNumbers.{slot_count}
 -- ---- the timer interrupt
 
 -- if the timer interrupt is pending, then the next step takes this interrupt
-takes_timer : (state : Machine) → pending state.hart.csrs state.hart.mode ≡ Some MachineTimer → (step state).outcome.trap ≡ Some timer_trap
+pending_timer_traps : (state : Machine) → pending state.hart.csrs state.hart.mode ≡ Some MachineTimer → (step state).outcome.trap ≡ Some timer_trap
 unfolding step
-takes_timer state pending_is = rw pending_is refl
+pending_timer_traps state pending_is = rw pending_is refl
 
 -- a world that passes the test `is_host` is the host
 pub world_is_host : (world : World) → is_host world ≡ true → world ≡ Host
@@ -32,13 +32,14 @@ world_is_host Host host_runs = refl
 world_is_host (Enclave slot) host_runs = cc
 
 -- the monitor does not refuse a destroy of a live enclave with the state Stopped
-stopped_ends : (slots : Slots) (slot : ℕ) (maybe_info : Option SlotInfo) → length slots ≡ slot_count → slot_at slots slot ≡ maybe_info
+stopped_enclave_is_destroyable : (slots : Slots) (slot : ℕ) (maybe_info : Option SlotInfo) → length slots ≡ slot_count
+    → slot_at slots slot ≡ maybe_info
     → is_some maybe_info ≡ true
     → first_refusal (state_refusals (option_case maybe_info slots
     (λ info. with_slot slots slot (Some (record info { state = Stopped })))) Destroy slot) ≡ None
 unfolding state_refusals
-stopped_ends slots slot None table_length slot_is is_live = cc
-stopped_ends slots slot (Some info) table_length slot_is is_live =
+stopped_enclave_is_destroyable slots slot None table_length slot_is is_live = cc
+stopped_enclave_is_destroyable slots slot (Some info) table_length slot_is is_live =
     let slot_in_range = live_in_range slots slot info table_length slot_is in
     let written_record = at_written_slot slots slot (Some (record info { state = Stopped })) (omega (arith, table_length, slot_in_range)) in
     rw written_record refl
@@ -51,7 +52,7 @@ timer_exits hart machine invariant slot host runs host_is_saved timer_set =
     let view_invariant = hart_view_invariant hart machine invariant in_range in
     -- mie enables only the timer interrupt while an enclave runs, and the timer line is set, so the bare step takes this interrupt
     let enabled : view.hart_state.hart.csrs.mie ≡ 0x80 = view_invariant.hart.layout.mie ∙ ap mie_of runs in
-    let bare_step_traps = takes_timer (bare_machine view)
+    let bare_step_traps = pending_timer_traps (bare_machine view)
     (pending_is_timer view.hart_state.hart.csrs view.hart_state.hart.mode view_invariant.hart.layout.mode enabled ∙ ap timer_or_none timer_set) in
     let trap_is : (step_of hart machine).outcome.step.trap ≡ Some timer_trap =
     ap (λ (after : HartViewStepped). after.outcome.step.trap) (step_of_view hart machine in_range)
@@ -70,5 +71,5 @@ timer_exits hart machine invariant slot host runs host_is_saved timer_set =
           ∙ ap (λ (hart_state : HartState). hart_state.hart.regs) (left_hart_state hart machine slot timer_trap host in_range);
       world = world;
       destroyable = ap (λ (machine : MonitoredMachine). first_refusal (state_refusals machine.shared.table Destroy slot)) left_machine_is
-          ∙ stopped_ends machine.shared.table slot (slot_at machine.shared.table slot) view_invariant.valid.count refl live;
+          ∙ stopped_enclave_is_destroyable machine.shared.table slot (slot_at machine.shared.table slot) view_invariant.valid.count refl live;
     }

@@ -105,13 +105,13 @@ module _ (hart_state : HartState) (shared : Shared) (valid : IsValid shared.memo
         }
 
     -- a measure changes only the 32 bytes from a1 on
-    put_changes : (maybe_info : Option SlotInfo) → IfSome maybe_info (IsValidSlot shared.memory) → is_some maybe_info ≡ true
+    measurement_write_changes : (maybe_info : Option SlotInfo) → IfSome maybe_info (IsValidSlot shared.memory) → is_some maybe_info ≡ true
         → Changes hart_state.world hart_state.hart.regs shared byte (record shared {
           memory =
               with_bytes_at shared.memory (a1 hart_state) (option_case maybe_info [] (λ info. info.measurement));
         })
-    put_changes None slot_valid is_live = cc
-    put_changes (Some info) slot_valid is_live = elim (cases_lt byte (a1 hart_state)) [
+    measurement_write_changes None slot_valid is_live = cc
+    measurement_write_changes (Some info) slot_valid is_live = elim (cases_lt byte (a1 hart_state)) [
       -- the byte is before the 32 bytes of the measurement, so the write leaves the byte unchanged
       | inl before_start ↦
           inl
@@ -132,7 +132,7 @@ module _ (hart_state : HartState) (shared : Shared) (valid : IsValid shared.memo
     -- a measure changes only bytes that the call may change
     measured_changes : Changes hart_state.world hart_state.hart.regs shared byte (measured shared slot (a1 hart_state))
     unfolding measured
-    measured_changes = put_changes (slot_at shared.table slot) (valid.well_formed slot) live
+    measured_changes = measurement_write_changes (slot_at shared.table slot) (valid.well_formed slot) live
 
 -- The hart has the PMP layout of the table and its world. The lemmas are about one byte of memory.
 module _ (hart_state : HartState) (shared : Shared) (valid : IsValid shared.memory shared.table)
@@ -174,14 +174,15 @@ module _ (hart_state : HartState) (shared : Shared) (valid : IsValid shared.memo
 -- the bare step of a view with the invariant, and one byte of memory
 module _ (view : HartView) (view_invariant : HartViewInvariant view) (byte : ℕ) where
   -- a byte outside the store of the step is unchanged
-  abbrev Stored : Option Span → List ℕ → Type 0
-  Stored stored memory = byte_at memory byte ≡ byte_at view.shared.memory byte ⊎ IsStoredAccessible view.hart_state.world view.shared stored byte
+  abbrev UnchangedOrStored : Option Span → List ℕ → Type 0
+  UnchangedOrStored stored memory =
+      byte_at memory byte ≡ byte_at view.shared.memory byte ⊎ IsStoredAccessible view.hart_state.world view.shared stored byte
 
   -- a permitted store changes only bytes that the running world may write
-  stored_by : (stored : Option Span) (bytes after : List ℕ) → MayTouch (bare_machine view) (data_mode view.hart_state.hart) Write stored
-      → Stores bytes view.shared.memory after stored → Stored stored after
-  stored_by None bytes after may_touch after_is = inl (ap (λ (memory : List ℕ). byte_at memory byte) after_is)
-  stored_by (Some span) bytes after may_touch stores =
+  store_is_permitted : (stored : Option Span) (bytes after : List ℕ) → MayTouch (bare_machine view) (data_mode view.hart_state.hart) Write stored
+      → Stores bytes view.shared.memory after stored → UnchangedOrStored stored after
+  store_is_permitted None bytes after may_touch after_is = inl (ap (λ (memory : List ℕ). byte_at memory byte) after_is)
+  store_is_permitted (Some span) bytes after may_touch stores =
       let stored_size = stores.0 in
       let mode_below_m = below_M (data_mode view.hart_state.hart) (data_below view view_invariant) in
       elim (cases_lt byte span.addr) [
@@ -206,10 +207,10 @@ module _ (view : HartView) (view_invariant : HartViewInvariant view) (byte : ℕ
 
   -- the bare step changes only bytes that the running world may write
   bare_changes : (after : Stepped) → IsConfined (bare_machine view) after → TouchesPermitted (bare_machine view) after
-      → Stored after.outcome.touched.stored after.state.memory
+      → UnchangedOrStored after.outcome.touched.stored after.state.memory
   bare_changes after confined_after touches_permitted_bytes =
       let same_memory = equal_to_itself view.shared.memory after.outcome.touched in
-      stored_by after.outcome.touched.stored confined_after.bytes after.state.memory touches_permitted_bytes.stored
+      store_is_permitted after.outcome.touched.stored confined_after.bytes after.state.memory touches_permitted_bytes.stored
       (confined_after.alike view.shared.memory same_memory).here
 
 -- proves that a step changes only bytes that its world may write, or bytes that its call of the monitor may change

@@ -18,7 +18,7 @@ use Rattle.rv_monitor.proofs.EnclaveMemory.{world_is_enclave}
 use Rattle.rv_monitor.proofs.EnclaveStays.{equal_bytes_at_index, enclave_step_unchanged}
 use Rattle.rv_monitor.proofs.EquivLemmas.{hart_states_equiv}
 use Rattle.rv_monitor.proofs.Events.{line_invariant, line_related}
-use Rattle.rv_monitor.proofs.GuestEquiv.{equiv_from_guests, other_harts_keep_host, same_host_chain, guest_equiv, guest_invariant, guest_step_equiv, same_hosts_after, rest_of, ran_before, runs_too}
+use Rattle.rv_monitor.proofs.GuestEquiv.{equiv_from_guests, other_harts_keep_host, same_host_chain, guest_equiv, guest_invariant, guest_step_equiv, same_hosts_after, rest_of, ran_before, guest_view_runs_same}
 use Rattle.rv_monitor.proofs.GuestView.{guest_hart_state, guest_step_of}
 use Rattle.rv_monitor.proofs.InvariantLemmas.{invariant_law}
 use Rattle.rv_monitor.proofs.LowSteps.{low_while_running}
@@ -28,10 +28,11 @@ use Rattle.rv_monitor.proofs.Release.{release}
 -- ---- what the enclave hands over, in the guest view
 
 -- two harts that hand over the same also hand over the same in the guest view
-to_guests : (cause : Cause) (hart_state other_state : HartState) → SameHandoverBy cause hart_state.hart other_state.hart
+same_handover_in_guest_view : (cause : Cause) (hart_state other_state : HartState) → SameHandoverBy cause hart_state.hart other_state.hart
     → SameHandoverBy cause (guest_state hart_state).hart (guest_state other_state).hart
-to_guests (causes.Interrupt interrupt) hart_state other_state same_handover = tt
-to_guests (causes.Exception exception) hart_state other_state same_handover = record { a0 = same_handover.a0; a6 = same_handover.a6 }
+same_handover_in_guest_view (causes.Interrupt interrupt) hart_state other_state same_handover = tt
+same_handover_in_guest_view (causes.Exception exception) hart_state other_state same_handover =
+    record { a0 = same_handover.a0; a6 = same_handover.a6 }
 
 -- two harts with equal a0 and a6 hand over the same for every cause
 pub hands_over : (cause : Cause) (hart other_hart : Hart) → SameHandover hart other_hart → SameHandoverBy cause hart other_hart
@@ -94,8 +95,8 @@ module _ (enclave hart : ℕ) (one other : MonitoredMachine) (invariant_one : In
   after = (step_of hart one).state
 
   -- a step of the enclave that does not exit leaves the two machines related
-  step_inside : AreRelated enclave after other
-  step_inside =
+  enclave_step_keeps_relation : AreRelated enclave after other
+  enclave_step_keeps_relation =
       let unchanged = enclave_step_unchanged enclave hart one invariant_one inside.before inside.after in
       record {
         harts = sym unchanged.harts ∙ related.harts;
@@ -209,19 +210,19 @@ module _ (enclave hart : ℕ) (one other : MonitoredMachine) (invariant_one : In
       (sym (guest_hart_state hart one))
       (subst (λ (hart_state : HartState). SameHandoverBy exits_alike.trap.cause (guest_state (hart_state_of hart one)).hart hart_state.hart)
       (sym (guest_hart_state hart other))
-      (to_guests exits_alike.trap.cause (hart_state_of hart one) (hart_state_of hart other) exits_alike.handover)) in
+      (same_handover_in_guest_view exits_alike.trap.cause (hart_state_of hart one) (hart_state_of hart other) exits_alike.handover)) in
       -- `release` gives equivalent machines after the exits of the guest views
       equiv_from_guests enclave hart one other invariant_one invariant_other
       (release enclave hart first_view second_view exits_alike.trap (guest_invariant one invariant_one) (guest_invariant other invariant_other) equiv
-      (runs_too enclave hart one ∙ exits_alike.runs) host handover
+      (guest_view_runs_same enclave hart one ∙ exits_alike.runs) host handover
       (guest_step_traps one exits_alike.trap invariant_one exits_alike.first)
       (guest_step_traps other exits_alike.trap invariant_other exits_alike.second)
       (guest_step_exits one invariant_one exits_alike.first_exits)
       (guest_step_exits other invariant_other exits_alike.second_exits))
 
   -- after an exit from both machines that hands over the same, the machines are related
-  exit_step : ExitsAlike enclave hart one other → Outcomes × Related
-  exit_step exits_alike = (
+  exit_keeps_relation : ExitsAlike enclave hart one other → Outcomes × Related
+  exit_keeps_relation exits_alike = (
     λ not_running. absurd (both_ways _ not_running exits_alike.runs),
     equiv_related enclave (step_of hart one).state (step_of hart other).state (exit_equiv exits_alike)
         (λ other_hart runs_after. elim (cases_eq other_hart hart) [
@@ -239,9 +240,9 @@ module _ (enclave hart : ℕ) (one other : MonitoredMachine) (invariant_one : In
   )
 
   -- a step of both machines, either a low step or an exit that hands over the same, leaves them related
-  both_step : IsLowStep enclave hart one other ⊎ ExitsAlike enclave hart one other → Outcomes × Related
-  both_step (inl alike_step) = low_step alike_step
-  both_step (inr alike_step) = exit_step alike_step
+  step_of_both_keeps_relation : IsLowStep enclave hart one other ⊎ ExitsAlike enclave hart one other → Outcomes × Related
+  step_of_both_keeps_relation (inl alike_step) = low_step alike_step
+  step_of_both_keeps_relation (inr alike_step) = exit_keeps_relation alike_step
 
 -- ---- all moves
 
@@ -251,17 +252,18 @@ declassification_law enclave [] one other invariant_one invariant_other related 
 -- the first machine alone makes a step of the enclave, which leaves the machines related
 declassification_law enclave (First hart ∷ moves) one other invariant_one invariant_other related are_moves =
     let remaining = declassification_law enclave moves (step_of hart one).state other (invariant_law hart one invariant_one) invariant_other
-    (step_inside enclave hart one other invariant_one related are_moves.0) are_moves.1 in
+    (enclave_step_keeps_relation enclave hart one other invariant_one related are_moves.0) are_moves.1 in
     record { outcomes = remaining.outcomes; state = remaining.state }
 -- the second machine alone makes a step of the enclave; the relation is symmetric
 declassification_law enclave (Second hart ∷ moves) one other invariant_one invariant_other related are_moves =
     let after = (step_of hart other).state in
     let remaining = declassification_law enclave moves one after invariant_one (invariant_law hart other invariant_other)
-    (swapped enclave after one (step_inside enclave hart other one invariant_other (swapped enclave one other related) are_moves.0)) are_moves.1 in
+    (swapped enclave after one (enclave_step_keeps_relation enclave hart other one invariant_other
+    (swapped enclave one other related) are_moves.0)) are_moves.1 in
     record { outcomes = remaining.outcomes; state = remaining.state }
 -- both machines make a low step or an exit
 declassification_law enclave (Both (StepOf hart) ∷ moves) one other invariant_one invariant_other related are_moves =
-    let step = both_step enclave hart one other invariant_one invariant_other related are_moves.0 in
+    let step = step_of_both_keeps_relation enclave hart one other invariant_one invariant_other related are_moves.0 in
     let remaining =
     declassification_law enclave moves (step_of hart one).state (step_of hart other).state (invariant_law hart one invariant_one)
     (invariant_law hart other invariant_other)

@@ -12,7 +12,7 @@ use Rattle.rv_monitor.specs.Prelude.{Resume, Run, StepOutcome, Stop, Trap, World
 use Rattle.rv_monitor.proofs.Prelude.{Invariant, MonitoredMachine, MonitoredStepped, cases_eq, count_of, hart_state_of, step_of}
 use Rattle.rv_monitor.proofs.Exits.{exits_law}
 use Rattle.rv_monitor.proofs.HandlerCases.{requested-is_offered}
-use Rattle.rv_monitor.proofs.NumberedCalls.{answers_calls, asks, interrupts_enclave}
+use Rattle.rv_monitor.proofs.NumberedCalls.{answers_calls, numbered_call_is_requested, interrupts_enclave}
 use Rattle.rv_monitor.proofs.PlainSteps.{host_continues, steps_plainly}
 
 -- the status of an unknown call is not 0
@@ -103,7 +103,8 @@ module _ (hart : ℕ) (machine : MonitoredMachine) (invariant : Invariant machin
     module _ (first_answers : AnswersInNumbers hart machine stepped trap) (second_answers : AnswersInNumbers hart machine other_stepped trap) where
       -- a call that `call_at` finds is offered to the running world
       offered : (call : Call) → call_at hart machine ≡ Some call → is_offered hart_state.world call ≡ true
-      offered call requested = (requested-is_offered hart_state.world hart_state.hart.regs call (asks hart_state machine.shared call requested)).1
+      offered call requested =
+          (requested-is_offered hart_state.world hart_state.hart.regs call (numbered_call_is_requested hart_state machine.shared call requested)).1
 
       -- two results of a run or resume are equal
       same_by_entry : (call : Call) (world : World) → hart_state.world ≡ world → is_offered hart_state.world call ≡ true

@@ -79,9 +79,9 @@ module _ (slot : ℕ) (view : HartView) (view_invariant : HartViewInvariant view
       (bytes_from span.addr (bytes_in span.len)) ≡ true) runs_enclave accessible)
 
   -- the bare step of the enclave has the same result over each memory with equal bytes in its region and window
-  memory_step : (memory : List ℕ) → EqualOutside (is_beyond view.shared.table slot) view.shared.memory memory
+  enclave_bare_step_alike : (memory : List ℕ) → EqualOutside (is_beyond view.shared.table slot) view.shared.memory memory
       → StepAlike (is_beyond view.shared.table slot) (step (bare_machine view)) (step (record (bare_machine view) { memory = memory }))
-  memory_step = bare_step_alike (is_beyond view.shared.table slot) view view_invariant accesses_own
+  enclave_bare_step_alike = bare_step_alike (is_beyond view.shared.table slot) view view_invariant accesses_own
 
 -- ---- the trap handler
 
@@ -107,11 +107,11 @@ pub destroy_not_offered : (P : Type 0) (slot : ℕ) (world : World) → world �
 destroy_not_offered P slot world runs offered = let contradiction : false ≡ true = rw runs at offered in cc
 
 -- no call that is offered to an enclave enters an enclave
-no_entering : (P : Type 0) (slot : ℕ) (cause : Cause) (hart_state : HartState) (maybe_call : Option Call) → hart_state.world ≡ Enclave slot
+entry_not_offered : (P : Type 0) (slot : ℕ) (cause : Cause) (hart_state : HartState) (maybe_call : Option Call) → hart_state.world ≡ Enclave slot
     → requested_by cause hart_state ≡ maybe_call
     → is_entering maybe_call ≡ true → P
-no_entering P slot cause hart_state None runs_enclave requested is_entry_call = cc
-no_entering P slot cause hart_state (Some call) runs_enclave requested is_entry_call =
+entry_not_offered P slot cause hart_state None runs_enclave requested is_entry_call = cc
+entry_not_offered P slot cause hart_state (Some call) runs_enclave requested is_entry_call =
     not_host P slot hart_state.world runs_enclave
     (entered-by-host hart_state.world call is_entry_call (request_is_offered cause hart_state (is_call cause) call refl requested))
 
@@ -184,16 +184,16 @@ module _ (slot : ℕ) (hart_state : HartState) (runs_enclave : hart_state.world 
     })
 
   -- the trap handler on a hart that runs enclave `slot` reads the same from two shared states that are equal for `slot`
-  handled_asked : (one other : Shared) → length one.contexts ≡ length other.contexts → SharedFor slot one other
+  same_handler_reads : (one other : Shared) → length one.contexts ≡ length other.contexts → SharedFor slot one other
       → SameRead hart_state trap.cause one other
-  handled_asked one other same_context_count same_for_slot = record {
+  same_handler_reads one other same_context_count same_for_slot = record {
     table = same_for_slot.table;
     size = same_for_slot.memory.size;
     slots = same_context_count;
     measured =
         λ is_requested. create_not_offered _ slot hart_state.world runs_enclave
         (request_is_offered trap.cause hart_state (is_call trap.cause) Create refl is_requested);
-    entered = λ enters. no_entering _ slot trap.cause hart_state (requested_by trap.cause hart_state) runs_enclave refl enters;
+    entered = λ enters. entry_not_offered _ slot trap.cause hart_state (requested_by trap.cause hart_state) runs_enclave refl enters;
   }
 
 -- ---- the step
@@ -224,7 +224,7 @@ own_alike_after_trap slot outcome None hart_state one other runs_enclave table_l
 own_alike_after_trap slot outcome (Some trap) hart_state one other runs_enclave table_length same_context_count same_for_slot =
     -- the trap handler reads only what is equal in both shared states
     let handler_results =
-    handler_reads_law hart_state trap one other (handled_asked slot hart_state runs_enclave trap one other same_context_count same_for_slot) in
+    handler_reads_law hart_state trap one other (same_handler_reads slot hart_state runs_enclave trap one other same_context_count same_for_slot) in
     -- the trap handler keeps the region and the window, so a byte that is within them after the step was within them before
     let keeps_one = handled_keeps slot hart_state runs_enclave trap one table_length in
     let keeps_other =
@@ -273,7 +273,7 @@ own_step_alike slot hart_state one other view_invariant_one runs_enclave same_co
     let first_bare = stepped hart_state one in
     let second_bare = stepped hart_state other in
     -- the bare steps are alike, because the enclave accesses only its region and window
-    let alike = memory_step slot (view_of hart_state one) view_invariant_one runs_enclave other.memory same_for_slot.memory in
+    let alike = enclave_bare_step_alike slot (view_of hart_state one) view_invariant_one runs_enclave other.memory same_for_slot.memory in
     let shared : SharedFor slot (stored hart_state one) (stored hart_state other) =
     record { table = same_for_slot.table; memory = alike.memory; context = same_for_slot.context } in
     -- the trap handler, if the bare steps trap, leaves both shared states equal for the enclave

@@ -32,7 +32,7 @@ use Rattle.rv_monitor.proofs.Beside.{running_hart_in_range, running_is_live}
 use Rattle.rv_monitor.proofs.InvariantLemmas.{invariant_by_size, invariant_law, hart_view_invariant}
 use Rattle.rv_monitor.proofs.AccessControlLemmas.{below_M, access_control_law}
 use Rattle.rv_monitor.proofs.EnclaveMemory.{OwnAlike, enclave_world_is_not_host, own_step_alike, world_is_enclave, KeepsExtent, within_before, not_host, new_state_keeps_extent, slot_with_new_state}
-use Rattle.rv_monitor.proofs.HartCases.{inside, step_of_view}
+use Rattle.rv_monitor.proofs.HartCases.{step_of_view}
 use Rattle.rv_monitor.proofs.TrapSteps.{step_cases, hart_state_after, view_after_trap, view_without_trap, hart_after}
 use Rattle.rv_monitor.proofs.HandlerCases.{requested-is_offered}
 use Rattle.rv_monitor.specs.Prelude.{EnclaveState, EqualOutside, context_at}

@@ -14,7 +14,7 @@ use Rattle.rv_monitor.proofs.Prelude.{monitored_step, returned, saved, hart_stat
 use Rattle.rv_monitor.proofs.InvariantLemmas.{hart_view_invariant}
 use Rattle.rv_monitor.proofs.HartCases.{is_trapping, outside, programmed_by, step_of_view}
 use Rattle.rv_monitor.proofs.Switched.{pc_is_aligned}
-use Rattle.rv_monitor.proofs.TrapSteps.{hart_state_after, quiet_world, trapped_step}
+use Rattle.rv_monitor.proofs.TrapSteps.{hart_state_after, untrapped_world_unchanged, trapped_step}
 use Rattle.rv_monitor.proofs.HandlerCases.{handler_cases, entering}
 
 -- the host has a trap, and `slot` has the saved context `context`
@@ -25,12 +25,12 @@ module _ (before : HartView) (slot : ℕ) (context : Context) (from_host : befor
   hart_state = hart_state_after before.hart_state trap
 
   -- the result of the trap handler for an entry of the slot in a0
-  abbrev entering_now : Handled
-  entering_now = entering hart_state before.shared
+  abbrev entry_result : Handled
+  entry_result = entering hart_state before.shared
 
   -- the trap handler continues the host, or enters the slot in a0
   abbrev HostOrEntry : Handled → Type 0
-  HostOrEntry result = (result.hart_state.world ≡ Host) ⊎ (result ≡ with_reprogrammed_hart entering_now)
+  HostOrEntry result = (result.hart_state.world ≡ Host) ⊎ (result ≡ with_reprogrammed_hart entry_result)
 
   -- the trap handler continues the host, or enters the slot in a0
   handled_host_or_entry : HostOrEntry (handled hart_state before.shared trap)
@@ -48,8 +48,8 @@ module _ (before : HartView) (slot : ℕ) (context : Context) (from_host : befor
   -- ---- the step
 
   -- the view after an entry of `slot`
-  abbrev entered_state : HartView
-  entered_state =
+  abbrev view_after_entry : HartView
+  view_after_entry =
       let slots = slots_with_state before.shared.table slot Running in
       let hart = before.hart_state.hart in
       record {
@@ -62,12 +62,12 @@ module _ (before : HartView) (slot : ℕ) (context : Context) (from_host : befor
       }
 
   -- the view after the step is the view after an entry of `slot`, and the step reports this entry
-  abbrev Entered : HartViewStepped → Type 0
-  Entered after = (after.state ≡ entered_state) × (after.outcome.entered ≡ Some slot)
+  abbrev IsEntryStep : HartViewStepped → Type 0
+  IsEntryStep after = (after.state ≡ view_after_entry) × (after.outcome.entered ≡ Some slot)
 
   -- the return from an entry of `slot` gives the view after the entry
   returned_entered : (outcome : StepOutcome) → HartViewInvariant before → can_go_on context ≡ true → a0 hart_state ≡ slot
-      → Entered (returned outcome (with_reprogrammed_hart entering_now))
+      → IsEntryStep (returned outcome (with_reprogrammed_hart entry_result))
   unfolding entered_slot
   returned_entered outcome view_invariant can_continue a0_is_slot =
       let aligned = pc_is_aligned context.mode context.pc can_continue in
@@ -75,7 +75,7 @@ module _ (before : HartView) (slot : ℕ) (context : Context) (from_host : befor
       rw (a0_is_slot, has_context, aligned, or-false (is_set before.hart_state.hart.csrs.mcountinhibit 0), mprv) (refl, refl)
 
   -- if an entry leaves the hart in `slot`, then a0 names `slot`
-  a0_names_slot : (result : Handled) → result ≡ with_reprogrammed_hart entering_now → result.hart_state.world ≡ Enclave slot → a0 hart_state ≡ slot
+  a0_names_slot : (result : Handled) → result ≡ with_reprogrammed_hart entry_result → result.hart_state.world ≡ Enclave slot → a0 hart_state ≡ slot
   unfolding entered_slot
   a0_names_slot result is_entry_result enclave_runs_after =
       let worlds_equal : Enclave (a0 hart_state) ≡ Enclave slot =
@@ -86,20 +86,20 @@ module _ (before : HartView) (slot : ℕ) (context : Context) (from_host : befor
   -- if the result of the trap handler is in `slot`, then the return from it gives the view after the entry
   entry_if_in_slot : (outcome : StepOutcome) (result : Handled) → HartViewInvariant before → can_go_on context ≡ true → HostOrEntry result
       → result.hart_state.world ≡ Enclave slot
-      → Entered (returned outcome result)
+      → IsEntryStep (returned outcome result)
   entry_if_in_slot outcome result view_invariant can_continue (inl host_stays) enclave_runs_after =
       let contradiction : Host ≡ Enclave slot = sym host_stays ∙ enclave_runs_after in cc
   entry_if_in_slot outcome result view_invariant can_continue (inr is_entry) enclave_runs_after =
-      subst (λ (some_result : Handled). Entered (returned outcome some_result)) (sym is_entry)
+      subst (λ (some_result : Handled). IsEntryStep (returned outcome some_result)) (sym is_entry)
       (returned_entered outcome view_invariant can_continue (a0_names_slot result is_entry enclave_runs_after))
 
   -- a step with a trap after which the hart is in `slot` is an entry of `slot`
   step_is_entry : HartViewInvariant before → can_go_on context ≡ true → (monitored_step before).outcome.step.trap ≡ Some trap
-      → (monitored_step before).state.hart_state.world ≡ Enclave slot → Entered (monitored_step before)
+      → (monitored_step before).state.hart_state.world ≡ Enclave slot → IsEntryStep (monitored_step before)
   step_is_entry view_invariant can_continue trapped enclave_runs_after =
       let step_is = trapped_step before trap trapped in
       let handled_enclave = subst (λ (after : HartViewStepped). after.state.hart_state.world ≡ Enclave slot) step_is enclave_runs_after in
-      subst Entered (sym step_is)
+      subst IsEntryStep (sym step_is)
       (entry_if_in_slot (step (bare_machine before)).outcome _ view_invariant can_continue handled_host_or_entry handled_enclave)
 
 -- ---- an entry is a trap, and the slot had a saved context
@@ -180,7 +180,7 @@ module _ (hart slot : ℕ) (machine : MonitoredMachine) (invariant : Invariant m
     | inl in_range ↦
         let view_step = step_of_view hart machine in_range in
         let view_untrapped = sym (ap (λ (after : HartViewStepped). after.outcome.step.trap) view_step) ∙ no_trap in
-        sym from_host ∙ sym (quiet_world (hart_view hart machine) view_untrapped) ∙ view_ends_in_slot in_range
+        sym from_host ∙ sym (untrapped_world_unchanged (hart_view hart machine) view_untrapped) ∙ view_ends_in_slot in_range
   ]
 
   -- a step with a trap that ends in `slot` enters `slot` with the saved context of `slot`

@@ -98,9 +98,10 @@ event_law enclave (LineOf hart raised ∷ rest_events) one other invariant_one i
 -- ---- integrity
 
 -- if two changes of the machine in turn leave the enclave untouched except for the timer line, then so do both together
-but_line_twice : (slot : ℕ) (before middle after : MonitoredMachine) → IsUntouchedButLine slot before middle → IsUntouchedButLine slot middle after
+untouched_but_line_twice : (slot : ℕ) (before middle after : MonitoredMachine) → IsUntouchedButLine slot before middle
+    → IsUntouchedButLine slot middle after
     → IsUntouchedButLine slot before after
-but_line_twice slot before middle after first_change second_change = record {
+untouched_but_line_twice slot before middle after first_change second_change = record {
   preserved = preserved_twice slot before.shared middle.shared after.shared first_change.preserved second_change.preserved;
   hart_state = λ hart runs.
       let middle_state_is = first_change.hart_state hart runs in
@@ -109,9 +110,9 @@ but_line_twice slot before middle after first_change second_change = record {
 }
 
 -- a change of a timer line leaves each enclave untouched except for the timer line
-pub line_only : (slot hart : ℕ) (raised : Bool) (machine : MonitoredMachine) → Invariant machine
+pub line_change_leaves_untouched : (slot hart : ℕ) (raised : Bool) (machine : MonitoredMachine) → Invariant machine
     → IsUntouchedButLine slot machine (with_timer hart machine raised)
-line_only slot hart raised machine invariant = record {
+line_change_leaves_untouched slot hart raised machine invariant = record {
   preserved = record { slot = refl; bytes = λ byte in_region. refl; context = refl };
   hart_state = λ other_hart runs.
       change_preserves (timer_line_set false) (timer_line_set raised) (λ hart_state. refl) hart other_hart machine
@@ -143,14 +144,14 @@ event_integrity slot [] machine invariant undisturbed = record {
 -- a step leaves the enclave untouched, by the integrity of one step
 event_integrity slot (StepOf hart ∷ rest_events) machine invariant undisturbed =
     let after = (step_of hart machine).state in
-    but_line_twice slot machine after (events rest_events after).state
+    untouched_but_line_twice slot machine after (events rest_events after).state
     (untouched_but_line slot machine after
     (integrity hart machine invariant slot undisturbed.1.0 undisturbed.0 undisturbed.1.1 (undisturbed_live slot rest_events after undisturbed.2)))
     (event_integrity slot rest_events after (invariant_law hart machine invariant) undisturbed.2)
 -- a change of a timer line leaves the enclave untouched, except for the timer line
 event_integrity slot (LineOf hart raised ∷ rest_events) machine invariant undisturbed =
     let after = with_timer hart machine raised in
-    but_line_twice slot machine after (events rest_events after).state (line_only slot hart raised machine invariant)
+    untouched_but_line_twice slot machine after (events rest_events after).state (line_change_leaves_untouched slot hart raised machine invariant)
     (event_integrity slot rest_events after (line_invariant hart raised machine invariant) undisturbed.2)
 
 -- ---- the other harts and every timer line leave a running enclave undisturbed

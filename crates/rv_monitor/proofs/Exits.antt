@@ -21,7 +21,7 @@ use Rattle.rv_monitor.proofs.Beside.{running_hart_in_range}
 use Rattle.rv_monitor.proofs.InvariantLemmas.{hart_view_invariant}
 use Rattle.rv_monitor.proofs.PmpProgramming.{programmed_harts_unchanged}
 use Rattle.rv_monitor.proofs.HartCases.{is_trapping, programmed_by, step_of_view}
-use Rattle.rv_monitor.proofs.TrapSteps.{same_outcome, hart_state_after, quiet_world, trapped_step}
+use Rattle.rv_monitor.proofs.TrapSteps.{same_outcome, hart_state_after, untrapped_world_unchanged, trapped_step}
 use Rattle.rv_monitor.proofs.HandlerCases.{requested-is_offered}
 use Rattle.rv_monitor.proofs.Alignment.{aligned_twice}
 
@@ -30,11 +30,11 @@ use Rattle.rv_monitor.proofs.Alignment.{aligned_twice}
 -- the hart runs the enclave in `slot` at the trap
 module _ (slot : ℕ) (hart_state : HartState) (shared : Shared) (runs_enclave : hart_state.world ≡ Enclave slot) where
   -- an enclave still runs after a measure, refused or not
-  measure_stays : (maybe_refusal : Option Refusal) (call : Call)
+  enclave_runs_after_measure : (maybe_refusal : Option Refusal) (call : Call)
       → is_host (option_case maybe_refusal (performed hart_state shared Measure) (refused hart_state shared)).hart_state.world ≡ false
   unfolding performed
-  measure_stays None call = ap is_host runs_enclave
-  measure_stays (Some refusal) call = ap is_host runs_enclave
+  enclave_runs_after_measure None call = ap is_host runs_enclave
+  enclave_runs_after_measure (Some refusal) call = ap is_host runs_enclave
 
   -- a claim about a call that is not offered to the enclave holds, because such a call is not requested
   not_offered : (Claim : Type 0) (call : Call) → is_offered (Enclave slot) call ≡ false → is_offered hart_state.world call ≡ true → Claim
@@ -49,7 +49,7 @@ module _ (slot : ℕ) (hart_state : HartState) (shared : Shared) (runs_enclave :
   unfolding called performed left
   exits_by_call Stop offered = refl
   exits_by_call Exit offered = refl
-  exits_by_call Measure offered = measure_stays (first_refusal (call_refusals hart_state shared Measure)) Measure
+  exits_by_call Measure offered = enclave_runs_after_measure (first_refusal (call_refusals hart_state shared Measure)) Measure
   exits_by_call Create offered = not_offered _ Create refl offered
   exits_by_call Destroy offered = not_offered _ Destroy refl offered
   exits_by_call Run offered = not_offered _ Run refl offered
@@ -203,7 +203,7 @@ exits_law hart machine invariant slot runs = record {
   quiet = λ no_trap.
       let in_range = hart_of_enclave_in_range slot hart machine runs in
       world_of_view hart machine in_range
-      ∙ quiet_world (hart_view hart machine)
+      ∙ untrapped_world_unchanged (hart_view hart machine)
       (sym (ap (λ (after : HartViewStepped). after.outcome.step.trap) (step_of_view hart machine in_range)) ∙ no_trap) ∙ runs;
   -- after a trap, the host runs if and only if the cause is one that exits
   exits = λ trap trapped.

@@ -21,7 +21,7 @@ use Rattle.rv_monitor.proofs.InvariantLemmas.{hart_view_invariant}
 use Rattle.rv_monitor.proofs.MonitoredAlike.{noninterference}
 use Rattle.rv_monitor.proofs.HartCases.{step_count, step_of_view, other_harts_keep}
 use Rattle.rv_monitor.proofs.TrapSteps.{step_cases, hart_state_after, view_after_trap, view_without_trap}
-use Rattle.rv_monitor.proofs.HandlerCases.{handler_cases_of_both, over}
+use Rattle.rv_monitor.proofs.HandlerCases.{handler_cases_of_both, shared_of}
 use Rattle.rv_monitor.proofs.BareStepNoninterference.{bare_law}
 use Rattle.rv_monitor.specs.Declassification.{EquivToGuests, SameHost, SameHostOn, unswitched}
 
@@ -72,8 +72,8 @@ guest_equiv enclave one other equiv = record {
 }
 
 -- the same harts run the same enclaves in the guest view
-pub runs_too : (enclave hart : ℕ) (machine : MonitoredMachine) → runs_on enclave hart (guest_view machine) ≡ runs_on enclave hart machine
-runs_too enclave hart machine = ap (λ (hart_state : HartState). is_world_of enclave hart_state.world) (guest_hart_state hart machine)
+pub guest_view_runs_same : (enclave hart : ℕ) (machine : MonitoredMachine) → runs_on enclave hart (guest_view machine) ≡ runs_on enclave hart machine
+guest_view_runs_same enclave hart machine = ap (λ (hart_state : HartState). is_world_of enclave hart_state.world) (guest_hart_state hart machine)
 
 -- If the steps of two guest views lead to equivalent machines, then the steps of the machines lead to machines that are equivalent in the guest view.
 pub equiv_from_guests : (enclave hart : ℕ) (one other : MonitoredMachine) → Invariant one → Invariant other
@@ -99,7 +99,7 @@ guest_step_equiv enclave hart one other invariant_one invariant_other equiv not_
     let invariant_guest_other = guest_invariant other invariant_other in
     let step =
     noninterference hart (guest_view one) invariant_guest_one enclave (guest_view other) invariant_guest_other equiv
-    (runs_too enclave hart one ∙ not_running) in
+    (guest_view_runs_same enclave hart one ∙ not_running) in
     record {
       outcome = (guest_step_of hart one invariant_one).outcome ∙ step.outcome ∙ sym (guest_step_of hart other invariant_other).outcome;
       state = equiv_from_guests enclave hart one other invariant_one invariant_other step.state;
@@ -120,7 +120,8 @@ module _ (hart_state : HartState) (mprv : hart_state.hart.csrs.mstatus.mprv ≡ 
   -- the trap handler on two shared states with equal tables gives results with the same host
   handled_host : (trap : Trap) (table : Slots) (memory other_memory : List ℕ) (contexts other_contexts : Contexts)
       → length memory ≡ length other_memory
-      → SameHostHandled (handled hart_state (over table memory contexts) trap) (handled hart_state (over table other_memory other_contexts) trap)
+      → SameHostHandled (handled hart_state (shared_of table memory contexts) trap)
+      (handled hart_state (shared_of table other_memory other_contexts) trap)
   unfolding measured entered_slot left with_redirected_trap
   handled_host trap table memory other_memory contexts other_contexts same_length =
       handler_cases_of_both hart_state trap table memory other_memory contexts other_contexts SameHostHandled (record {
@@ -154,7 +155,7 @@ module _ (enclave : ℕ) (hart_state : HartState) (one other : Shared) (view_inv
       (hart_state_after hart_state trap) view_invariant_one.hart.layout.mprv trap one.table one.memory other.memory
       one.contexts other.contexts shared_equiv.memory.size in
       subst (λ (shared : Shared). SameHostHandled first_handled (handled (hart_state_after hart_state trap) shared trap))
-      (ap (λ (table : Slots). over table other.memory other.contexts) shared_equiv.table) same_host
+      (ap (λ (table : Slots). shared_of table other.memory other.contexts) shared_equiv.table) same_host
 
   -- a step leaves the same host over both shared states
   step_host : SameHostAfter (monitored_step (view_of hart_state one)) (monitored_step (view_of hart_state other))

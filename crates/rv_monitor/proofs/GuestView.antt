@@ -14,7 +14,7 @@ use Rattle.rv_monitor.proofs.Prelude.{call_refusals, called, cases_lt, count_of,
 use Rattle.rv_monitor.proofs.Prelude.{handled_exception, left, length-map, map-set, monitored_step, performed, refused, returned, hart_state_at_start}
 use Rattle.rv_monitor.proofs.Prelude.{hart_state_of, reprogrammed, hart_states_reprogrammed, hart_view, step_of, stepped_by, timer_stopped, with_reprogrammed_hart}
 use Rattle.rv_monitor.proofs.InvariantLemmas.{hart_view_invariant}
-use Rattle.rv_monitor.proofs.HartCases.{inside, outside, past_hart_state}
+use Rattle.rv_monitor.proofs.HartCases.{machine_step_is, outside, past_hart_state}
 use Rattle.rv_monitor.proofs.TrapSteps.{step_cases, hart_state_after, view_after_trap, view_without_trap}
 
 -- ---- the trap handler does not depend on the counters
@@ -226,8 +226,8 @@ guest_step_of hart machine invariant = elim (cases_lt hart (count_of machine)) [
       subst (λ (hart_state : HartState). SameShown (monitored_step view) (monitored_step (view_with hart_state)))
       (sym (guest_hart_state hart machine))
       (same_shown view alike) in
-      let guest_inside = inside hart (guest_view machine) (omega (arith, size, in_range)) in
-      rw (inside hart machine in_range, guest_inside) (record {
+      let guest_inside = machine_step_is hart (guest_view machine) (omega (arith, size, in_range)) in
+      rw (machine_step_is hart machine in_range, guest_inside) (record {
         outcome = same_to_guests.outcome;
         state = stepped_same hart machine (monitored_step view) (monitored_step (hart_view hart (guest_view machine))) same_to_guests;
       })

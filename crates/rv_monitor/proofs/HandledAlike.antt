@@ -7,21 +7,21 @@ use Rattle.rv_monitor.specs.Prelude.{Contexts, Running, HartState, Shared, Share
 use Rattle.rv_monitor.specs.Prelude.{measured_slot, new_slot, create_args_of, running_slot}
 use Rattle.rv_monitor.proofs.Prelude.{HandledAlike, HandlerLaw, a0, a1, returned_to_caller, both_ways, cases_eq, enclave_state_after, entered_slot}
 use Rattle.rv_monitor.proofs.Prelude.{eq-eqb, continuing_from, handled, left, with_reprogrammed_hart}
-use Rattle.rv_monitor.proofs.HandlerCases.{handler_cases_of_both, entering, context_saved_by, leaving, over}
+use Rattle.rv_monitor.proofs.HandlerCases.{handler_cases_of_both, entering, context_saved_by, leaving, shared_of}
 
 -- ---- the trap handler
 
 -- each effect of the trap handler leaves the two shared states equivalent except `enclave`
 module _ (enclave : ℕ) (table : Slots) (memory other_memory : List ℕ) (contexts other_contexts : Contexts)
-    (cases : WorksAlike enclave (over table memory contexts) (over table other_memory other_contexts))
+    (cases : WorksAlike enclave (shared_of table memory contexts) (shared_of table other_memory other_contexts))
     (hart_state : HartState) (trap : Trap) where
   -- the shared state with the first memory and the first saved contexts
   abbrev first_shared : Shared
-  first_shared = over table memory contexts
+  first_shared = shared_of table memory contexts
 
   -- the shared state with the second memory and the second saved contexts
   abbrev second_shared : Shared
-  second_shared = over table other_memory other_contexts
+  second_shared = shared_of table other_memory other_contexts
 
   -- a return to the caller gives equivalent results, if the shared states after the call are equivalent except `enclave`
   returned_alike : (one other : Shared) (status result : ℕ) → SharedEquivExcept enclave one other
@@ -33,7 +33,7 @@ module _ (enclave : ℕ) (table : Slots) (memory other_memory : List ℕ) (conte
       world = refl;
       same = λ not_running.
           ap (λ (slots : Slots). continuing_from
-          (with_reprogrammed_hart (returned_to_caller hart_state (over slots one.memory one.contexts) status result))) shared_equiv.table;
+          (with_reprogrammed_hart (returned_to_caller hart_state (shared_of slots one.memory one.contexts) status result))) shared_equiv.table;
     };
     shared = shared_equiv;
   }
@@ -95,7 +95,7 @@ pub handler_law : HandlerLaw
 handler_law enclave worlds hart_state one other trap shared_invariant_one shared_invariant_other not_running equiv =
     let tables_equal = equiv.table in
     let cases = works_alike enclave one other worlds shared_invariant_one shared_invariant_other equiv in
-    let cases_over_table = subst (λ (table : Slots). WorksAlike enclave one (over table other.memory other.contexts)) (sym tables_equal) cases in
+    let cases_over_table = subst (λ (table : Slots). WorksAlike enclave one (shared_of table other.memory other.contexts)) (sym tables_equal) cases in
     subst (λ (table : Slots). HandledAlike enclave (handled hart_state one trap)
-    (handled hart_state (over table other.memory other.contexts) trap)) tables_equal
+    (handled hart_state (shared_of table other.memory other.contexts) trap)) tables_equal
     (handled_alike enclave one.table one.memory other.memory one.contexts other.contexts cases_over_table hart_state trap equiv.memory.size)

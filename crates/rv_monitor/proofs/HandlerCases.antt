@@ -63,8 +63,8 @@ exit_is_exit a6 number_is_exit = grind (arith, nat_tests)
 -- ---- the cases
 
 -- the shared state with this table, memory and saved contexts
-abbrev pub over : Slots → List ℕ → Contexts → Shared
-over table memory contexts = record { memory = memory; table = table; contexts = contexts }
+abbrev pub shared_of : Slots → List ℕ → Contexts → Shared
+shared_of table memory contexts = record { memory = memory; table = table; contexts = contexts }
 
 -- the trap is an ecall from S, and requests this call
 pub record Requests (hart_state : HartState) (cause : Cause) (call : Call) : Type 0 where
@@ -104,11 +104,11 @@ module _ (hart_state : HartState) (trap : Trap) (table : Slots) (memory other_me
     (Claim : Handled → Handled → Type 0) where
   -- the shared state with the first memory and the first saved contexts
   abbrev first_shared : Shared
-  first_shared = over table memory contexts
+  first_shared = shared_of table memory contexts
 
   -- the shared state with the second memory and the second saved contexts
   abbrev second_shared : Shared
-  second_shared = over table other_memory other_contexts
+  second_shared = shared_of table other_memory other_contexts
 
   -- the claim holds for the results of one case of the trap handler on both shared states
   abbrev HoldsForBoth : (Shared → Handled) → Type 0
@@ -229,7 +229,7 @@ HandlerCasesOfBoth hart_state trap table memory other_memory contexts other_cont
 pub handler_cases_of_both : (hart_state : HartState) (trap : Trap) (table : Slots) (memory other_memory : List ℕ) (contexts other_contexts : Contexts)
     (Claim : Handled → Handled → Type 0)
     → HandlerCasesOfBoth hart_state trap table memory other_memory contexts other_contexts Claim → length memory ≡ length other_memory
-    → Claim (handled hart_state (over table memory contexts) trap) (handled hart_state (over table other_memory other_contexts) trap)
+    → Claim (handled hart_state (shared_of table memory contexts) trap) (handled hart_state (shared_of table other_memory other_contexts) trap)
 unfolding handled
 handler_cases_of_both hart_state trap table memory other_memory contexts other_contexts Claim cases same_length =
     by_cause_cases hart_state trap table memory other_memory contexts other_contexts

@@ -18,7 +18,7 @@ use Rattle.rv_monitor.proofs.Prelude.{is_entering, left, monitored_step, ne_eqb,
 use Rattle.rv_monitor.proofs.Prelude.{hart_view, enclave_state_after, step_of, with_reprogrammed_hart}
 use Rattle.rv_monitor.proofs.HartCases.{is_trapping}
 use Rattle.rv_monitor.proofs.TrapSteps.{hart_state_after, trapped_step}
-use Rattle.rv_monitor.proofs.HandlerCases.{Requests, handler_cases_of_both, entering, context_saved_by, over}
+use Rattle.rv_monitor.proofs.HandlerCases.{Requests, handler_cases_of_both, entering, context_saved_by, shared_of}
 
 -- after the same write to two memories of equal size, the memories have equal bytes at each index at which they had equal bytes
 same_byte : (memory other_memory : List ℕ) (address : ℕ) (bytes : List ℕ) (index : ℕ) → length memory ≡ length other_memory
@@ -47,11 +47,11 @@ module _ (table : Slots) (memory other_memory : List ℕ) (contexts other_contex
     (contexts_length : length contexts ≡ length other_contexts) where
   -- the shared state with the first memory and the first saved contexts
   abbrev first_shared : Shared
-  first_shared = over table memory contexts
+  first_shared = shared_of table memory contexts
 
   -- the shared state with the second memory and the second saved contexts
   abbrev second_shared : Shared
-  second_shared = over table other_memory other_contexts
+  second_shared = shared_of table other_memory other_contexts
 
   -- bytes and saved contexts that are equal before the trap handler are equal in the two shared states after the trap handler
   abbrev StaySame : Shared → Shared → Type 0
@@ -63,8 +63,8 @@ module _ (table : Slots) (memory other_memory : List ℕ) (contexts other_contex
 
   -- equal bytes and contexts stay equal after the same write to both memories
   same_after_write : (after : Slots) (address : ℕ) (bytes : List ℕ)
-      → StaySame (over after (or_unchanged memory (write memory address bytes)) contexts)
-      (over after (or_unchanged other_memory (write other_memory address bytes)) other_contexts)
+      → StaySame (shared_of after (or_unchanged memory (write memory address bytes)) contexts)
+      (shared_of after (or_unchanged other_memory (write other_memory address bytes)) other_contexts)
   same_after_write after address bytes = record {
     table = refl;
     bytes = λ index same. same_byte memory other_memory address bytes index same_length same;
@@ -73,8 +73,8 @@ module _ (table : Slots) (memory other_memory : List ℕ) (contexts other_contex
 
   -- equal bytes and contexts stay equal after the same new context in both lists
   same_after_new_context : (after : Slots) (slot : ℕ) (maybe_context : Option Context)
-      → StaySame (over after memory (with_context contexts slot maybe_context))
-      (over after other_memory (with_context other_contexts slot maybe_context))
+      → StaySame (shared_of after memory (with_context contexts slot maybe_context))
+      (shared_of after other_memory (with_context other_contexts slot maybe_context))
   same_after_new_context after slot maybe_context = record {
     table = refl;
     bytes = λ index same. same;
@@ -169,9 +169,9 @@ module _ (table : Slots) (memory other_memory : List ℕ) (contexts other_contex
 pub handler_reads_law : HandlerReadsLaw
 handler_reads_law hart_state trap one other same_reads =
     let tables_equal = same_reads.table in
-    let same_read_over_table : SameRead hart_state trap.cause one (over one.table other.memory other.contexts) =
+    let same_read_over_table : SameRead hart_state trap.cause one (shared_of one.table other.memory other.contexts) =
     record { table = refl; size = same_reads.size; slots = same_reads.slots; measured = same_reads.measured; entered = same_reads.entered } in
-    let second_with = λ (table : Slots). over table other.memory other.contexts in
+    let second_with = λ (table : Slots). shared_of table other.memory other.contexts in
     subst (λ (table : Slots). SameHandling one (second_with table) (handled hart_state one trap)
     (handled hart_state (second_with table) trap)) tables_equal
     (handled_same one.table one.memory other.memory one.contexts other.contexts same_reads.size same_reads.slots hart_state trap same_read_over_table)

@@ -91,9 +91,9 @@ module _ (hart : ℕ) (machine : MonitoredMachine) (after : HartViewStepped) whe
       ∙ reprogrammed_count maybe_trap slots machine.hart_states
 
   -- the hart that steps has the state that its view has after the step
-  pub own_hart_state : (other_hart : ℕ) → other_hart ≡ hart → hart < count_of machine
+  pub stepping_hart_state : (other_hart : ℕ) → other_hart ≡ hart → hart < count_of machine
       → hart_state_of other_hart (stepped_by hart machine after).state ≡ after.state.hart_state
-  own_hart_state other_hart is_stepping_hart in_range =
+  stepping_hart_state other_hart is_stepping_hart in_range =
       let same_length = reprogrammed_count maybe_trap slots machine.hart_states in
       get_or-set_at (hart_states_reprogrammed maybe_trap slots machine.hart_states) hart other_hart after.state.hart_state
       (hart_state_at_start 0) is_stepping_hart
@@ -109,10 +109,10 @@ module _ (hart : ℕ) (machine : MonitoredMachine) (after : HartViewStepped) whe
 -- ---- any step
 
 -- a step of a hart of the machine is the step of the view of this hart
-pub inside : (hart : ℕ) (machine : MonitoredMachine) → hart < count_of machine
+pub machine_step_is : (hart : ℕ) (machine : MonitoredMachine) → hart < count_of machine
     → step_of hart machine ≡ stepped_by hart machine (monitored_step (hart_view hart machine))
 unfolding step_of
-inside hart machine in_range = rw (lt-ltb hart (count_of machine) in_range) refl
+machine_step_is hart machine in_range = rw (lt-ltb hart (count_of machine) in_range) refl
 
 -- a step with a number that is not the number of a hart has no effect
 pub outside : (hart : ℕ) (machine : MonitoredMachine) → count_of machine ≤ hart → step_of hart machine ≡ not_stepped machine
@@ -124,7 +124,7 @@ outside hart machine past_last =
 pub by_hart : (hart : ℕ) (machine : MonitoredMachine) (Claim : MonitoredStepped → Type 0) → Claim (not_stepped machine)
     → (hart < count_of machine → Claim (stepped_by hart machine (monitored_step (hart_view hart machine)))) → Claim (step_of hart machine)
 by_hart hart machine Claim no_hart with_hart = elim (cases_lt hart (count_of machine)) [
-  | inl in_range ↦ subst Claim (sym (inside hart machine in_range)) (with_hart in_range)
+  | inl in_range ↦ subst Claim (sym (machine_step_is hart machine in_range)) (with_hart in_range)
   | inr past_last ↦ subst Claim (sym (outside hart machine past_last)) no_hart
 ]
 
@@ -140,7 +140,7 @@ step_of_view hart machine in_range =
     let after = monitored_step (hart_view hart machine) in
     let view_with : HartState → HartViewStepped =
     λ hart_state. record { state = record { hart_state = hart_state; shared = after.state.shared }; outcome = after.outcome } in
-    ap (hart_view_after hart) (inside hart machine in_range) ∙ ap view_with (own_hart_state hart machine after hart refl in_range)
+    ap (hart_view_after hart) (machine_step_is hart machine in_range) ∙ ap view_with (stepping_hart_state hart machine after hart refl in_range)
 
 -- a step of one hart preserves each property of the other harts that does not depend on the PMP entries and mie
 pub other_harts_keep : {X : Type 0} (property : HartState → X)
@@ -154,16 +154,17 @@ other_harts_keep property preserved hart other_hart machine distinct =
     let same_length = stepped_count hart machine after in
     elim (cases_lt other_hart (count_of machine)) [
       | inl in_range ↦
-          ap property (other_hart_state hart machine after other_hart distinct in_range) ∙ by_trap after.outcome.step.trap after.state.shared.table
+          ap property (other_hart_state hart machine after other_hart distinct in_range)
+          ∙ reprogramming_keeps_property after.outcome.step.trap after.state.shared.table
       | inr past_last ↦
           ap property (past_hart_state (stepped_by hart machine after).state.hart_states other_hart (omega (arith, same_length, past_last)) ∙ sym
           (past_hart_state machine.hart_states other_hart past_last))
     ]) where
       -- the property of the other hart is the same before and after the reprogramming of the other hart
-      by_trap : (maybe_trap : Option Trap) (slots : Slots)
+      reprogramming_keeps_property : (maybe_trap : Option Trap) (slots : Slots)
           → property (hart_state_reprogrammed maybe_trap slots (hart_state_of other_hart machine)) ≡ property (hart_state_of other_hart machine)
-      by_trap None slots = refl
-      by_trap (Some trap) slots = preserved slots (hart_state_of other_hart machine)
+      reprogramming_keeps_property None slots = refl
+      reprogramming_keeps_property (Some trap) slots = preserved slots (hart_state_of other_hart machine)
 
 -- a step without a trap leaves the table unchanged
 pub untrapped_table_unchanged : (view : HartView) → (monitored_step view).outcome.step.trap ≡ None
@@ -182,11 +183,11 @@ state_is_reprogrammed None before after hart_state same_if_untrapped hart_invari
 state_is_reprogrammed (Some trap) before after hart_state same_if_untrapped hart_invariant = refl
 
 -- after a step of another hart, each hart has the state that a reprogramming for the new table gives
-pub behind_seated : (hart other_hart : ℕ) (machine : MonitoredMachine) → Invariant machine → other_hart < count_of machine
+pub other_hart_is_programmed : (hart other_hart : ℕ) (machine : MonitoredMachine) → Invariant machine → other_hart < count_of machine
     → (let after = monitored_step (hart_view hart machine) in
     hart_state_reprogrammed after.outcome.step.trap after.state.shared.table (hart_state_of other_hart machine)
     ≡ reprogrammed after.state.shared.table (hart_state_of other_hart machine))
-behind_seated hart other_hart machine invariant in_range =
+other_hart_is_programmed hart other_hart machine invariant in_range =
     let after = monitored_step (hart_view hart machine) in
     state_is_reprogrammed after.outcome.step.trap machine.shared.table after.state.shared.table (hart_state_of other_hart machine)
     (untrapped_table_unchanged (hart_view hart machine))
@@ -200,7 +201,7 @@ step_programmed hart other_hart machine invariant distinct other_in_range =
     by_hart hart machine (λ after. hart_state_of other_hart after.state ≡ reprogrammed after.state.shared.table (hart_state_of other_hart machine))
     (sym (reprogramming_changes_nothing machine.shared.table (hart_state_of other_hart machine) (invariant.hart_states other_hart other_in_range)))
     (λ in_range. other_hart_state hart machine (monitored_step (hart_view hart machine)) other_hart distinct other_in_range
-    ∙ behind_seated hart other_hart machine invariant other_in_range)
+    ∙ other_hart_is_programmed hart other_hart machine invariant other_in_range)
 
 -- ---- a step that traps
 
@@ -228,7 +229,7 @@ is_trapping hart machine trap traps = elim (cases_lt hart (count_of machine)) [
   -- the step of the machine has the outcome of the view's step, so the view traps too
   | inl in_range ↦
       let after = monitored_step (hart_view hart machine) in
-      let step_is = inside hart machine in_range in
+      let step_is = machine_step_is hart machine in_range in
       let trapped : after.outcome.step.trap ≡ Some trap = sym (ap (λ (stepped : MonitoredStepped). stepped.outcome.step.trap) step_is) ∙ traps in
       let programmed_after : Option Trap → MonitoredMachine = λ maybe_trap. record {
         hart_states = slice_set (hart_states_reprogrammed maybe_trap after.state.shared.table machine.hart_states) hart after.state.hart_state;

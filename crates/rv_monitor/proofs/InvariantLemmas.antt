@@ -10,8 +10,8 @@ use Rattle.rv_monitor.proofs.Prelude.{hart_state_of, reprogrammed, hart_states_r
 use Rattle.rv_monitor.proofs.Prelude.{step_of, stepped_by}
 use Rattle.rv_monitor.proofs.Prelude.{with_hart_state, worlds}
 use Rattle.rv_monitor.proofs.Others.{shared_invariant-moved_back, shared_invariant-moved_to_front, without}
-use Rattle.rv_monitor.proofs.HartCases.{behind_seated, by_hart, hart_cases, stepped_count, other_hart_state, own_hart_state}
-use Rattle.rv_monitor.proofs.StepInvariant.{InvariantBeside, reprogrammed_invariant, hart_view_of, reprogrammed_by, step_invariant}
+use Rattle.rv_monitor.proofs.HartCases.{other_hart_is_programmed, by_hart, hart_cases, stepped_count, other_hart_state, stepping_hart_state}
+use Rattle.rv_monitor.proofs.StepInvariant.{InvariantBeside, reprogrammed_invariant, view_invariant_of_parts, reprogrammed_by, step_invariant}
 
 -- ---- the world on a hart, and those on the other harts
 
@@ -52,7 +52,7 @@ shared_invariant_in_front hart machine invariant in_range =
 pub hart_view_invariant : (hart : ℕ) (machine : MonitoredMachine) → Invariant machine → hart < count_of machine
     → HartViewInvariant (hart_view hart machine)
 hart_view_invariant hart machine invariant in_range =
-    hart_view_of (hart_state_of hart machine) machine.shared (worlds machine) invariant.shared (invariant.hart_states hart in_range)
+    view_invariant_of_parts (hart_state_of hart machine) machine.shared (worlds machine) invariant.shared (invariant.hart_states hart in_range)
 
 -- a step of a hart preserves the invariant of the shared state and of the hart, with the worlds of the other harts
 pub invariant_of_others : (hart : ℕ) (machine : MonitoredMachine) → Invariant machine → hart < count_of machine
@@ -90,11 +90,11 @@ invariant_after_step hart machine invariant in_range =
       hart_states = λ other_hart other_in_new_range.
           let other_in_range : other_hart < count_of machine = omega (arith, same_length, other_in_new_range) in
           elim (cases_eq other_hart hart) [
-            | inl equal ↦ subst (HartInvariant slots) (sym (own_hart_state hart machine after other_hart equal in_range)) view_invariant_after.1
+            | inl equal ↦ subst (HartInvariant slots) (sym (stepping_hart_state hart machine after other_hart equal in_range)) view_invariant_after.1
             | inr distinct ↦
                 subst (HartInvariant slots)
                 (sym (other_hart_state hart machine after other_hart distinct other_in_range
-                ∙ behind_seated hart other_hart machine invariant other_in_range))
+                ∙ other_hart_is_programmed hart other_hart machine invariant other_in_range))
                 (reprogrammed_invariant machine.shared.table slots (hart_state_of other_hart machine)
                 (invariant.hart_states other_hart other_in_range))
           ];
@@ -159,10 +159,11 @@ written_invariant hart regs raised machine invariant = elim (cases_lt hart (coun
 ]
 
 -- the saved host contexts of a machine stay legal if one hart gets a state with a legal saved host context
-pub hart_state_stored : (hart : ℕ) (hart_state : HartState) (machine : MonitoredMachine) → HostContextsAreLegal machine → hart < count_of machine
+pub hart_write_keeps_contexts_legal : (hart : ℕ) (hart_state : HartState) (machine : MonitoredMachine) → HostContextsAreLegal machine
+    → hart < count_of machine
     → HostContextIsLegal hart_state
     → HostContextsAreLegal (with_hart_state hart hart_state machine)
-hart_state_stored hart hart_state machine contexts_legal in_range context_is_legal =
+hart_write_keeps_contexts_legal hart hart_state machine contexts_legal in_range context_is_legal =
     hart_cases machine.hart_states hart hart_state (λ some_hart some_state. HostContextIsLegal some_state) in_range context_is_legal
     (λ some_hart is_other_hart. contexts_legal some_hart)
 

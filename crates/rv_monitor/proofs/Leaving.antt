@@ -29,8 +29,8 @@ module _ (before : HartView) (slot : ℕ) (host : Context) (runs_enclave : befor
   leaving_with context = left (lowered_by trap.cause hart_state) before.shared (record (enclave_exit_of trap.cause hart_state) { kept = context })
 
   -- the result of an exit
-  abbrev leaving_now : Handled
-  leaving_now = leaving_with (saved_after trap.cause before.hart_state.hart)
+  abbrev exit_result : Handled
+  exit_result = leaving_with (saved_after trap.cause before.hart_state.hart)
 
   -- the context of the enclave that the exit saves, from the hart before the trap
   saved_context_is : (cause : Cause) → context_saved_by cause hart_state ≡ saved_after cause before.hart_state.hart
@@ -39,7 +39,7 @@ module _ (before : HartView) (slot : ℕ) (host : Context) (runs_enclave : befor
 
   -- the enclave continues, or exits
   abbrev StaysOrExits : Handled → Type 0
-  StaysOrExits result = (result.hart_state.world ≡ Enclave slot) ⊎ (result ≡ with_reprogrammed_hart leaving_now)
+  StaysOrExits result = (result.hart_state.world ≡ Enclave slot) ⊎ (result ≡ with_reprogrammed_hart exit_result)
 
   -- a claim about a hart that runs both an enclave and the host holds, because there is no such hart
   enters_never : before.hart_state.world ≡ Host → (Claim : Type 0) → Claim
@@ -60,8 +60,8 @@ module _ (before : HartView) (slot : ℕ) (host : Context) (runs_enclave : befor
   -- ---- the step
 
   -- the view after an exit
-  abbrev left_state : HartView
-  left_state =
+  abbrev view_after_exit : HartView
+  view_after_exit =
       let shared = left_shared before.shared slot trap.cause before.hart_state.hart in
       record {
         hart_state = record { hart = left_hart before.hart_state.hart shared.table trap host; host_context = None; world = Host };
@@ -69,11 +69,11 @@ module _ (before : HartView) (slot : ℕ) (host : Context) (runs_enclave : befor
       }
 
   -- the view after the step is the view after an exit, and the step enters no slot
-  abbrev Left : HartViewStepped → Type 0
-  Left after = (after.state ≡ left_state) × (after.outcome.entered ≡ None)
+  abbrev IsExitStep : HartViewStepped → Type 0
+  IsExitStep after = (after.state ≡ view_after_exit) × (after.outcome.entered ≡ None)
 
   -- the return from an exit gives the view after an exit
-  returned_left : (outcome : StepOutcome) → HartViewInvariant before → Left (returned outcome (with_reprogrammed_hart leaving_now))
+  returned_left : (outcome : StepOutcome) → HartViewInvariant before → IsExitStep (returned outcome (with_reprogrammed_hart exit_result))
   unfolding left
   returned_left outcome view_invariant =
       let CanGoOnIfSome : Option Context → Type 0 = λ maybe_context. IfSome maybe_context (λ some_context. can_go_on some_context ≡ true) in
@@ -83,20 +83,20 @@ module _ (before : HartView) (slot : ℕ) (host : Context) (runs_enclave : befor
 
   -- if the host runs after the trap handler, then the return from the trap handler gives the view after an exit
   exit_if_host_runs : (outcome : StepOutcome) (result : Handled) → HartViewInvariant before → StaysOrExits result → result.hart_state.world ≡ Host
-      → Left (returned outcome result)
+      → IsExitStep (returned outcome result)
   exit_if_host_runs outcome result view_invariant (inl stays) host_runs_after =
       let contradiction : Enclave slot ≡ Host = sym stays ∙ host_runs_after in cc
   exit_if_host_runs outcome result view_invariant (inr is_exit) host_runs_after =
-      subst (λ (some_result : Handled). Left (returned outcome some_result)) (sym is_exit) (returned_left outcome view_invariant)
+      subst (λ (some_result : Handled). IsExitStep (returned outcome some_result)) (sym is_exit) (returned_left outcome view_invariant)
 
   -- a step with a trap after which the host runs is an exit
   step_is_exit : HartViewInvariant before → (monitored_step before).outcome.step.trap ≡ Some trap
       → (monitored_step before).state.hart_state.world ≡ Host
-      → Left (monitored_step before)
+      → IsExitStep (monitored_step before)
   step_is_exit view_invariant trapped host_runs_after =
       let step_is = trapped_step before trap trapped in
       let handled_host = subst (λ (after : HartViewStepped). after.state.hart_state.world ≡ Host) step_is host_runs_after in
-      subst Left (sym step_is) (exit_if_host_runs (step (bare_machine before)).outcome _ view_invariant handled_stays_or_exits handled_host)
+      subst IsExitStep (sym step_is) (exit_if_host_runs (step (bare_machine before)).outcome _ view_invariant handled_stays_or_exits handled_host)
 
 -- a step of an enclave with a trap after which the host runs leaves the machine after an exit, and enters no slot
 pub leave_law : (hart : ℕ) (machine : MonitoredMachine) → Invariant machine → (slot : ℕ) (host : Context) (trap : Trap)

@@ -37,10 +37,10 @@ abbrev AllLegal : Contexts → Type 0
 AllLegal saved_contexts = (slot : ℕ) → IfSome (context_at saved_contexts slot) (λ context. IsLegal context.supervisor)
 
 -- every saved context stays legal after a write of a legal context to one slot
-legal_set : (saved_contexts : Contexts) (written_slot : ℕ) (maybe_context : Option Context) → AllLegal saved_contexts
+legal_after_write : (saved_contexts : Contexts) (written_slot : ℕ) (maybe_context : Option Context) → AllLegal saved_contexts
     → IfSome maybe_context (λ context. IsLegal context.supervisor)
     → AllLegal (with_context saved_contexts written_slot maybe_context)
-legal_set saved_contexts written_slot maybe_context all_legal legal slot =
+legal_after_write saved_contexts written_slot maybe_context all_legal legal slot =
     let LegalIfSome : Option Context → Type 0 = λ maybe_context. IfSome maybe_context (λ context. IsLegal context.supervisor) in
     elim (cases_lt written_slot (length saved_contexts)) [
       | inr past_last ↦
@@ -60,8 +60,8 @@ restored_legal : (csrs : CsrState) (supervisor : SContext) → Legal (with_s_con
 restored_legal csrs supervisor = let stored = with_s_context_stored csrs supervisor in record { stvec = stored.stvec; sepc = stored.sepc }
 
 -- a context whose stvec and sepc are 0 is legal
-nothing_legal : (context : Context) → context.supervisor.stvec ≡ 0 → context.supervisor.sepc ≡ 0 → IsLegal context.supervisor
-nothing_legal context stvec sepc =
+zero_context_legal : (context : Context) → context.supervisor.stvec ≡ 0 → context.supervisor.sepc ≡ 0 → IsLegal context.supervisor
+zero_context_legal context stvec sepc =
     let zero_vector : vector_of 0 ≡ 0 = omega arith in
     let zero_aligned : aligned_to_4 0 ≡ 0 = omega arith in
     record { stvec = ap vector_of stvec ∙ zero_vector ∙ sym stvec; sepc = ap aligned_to_4 sepc ∙ zero_aligned ∙ sym sepc }
@@ -73,11 +73,11 @@ saved_legal (causes.Exception exception) hart_state legal =
     stopped_or_exited_legal (register hart_state.hart.regs 16 == call_number Exit) where
       -- both the empty context and the context that stop saves are legal
       stopped_or_exited_legal : (is_exit : Bool) → IsLegal (if is_exit then exited_context else stopped_context hart_state).supervisor
-      stopped_or_exited_legal true = nothing_legal exited_context refl refl
+      stopped_or_exited_legal true = zero_context_legal exited_context refl refl
       stopped_or_exited_legal false = legal
 
 -- the S-mode registers and all saved contexts are legal after the trap handler
-record StoredAfter (result : Handled) : Type 0 where
+record LegalAfterHandler (result : Handled) : Type 0 where
   supervisor : Legal result.hart_state.hart.csrs
   contexts : AllLegal result.shared.contexts
 
@@ -85,29 +85,32 @@ record StoredAfter (result : Handled) : Type 0 where
 module _ (hart_state : HartState) (shared : Shared) (trap : Trap) (legal : Legal hart_state.hart.csrs)
     (mepc : aligned_to_4 hart_state.hart.csrs.mepc ≡ hart_state.hart.csrs.mepc) (all_legal : AllLegal shared.contexts) where
   -- the trap handler leaves legal S-mode registers and legal saved contexts
-  handled_stored : StoredAfter (handled hart_state shared trap)
+  handler_keeps_legal : LegalAfterHandler (handled hart_state shared trap)
   unfolding created destroyed measured entered_slot left with_redirected_trap first_context
-  handled_stored =
-      handler_cases hart_state trap shared StoredAfter (record {
+  handler_keeps_legal =
+      handler_cases hart_state trap shared LegalAfterHandler (record {
         answers = λ status result. record { supervisor = record { stvec = legal.stvec; sepc = legal.sepc }; contexts = all_legal };
         creates = λ requests no_refusal. record {
           supervisor = record { stvec = legal.stvec; sepc = legal.sepc };
-          contexts = legal_set shared.contexts _ _ all_legal
-              (nothing_legal (first_context (recorded shared.memory (create_args_of hart_state.hart.regs))) refl refl);
+          contexts = legal_after_write shared.contexts _ _ all_legal
+              (zero_context_legal (first_context (recorded shared.memory (create_args_of hart_state.hart.regs))) refl refl);
         };
         destroys = λ requests slot_accepted. record {
           supervisor = record { stvec = legal.stvec; sepc = legal.sepc };
-          contexts = legal_set shared.contexts _ None all_legal tt;
+          contexts = legal_after_write shared.contexts _ None all_legal tt;
         };
         measures = λ requests no_refusal. record { supervisor = record { stvec = legal.stvec; sepc = legal.sepc }; contexts = all_legal };
         enters = λ call requests is_entry_call from_host slot_accepted.
             let restored = restored_legal hart_state.hart.csrs (saved_context shared.contexts (a0 hart_state)).supervisor in
-            record { supervisor = record { stvec = restored.stvec; sepc = restored.sepc }; contexts = legal_set shared.contexts _ None all_legal tt };
+            record {
+              supervisor = record { stvec = restored.stvec; sepc = restored.sepc };
+              contexts = legal_after_write shared.contexts _ None all_legal tt;
+            };
         leaves =
             let restored = restored_legal hart_state.hart.csrs (saved_host hart_state).supervisor in
             record {
               supervisor = record { stvec = restored.stvec; sepc = restored.sepc };
-              contexts = legal_set shared.contexts _ _ all_legal (saved_legal trap.cause hart_state legal);
+              contexts = legal_after_write shared.contexts _ _ all_legal (saved_legal trap.cause hart_state legal);
             };
         redirects = record { supervisor = record { stvec = legal.stvec; sepc = mepc }; contexts = all_legal };
       })
@@ -115,14 +118,14 @@ module _ (hart_state : HartState) (shared : Shared) (trap : Trap) (legal : Legal
 -- ---- the step of one hart
 
 -- pc, the S-mode registers and the saved contexts of the view are legal
-record ViewStored (view : HartView) : Type 0 where
+record ViewIsLegal (view : HartView) : Type 0 where
   pc : aligned_to_4 view.hart_state.hart.pc ≡ view.hart_state.hart.pc
   supervisor : IsLegal (s_context view.hart_state.hart.csrs)
   contexts : AllLegal view.shared.contexts
 
 -- a step of a view leaves pc, the S-mode registers and the saved contexts legal
-view_stored : (view : HartView) → HartViewInvariant view → ViewStored view → ViewStored (monitored_step view).state
-view_stored view view_invariant legal = step_cases view (λ after. ViewStored after.state)
+step_keeps_view_legal : (view : HartView) → HartViewInvariant view → ViewIsLegal view → ViewIsLegal (monitored_step view).state
+step_keeps_view_legal view view_invariant legal = step_cases view (λ after. ViewIsLegal after.state)
     (λ no_trap.
     let hart = without_trap _ _ no_trap (keeps_stored (bare_machine view) view_invariant.hart.layout.mode (record {
       pc = legal.pc;
@@ -131,7 +134,7 @@ view_stored view view_invariant legal = step_cases view (λ after. ViewStored af
     record { pc = hart.pc; supervisor = record { stvec = hart.csrs.stvec; sepc = hart.csrs.sepc }; contexts = legal.contexts })
     (λ trap trapped.
     let hart_state = hart_state_after view.hart_state trap in
-    let legal_after = handled_stored hart_state view.shared trap
+    let legal_after = handler_keeps_legal hart_state view.shared trap
     (record { stvec = legal.supervisor.stvec; sepc = legal.supervisor.sepc }) (aligned_twice view.hart_state.hart.pc) legal.contexts in
     record {
       pc = aligned_twice (handled hart_state view.shared trap).next.pc;
@@ -142,16 +145,16 @@ view_stored view view_invariant legal = step_cases view (λ after. ViewStored af
 -- ---- the machine
 
 -- a step of a legal machine leaves a legal machine
-step_stored : (hart : ℕ) (machine : MonitoredMachine) → Invariant machine → IsLegalMachine machine → IsLegalMachine (step_of hart machine).state
-step_stored hart machine invariant legal = elim (cases_lt hart (count_of machine)) [
+step_keeps_legal : (hart : ℕ) (machine : MonitoredMachine) → Invariant machine → IsLegalMachine machine → IsLegalMachine (step_of hart machine).state
+step_keeps_legal hart machine invariant legal = elim (cases_lt hart (count_of machine)) [
   -- a step with the number of no hart changes nothing
   | inr past_last ↦ subst (λ (after : MonitoredStepped). IsLegalMachine after.state) (sym (outside hart machine past_last)) legal
   | inl in_range ↦
       let view = hart_view hart machine in
       let legal_hart = legal.harts hart in
-      let after = view_stored view (hart_view_invariant hart machine invariant in_range)
+      let after = step_keeps_view_legal view (hart_view_invariant hart machine invariant in_range)
       (record { pc = legal_hart.pc; supervisor = legal_hart.supervisor; contexts = legal.contexts }) in
-      let view_legal = subst (λ (stepped : HartViewStepped). ViewStored stepped.state) (sym (step_of_view hart machine in_range)) after in
+      let view_legal = subst (λ (stepped : HartViewStepped). ViewIsLegal stepped.state) (sym (step_of_view hart machine in_range)) after in
       record {
         harts = λ other_hart. elim (cases_eq other_hart hart) [
           -- the stepping hart is legal, because the step of its view leaves legal registers
@@ -177,7 +180,7 @@ step_stored hart machine invariant legal = elim (cases_lt hart (count_of machine
 -- an event of a legal machine leaves a legal machine
 pub event_stored : (event : Event) (machine : MonitoredMachine) → Invariant machine → IsLegalMachine machine
     → IsLegalMachine (event_of event machine).state
-event_stored (StepOf hart) machine invariant legal = step_stored hart machine invariant legal
+event_stored (StepOf hart) machine invariant legal = step_keeps_legal hart machine invariant legal
 event_stored (LineOf hart raised) machine invariant legal = record {
   harts = λ other_hart.
       let pc_unchanged =
@@ -195,8 +198,8 @@ event_stored (LineOf hart raised) machine invariant legal = record {
 -- ---- at reset
 
 -- a hart at reset is legal, if its entry point is a multiple of 4
-reset_stored : (entry : ℕ) → aligned_to_4 entry ≡ entry → IsLegalHartState (hart_state_at_start entry)
-reset_stored entry aligned = record {
+reset_is_legal : (entry : ℕ) → aligned_to_4 entry ≡ entry → IsLegalHartState (hart_state_at_start entry)
+reset_is_legal entry aligned = record {
   pc = aligned;
   supervisor = record { stvec = omega arith; sepc = omega arith };
 }
@@ -213,17 +216,17 @@ none_legal : (slot : ℕ) → IfSome (context_at no_contexts slot) (λ context. 
 none_legal slot = subst (λ (maybe_context : Option Context). IfSome maybe_context (λ context. IsLegal context.supervisor)) (sym (no_context slot)) tt
 
 -- the machine at reset is legal, if the entry point is a multiple of 4
-starts_stored : (memory : List ℕ) (entry harts : ℕ) → aligned_to_4 entry ≡ entry → IsLegalMachine (at_start memory entry harts)
+start_is_legal : (memory : List ℕ) (entry harts : ℕ) → aligned_to_4 entry ≡ entry → IsLegalMachine (at_start memory entry harts)
 unfolding at_start
-starts_stored memory entry harts aligned =
-    let reset_state = reset_stored entry aligned in
+start_is_legal memory entry harts aligned =
+    let reset_state = reset_is_legal entry aligned in
     record {
       harts = λ hart.
           start_state_cases harts entry hart IsLegalHartState (λ some_hart. record { pc = reset_state.pc; supervisor = reset_state.supervisor })
-          (reset_stored 0 refl);
+          (reset_is_legal 0 refl);
       contexts = none_legal;
     }
 
 -- proves that the machine at reset is legal, and that each event leaves a machine legal
 pub legal_law : LegalLaw
-legal_law = record { start = starts_stored; keeps = event_stored }
+legal_law = record { start = start_is_legal; keeps = event_stored }

@@ -34,7 +34,7 @@ use Rattle.rv_monitor.specs.Prelude.{is_world_of, byte_at, bytes_from, is_access
 use Rattle.rv_monitor.proofs.Prelude.{Handled, HartInvariant, HartView, HartViewStepped, Invariant, MonitoredMachine, MonitoredStepped, SlotInfo, and_parts, both_ways}
 use Rattle.rv_monitor.proofs.Prelude.{cases_Bool, cases_lt, count_of, enters, eq-eqb, get_or-set_at, get_or_past, handled, hart_state_at_start, hart_state_of}
 use Rattle.rv_monitor.proofs.Prelude.{hart_view, length-map, monitored_step, reprogrammed, runs_on, saved_after, step_of, worlds}
-use Rattle.rv_monitor.proofs.Attestation.{same_info, same_size, some_identity, valid_slot}
+use Rattle.rv_monitor.proofs.Attestation.{equal_fresh_records, same_size, some_identity, valid_slot}
 use Rattle.rv_monitor.proofs.Availability.{timer_exits}
 use Rattle.rv_monitor.proofs.Beside.{running_is_live, runs_among, running_hart_in_range}
 use Rattle.rv_monitor.proofs.EnclaveMemory.{enclave_world_is_not_host, accessible_bytes_are_own, world_is_enclave}
@@ -51,7 +51,7 @@ use Rattle.rv_monitor.proofs.Records.{record_law}
 use Rattle.rv_monitor.proofs.SchedNoninterference.{entered_some, entry_law}
 use Rattle.rv_monitor.proofs.SteppedOver.{MachineOver, MeasuresSeen, ReadsSeen, machine_over, over_bytes}
 use Rattle.rv_monitor.proofs.LegalMachine.{event_stored}
-use Rattle.rv_monitor.proofs.Switched.{Turns, handled_stays_or_switches, restored_context_same}
+use Rattle.rv_monitor.proofs.Switched.{StaysEntersOrExits, handled_stays_or_switches, restored_context_same}
 use Rattle.rv_monitor.proofs.Touched.{touch_law}
 use Rattle.rv_monitor.proofs.TrapSteps.{hart_state_after, step_cases}
 use Rattle.std.proofs.lemmas.Bool.{leb-true, ltb-true, not-false, not-true}
@@ -256,7 +256,7 @@ line_stays slot hart raised machine context continues live = record {
 }
 
 -- if the trap handler reports an entry of the slot, then the host ran before the trap, and the enclave runs after the trap handler
-handled_entry_from_host : (slot : ℕ) (hart_state : HartState) (trap : Trap) (result : Handled) → Turns hart_state trap result
+handled_entry_from_host : (slot : ℕ) (hart_state : HartState) (trap : Trap) (result : Handled) → StaysEntersOrExits hart_state trap result
     → result.next.entered ≡ Some slot
     → (hart_state.world ≡ Host) × (result.hart_state.world ≡ Enclave slot)
 handled_entry_from_host slot hart_state trap result (inl stays) enters_slot =
@@ -815,7 +815,7 @@ life_begins slot other_slot one other invariant_one invariant_other same_identit
     let digest : first_enclave.info.measurement ≡ second_enclave.info.measurement =
     first_enclave.measurement ∙ same_digest memory other_memory (args_of first_enclave.info) (args_of second_enclave.info) same_identity.input
     ∙ sym second_enclave.measurement in
-    let same_info_record = same_info first_enclave.info second_enclave.info measured.args digest first_enclave.fresh second_enclave.fresh in
+    let same_info_record = equal_fresh_records first_enclave.info second_enclave.info measured.args digest first_enclave.fresh second_enclave.fresh in
     let some_info : SlotInfo → Option SlotInfo = λ info. Some info in
     let begin : SlotInfo → Option Context = λ info. Some (first_context info) in
     record {

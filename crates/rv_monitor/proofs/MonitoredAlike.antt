@@ -13,7 +13,7 @@ use Rattle.rv_monitor.proofs.Beside.{running_is_live}
 use Rattle.rv_monitor.proofs.BareStepNoninterference.{bare_law}
 use Rattle.rv_monitor.proofs.HandledAlike.{handler_law}
 use Rattle.rv_monitor.proofs.InvariantLemmas.{hart_view_invariant}
-use Rattle.rv_monitor.proofs.HartCases.{stepped_count, inside, other_hart_state, outside, own_hart_state, past_hart_state, hart_state_reprogrammed}
+use Rattle.rv_monitor.proofs.HartCases.{stepped_count, machine_step_is, other_hart_state, outside, stepping_hart_state, past_hart_state, hart_state_reprogrammed}
 use Rattle.rv_monitor.proofs.StepInvariant.{step_size}
 
 -- ---- a step of one hart over equivalent shared states
@@ -145,8 +145,8 @@ stepped_equiv enclave hart one other stepped other_stepped equiv in_range view_s
           (omega (arith, second_count, same_harts, past_last))))
       | inl other_in_range ↦ elim (cases_eq other_hart hart) [
         -- the stepping hart has the state of its view after the step, and the views agree
-        | inl equal ↦ hart_states_equiv enclave _ _ _ _ (own_hart_state hart one stepped other_hart equal in_range)
-            (own_hart_state hart other other_stepped other_hart equal (omega (arith, same_harts, in_range))) view_steps_agree.hart_state
+        | inl equal ↦ hart_states_equiv enclave _ _ _ _ (stepping_hart_state hart one stepped other_hart equal in_range)
+            (stepping_hart_state hart other other_stepped other_hart equal (omega (arith, same_harts, in_range))) view_steps_agree.hart_state
         -- every other hart is reprogrammed alike, because the traps and the tables are equal
         | inr distinct ↦
             let traps = ap (λ (outcome : Outcome). outcome.step.trap) view_steps_agree.outcome in
@@ -176,7 +176,7 @@ noninterference hart one invariant enclave other invariant_other equiv not_runni
           let first_after = monitored_step (hart_view hart one) in
           let second_after = monitored_step (hart_view hart other) in
           let view_steps_agree = views_equiv enclave hart one other invariant invariant_other equiv in_range not_running in
-          rw (inside hart one in_range, inside hart other (omega (arith, same_harts, in_range))) (record {
+          rw (machine_step_is hart one in_range, machine_step_is hart other (omega (arith, same_harts, in_range))) (record {
             outcome = view_steps_agree.outcome;
             state = record {
               harts = stepped_count hart one first_after ∙ equiv.harts ∙ sym (stepped_count hart other second_after);

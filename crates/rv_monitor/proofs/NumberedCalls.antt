@@ -116,21 +116,21 @@ module _ (hart_state : HartState) (shared : Shared) where
       subst (λ (maybe_call : Option Call). option_case maybe_call 0xFFFFFFFF (λ some_call. first_status (rows_of some_call)) ≡ 0) call_is status_is_0
 
   -- no refusal of the requested call applies, if the status is 0
-  pub none_refused : (call : Call) → numbered ≡ Some call → status ≡ 0 → first_refusal (call_refusals hart_state shared call) ≡ None
+  pub no_refusal_of_call : (call : Call) → numbered ≡ Some call → status ≡ 0 → first_refusal (call_refusals hart_state shared call) ≡ None
   unfolding call_status
-  none_refused call numbered_is status_is_0 = not_refused call (status_of_call call numbered numbered_is status_is_0)
+  no_refusal_of_call call numbered_is status_is_0 = not_refused call (status_of_call call numbered numbered_is status_is_0)
 
   -- the call with the numbers in a7 and a6 is the requested call
-  pub asks : (call : Call) → numbered ≡ Some call → requested_call hart_state.world hart_state.hart.regs ≡ Some call
-  asks call numbered_is = numbers.call hart_state.world ∙ numbered_is
+  pub numbered_call_is_requested : (call : Call) → numbered ≡ Some call → requested_call hart_state.world hart_state.hart.regs ≡ Some call
+  numbered_call_is_requested call numbered_is = numbers.call hart_state.world ∙ numbered_is
 
   -- the trap handler performs the requested call, if the status is 0
   pub handled_done : (trap : Trap) (cause : Cause) (call : Call) → cause ≡ causes.Exception EnvironmentCallFromS → numbered ≡ Some call → status ≡ 0
       → handled_cause hart_state shared trap cause ≡ performed hart_state shared call
   unfolding call_handled called
   handled_done trap cause call by_ecall numbered_is status_is_0 =
-      let requested = asks call numbered_is in
-      let no_refusal = none_refused call numbered_is status_is_0 in
+      let requested = numbered_call_is_requested call numbered_is in
+      let no_refusal = no_refusal_of_call call numbered_is status_is_0 in
       rw (by_ecall, requested, no_refusal) refl
 
   -- create returns 0 and the lowest free slot, and puts the new enclave into the shared state
@@ -340,7 +340,7 @@ answers_calls hart machine invariant trap traps by_ecall =
     λ slot host call runs host_is_saved is_call exits.
     leave_law hart machine invariant slot host trap runs host_is_saved traps
     (world_is_host _ ((exits_law hart machine invariant slot runs).exits trap traps
-    ∙ exit_call_is_exit_cause before trap.cause call by_ecall (asks before shared call is_call) exits)) in
+    ∙ exit_call_is_exit_cause before trap.cause call by_ecall (numbered_call_is_requested before shared call is_call) exits)) in
     -- the numbers in a7 and a6 are those of the call
     let numbers_of_call : (slot : ℕ) (call : Call) → before.world ≡ Enclave slot → call_at hart machine ≡ Some call
     → call_numbered (Enclave slot) (register before.hart.regs 17) (register before.hart.regs 16) ≡ Some call =

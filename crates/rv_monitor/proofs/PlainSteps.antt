@@ -12,7 +12,7 @@ use Rattle.rv_monitor.proofs.Prelude.{HartViewStepped, HartView, Invariant, Moni
 use Rattle.rv_monitor.proofs.Prelude.{monitored_step, step_of, stepped_by}
 use Rattle.rv_monitor.proofs.Exits.{redirects_step}
 use Rattle.rv_monitor.proofs.InvariantLemmas.{hart_view_invariant}
-use Rattle.rv_monitor.proofs.HartCases.{inside, is_trapping, step_of_view}
+use Rattle.rv_monitor.proofs.HartCases.{machine_step_is, is_trapping, step_of_view}
 use Rattle.rv_monitor.proofs.TrapSteps.{same_outcome, step_cases, view_without_trap}
 
 -- ---- without a trap
@@ -57,7 +57,7 @@ steps_plainly hart machine in_range =
           sym (ap (λ (outcome : StepOutcome). outcome.trap) outcome) ∙ no_trap in
           let view_step_is = step_without_trap view (ap (λ (outcome : StepOutcome). outcome.trap) (same_outcome view) ∙ bare_step_untrapped) in
           let step_is : step_of hart machine ≡ stepped_by hart machine (view_without_trap view) =
-          inside hart machine in_range ∙ ap (stepped_by hart machine) view_step_is in
+          machine_step_is hart machine in_range ∙ ap (stepped_by hart machine) view_step_is in
           let machine_after : Option Trap → MonitoredMachine = λ maybe_trap. record {
             hart_states =
                 slice_set (hart_states_reprogrammed maybe_trap machine.shared.table machine.hart_states) hart

@@ -44,10 +44,10 @@ abbrev pub entries_of : Handled → Entries
 entries_of result = result.hart_state.hart.csrs.pmp
 
 -- no action of the trap handler before the last one changes the PMP entries
-pub work_entries : (hart_state : HartState) (shared : Shared) (trap : Trap)
+pub handler_keeps_entries : (hart_state : HartState) (shared : Shared) (trap : Trap)
     → entries_of (handled_cause hart_state shared trap trap.cause) ≡ hart_state.hart.csrs.pmp
 unfolding entered_slot left with_redirected_trap
-work_entries hart_state shared trap =
+handler_keeps_entries hart_state shared trap =
     by_cause_cases hart_state trap shared.table shared.memory shared.memory shared.contexts shared.contexts
     (λ result _. entries_of result ≡ hart_state.hart.csrs.pmp)
     (record {
@@ -61,8 +61,8 @@ work_entries hart_state shared trap =
     }) refl
 
 -- if no PMP entry is locked before the trap handler, then none is locked before its last action, whatever caused the trap
-pub work_unlocked : (hart_state : HartState) (shared : Shared) (cause : Cause) (result : Handled)
+pub unlocked_before_reprogramming : (hart_state : HartState) (shared : Shared) (cause : Cause) (result : Handled)
     → (let trap : Trap = record { cause = cause; tval = 0 } in handled_cause hart_state shared trap cause ≡ result)
     → IsUnlocked hart_state.hart.csrs.pmp → IsUnlocked result.hart_state.hart.csrs.pmp
-work_unlocked hart_state shared cause result handled_is unlocked =
-    subst IsUnlocked (sym (work_entries hart_state shared (record { cause = cause; tval = 0 })) ∙ ap entries_of handled_is) unlocked
+unlocked_before_reprogramming hart_state shared cause result handled_is unlocked =
+    subst IsUnlocked (sym (handler_keeps_entries hart_state shared (record { cause = cause; tval = 0 })) ∙ ap entries_of handled_is) unlocked

@@ -22,25 +22,25 @@ pub host_stored : (hart_state : HartState) → HostContextInvariant hart_state �
 host_stored hart_state keeps host_runs = no_context_is_legal hart_state.host_context (keeps.kept ∙ ap not host_runs)
 
 -- the step that enters an enclave saves the context of the host after its ecall
-pub entered_from : (view : HartView) (after : HartViewStepped) → StaysOrSwitches view after → is_host view.hart_state.world ≡ true
+pub entry_saves_host : (view : HartView) (after : HartViewStepped) → StaysOrSwitches view after → is_host view.hart_state.world ≡ true
     → is_host after.state.hart_state.world ≡ false
     → after.state.hart_state.host_context ≡ Some (saved view.hart_state.hart (past_ecall view.hart_state.hart) S)
-entered_from view after (inl stays) host_runs enclave_runs_after = absurd (both_ways _ enclave_runs_after (ap is_host stays.world ∙ host_runs))
-entered_from view after (inr (inl enters)) host_runs enclave_runs_after = enters.host
-entered_from view after (inr (inr leaves)) host_runs enclave_runs_after = absurd (both_ways _ enclave_runs_after (ap is_host leaves.world))
+entry_saves_host view after (inl stays) host_runs enclave_runs_after = absurd (both_ways _ enclave_runs_after (ap is_host stays.world ∙ host_runs))
+entry_saves_host view after (inr (inl enters)) host_runs enclave_runs_after = enters.host
+entry_saves_host view after (inr (inr leaves)) host_runs enclave_runs_after = absurd (both_ways _ enclave_runs_after (ap is_host leaves.world))
 
 -- the step with which the enclave exits restores the saved context of the host
-pub back_from : (before state : HartView) (after : HartViewStepped) → StaysOrSwitches state after
+pub exit_restores_host : (before state : HartView) (after : HartViewStepped) → StaysOrSwitches state after
     → state.hart_state.host_context ≡ Some (saved before.hart_state.hart (past_ecall before.hart_state.hart) S)
     → is_host state.hart_state.world ≡ false → is_host after.state.hart_state.world ≡ true → HostIsRestored before state after
 -- the hart runs an enclave before the step and the host after it, so the world does not continue
-back_from before state after (inl stays) host_is_saved enclave_runs host_runs_after =
+exit_restores_host before state after (inl stays) host_is_saved enclave_runs host_runs_after =
     absurd (both_ways _ enclave_runs (sym (ap is_host stays.world) ∙ host_runs_after))
 -- the hart runs an enclave before the step, so the step is not an entry
-back_from before state after (inr (inl enters)) host_is_saved enclave_runs host_runs_after =
+exit_restores_host before state after (inr (inl enters)) host_is_saved enclave_runs host_runs_after =
     absurd (both_ways _ enclave_runs (ap is_host enters.from_host))
 -- the step is an exit, which restores the context that the entry saved
-back_from before state after (inr (inr leaves)) host_is_saved enclave_runs host_runs_after =
+exit_restores_host before state after (inr (inr leaves)) host_is_saved enclave_runs host_runs_after =
     let some_contexts_equal = sym leaves.kept ∙ host_is_saved in
     let contexts_equal : leaves.host ≡ saved before.hart_state.hart (past_ecall before.hart_state.hart) S = cc in
     let exit_reason = reason leaves.trap.cause state.hart_state.hart.regs in
@@ -134,7 +134,7 @@ entered_is hart machine invariant host_runs enclave_runs_after =
     let view = hart_view hart machine in
     let keeps = (invariant.hart_states hart in_range).host in
     ap (λ (after : HartViewStepped). after.state.hart_state.host_context) step_is
-    ∙ entered_from view (monitored_step view) (switch_law view keeps (host_stored view.hart_state keeps host_runs)) host_runs
+    ∙ entry_saves_host view (monitored_step view) (switch_law view keeps (host_stored view.hart_state keeps host_runs)) host_runs
     (sym (ap (λ (after : HartViewStepped). is_host after.state.hart_state.world) step_is) ∙ enclave_runs_after)
 
 -- the exit restores the saved context of the host
@@ -145,7 +145,7 @@ pub comes_back : (hart : ℕ) (before : HartView) (machine : MonitoredMachine) �
     → HostIsRestored before (hart_view hart machine) (monitored_step (hart_view hart machine))
 comes_back hart before machine invariant legal host_on_is runs host =
     let view = hart_view hart machine in
-    back_from before view (monitored_step view)
+    exit_restores_host before view (monitored_step view)
     (switch_law view (invariant.hart_states hart (enclave_hart_in_range hart machine runs)).host legal) host_on_is runs host
 
 -- proves that the host gets its own context back when the enclave exits

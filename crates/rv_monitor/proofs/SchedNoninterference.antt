@@ -7,7 +7,7 @@ use Rattle.rv_monitor.proofs.Prelude.{monitored_step, runs_on, hart_view, step_o
 use Rattle.rv_monitor.proofs.InvariantLemmas.{invariant_law}
 use Rattle.rv_monitor.proofs.MonitoredAlike.{noninterference}
 use Rattle.rv_monitor.proofs.HartCases.{outside, other_harts_keep, step_of_view}
-use Rattle.rv_monitor.proofs.Switched.{Turns, handled_stays_or_switches}
+use Rattle.rv_monitor.proofs.Switched.{StaysEntersOrExits, handled_stays_or_switches}
 use Rattle.rv_monitor.proofs.TrapSteps.{step_cases, hart_state_after}
 
 -- ---- steps in any order of two equivalent machines
@@ -32,7 +32,7 @@ sched_law enclave (hart ∷ harts) one other invariant_one invariant_other equiv
 -- ---- the hart on which the enclave runs after a step
 
 -- if the trap handler reports an entry of `enclave`, then the hart runs `enclave` after it
-runs_after_entry : (enclave : ℕ) (hart_state : HartState) (trap : Trap) (result : Handled) → Turns hart_state trap result
+runs_after_entry : (enclave : ℕ) (hart_state : HartState) (trap : Trap) (result : Handled) → StaysEntersOrExits hart_state trap result
     → result.next.entered ≡ Some enclave → is_world_of enclave result.hart_state.world ≡ true
 runs_after_entry enclave hart_state trap result (inl stays) enters_slot =
     let contradiction : None ≡ Some enclave = sym stays.entered ∙ enters_slot in cc
@@ -67,7 +67,7 @@ entered_some slot None is_entered = cc
 entered_some slot (Some entered_slot) is_entered = ap Some (eqb-true entered_slot slot is_entered)
 
 -- a hart that does not run `enclave` before the trap handler, which does not enter `enclave`, does not run `enclave` after it
-still_not_running : (enclave : ℕ) (hart_state : HartState) (trap : Trap) (result : Handled) → Turns hart_state trap result
+still_not_running : (enclave : ℕ) (hart_state : HartState) (trap : Trap) (result : Handled) → StaysEntersOrExits hart_state trap result
     → is_world_of enclave hart_state.world ≡ false → enters enclave result.next.entered ≡ false → is_world_of enclave result.hart_state.world ≡ false
 still_not_running enclave hart_state trap result (inl stays) not_running not_entered = ap (is_world_of enclave) stays.world ∙ not_running
 still_not_running enclave hart_state trap result (inr (inl enter)) not_running not_entered =

@@ -31,24 +31,24 @@ scramble_equiv machine slot invariant may_scramble =
 -- ---- the function `scramble`, which changes nothing if the slot may not be scrambled
 
 -- the machine with another shared state
-abbrev seated_with : MonitoredMachine → Shared → MonitoredMachine
-seated_with machine shared = record machine { shared = shared }
+abbrev with_shared : MonitoredMachine → Shared → MonitoredMachine
+with_shared machine shared = record machine { shared = shared }
 
 -- the shared state, scrambled if `done` holds
-abbrev pub perhaps : Bool → MonitoredMachine → ℕ → Shared
-perhaps done machine slot = if done then scrambled_shared machine.shared slot else machine.shared
+abbrev pub scrambled_if : Bool → MonitoredMachine → ℕ → Shared
+scrambled_if done machine slot = if done then scrambled_shared machine.shared slot else machine.shared
 
 -- a machine keeps the invariant if `slot` is scrambled in the case that it may be scrambled
-pub perhaps_kept : (done : Bool) (machine : MonitoredMachine) (slot : ℕ) → done ≡ can_scramble machine.shared.table slot → Invariant machine
-    → Invariant (seated_with machine (perhaps done machine slot))
-perhaps_kept true machine slot done_is invariant = scramble_invariant machine slot invariant (sym done_is)
-perhaps_kept false machine slot done_is invariant = invariant
+pub scrambled_if_invariant : (done : Bool) (machine : MonitoredMachine) (slot : ℕ) → done ≡ can_scramble machine.shared.table slot → Invariant machine
+    → Invariant (with_shared machine (scrambled_if done machine slot))
+scrambled_if_invariant true machine slot done_is invariant = scramble_invariant machine slot invariant (sym done_is)
+scrambled_if_invariant false machine slot done_is invariant = invariant
 
 -- a machine in which `slot` is scrambled, if it may be, is equivalent except `slot` to the machine before
-pub perhaps_equiv : (done : Bool) (machine : MonitoredMachine) (slot : ℕ) → done ≡ can_scramble machine.shared.table slot → Invariant machine
-    → EquivExcept slot machine (seated_with machine (perhaps done machine slot))
-perhaps_equiv true machine slot done_is invariant = scramble_equiv machine slot invariant (sym done_is)
-perhaps_equiv false machine slot done_is invariant = equiv_itself slot machine (itself slot machine.shared)
+pub scrambled_if_equiv : (done : Bool) (machine : MonitoredMachine) (slot : ℕ) → done ≡ can_scramble machine.shared.table slot → Invariant machine
+    → EquivExcept slot machine (with_shared machine (scrambled_if done machine slot))
+scrambled_if_equiv true machine slot done_is invariant = scramble_equiv machine slot invariant (sym done_is)
+scrambled_if_equiv false machine slot done_is invariant = equiv_itself slot machine (itself slot machine.shared)
 
 -- proves that two scrambles restore the machine
 pub scramble_law : ScrambleLaw

@@ -40,12 +40,12 @@ hart_state_unlocked slots hart_state hart_invariant =
     let layout = hart_invariant.layout in subst IsUnlocked (sym layout.entries) (layout_unlocked slots hart_state.world)
 
 -- no PMP entry of a hart is locked at a trap, if the hart has the invariant before the step
-unlocked_if : (slots : Slots) (hart_state : HartState) (maybe_trap : Option Trap) (hart : Hart) (memory memory_after : List ℕ) (trap : Trap)
+unlocked_at_trap : (slots : Slots) (hart_state : HartState) (maybe_trap : Option Trap) (hart : Hart) (memory memory_after : List ℕ) (trap : Trap)
     → maybe_trap ≡ Some trap
     → HartInvariant slots hart_state
     → IfSome maybe_trap (λ some_trap. (hart ≡ hart_after hart_state.hart some_trap) × (memory_after ≡ memory)) → IsUnlocked hart.csrs.pmp
-unlocked_if slots hart_state None hart memory memory_after trap trapped hart_invariant keeps = cc
-unlocked_if slots hart_state (Some some_trap) hart memory memory_after trap trapped hart_invariant keeps =
+unlocked_at_trap slots hart_state None hart memory memory_after trap trapped hart_invariant keeps = cc
+unlocked_at_trap slots hart_state (Some some_trap) hart memory memory_after trap trapped hart_invariant keeps =
     subst (λ (hart : Hart). IsUnlocked hart.csrs.pmp) (sym keeps.0) (hart_state_unlocked slots hart_state hart_invariant)
 
 -- no PMP entry is locked after a bare step that traps
@@ -53,7 +53,7 @@ pub unlocked_after : (hart_state : HartState) (shared : Shared) (after : Stepped
     → HartInvariant shared.table hart_state
     → TrapKeeps (record { hart = hart_state.hart; memory = shared.memory }) after → IsUnlocked after.state.hart.csrs.pmp
 unlocked_after hart_state shared after trap trapped hart_invariant keeps =
-    unlocked_if shared.table hart_state after.outcome.trap after.state.hart shared.memory after.state.memory trap trapped hart_invariant keeps
+    unlocked_at_trap shared.table hart_state after.outcome.trap after.state.hart shared.memory after.state.memory trap trapped hart_invariant keeps
 
 -- ---- the bare step
 
@@ -133,10 +133,10 @@ reprogrammed_invariant before after hart_state hart_invariant =
 -- ---- a step of one hart, for given worlds of the other harts
 
 -- the view of a hart has the invariant, if the shared state and the hart have their invariants
-pub hart_view_of : (hart_state : HartState) (shared : Shared) (worlds : List World) → SharedInvariant shared worlds
+pub view_invariant_of_parts : (hart_state : HartState) (shared : Shared) (worlds : List World) → SharedInvariant shared worlds
     → HartInvariant shared.table hart_state
     → HartViewInvariant (record { hart_state = hart_state; shared = shared })
-hart_view_of hart_state shared worlds shared_invariant hart_invariant = record { valid = shared_invariant.valid; hart = hart_invariant }
+view_invariant_of_parts hart_state shared worlds shared_invariant hart_invariant = record { valid = shared_invariant.valid; hart = hart_invariant }
 
 -- the shared invariant holds after the step with the new world of the hart and the worlds of the other harts, and the hart has the invariant
 abbrev pub InvariantBeside : List World → HartViewStepped → Type 0

@@ -19,8 +19,8 @@ use Rattle.rv_monitor.proofs.Prelude.{EqualOn, Handled, HartView, HartViewSteppe
 use Rattle.rv_monitor.proofs.Prelude.{SameIn, SlotInfo, Stores, a0, a1, and_from, bare_machine, cases_Bool, cases_lt, confined, count_of, entered_slot, hart_state_of}
 use Rattle.rv_monitor.proofs.Prelude.{handled, hart_states_reprogrammed, hart_view, le-leb, left, lt-ltb, monitored_step, reprogrammed, returned}
 use Rattle.rv_monitor.proofs.Prelude.{returned_to, returned_to_caller, step_of, touches_permitted, unhandled, with_reprogrammed_hart}
-use Rattle.rv_monitor.proofs.HandlerCases.{requested-is_offered, handler_cases_of_both, over}
-use Rattle.rv_monitor.proofs.HartCases.{inside, outside}
+use Rattle.rv_monitor.proofs.HandlerCases.{requested-is_offered, handler_cases_of_both, shared_of}
+use Rattle.rv_monitor.proofs.HartCases.{machine_step_is, outside}
 use Rattle.rv_monitor.proofs.EnclaveMemory.{write_keeps_size}
 use Rattle.rv_monitor.proofs.TrapSteps.{same_outcome}
 
@@ -130,7 +130,7 @@ offered_host (Enclave slot) offered = cc
 -- the region of a create by the host has no hidden byte
 abbrev pub MeasuresSeen : (ℕ → Bool) → World → Slots → Contexts → Type 0
 MeasuresSeen hidden world table saved_contexts =
-    is_host world ≡ true → (memory : List ℕ) (new : CreateArgs) → MayCreate (over table memory saved_contexts) new → (index : ℕ)
+    is_host world ≡ true → (memory : List ℕ) (new : CreateArgs) → MayCreate (shared_of table memory saved_contexts) new → (index : ℕ)
     → has new.region (ram_base + index) ≡ true → hidden (ram_base + index) ≡ false
 
 -- Two shared states differ only in their memories, which are equal outside the hidden bytes. A create measures no hidden byte.
@@ -139,11 +139,11 @@ module _ (hidden : ℕ → Bool) (hart_state : HartState) (trap : Trap) (table :
     (measures_seen : MeasuresSeen hidden hart_state.world table saved_contexts) where
   -- the shared state with the first memory
   abbrev first_shared : Shared
-  first_shared = over table memory saved_contexts
+  first_shared = shared_of table memory saved_contexts
 
   -- the shared state with the second memory
   abbrev second_shared : Shared
-  second_shared = over table other_memory saved_contexts
+  second_shared = shared_of table other_memory saved_contexts
 
   -- two results of the trap handler are equal, except for their memories, which changed alike
   abbrev DifferInMemory : Handled → Handled → Type 0
@@ -165,8 +165,8 @@ module _ (hidden : ℕ → Bool) (hart_state : HartState) (trap : Trap) (table :
 
   -- the same write to both memories gives shared states that satisfy `SharedOver`
   put_over : (after : Slots) (contexts : Contexts) (address : ℕ) (bytes : List ℕ)
-      → SharedOver memory other_memory (over after (or_unchanged memory (write memory address bytes)) contexts)
-      (over after (or_unchanged other_memory (write other_memory address bytes)) contexts)
+      → SharedOver memory other_memory (shared_of after (or_unchanged memory (write memory address bytes)) contexts)
+      (shared_of after (or_unchanged other_memory (write other_memory address bytes)) contexts)
   put_over after contexts address bytes = record {
     table = refl;
     contexts = refl;
@@ -400,8 +400,8 @@ machine_over hidden hart machine other_memory equal_outside reads_seen measures_
         shared = record { table = refl; contexts = refl; size = equal_outside.size; changes = unchanged machine.shared.memory other_memory };
       })
   | inl in_range ↦
-      let first_step_is = inside hart machine in_range in
-      let second_step_is = inside hart (over_bytes machine other_memory) in_range in
+      let first_step_is = machine_step_is hart machine in_range in
+      let second_step_is = machine_step_is hart (over_bytes machine other_memory) in_range in
       let view = hart_view hart machine in
       let bare_outcome_is : (step_of hart machine).outcome.step ≡ (step (bare_machine view)).outcome =
       ap (λ (after : MonitoredStepped). after.outcome.step) first_step_is ∙ same_outcome view in

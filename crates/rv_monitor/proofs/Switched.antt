@@ -39,13 +39,14 @@ pub record LeavesFor (hart_state : HartState) (trap : Trap) (result : Handled) :
   pub entered : result.next.entered ≡ None
 
 -- the trap handler continues the world, enters an enclave, or exits to the host
-abbrev pub Turns : HartState → Trap → Handled → Type 0
-Turns hart_state trap result = StaysIn hart_state result ⊎ (EntersFrom hart_state result ⊎ LeavesFor hart_state trap result)
+abbrev pub StaysEntersOrExits : HartState → Trap → Handled → Type 0
+StaysEntersOrExits hart_state trap result = StaysIn hart_state result ⊎ (EntersFrom hart_state result ⊎ LeavesFor hart_state trap result)
 
 -- each trap continues the world, enters an enclave, or exits to the host
-pub handled_stays_or_switches : (hart_state : HartState) (shared : Shared) (trap : Trap) → Turns hart_state trap (handled hart_state shared trap)
+pub handled_stays_or_switches : (hart_state : HartState) (shared : Shared) (trap : Trap)
+    → StaysEntersOrExits hart_state trap (handled hart_state shared trap)
 unfolding entered_slot left
-handled_stays_or_switches hart_state shared trap = handler_cases hart_state trap shared (Turns hart_state trap) (record {
+handled_stays_or_switches hart_state shared trap = handler_cases hart_state trap shared (StaysEntersOrExits hart_state trap) (record {
   answers = λ status result. inl (record { world = refl; host = refl; entered = refl });
   creates = λ requests no_refusal. inl (record { world = refl; host = refl; entered = refl });
   destroys = λ requests slot_accepted. inl (record { world = refl; host = refl; entered = refl });
@@ -69,7 +70,8 @@ abbrev pub KeptStored : Option Context → Type 0
 KeptStored maybe_context = IfSome maybe_context (λ context. IsLegal context.supervisor)
 
 -- each kind of result leaves a legal saved context of the host
-context_legal_by_result : (hart_state : HartState) (trap : Trap) (result : Handled) → Turns hart_state trap result → HostContextIsLegal hart_state
+context_legal_by_result : (hart_state : HartState) (trap : Trap) (result : Handled) → StaysEntersOrExits hart_state trap result
+    → HostContextIsLegal hart_state
     → KeepsOwn hart_state.hart.csrs
     → HostContextIsLegal result.hart_state
 context_legal_by_result hart_state trap result (inl stays) legal keeps_own = subst KeptStored (sym stays.host) legal
@@ -78,15 +80,16 @@ context_legal_by_result hart_state trap result (inr (inl enters)) legal keeps_ow
 context_legal_by_result hart_state trap result (inr (inr leaves)) legal keeps_own = subst KeptStored (sym leaves.forgotten) tt
 
 -- the trap handler leaves a legal saved context of the host
-pub handled_stored : (hart_state : HartState) (shared : Shared) (trap : Trap) → HostContextIsLegal hart_state → KeepsOwn hart_state.hart.csrs
+pub handler_keeps_legal : (hart_state : HartState) (shared : Shared) (trap : Trap) → HostContextIsLegal hart_state → KeepsOwn hart_state.hart.csrs
     → HostContextIsLegal (handled hart_state shared trap).hart_state
-handled_stored hart_state shared trap legal keeps_own =
+handler_keeps_legal hart_state shared trap legal keeps_own =
     context_legal_by_result hart_state trap (handled hart_state shared trap) (handled_stays_or_switches hart_state shared trap) legal keeps_own
 
 -- ---- if an enclave runs before and after, the host's saved context is unchanged
 
 -- a result after which an enclave runs keeps the saved context of the host, if an enclave ran before
-host_context_kept : (hart_state : HartState) (trap : Trap) (result : Handled) → Turns hart_state trap result → is_host hart_state.world ≡ false
+host_context_kept : (hart_state : HartState) (trap : Trap) (result : Handled) → StaysEntersOrExits hart_state trap result
+    → is_host hart_state.world ≡ false
     → is_host result.hart_state.world ≡ false
     → result.hart_state.host_context ≡ hart_state.host_context
 host_context_kept hart_state trap result (inl stays) enclave_runs enclave_runs_after = stays.host
@@ -131,16 +134,16 @@ same_context host regs pc mode supervisor new_regs regs_is pc_is mode_is supervi
 -- the saved context of the host is legal and agrees with the world, and the step has this trap
 module _ (view : HartView) (host_invariant : HostContextInvariant view.hart_state) (legal : HostContextIsLegal view.hart_state) (trap : Trap) where
   -- the return from an exit to the host satisfies `StaysOrSwitches`
-  returned_leaves : (outcome : StepOutcome) (result : Handled) → outcome.trap ≡ Some trap
+  return_leaves : (outcome : StepOutcome) (result : Handled) → outcome.trap ≡ Some trap
       → LeavesFor (hart_state_after view.hart_state trap) trap result
       → (world : World) (saved_host : Option Context) → view.hart_state.world ≡ world → view.hart_state.host_context ≡ saved_host
       → is_some saved_host ≡ not (is_host world)
       → StaysOrSwitches view (returned outcome result)
-  returned_leaves outcome result outcome_trap_is leaves Host None world_is host_context_is saved_if_enclave =
+  return_leaves outcome result outcome_trap_is leaves Host None world_is host_context_is saved_if_enclave =
       inl (record { world = leaves.world ∙ sym world_is; host = leaves.forgotten ∙ sym host_context_is; entered = leaves.entered })
-  returned_leaves outcome result outcome_trap_is leaves Host (Some host) world_is host_context_is saved_if_enclave = cc
-  returned_leaves outcome result outcome_trap_is leaves (Enclave slot) None world_is host_context_is saved_if_enclave = cc
-  returned_leaves outcome result outcome_trap_is leaves (Enclave slot) (Some host) world_is host_context_is saved_if_enclave =
+  return_leaves outcome result outcome_trap_is leaves Host (Some host) world_is host_context_is saved_if_enclave = cc
+  return_leaves outcome result outcome_trap_is leaves (Enclave slot) None world_is host_context_is saved_if_enclave = cc
+  return_leaves outcome result outcome_trap_is leaves (Enclave slot) (Some host) world_is host_context_is saved_if_enclave =
       let CanGoOnIfSome : Option Context → Type 0 = λ saved_host. IfSome saved_host (λ some_context. can_go_on some_context ≡ true) in
       let can_continue : can_go_on host ≡ true = subst CanGoOnIfSome host_context_is host_invariant.held in
       let host_stored : IsLegal host.supervisor = subst KeptStored host_context_is legal in
@@ -163,18 +166,19 @@ module _ (view : HartView) (host_invariant : HostContextInvariant view.hart_stat
       }))
 
   -- the return from each kind of result satisfies `StaysOrSwitches`
-  returned_turns : (outcome : StepOutcome) (result : Handled) → outcome.trap ≡ Some trap
-      → Turns (hart_state_after view.hart_state trap) trap result → StaysOrSwitches view (returned outcome result)
-  returned_turns outcome result outcome_trap_is (inl stays) = inl (record { world = stays.world; host = stays.host; entered = stays.entered })
-  returned_turns outcome result outcome_trap_is (inr (inl enters)) =
+  return_stays_or_switches : (outcome : StepOutcome) (result : Handled) → outcome.trap ≡ Some trap
+      → StaysEntersOrExits (hart_state_after view.hart_state trap) trap result → StaysOrSwitches view (returned outcome result)
+  return_stays_or_switches outcome result outcome_trap_is (inl stays) =
+      inl (record { world = stays.world; host = stays.host; entered = stays.entered })
+  return_stays_or_switches outcome result outcome_trap_is (inr (inl enters)) =
       inr (inl (record { slot = enters.slot; from_host = enters.from_host; world = enters.world; host = enters.host; entered = enters.entered }))
-  returned_turns outcome result outcome_trap_is (inr (inr leaves)) =
-      returned_leaves outcome result outcome_trap_is leaves view.hart_state.world view.hart_state.host_context refl refl host_invariant.kept
+  return_stays_or_switches outcome result outcome_trap_is (inr (inr leaves)) =
+      return_leaves outcome result outcome_trap_is leaves view.hart_state.world view.hart_state.host_context refl refl host_invariant.kept
 
 -- proves that each step continues its world, enters an enclave, or exits to the host
 pub switch_law : (view : HartView) → HostContextInvariant view.hart_state → HostContextIsLegal view.hart_state
     → StaysOrSwitches view (monitored_step view)
 switch_law view host_invariant legal = step_cases view (StaysOrSwitches view)
     (λ no_trap. inl (record { world = refl; host = refl; entered = refl }))
-    (λ trap trapped. returned_turns view host_invariant legal trap (step (bare_machine view)).outcome _ trapped
+    (λ trap trapped. return_stays_or_switches view host_invariant legal trap (step (bare_machine view)).outcome _ trapped
     (handled_stays_or_switches (hart_state_after view.hart_state trap) view.shared trap))

@@ -66,8 +66,8 @@ trapped_step view trap =
     ap (view_after_trap view) traps_equal)
 
 -- a step without a trap keeps the world
-pub quiet_world : (view : HartView) → (monitored_step view).outcome.step.trap ≡ None
+pub untrapped_world_unchanged : (view : HartView) → (monitored_step view).outcome.step.trap ≡ None
     → (monitored_step view).state.hart_state.world ≡ view.hart_state.world
-quiet_world view =
+untrapped_world_unchanged view =
     step_cases view (λ after. after.outcome.step.trap ≡ None → after.state.hart_state.world ≡ view.hart_state.world) (λ no_trap is_untrapped. refl)
     (λ trap traps is_untrapped. let contradiction : None ≡ Some trap = sym is_untrapped ∙ traps in cc)

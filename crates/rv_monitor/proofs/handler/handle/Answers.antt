@@ -4,7 +4,7 @@ use Rattle.rv_state.specs.declared.cause.Cause.TheVariants as causes
 use Rattle.rv_state.specs.declared.cause.Interrupt.TheVariants.{MachineTimer}
 use Rattle.rv_monitor.specs.Prelude.{Cause, EnvironmentCallFromS, HartState}
 use Rattle.rv_monitor.proofs.Prelude.{Handled, IsUnlocked}
-use Rattle.rv_monitor.proofs.PmpProgramming.{work_unlocked}
+use Rattle.rv_monitor.proofs.PmpProgramming.{unlocked_before_reprogramming}
 use Rattle.rv_monitor.proofs.handler.handle.Goals as goal
 use Rattle.rv_monitor.proofs.handler.handle.Goals.{in-Interrupt, in-Exception-EnvironmentCallFromS}
 
@@ -12,7 +12,7 @@ use Rattle.rv_monitor.proofs.handler.handle.Goals.{in-Interrupt, in-Exception-En
 pub program_pmp-requires : goal.program_pmp-requires
 program_pmp-requires c =
     let P : HartState → Type 0 = λ hart_state. IsUnlocked hart_state.hart.csrs.pmp in
-    let still = λ (cause : Cause) (left : Handled). work_unlocked c.args.hart_state.now c.args.shared.now cause left in
+    let still = λ (cause : Cause) (left : Handled). unlocked_before_reprogramming c.args.hart_state.now c.args.shared.now cause left in
     elim c.match-trap.branch [
       | in-Interrupt w ↦
           subst P (sym w.hart_state-is) (still (causes.Interrupt MachineTimer) _ w.stop_by_timer-next.ensures c.requires.unlocked)

@@ -3,7 +3,7 @@ use Rattle.std.proofs.Common.{subst}
 use Rattle.rv_monitor.specs.Prelude.{KeepsOwn, HartState, Stepped}
 use Rattle.rv_monitor.proofs.Prelude.{Handled, HostContextIsLegal}
 use Rattle.rv_monitor.proofs.StepInvariant.{unlocked_after}
-use Rattle.rv_monitor.proofs.Switched.{handled_stored}
+use Rattle.rv_monitor.proofs.Switched.{handler_keeps_legal}
 use Rattle.rv_monitor.proofs.monitored_machine.step_hart.Goals as goal
 
 -- the call of `handle` meets clause `unlocked` of its `requires`
@@ -19,7 +19,7 @@ pub returns-in-Some-clause-legal : goal.returns-in-Some-clause-legal
 returns-in-Some-clause-legal g c =
     let hart_state : HartState = record c.args.hart_state.now { hart = c.step_at-step.new.self } in
     subst (λ (h : Handled). HostContextIsLegal h.hart_state) c.handle-next.ensures
-    (handled_stored hart_state (record c.args.shared.now {
+    (handler_keeps_legal hart_state (record c.args.shared.now {
       memory =
           c.step_at-step.new.ram;
     }) c.in-Some.trap c.requires.stored (subst KeepsOwn c.csrs.ensures c.keeps_own.ensures))

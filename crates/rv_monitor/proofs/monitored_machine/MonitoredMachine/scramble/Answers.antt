@@ -2,7 +2,7 @@
 use Rattle.std.proofs.Common.{sym, subst}
 use Rattle.rv_monitor.specs.Prelude.{Shared}
 use Rattle.rv_monitor.proofs.Prelude.{EquivExcept, Invariant, MonitoredMachine, machine_of_parts}
-use Rattle.rv_monitor.proofs.Scrambled.{perhaps_kept, perhaps_equiv}
+use Rattle.rv_monitor.proofs.Scrambled.{scrambled_if_invariant, scrambled_if_equiv}
 use Rattle.rv_monitor.proofs.monitored_machine.MonitoredMachine.scramble.Goals as goal
 
 -- `self` has the invariant of its type when `MonitoredMachine::scramble` returns
@@ -13,7 +13,7 @@ invariant_of-self c =
     let before : MonitoredMachine = machine_of_parts inside.by_hart inside.harts inside.shared in
     let scrambled = c.scramble.ensures in
     let P : Shared → Type 0 = λ shared. Invariant (record before { shared = shared }) in
-    let kept = subst P (sym scrambled.meaning) (perhaps_kept c.scramble.result before c.args.slot scrambled.asked held_in.0.monitor) in
+    let kept = subst P (sym scrambled.meaning) (scrambled_if_invariant c.scramble.result before c.args.slot scrambled.asked held_in.0.monitor) in
     (record { monitor = kept; legal = held_in.0.legal }, held_in.1, held_in.2)
 
 -- `MonitoredMachine::scramble` meets clause `invariant` of its contract (`FullInvariant`)
@@ -29,4 +29,4 @@ returns-clause-equivalent c =
     let scrambled = c.scramble.ensures in
     let P : Shared → Type 0 = λ shared. EquivExcept k before (record before { shared = shared }) in
     let Q : MonitoredMachine → Type 0 = λ machine. EquivExcept k machine (record before { shared = c.scramble.new.self }) in
-    subst Q c.self.view_is (subst P (sym scrambled.meaning) (perhaps_equiv c.scramble.result before k scrambled.asked c.self.invariant.0.monitor))
+    subst Q c.self.view_is (subst P (sym scrambled.meaning) (scrambled_if_equiv c.scramble.result before k scrambled.asked c.self.invariant.0.monitor))
