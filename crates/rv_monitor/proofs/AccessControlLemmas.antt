@@ -15,8 +15,11 @@ access_control_law state mode access address width kept below inside =
 -- a mode that passes the test `is_machine` with false is not M
 pub below_M : (mode : Mode) → is_machine mode ≡ false → mode ≢ M
 below_M mode mode_below_m same =
-    let machine : is_machine mode ≡ true = rw same refl in let contradiction : true ≡ false = sym machine ∙ mode_below_m in cc
+    let machine : is_machine mode ≡ true =
+    rw same refl in let contradiction : true ≡ false = sym machine ∙ mode_below_m in
+    cc
 
 -- if MPRV is 0, then loads and stores use the mode of the hart
 pub data_below : (view : HartView) → HartViewInvariant view → is_machine (data_mode view.hart_state.hart) ≡ false
-data_below view view_invariant = let mprv_is_clear = view_invariant.hart.layout.mprv in rw mprv_is_clear view_invariant.hart.layout.mode
+data_below view view_invariant =
+    let mprv_is_clear = view_invariant.hart.layout.mprv in rw mprv_is_clear view_invariant.hart.layout.mode

@@ -1,5 +1,5 @@
--- Attestation: two enclaves with equal measured bytes take the same steps in their first run, under any hosts and in any slots. An enclave stays as
--- create made it until some step enters or destroys it.
+-- Attestation: two enclaves with equal measured bytes take the same steps in their first run, under any hosts and in any slots. An enclave stays in
+-- the state after create until a step enters or destroys the enclave.
 use Rattle.std.proofs.Common.{◌≡◌, ◌<◌, ◌≤◌, ℕ, ◌+◌, Bool, true, false, List, [], length, Option, Some, None, IfSome, refl, sym, ◌∙◌, ap, ap₂, subst, inl, inr, arith}
 use Rattle.std.proofs.lemmas.Bool.{cases_Bool, not-false}
 use Rattle.std.specs.Prelude.{is_some, map, not}
@@ -44,21 +44,25 @@ use Rattle.rv_hart.specs.GuestView.{below_m_hart}
 -- ---- no step changes the size of memory
 
 -- the trap handler does not change the size of the memory
-handled_size : (hart_state : HartState) (shared : Shared) (trap : Trap) → length (handled hart_state shared trap).shared.memory ≡ length shared.memory
+handled_size : (hart_state : HartState) (shared : Shared) (trap : Trap)
+    → length (handled hart_state shared trap).shared.memory ≡ length shared.memory
 unfolding created destroyed measured entered_slot left
-handled_size hart_state shared trap = handler_cases hart_state trap shared (λ result. length result.shared.memory ≡ length shared.memory) (record {
-  answers = λ status result. refl;
-  creates = λ requests no_refusal. refl;
-  destroys = λ requests slot_accepted. write_keeps_size shared.memory _ _ (write shared.memory _ _) refl;
-  measures = λ requests no_refusal. write_keeps_size shared.memory _ _ (write shared.memory _ _) refl;
-  enters = λ call requests is_entry_call from_host slot_accepted. refl;
-  leaves = refl;
-  redirects = refl;
-})
+handled_size hart_state shared trap =
+    handler_cases hart_state trap shared (λ result. length result.shared.memory ≡ length shared.memory) (record {
+      answers = λ status result. refl;
+      creates = λ requests no_refusal. refl;
+      destroys = λ requests slot_accepted. write_keeps_size shared.memory _ _ (write shared.memory _ _) refl;
+      measures = λ requests no_refusal. write_keeps_size shared.memory _ _ (write shared.memory _ _) refl;
+      enters = λ call requests is_entry_call from_host slot_accepted. refl;
+      leaves = refl;
+      redirects = refl;
+    })
 
 -- a step does not change the size of the memory
-pub same_size : (hart : ℕ) (machine : MonitoredMachine) → length (step_of hart machine).state.shared.memory ≡ length machine.shared.memory
-same_size hart machine = by_hart hart machine (λ after. length after.state.shared.memory ≡ length machine.shared.memory) refl (λ in_range.
+pub same_size : (hart : ℕ) (machine : MonitoredMachine)
+    → length (step_of hart machine).state.shared.memory ≡ length machine.shared.memory
+same_size hart machine =
+    by_hart hart machine (λ after. length after.state.shared.memory ≡ length machine.shared.memory) refl (λ in_range.
     let view : HartView = hart_view hart machine in
     step_cases view (λ after. length after.state.shared.memory ≡ length view.shared.memory)
     (λ no_trap. sym (step_size (bare_machine view) (step (bare_machine view)) (confined (bare_machine view))))
@@ -74,15 +78,16 @@ some_identity (Some info) = refl
 -- the slot is free before the trap handler
 module _ (slot : ℕ) (shared : Shared) (valid : IsValid shared.memory shared.table) (contexts : length shared.contexts ≡ slot_count)
     (slot_is_free : is_live shared.table slot ≡ false) where
-  -- if the slot is live after the trap handler, then it has an enclave that is as create made it
+  -- if the slot is live after the trap handler, then it has an enclave in the state after create
   abbrev AsCreatedIfLive : Handled → Type 0
   AsCreatedIfLive result = is_live result.shared.table slot ≡ true → IsAsCreated slot result.shared
 
   -- If the trap handler does not change whether the slot is live, then the slot stays free. A claim about the slot as live then has a false premise.
-  slot_still_free : (after : Shared) → is_live after.table slot ≡ is_live shared.table slot → is_live after.table slot ≡ true → IsAsCreated slot after
+  slot_still_free : (after : Shared) → is_live after.table slot ≡ is_live shared.table slot
+      → is_live after.table slot ≡ true → IsAsCreated slot after
   slot_still_free after same live_after = absurd (both_ways _ slot_is_free (sym same ∙ live_after))
 
-  -- if the slot is live after a create, then it has the new enclave, which is as create made it
+  -- if the slot is live after a create, then it has the new enclave, which is in the state after create
   create_gives_as_created : (new : CreateArgs) → MayCreate shared new → is_live (created shared new).table slot ≡ true
       → IsAsCreated slot (created shared new)
   unfolding created
@@ -94,9 +99,11 @@ module _ (slot : ℕ) (shared : Shared) (valid : IsValid shared.memory shared.ta
         let info = recorded shared.memory new in
         rw equal (record {
           info = info;
-          is = at_written_slot shared.table (new_slot shared.table) (Some info) (omega (arith, slot_in_range, valid.count));
+          is =
+              at_written_slot shared.table (new_slot shared.table) (Some info) (omega (arith, slot_in_range, valid.count));
           fresh = refl;
-          context = at_written_slot shared.contexts (new_slot shared.table) (Some (first_context info)) (omega (arith, slot_in_range, contexts));
+          context =
+              at_written_slot shared.contexts (new_slot shared.table) (Some (first_context info)) (omega (arith, slot_in_range, contexts));
           measurement = refl;
         })
     -- create filled another slot, so the slot is still free
@@ -112,7 +119,8 @@ module _ (slot : ℕ) (shared : Shared) (valid : IsValid shared.memory shared.ta
   unfolding destroyed
   destroy_makes_no_slot_live other_slot slot_accepted live_after = elim (cases_eq slot other_slot) [
     | inl equal ↦
-        let was_live : is_live shared.table other_slot ≡ true = ap (λ (maybe_info : Option SlotInfo). is_some maybe_info) slot_accepted.is in
+        let was_live : is_live shared.table other_slot ≡ true =
+        ap (λ (maybe_info : Option SlotInfo). is_some maybe_info) slot_accepted.is in
         absurd (both_ways _ slot_is_free (rw equal was_live))
     | inr distinct ↦
         slot_still_free (destroyed shared other_slot)
@@ -120,7 +128,8 @@ module _ (slot : ℕ) (shared : Shared) (valid : IsValid shared.memory shared.ta
   ]
 
   -- no slot becomes live by a change of the state of some slot
-  state_change_keeps_slot_free : (other_slot : ℕ) (state : EnclaveState) (after : Shared) → after.table ≡ with_state shared.table other_slot state
+  state_change_keeps_slot_free : (other_slot : ℕ) (state : EnclaveState) (after : Shared)
+      → after.table ≡ with_state shared.table other_slot state
       → is_live after.table slot ≡ true
       → IsAsCreated slot after
   state_change_keeps_slot_free other_slot state after table live_after =
@@ -131,7 +140,7 @@ module _ (slot : ℕ) (shared : Shared) (valid : IsValid shared.memory shared.ta
       ∙ same_liveness
       ∙ some_identity (slot_at shared.table slot)) live_after
 
-  -- if the trap handler makes the slot live, then the enclave in the slot is as create made it
+  -- if the trap handler makes the slot live, then the enclave in the slot is in the state after create
   handled_created : (hart_state : HartState) (trap : Trap) → AsCreatedIfLive (handled hart_state shared trap)
   unfolding measured entered_slot left
   handled_created hart_state trap = handler_cases hart_state trap shared AsCreatedIfLive (record {
@@ -139,15 +148,18 @@ module _ (slot : ℕ) (shared : Shared) (valid : IsValid shared.memory shared.ta
     creates = λ requests no_refusal live. create_gives_as_created (create_args_of hart_state.hart.regs) no_refusal live;
     destroys = λ requests slot_accepted live. destroy_makes_no_slot_live (a0 hart_state) slot_accepted live;
     measures = λ requests no_refusal live. slot_still_free _ refl live;
-    enters = λ call requests is_entry_call from_host slot_accepted live. state_change_keeps_slot_free (a0 hart_state) Running _ refl live;
-    leaves = λ live. state_change_keeps_slot_free (running_slot hart_state.world) (enclave_state_after trap.cause hart_state.hart.regs) _ refl live;
+    enters =
+        λ call requests is_entry_call from_host slot_accepted live. state_change_keeps_slot_free (a0 hart_state) Running _ refl live;
+    leaves =
+        λ live. state_change_keeps_slot_free (running_slot hart_state.world) (enclave_state_after trap.cause hart_state.hart.regs) _ refl live;
     redirects = λ live. slot_still_free shared refl live;
   })
 
 -- ---- until the first entry
 
 -- if an address is from the base of a block to its end, then the test that the address is outside the block fails
-not_outside_block : (block : Block) (byte : ℕ) → block.base ≤ byte → byte < block.base + block.size → not (has block byte) ≡ false
+not_outside_block : (block : Block) (byte : ℕ) → block.base ≤ byte → byte < block.base + block.size
+    → not (has block byte) ≡ false
 not_outside_block block byte from_base before_end =
     ap not (and_from _ _ (le-leb block.base byte from_base) (lt-ltb byte (block.base + block.size) before_end))
 
@@ -165,33 +177,38 @@ equal_block_bytes memory other_memory block same_length inside same =
           (same (ram_base + index) (not-false (has block (ram_base + index)) not_hidden));
     }) inside (λ byte from_base are_high_steps. not_outside_block block byte from_base are_high_steps))
 
--- the enclave in the slot is as create made it
+-- the enclave in the slot is in the state after create
 module _ (slot : ℕ) (machine : MonitoredMachine) (invariant : Invariant machine) (as_created : IsAsCreated slot machine.shared) where
-  -- the record of an enclave that is as create made it is valid
+  -- the record of an enclave in the state after create is valid
   pub valid_slot : IsValidSlot machine.shared.memory as_created.info
   valid_slot =
       subst (λ (maybe_info : Option SlotInfo). IfSome maybe_info (IsValidSlot machine.shared.memory)) as_created.is
       (invariant.shared.valid.well_formed slot)
 
-  -- an enclave that is as create made it runs on no hart, because its state is Fresh
+  -- an enclave in the state after create runs on no hart, because its state is Fresh
   pub runs_nowhere : (hart : ℕ) → runs_on slot hart machine ≡ false
   runs_nowhere hart = elim (cases_Bool (runs_on slot hart machine)) [
     | inr not_running ↦ not_running
     | inl runs_on_hart ↦
-        let running : runs machine.shared.table slot ≡ true = invariant.shared.running slot ∙ runs_among slot hart machine runs_on_hart in
+        let running : runs machine.shared.table slot ≡ true =
+        invariant.shared.running slot ∙ runs_among slot hart machine runs_on_hart in
         let idle : runs machine.shared.table slot ≡ false =
         ap (λ (maybe_info : Option SlotInfo). option_case maybe_info false (λ info. is_running info.state)) as_created.is
         ∙ ap is_running as_created.fresh in
         absurd (both_ways _ idle running)
   ]
 
-  -- an enclave that is as create made it stays so after each step that does not enter it and after which it is live
+  -- an enclave in the state after create stays in this state after each step that neither enters nor destroys it
   stays_as_created : (hart : ℕ) → enters slot (step_of hart machine).outcome.entered ≡ false
-      → is_live (step_of hart machine).state.shared.table slot ≡ true → IsAsCreated slot (step_of hart machine).state.shared
+      → is_live (step_of hart machine).state.shared.table slot ≡ true
+      → IsAsCreated slot (step_of hart machine).state.shared
   stays_as_created hart not_entered live_after =
-      let live_before : is_live machine.shared.table slot ≡ true = ap (λ (maybe_info : Option SlotInfo). is_some maybe_info) as_created.is in
-      let same = (integrity hart machine invariant slot (runs_nowhere hart) live_before not_entered live_after).preserved in
-      let bytes = equal_block_bytes machine.shared.memory (step_of hart machine).state.shared.memory as_created.info.region (same_size hart machine)
+      let live_before : is_live machine.shared.table slot ≡ true =
+      ap (λ (maybe_info : Option SlotInfo). is_some maybe_info) as_created.is in
+      let same =
+      (integrity hart machine invariant slot (runs_nowhere hart) live_before not_entered live_after).preserved in
+      let bytes =
+      equal_block_bytes machine.shared.memory (step_of hart machine).state.shared.memory as_created.info.region (same_size hart machine)
       (valid_inside machine.shared.memory as_created.info.region valid_slot.region)
       (λ byte in_region. same.bytes byte (ap (λ (maybe_info : Option SlotInfo). has (region_of maybe_info) byte) as_created.is ∙ in_region)) in
       record {
@@ -204,8 +221,9 @@ module _ (slot : ℕ) (machine : MonitoredMachine) (invariant : Invariant machin
             ∙ same_measurement machine.shared.memory (step_of hart machine).state.shared.memory (args_of as_created.info) bytes;
       }
 
--- proves that each enclave that a step creates is as create made it, and stays so until it is entered or destroyed
-pub as_created_law : (hart : ℕ) (machine : MonitoredMachine) → Invariant machine → KeepsAsCreated machine (step_of hart machine)
+-- proves that each enclave that a step creates is in the state after create, and stays so until it is entered or destroyed
+pub as_created_law : (hart : ℕ) (machine : MonitoredMachine) → Invariant machine
+    → KeepsAsCreated machine (step_of hart machine)
 as_created_law hart machine invariant = record {
   creates = λ slot slot_is_free.
       by_hart hart machine (λ after. is_live after.state.shared.table slot ≡ true → IsAsCreated slot after.state.shared)
@@ -231,7 +249,8 @@ hart_after_entry csrs slots slot context =
     below_m_hart (switched_hart (record { regs = []; csrs = csrs; pc = 0; mode = context.mode }) trap context slots (Enclave slot))
 
 -- the hart after an entry depends on the hart before the entry only by its timer line
-entry_depends_on_timer_line : (hart_state : HartState) (old slots : Slots) (slot : ℕ) (context : Context) → HartInvariant old hart_state
+entry_depends_on_timer_line : (hart_state : HartState) (old slots : Slots) (slot : ℕ) (context : Context)
+    → HartInvariant old hart_state
     → hart_after_entry hart_state.hart.csrs slots slot context ≡ hart_after_entry (reset_csrs_with_timer hart_state.hart.csrs.timer) [] 0 context
 entry_depends_on_timer_line hart_state old slots slot context hart_invariant =
     let mie = hart_invariant.layout.mstatus_mie in
@@ -283,18 +302,21 @@ module _ (place : Place) (machine : MonitoredMachine) (context : Context) (invar
 -- two enclaves with equal saved states have the same state after their entries
 same_entry : (place other_place : Place) (one other : MonitoredMachine) → Invariant one → Invariant other
     → SameSaved place.slot other_place.slot one.shared other.shared
-    → BothEnter place other_place one other → SameEnclave place other_place (step_at place one).state (step_at other_place other).state
+    → BothEnter place other_place one other
+    → SameEnclave place other_place (step_at place one).state (step_at other_place other).state
 same_entry place other_place one other invariant_one invariant_other saved both_enter =
     let slot = place.slot in
     -- the entry changes only the state in the record, so the region and the window stay the same
-    let extent = new_state_keeps_extent one.shared.table slot (slot_at one.shared.table slot) Running invariant_one.shared.valid.count refl in
+    let extent =
+    new_state_keeps_extent one.shared.table slot (slot_at one.shared.table slot) Running invariant_one.shared.valid.count refl in
     let first_shared_is =
     ap (λ (machine : MonitoredMachine). machine.shared) (machine_after_entry place one saved.context invariant_one saved.first both_enter.first) in
     let second_shared_is =
     ap (λ (machine : MonitoredMachine). machine.shared) (machine_after_entry other_place other saved.context invariant_other saved.second
     both_enter.second) in
     -- no byte of memory changes in an entry, so bytes that were equal stay equal
-    let bytes : EqualOutside (is_beyond (slots_with_state one.shared.table slot Running) slot) one.shared.memory other.shared.memory = record {
+    let bytes : EqualOutside (is_beyond (slots_with_state one.shared.table slot Running) slot) one.shared.memory other.shared.memory =
+    record {
       size = saved.memory.size;
       bytes =
           λ index byte_within. saved.memory.bytes index (within_before slot one.shared.table
@@ -327,7 +349,8 @@ reentry_law place other_place count one other invariant_one invariant_other save
 -- ---- the law
 
 -- two Fresh records are equal if their create arguments and their measurements are equal
-pub equal_fresh_records : (one other : SlotInfo) → args_of one ≡ args_of other → one.measurement ≡ other.measurement → one.state ≡ Fresh
+pub equal_fresh_records : (one other : SlotInfo) → args_of one ≡ args_of other
+    → one.measurement ≡ other.measurement → one.state ≡ Fresh
     → other.state ≡ Fresh
     → one ≡ other
 equal_fresh_records one other args same_digests fresh other_fresh =
@@ -351,7 +374,8 @@ attestation_law place other_place count one other invariant_one invariant_other 
     first_enclave.measurement ∙ same_digest memory other_memory (args_of first_enclave.info) (args_of second_enclave.info) same.input
     ∙ sym second_enclave.measurement in
     -- equal measured bytes give equal create arguments and equal measurements, so both records are equal
-    let info = equal_fresh_records first_enclave.info second_enclave.info measured.args same_digests first_enclave.fresh second_enclave.fresh in
+    let info =
+    equal_fresh_records first_enclave.info second_enclave.info measured.args same_digests first_enclave.fresh second_enclave.fresh in
     let some_info : SlotInfo → Option SlotInfo = λ info. Some info in
     let some_first_context : SlotInfo → Option Context = λ info. Some (first_context info) in
     reentry_law place other_place count one other invariant_one invariant_other (record {

@@ -22,7 +22,8 @@ use Rattle.rv_enclaves.specs.SlotNumbers.{slot_count}
 -- ---- the timer interrupt
 
 -- if the timer interrupt is pending, then the next step takes this interrupt
-pending_timer_traps : (state : Machine) → pending state.hart.csrs state.hart.mode ≡ Some MachineTimer → (step state).outcome.trap ≡ Some timer_trap
+pending_timer_traps : (state : Machine) → pending state.hart.csrs state.hart.mode ≡ Some MachineTimer
+    → (step state).outcome.trap ≡ Some timer_trap
 unfolding step
 pending_timer_traps state pending_is = rw pending_is refl
 
@@ -41,11 +42,13 @@ unfolding state_refusals
 stopped_enclave_is_destroyable slots slot None table_length slot_is is_live = cc
 stopped_enclave_is_destroyable slots slot (Some info) table_length slot_is is_live =
     let slot_in_range = live_in_range slots slot info table_length slot_is in
-    let written_record = at_written_slot slots slot (Some (record info { state = Stopped })) (omega (arith, table_length, slot_in_range)) in
+    let written_record =
+    at_written_slot slots slot (Some (record info { state = Stopped })) (omega (arith, table_length, slot_in_range)) in
     rw written_record refl
 
 -- proves that an enclave exits by the timer interrupt if the timer line of its hart is set
-pub timer_exits : (hart : ℕ) (machine : MonitoredMachine) → Invariant machine → TimerExits hart machine (step_of hart machine)
+pub timer_exits : (hart : ℕ) (machine : MonitoredMachine) → Invariant machine
+    → TimerExits hart machine (step_of hart machine)
 timer_exits hart machine invariant slot host runs host_is_saved timer_set =
     let in_range = hart_of_enclave_in_range slot hart machine runs in
     let view = hart_view hart machine in
@@ -70,6 +73,7 @@ timer_exits hart machine invariant slot host runs host_is_saved timer_set =
           ap (λ (machine : MonitoredMachine). (hart_state_of hart machine).hart.regs) left_machine_is
           ∙ ap (λ (hart_state : HartState). hart_state.hart.regs) (left_hart_state hart machine slot timer_trap host in_range);
       world = world;
-      destroyable = ap (λ (machine : MonitoredMachine). first_refusal (state_refusals machine.shared.table Destroy slot)) left_machine_is
+      destroyable =
+          ap (λ (machine : MonitoredMachine). first_refusal (state_refusals machine.shared.table Destroy slot)) left_machine_is
           ∙ stopped_enclave_is_destroyable machine.shared.table slot (slot_at machine.shared.table slot) view_invariant.valid.count refl live;
     }

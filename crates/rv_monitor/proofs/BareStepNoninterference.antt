@@ -29,7 +29,8 @@ module _ (hidden : ℕ → Bool) (view : HartView) (view_invariant : HartViewInv
       (not_hidden mode access span mode_below_m may_touch)
 
   -- both memories have equal bytes in all accesses of the step
-  accesses_equal : (touched : Touched) (other_memory : List ℕ) → MayTouchAll before touched → EqualOutside hidden before.memory other_memory
+  accesses_equal : (touched : Touched) (other_memory : List ℕ) → MayTouchAll before touched
+      → EqualOutside hidden before.memory other_memory
       → EqualOn before.memory other_memory touched
   accesses_equal touched other_memory touches_permitted_bytes equal_outside = record {
     size = equal_outside.size;
@@ -42,11 +43,13 @@ module _ (hidden : ℕ → Bool) (view : HartView) (view_invariant : HartViewInv
   }
 
   -- equal stores leave both memories equal outside the hidden bytes
-  same_stores : (stored : Option Span) (other_memory bytes after other_after : List ℕ) → EqualOutside hidden before.memory other_memory
+  same_stores : (stored : Option Span) (other_memory bytes after other_after : List ℕ)
+      → EqualOutside hidden before.memory other_memory
       → Stores bytes before.memory after stored
       → Stores bytes other_memory other_after stored
       → EqualOutside hidden after other_after
-  same_stores None other_memory bytes after other_after equal_outside first_stores second_stores = rw (first_stores, second_stores) equal_outside
+  same_stores None other_memory bytes after other_after equal_outside first_stores second_stores =
+      rw (first_stores, second_stores) equal_outside
   same_stores (Some span) other_memory bytes after other_after equal_outside first_stores second_stores =
       same_write hidden before.memory other_memory span.addr bytes after other_after equal_outside first_stores.1 second_stores.1
 
@@ -56,7 +59,8 @@ module _ (hidden : ℕ → Bool) (view : HartView) (view_invariant : HartViewInv
   bare_step_alike other_memory equal_outside =
       let after = step before in
       let is_confined = confined before in
-      let alike = is_confined.alike other_memory (accesses_equal after.outcome.touched other_memory (touches_permitted before) equal_outside) in
+      let alike =
+      is_confined.alike other_memory (accesses_equal after.outcome.touched other_memory (touches_permitted before) equal_outside) in
       record {
         hart = alike.hart;
         outcome = alike.outcome;

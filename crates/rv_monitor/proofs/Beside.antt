@@ -11,7 +11,8 @@ use Rattle.rv_monitor.proofs.InvariantLemmas.{beside, world_index_in_range, worl
 use Rattle.rv_monitor.proofs.HartCases.{past_hart_state, step_programmed}
 
 -- a hart that runs an enclave is a hart of the machine
-pub running_hart_in_range : (slot hart : ℕ) (machine : MonitoredMachine) → runs_on slot hart machine ≡ true → hart < count_of machine
+pub running_hart_in_range : (slot hart : ℕ) (machine : MonitoredMachine)
+    → runs_on slot hart machine ≡ true → hart < count_of machine
 running_hart_in_range slot hart machine runs_on_hart = elim (cases_lt hart (count_of machine)) [
   | inl in_range ↦ in_range
   | inr past_last ↦
@@ -21,14 +22,16 @@ running_hart_in_range slot hart machine runs_on_hart = elim (cases_lt hart (coun
 ]
 
 -- an enclave that runs on some hart is among the worlds of the machine
-pub runs_among : (slot hart : ℕ) (machine : MonitoredMachine) → runs_on slot hart machine ≡ true → list_any (is_world_of slot) (worlds machine) ≡ true
+pub runs_among : (slot hart : ℕ) (machine : MonitoredMachine) → runs_on slot hart machine ≡ true
+    → list_any (is_world_of slot) (worlds machine) ≡ true
 runs_among slot hart machine runs_on_hart =
     let in_range = running_hart_in_range slot hart machine runs_on_hart in
     list_any_at (is_world_of slot) (worlds machine) hart Host (world_index_in_range hart machine in_range)
     (ap (is_world_of slot) (world_at hart machine in_range) ∙ runs_on_hart)
 
 -- a slot whose record has the state Running is live
-pub live_if_running : (maybe_info : Option SlotInfo) → option_case maybe_info false (λ info. is_running info.state) ≡ true → is_some maybe_info ≡ true
+pub live_if_running : (maybe_info : Option SlotInfo)
+    → option_case maybe_info false (λ info. is_running info.state) ≡ true → is_some maybe_info ≡ true
 live_if_running None runs = runs
 live_if_running (Some info) runs = refl
 
@@ -41,7 +44,8 @@ running_is_live slot hart machine invariant runs_on_hart =
 -- ---- the other harts
 
 -- an enclave that runs on some hart, and not on the hart that steps, is among the worlds of the other harts
-pub runs_among_others : (slot hart slot_hart : ℕ) (machine : MonitoredMachine) → hart < count_of machine → runs_on slot slot_hart machine ≡ true
+pub runs_among_others : (slot hart slot_hart : ℕ) (machine : MonitoredMachine) → hart < count_of machine
+    → runs_on slot slot_hart machine ≡ true
     → runs_on slot hart machine ≡ false → list_any (is_world_of slot) (beside hart machine) ≡ true
 runs_among_others slot hart slot_hart machine in_range runs_on_hart not_running =
     right_if_not_left (runs_on slot hart machine) _
@@ -56,7 +60,8 @@ harts_differ slot hart other_hart machine not_running runs_on_hart harts_equal =
     both_ways _ not_running (ap (λ (some_hart : ℕ). runs_on slot some_hart machine) (sym harts_equal) ∙ runs_on_hart)
 
 -- a step of a hart that does not run enclave `slot` changes only the PMP entries and mie of a hart that runs enclave `slot`
-pub hart_state_preserved : (slot hart : ℕ) (machine : MonitoredMachine) → Invariant machine → runs_on slot hart machine ≡ false → (other_hart : ℕ)
+pub hart_state_preserved : (slot hart : ℕ) (machine : MonitoredMachine) → Invariant machine
+    → runs_on slot hart machine ≡ false → (other_hart : ℕ)
     → runs_on slot other_hart machine ≡ true
     → hart_state_of other_hart (step_of hart machine).state ≡ reprogrammed (step_of hart machine).state.shared.table
     (hart_state_of other_hart machine)

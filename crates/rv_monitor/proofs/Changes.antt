@@ -24,7 +24,8 @@ use Rattle.rv_monitor.proofs.HandlerCases.{Requests, handler_cases}
 -- a byte outside the range of a write is unchanged, even if the write fails
 unchanged_outside_write : (memory : List ℕ) (address : ℕ) (bytes : List ℕ) (byte : ℕ) (maybe_bytes : Option (List ℕ))
     → write memory address bytes ≡ maybe_bytes
-    → byte < address ⊎ address + length bytes ≤ byte → byte_at (option_case maybe_bytes memory (λ after. after)) byte ≡ byte_at memory byte
+    → byte < address ⊎ address + length bytes ≤ byte
+    → byte_at (option_case maybe_bytes memory (λ after. after)) byte ≡ byte_at memory byte
 unchanged_outside_write memory address bytes byte None written byte_outside = refl
 unchanged_outside_write memory address bytes byte (Some after) written byte_outside =
     byte_at-write memory address bytes after byte written byte_outside
@@ -41,7 +42,8 @@ outside block byte not_in_block = elim (cases_lt byte block.base) [
 ]
 
 -- zeroing a block changes no byte outside the block
-zeroed_integrity : (memory : List ℕ) (block : Block) (byte : ℕ) → has block byte ≡ false → byte_at (zeroed memory block) byte ≡ byte_at memory byte
+zeroed_integrity : (memory : List ℕ) (block : Block) (byte : ℕ) → has block byte ≡ false
+    → byte_at (zeroed memory block) byte ≡ byte_at memory byte
 zeroed_integrity memory block byte not_in_block =
     let zeroes_length : length (replicate block.size 0) ≡ block.size = length-replicate {A = ℕ} block.size 0 in
     unchanged_outside_write memory block.base (replicate block.size 0) byte (write memory block.base (replicate block.size 0)) refl
@@ -66,7 +68,8 @@ destroyed_changes hart_state shared byte valid requested slot_accepted =
       | inl in_region ↦
           let slot_is = slot_accepted.is in
           let slot_in_range = live_in_range shared.table slot slot_accepted.info valid.count slot_accepted.is in
-          let slot_is_free : slot_at (with_slot shared.table slot None) slot ≡ None = at_written_slot shared.table slot None
+          let slot_is_free : slot_at (with_slot shared.table slot None) slot ≡ None =
+          at_written_slot shared.table slot None
           (omega (arith, valid.count)) in
           inr (inl (record { asked = requested; live = rw slot_is refl; gone = rw slot_is_free refl; own = in_region }))
       | inr outside_region ↦ inl (zeroed_integrity shared.memory (region shared.table slot) byte outside_region)
@@ -91,21 +94,26 @@ module _ (hart_state : HartState) (shared : Shared) (valid : IsValid shared.memo
     not_refused = rw (live, may_store_bytes) refl
 
     -- the world of the hart may store to each of the 32 bytes from a1 on
-    is_measured : a1 hart_state ≤ byte → byte < a1 hart_state + 32 → IsMeasured hart_state.world hart_state.hart.regs shared byte
+    is_measured : a1 hart_state ≤ byte → byte < a1 hart_state + 32
+        → IsMeasured hart_state.world hart_state.hart.regs shared byte
     unfolding may_store_all
     is_measured from_start before_end =
-        let may_store_byte = each_from_all (may_store shared.memory entries) (a1 hart_state) 32 may_store_bytes byte from_start before_end in
-        let parts = and_parts (is_inside shared.memory byte 1) (permits (verdict entries S Write (bytes_from byte 1))) may_store_byte in
+        let may_store_byte =
+        each_from_all (may_store shared.memory entries) (a1 hart_state) 32 may_store_bytes byte from_start before_end in
+        let parts =
+        and_parts (is_inside shared.memory byte 1) (permits (verdict entries S Write (bytes_from byte 1))) may_store_byte in
         record {
           asked = asked;
           done = not_refused;
           low = from_start;
           high = before_end;
-          accessible = sym (reach_law shared.memory shared.table hart_state.world S Write byte Byte valid (below_M S refl) parts.0) ∙ parts.1;
+          accessible =
+              sym (reach_law shared.memory shared.table hart_state.world S Write byte Byte valid (below_M S refl) parts.0) ∙ parts.1;
         }
 
     -- a measure changes only the 32 bytes from a1 on
-    measurement_write_changes : (maybe_info : Option SlotInfo) → IfSome maybe_info (IsValidSlot shared.memory) → is_some maybe_info ≡ true
+    measurement_write_changes : (maybe_info : Option SlotInfo)
+        → IfSome maybe_info (IsValidSlot shared.memory) → is_some maybe_info ≡ true
         → Changes hart_state.world hart_state.hart.regs shared byte (record shared {
           memory =
               with_bytes_at shared.memory (a1 hart_state) (option_case maybe_info [] (λ info. info.measurement));
@@ -138,7 +146,7 @@ module _ (hart_state : HartState) (shared : Shared) (valid : IsValid shared.memo
 module _ (hart_state : HartState) (shared : Shared) (valid : IsValid shared.memory shared.table)
     (entries_are_layout : hart_state.hart.csrs.pmp ≡ layout shared.table hart_state.world) (byte : ℕ)
     (trap : Trap) where
-  -- the byte is unchanged after the trap handler, or the cause is a call that may change it
+  -- the byte is unchanged after the trap handler, or the cause is a call that may change the byte
   abbrev ChangedBy : Shared → Type 0
   ChangedBy after =
       byte_at after.memory byte ≡ byte_at shared.memory byte
@@ -179,7 +187,8 @@ module _ (view : HartView) (view_invariant : HartViewInvariant view) (byte : ℕ
       byte_at memory byte ≡ byte_at view.shared.memory byte ⊎ IsStoredAccessible view.hart_state.world view.shared stored byte
 
   -- a permitted store changes only bytes that the running world may write
-  store_is_permitted : (stored : Option Span) (bytes after : List ℕ) → MayTouch (bare_machine view) (data_mode view.hart_state.hart) Write stored
+  store_is_permitted : (stored : Option Span) (bytes after : List ℕ)
+      → MayTouch (bare_machine view) (data_mode view.hart_state.hart) Write stored
       → Stores bytes view.shared.memory after stored → UnchangedOrStored stored after
   store_is_permitted None bytes after may_touch after_is = inl (ap (λ (memory : List ℕ). byte_at memory byte) after_is)
   store_is_permitted (Some span) bytes after may_touch stores =
@@ -201,7 +210,8 @@ module _ (view : HartView) (view_invariant : HartViewInvariant view) (byte : ℕ
                     ∙ may_touch.1;
               })
           -- the byte is after the stored bytes, so the store leaves the byte unchanged
-          | inr after_end ↦ inl (byte_at-write view.shared.memory span.addr bytes after byte stores.1 (inr (rw stored_size after_end)))
+          | inr after_end ↦
+              inl (byte_at-write view.shared.memory span.addr bytes after byte stores.1 (inr (rw stored_size after_end)))
         ]
       ]
 

@@ -28,14 +28,16 @@ use Rattle.rv_monitor.proofs.Release.{release}
 -- ---- what the enclave hands over, in the guest view
 
 -- two harts that hand over the same also hand over the same in the guest view
-same_handover_in_guest_view : (cause : Cause) (hart_state other_state : HartState) → SameHandoverBy cause hart_state.hart other_state.hart
+same_handover_in_guest_view : (cause : Cause) (hart_state other_state : HartState)
+    → SameHandoverBy cause hart_state.hart other_state.hart
     → SameHandoverBy cause (guest_state hart_state).hart (guest_state other_state).hart
 same_handover_in_guest_view (causes.Interrupt interrupt) hart_state other_state same_handover = tt
 same_handover_in_guest_view (causes.Exception exception) hart_state other_state same_handover =
     record { a0 = same_handover.a0; a6 = same_handover.a6 }
 
 -- two harts with equal a0 and a6 hand over the same for every cause
-pub hands_over : (cause : Cause) (hart other_hart : Hart) → SameHandover hart other_hart → SameHandoverBy cause hart other_hart
+pub hands_over : (cause : Cause) (hart other_hart : Hart) → SameHandover hart other_hart
+    → SameHandoverBy cause hart other_hart
 hands_over (causes.Interrupt interrupt) hart other_hart same_handover = tt
 hands_over (causes.Exception exception) hart other_hart same_handover = same_handover
 
@@ -54,7 +56,8 @@ module _ (enclave : ℕ) (one other : MonitoredMachine) where
           same = λ not_running. sym (related_harts.same (ap (is_world_of enclave) related_harts.world ∙ not_running));
         };
     hosts = λ other_hart runs_other.
-        let same_hosts = related.hosts other_hart (ap (is_world_of enclave) (related.hart_states other_hart).world ∙ runs_other) in
+        let same_hosts =
+        related.hosts other_hart (ap (is_world_of enclave) (related.hart_states other_hart).world ∙ runs_other) in
         record { host = sym same_hosts.host; rest = sym same_hosts.rest };
     table = sym related.table;
     memory = record {
@@ -63,7 +66,8 @@ module _ (enclave : ℕ) (one other : MonitoredMachine) where
           λ index not_hidden. sym (related.memory.bytes index
           (ap (λ (table : Slots). may_differ table enclave (ram_base + index)) related.table ∙ not_hidden));
     };
-    contexts = record { size = sym related.contexts.size; others = λ slot distinct. sym (related.contexts.others slot distinct) };
+    contexts =
+        record { size = sym related.contexts.size; others = λ slot distinct. sym (related.contexts.others slot distinct) };
     gone = λ not_live. sym (related.gone (ap (λ (table : Slots). is_live table enclave) related.table ∙ not_live));
   }
 
@@ -74,7 +78,8 @@ relation_law = record {
   begins =
       λ enclave one other equiv nowhere. equiv_related enclave one other equiv
       (λ hart hart_of_enclave_in_range. absurd (both_ways _ (nowhere hart) hart_of_enclave_in_range));
-  ends = λ enclave one other related idle. related_equiv enclave one other related (λ running. absurd (both_ways _ idle running));
+  ends =
+      λ enclave one other related idle. related_equiv enclave one other related (λ running. absurd (both_ways _ idle running));
 }
 
 -- ---- a step of the enclave in one machine
@@ -124,7 +129,8 @@ module _ (enclave hart : ℕ) (one other : MonitoredMachine) (invariant_one : In
               related.hosts other_hart (ap (λ (hart_state : HartState). is_world_of enclave hart_state.world) (unchanged.others other_hart distinct)
               ∙ runs_on_other) in
               record {
-                host = ap (λ (hart_state : HartState). hart_state.host_context) (sym (unchanged.others other_hart distinct)) ∙ same_hosts.host;
+                host =
+                    ap (λ (hart_state : HartState). hart_state.host_context) (sym (unchanged.others other_hart distinct)) ∙ same_hosts.host;
                 rest = ap rest_of (sym (unchanged.others other_hart distinct)) ∙ same_hosts.rest;
               }
         ];
@@ -133,9 +139,11 @@ module _ (enclave hart : ℕ) (one other : MonitoredMachine) (invariant_one : In
           size = sym unchanged.size ∙ related.memory.size;
           -- a byte in which the machines may not differ is beyond the enclave, so the step does not change this byte
           bytes = λ index not_hidden.
-              let shown_before = ap (λ (table : Slots). may_differ table enclave (ram_base + index)) unchanged.table ∙ not_hidden in
+              let shown_before =
+              ap (λ (table : Slots). may_differ table enclave (ram_base + index)) unchanged.table ∙ not_hidden in
               let running = invariant_one.shared.running enclave ∙ runs_among enclave hart one inside.before in
-              let is_beyond_enclave = shown_is_beyond (has (region one.shared.table enclave) (ram_base + index)) (runs one.shared.table enclave)
+              let is_beyond_enclave =
+              shown_is_beyond (has (region one.shared.table enclave) (ram_base + index)) (runs one.shared.table enclave)
               (has (window one.shared.table enclave) (ram_base + index)) running shown_before in
               sym (equal_bytes_at_index one.shared.memory after.shared.memory index unchanged.size
               (unchanged.bytes (ram_base + index) is_beyond_enclave))
@@ -147,7 +155,8 @@ module _ (enclave hart : ℕ) (one other : MonitoredMachine) (invariant_one : In
               λ slot distinct. ap (λ (contexts : Contexts). context_at contexts slot) (sym unchanged.contexts)
               ∙ related.contexts.others slot distinct;
         };
-        gone = λ not_live. absurd (both_ways _ not_live (running_is_live enclave hart after (invariant_law hart one invariant_one) inside.after));
+        gone =
+            λ not_live. absurd (both_ways _ not_live (running_is_live enclave hart after (invariant_law hart one invariant_one) inside.after));
       }
 
 -- ---- a step of both
@@ -167,7 +176,8 @@ module _ (enclave hart : ℕ) (one other : MonitoredMachine) (invariant_one : In
   low_step : IsLowStep enclave hart one other → Outcomes × Related
   low_step low_both_steps = elim (cases_Bool (runs one.shared.table enclave)) [
     | inl running ↦
-        let low_both = low_while_running enclave hart one other invariant_one invariant_other related low_both_steps running in
+        let low_both =
+        low_while_running enclave hart one other invariant_one invariant_other related low_both_steps running in
         (λ not_running. low_both.0, low_both.1)
     | inr idle ↦
         let equiv = related_equiv enclave one other related (λ running. absurd (both_ways _ idle running)) in
@@ -179,7 +189,8 @@ module _ (enclave hart : ℕ) (one other : MonitoredMachine) (invariant_one : In
   ]
 
   -- if the step of a machine exits to the host, then so does the step of its guest view
-  guest_step_exits : (machine : MonitoredMachine) → Invariant machine → (hart_state_of hart (step_of hart machine).state).world ≡ Host
+  guest_step_exits : (machine : MonitoredMachine) → Invariant machine
+      → (hart_state_of hart (step_of hart machine).state).world ≡ Host
       → (hart_state_of hart (step_of hart (guest_view machine)).state).world ≡ Host
   guest_step_exits machine invariant host_runs_after =
       let world_of_hart : MonitoredMachine → World = λ machine. (hart_state_of hart machine).world in
@@ -189,13 +200,15 @@ module _ (enclave hart : ℕ) (one other : MonitoredMachine) (invariant_one : In
       ∙ ap state_world (guest_hart_state hart (step_of hart machine).state) ∙ host_runs_after
 
   -- if the step of a machine has a trap, then the step of its guest view has the same trap
-  guest_step_traps : (machine : MonitoredMachine) (trap : Trap) → Invariant machine → (step_of hart machine).outcome.step.trap ≡ Some trap
+  guest_step_traps : (machine : MonitoredMachine) (trap : Trap) → Invariant machine
+      → (step_of hart machine).outcome.step.trap ≡ Some trap
       → (step_of hart (guest_view machine)).outcome.step.trap ≡ Some trap
   guest_step_traps machine trap invariant trapped =
       sym (ap (λ (outcome : Outcome). outcome.step.trap) (guest_step_of hart machine invariant).outcome) ∙ trapped
 
   -- after an exit from both machines that hands over the same, the machines are equivalent in the guest view
-  exit_equiv : ExitsAlike enclave hart one other → EquivToGuests enclave (step_of hart one).state (step_of hart other).state
+  exit_equiv : ExitsAlike enclave hart one other
+      → EquivToGuests enclave (step_of hart one).state (step_of hart other).state
   exit_equiv exits_alike =
       let first_view = guest_view one in
       let second_view = guest_view other in
@@ -227,7 +240,8 @@ module _ (enclave hart : ℕ) (one other : MonitoredMachine) (invariant_one : In
     equiv_related enclave (step_of hart one).state (step_of hart other).state (exit_equiv exits_alike)
         (λ other_hart runs_after. elim (cases_eq other_hart hart) [
           | inl equal ↦
-              let not_running : runs_on enclave hart (step_of hart one).state ≡ false = ap (is_world_of enclave) exits_alike.first_exits in
+              let not_running : runs_on enclave hart (step_of hart one).state ≡ false =
+              ap (is_world_of enclave) exits_alike.first_exits in
               let still_here : runs_on enclave hart (step_of hart one).state ≡ true =
               ap (λ (index : ℕ). runs_on enclave index (step_of hart one).state) (sym equal) ∙ runs_after in
               absurd (both_ways _ not_running still_here)
@@ -248,10 +262,12 @@ module _ (enclave hart : ℕ) (one other : MonitoredMachine) (invariant_one : In
 
 -- proves the declassification law, by induction on the list of moves
 pub declassification_law : DeclassificationLaw
-declassification_law enclave [] one other invariant_one invariant_other related are_moves = record { outcomes = tt; state = related }
+declassification_law enclave [] one other invariant_one invariant_other related are_moves =
+    record { outcomes = tt; state = related }
 -- the first machine alone makes a step of the enclave, which leaves the machines related
 declassification_law enclave (First hart ∷ moves) one other invariant_one invariant_other related are_moves =
-    let remaining = declassification_law enclave moves (step_of hart one).state other (invariant_law hart one invariant_one) invariant_other
+    let remaining =
+    declassification_law enclave moves (step_of hart one).state other (invariant_law hart one invariant_one) invariant_other
     (enclave_step_keeps_relation enclave hart one other invariant_one related are_moves.0) are_moves.1 in
     record { outcomes = remaining.outcomes; state = remaining.state }
 -- the second machine alone makes a step of the enclave; the relation is symmetric

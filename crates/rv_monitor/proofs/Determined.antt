@@ -20,7 +20,8 @@ unknown_status_not_zero : (status : ℕ) → status ≡ 0xFFFFFFFF → status �
 unknown_status_not_zero status all_ones is_zero = cc
 
 -- two results are equal if their states, their step outcomes and their entered slots are equal
-results_equal : (stepped other_stepped : MonitoredStepped) → stepped.state ≡ other_stepped.state → stepped.outcome.step ≡ other_stepped.outcome.step
+results_equal : (stepped other_stepped : MonitoredStepped) → stepped.state ≡ other_stepped.state
+    → stepped.outcome.step ≡ other_stepped.outcome.step
     → stepped.outcome.entered ≡ other_stepped.outcome.entered → stepped ≡ other_stepped
 results_equal stepped other_stepped same_state same_step same_entered =
     let with_state : stepped ≡ record { state = other_stepped.state; outcome = stepped.outcome } =
@@ -46,14 +47,17 @@ module _ (hart : ℕ) (machine : MonitoredMachine) (invariant : Invariant machin
   SameResult = (stepped.state ≡ other_stepped.state) × (stepped.outcome.entered ≡ other_stepped.outcome.entered)
 
   -- two results that have a given state and a given entered slot are equal
-  same_if_given : {state : MonitoredMachine} {entered : Option ℕ} → (stepped.state ≡ state) × (stepped.outcome.entered ≡ entered)
+  same_if_given : {state : MonitoredMachine} {entered : Option ℕ}
+      → (stepped.state ≡ state) × (stepped.outcome.entered ≡ entered)
       → (other_stepped.state ≡ state) × (other_stepped.outcome.entered ≡ entered) → SameResult
   same_if_given first_is second_is = (first_is.0 ∙ sym second_is.0, first_is.1 ∙ sym second_is.1)
 
   -- two results that are both an entry of one slot by a call are equal
-  same_entry : (trap : Trap) (slot : ℕ) → EntersByCall hart machine stepped trap slot → EntersByCall hart machine other_stepped trap slot → SameResult
+  same_entry : (trap : Trap) (slot : ℕ) → EntersByCall hart machine stepped trap slot
+      → EntersByCall hart machine other_stepped trap slot → SameResult
   same_entry trap slot first_entry second_entry =
-      let some_contexts_equal : Some first_entry.context ≡ Some second_entry.context = sym first_entry.kept ∙ second_entry.kept in
+      let some_contexts_equal : Some first_entry.context ≡ Some second_entry.context =
+      sym first_entry.kept ∙ second_entry.kept in
       let contexts_equal : first_entry.context ≡ second_entry.context = cc in (
         first_entry.state ∙ ap (entered_by_call hart machine slot trap) contexts_equal ∙ sym second_entry.state,
         first_entry.entered
@@ -69,14 +73,16 @@ module _ (hart : ℕ) (machine : MonitoredMachine) (invariant : Invariant machin
   same_step_outcome = (first_obeys.plain in_range).outcome ∙ sym (second_obeys.plain in_range).outcome
 
   -- while an enclave runs, the hart has a saved context of the host
-  with_saved_host : (slot : ℕ) (Claim : Type 0) → hart_state.world ≡ Enclave slot → ((host : Context) → hart_state.host_context ≡ Some host → Claim)
+  with_saved_host : (slot : ℕ) (Claim : Type 0) → hart_state.world ≡ Enclave slot
+      → ((host : Context) → hart_state.host_context ≡ Some host → Claim)
       → Claim
   with_saved_host slot Claim runs claim_for_host = by_context hart_state.host_context refl where
     -- a claim that holds for each saved context of the host holds for a hart that runs an enclave
     by_context : (maybe_context : Option Context) → hart_state.host_context ≡ maybe_context → Claim
     by_context None context_is =
         let contradiction : false ≡ true =
-        sym (ap (λ (maybe_context : Option Context). is_some maybe_context) context_is) ∙ (invariant.hart_states hart in_range).host.kept
+        sym (ap (λ (maybe_context : Option Context). is_some maybe_context) context_is)
+        ∙ (invariant.hart_states hart in_range).host.kept
         ∙ ap (λ (world : World). not (is_host world)) runs in
         cc
     by_context (Some host) context_is = claim_for_host host context_is
@@ -84,9 +90,12 @@ module _ (hart : ℕ) (machine : MonitoredMachine) (invariant : Invariant machin
   -- the step has this trap in both results
   module _ (trap : Trap) (traps : stepped.outcome.step.trap ≡ Some trap) (other_traps : other_stepped.outcome.step.trap ≡ Some trap) where
     -- two results of an interrupt of an enclave are equal, because the interrupt exits the enclave
-    same_by_interrupt : (interrupt : Interrupt) → trap.cause ≡ causes.Interrupt interrupt → (world : World) → hart_state.world ≡ world → SameResult
-    same_by_interrupt interrupt cause_is Host host = absurd ((first_obeys.host host).uninterrupted trap interrupt traps cause_is)
-    same_by_interrupt interrupt cause_is (Enclave slot) world_is = with_saved_host slot SameResult world_is (λ host host_is_saved.
+    same_by_interrupt : (interrupt : Interrupt) → trap.cause ≡ causes.Interrupt interrupt → (world : World)
+        → hart_state.world ≡ world → SameResult
+    same_by_interrupt interrupt cause_is Host host =
+        absurd ((first_obeys.host host).uninterrupted trap interrupt traps cause_is)
+    same_by_interrupt interrupt cause_is (Enclave slot) world_is =
+        with_saved_host slot SameResult world_is (λ host host_is_saved.
         same_if_given (first_obeys.interrupts slot host trap interrupt world_is host_is_saved traps cause_is)
         (second_obeys.interrupts slot host trap interrupt world_is host_is_saved other_traps cause_is))
 
@@ -114,13 +123,15 @@ module _ (hart : ℕ) (machine : MonitoredMachine) (invariant : Invariant machin
       same_by_entry call Host world_is is_allowed first_enters second_enters not_for_enclaves =
           same_entry trap (register hart_state.hart.regs 10) (first_enters world_is) (second_enters world_is)
       same_by_entry call (Enclave slot) world_is is_allowed first_enters second_enters not_for_enclaves =
-          let contradiction : true ≡ false = sym is_allowed ∙ ap (λ (world : World). is_offered world call) world_is ∙ not_for_enclaves slot in
+          let contradiction : true ≡ false =
+          sym is_allowed ∙ ap (λ (world : World). is_offered world call) world_is ∙ not_for_enclaves slot in
           cc
 
       -- two results of a stop are equal
       same_by_stop : (world : World) → hart_state.world ≡ world → call_at hart machine ≡ Some Stop → SameResult
       same_by_stop Host host requested =
-          let contradiction : true ≡ false = sym (offered Stop requested) ∙ ap (λ (world : World). is_offered world Stop) host in
+          let contradiction : true ≡ false =
+          sym (offered Stop requested) ∙ ap (λ (world : World). is_offered world Stop) host in
           cc
       same_by_stop (Enclave slot) world_is requested =
           with_saved_host slot SameResult world_is
@@ -130,7 +141,8 @@ module _ (hart : ℕ) (machine : MonitoredMachine) (invariant : Invariant machin
       -- two results of an exit are equal
       same_by_exit : (world : World) → hart_state.world ≡ world → call_at hart machine ≡ Some Exit → SameResult
       same_by_exit Host world_is requested =
-          let contradiction : true ≡ false = sym (offered Exit requested) ∙ ap (λ (world : World). is_offered world Exit) world_is in
+          let contradiction : true ≡ false =
+          sym (offered Exit requested) ∙ ap (λ (world : World). is_offered world Exit) world_is in
           cc
       same_by_exit (Enclave slot) world_is requested =
           with_saved_host slot SameResult world_is
@@ -143,8 +155,10 @@ module _ (hart : ℕ) (machine : MonitoredMachine) (invariant : Invariant machin
       no_call requested = rw requested refl
 
       -- two results of a call with status 0 are equal
-      same_by_call : (maybe_call : Option Call) → call_at hart machine ≡ maybe_call → status_at hart machine ≡ 0 → SameResult
-      same_by_call None requested status_is_0 = absurd (unknown_status_not_zero (status_at hart machine) (no_call requested) status_is_0)
+      same_by_call : (maybe_call : Option Call) → call_at hart machine ≡ maybe_call
+          → status_at hart machine ≡ 0 → SameResult
+      same_by_call None requested status_is_0 =
+          absurd (unknown_status_not_zero (status_at hart machine) (no_call requested) status_is_0)
       same_by_call (Some Create) requested status_is_0 =
           same_if_given (first_answers.creates requested status_is_0) (second_answers.creates requested status_is_0)
       same_by_call (Some Destroy) requested status_is_0 =
@@ -184,7 +198,9 @@ module _ (hart : ℕ) (machine : MonitoredMachine) (invariant : Invariant machin
 
   -- two results of one step that both obey the five laws are equal
   pub same_steps : stepped ≡ other_stepped
-  same_steps = let results = same_by_trap stepped.outcome.step.trap refl in results_equal stepped other_stepped results.0 same_step_outcome results.1
+  same_steps =
+      let results = same_by_trap stepped.outcome.step.trap refl in
+      results_equal stepped other_stepped results.0 same_step_outcome results.1
 
 -- proves that the five laws determine the step
 pub determined_law : DeterminedLaw

@@ -43,11 +43,13 @@ accessible_in_region_or_window memory table slot Fetch bytes accessible =
     elim (or_cases _ _ accessible) [ inl all_in_region ↦ inl all_in_region | inr contradiction ↦ cc ]
 accessible_in_region_or_window memory table slot Read bytes accessible = elim (or_cases _ _ accessible) [
   | inl all_in_region ↦ inl all_in_region
-  | inr not_in_region ↦ elim (or_cases _ _ not_in_region) [ inl all_in_window ↦ inr all_in_window | inr contradiction ↦ cc ]
+  | inr not_in_region ↦
+      elim (or_cases _ _ not_in_region) [ inl all_in_window ↦ inr all_in_window | inr contradiction ↦ cc ]
 ]
 accessible_in_region_or_window memory table slot Write bytes accessible = elim (or_cases _ _ accessible) [
   | inl all_in_region ↦ inl all_in_region
-  | inr not_in_region ↦ elim (or_cases _ _ not_in_region) [ inl all_in_window ↦ inr all_in_window | inr contradiction ↦ cc ]
+  | inr not_in_region ↦
+      elim (or_cases _ _ not_in_region) [ inl all_in_window ↦ inr all_in_window | inr contradiction ↦ cc ]
 ]
 
 -- each byte that is accessible to an enclave is in its region or window
@@ -69,7 +71,8 @@ accessible_bytes_are_own memory table slot access start size is_accessible_to_sl
 -- the hart of the view runs enclave `slot`
 module _ (slot : ℕ) (view : HartView) (view_invariant : HartViewInvariant view) (runs_enclave : view.hart_state.world ≡ Enclave slot) where
   -- each byte of a permitted access of the enclave is in its region or window
-  accesses_own : (mode : Mode) (access : Access) (span : Span) → is_machine mode ≡ false → MayTouch (bare_machine view) mode access (Some span)
+  accesses_own : (mode : Mode) (access : Access) (span : Span) → is_machine mode ≡ false
+      → MayTouch (bare_machine view) mode access (Some span)
       → IsSeen (is_beyond view.shared.table slot) span.addr (bytes_in span.len)
   accesses_own mode access span mode_below_m may_touch =
       let accessible =
@@ -86,8 +89,8 @@ module _ (slot : ℕ) (view : HartView) (view_invariant : HartViewInvariant view
 -- ---- the trap handler
 
 -- a claim about a world that is both an enclave and the host holds, because there is no such world
-pub not_host : (P : Type 0) (slot : ℕ) (world : World) → world ≡ Enclave slot → world ≡ Host → P
-not_host P slot world runs host = let contradiction : Host ≡ Enclave slot = sym host ∙ runs in cc
+pub not_host : (Claim : Type 0) (slot : ℕ) (world : World) → world ≡ Enclave slot → world ≡ Host → Claim
+not_host Claim slot world runs host = let contradiction : Host ≡ Enclave slot = sym host ∙ runs in cc
 
 -- a requested call is offered to the world that requests it
 request_is_offered : (cause : Cause) (hart_state : HartState) (is_ecall : Bool) (call : Call) → is_call cause ≡ is_ecall
@@ -96,23 +99,27 @@ request_is_offered : (cause : Cause) (hart_state : HartState) (is_ecall : Bool) 
 request_is_offered cause hart_state true call is_call_is requested =
     let request_is : requested_call hart_state.world hart_state.hart.regs ≡ Some call = rw is_call_is at requested in
     (requested-is_offered hart_state.world hart_state.hart.regs call request_is).1
-request_is_offered cause hart_state false call is_call_is requested = let contradiction : None ≡ Some call = rw is_call_is at requested in cc
+request_is_offered cause hart_state false call is_call_is requested =
+    let contradiction : None ≡ Some call = rw is_call_is at requested in cc
 
 -- create is offered to no enclave
-pub create_not_offered : (P : Type 0) (slot : ℕ) (world : World) → world ≡ Enclave slot → is_offered world Create ≡ true → P
-create_not_offered P slot world runs offered = let contradiction : false ≡ true = rw runs at offered in cc
+pub create_not_offered : (Claim : Type 0) (slot : ℕ) (world : World) → world ≡ Enclave slot
+    → is_offered world Create ≡ true → Claim
+create_not_offered Claim slot world runs offered = let contradiction : false ≡ true = rw runs at offered in cc
 
 -- destroy is offered to no enclave
-pub destroy_not_offered : (P : Type 0) (slot : ℕ) (world : World) → world ≡ Enclave slot → is_offered world Destroy ≡ true → P
-destroy_not_offered P slot world runs offered = let contradiction : false ≡ true = rw runs at offered in cc
+pub destroy_not_offered : (Claim : Type 0) (slot : ℕ) (world : World) → world ≡ Enclave slot
+    → is_offered world Destroy ≡ true → Claim
+destroy_not_offered Claim slot world runs offered = let contradiction : false ≡ true = rw runs at offered in cc
 
 -- no call that is offered to an enclave enters an enclave
-entry_not_offered : (P : Type 0) (slot : ℕ) (cause : Cause) (hart_state : HartState) (maybe_call : Option Call) → hart_state.world ≡ Enclave slot
+entry_not_offered : (Claim : Type 0) (slot : ℕ) (cause : Cause) (hart_state : HartState) (maybe_call : Option Call)
+    → hart_state.world ≡ Enclave slot
     → requested_by cause hart_state ≡ maybe_call
-    → is_entering maybe_call ≡ true → P
-entry_not_offered P slot cause hart_state None runs_enclave requested is_entry_call = cc
-entry_not_offered P slot cause hart_state (Some call) runs_enclave requested is_entry_call =
-    not_host P slot hart_state.world runs_enclave
+    → is_entering maybe_call ≡ true → Claim
+entry_not_offered Claim slot cause hart_state None runs_enclave requested is_entry_call = cc
+entry_not_offered Claim slot cause hart_state (Some call) runs_enclave requested is_entry_call =
+    not_host Claim slot hart_state.world runs_enclave
     (entered-by-host hart_state.world call is_entry_call (request_is_offered cause hart_state (is_call cause) call refl requested))
 
 -- `slot` has the same region and the same window in both tables
@@ -145,7 +152,8 @@ slot_with_new_state same_context_count slot (Some info) state table_length slot_
     at_written_slot same_context_count slot (Some (record info { state = state })) (omega (arith, table_length, slot_in_range))
 
 -- a write, successful or not, keeps the size of the memory
-pub write_keeps_size : (memory : List ℕ) (address : ℕ) (bytes : List ℕ) (maybe_bytes : Option (List ℕ)) → write memory address bytes ≡ maybe_bytes
+pub write_keeps_size : (memory : List ℕ) (address : ℕ) (bytes : List ℕ) (maybe_bytes : Option (List ℕ))
+    → write memory address bytes ≡ maybe_bytes
     → length (option_case maybe_bytes memory (λ after. after)) ≡ length memory
 write_keeps_size memory address bytes None written = refl
 write_keeps_size memory address bytes (Some after) written = length-write memory address bytes after written
@@ -156,7 +164,8 @@ module _ (slot : ℕ) (hart_state : HartState) (runs_enclave : hart_state.world 
   module _ (shared : Shared) (table_length : length shared.table ≡ slot_count) where
     -- the trap handler keeps the region and the window of `slot`, and the size of the memory
     abbrev Keeps : Handled → Type 0
-    Keeps result = KeepsExtent slot shared.table result.shared.table × (length result.shared.memory ≡ length shared.memory)
+    Keeps result =
+        KeepsExtent slot shared.table result.shared.table × (length result.shared.memory ≡ length shared.memory)
 
     -- the trap handler on a hart that runs enclave `slot` keeps the region and window of `slot`, and the size of the memory
     pub handled_keeps : Keeps (handled hart_state shared trap)
@@ -170,8 +179,10 @@ module _ (slot : ℕ) (hart_state : HartState) (runs_enclave : hart_state.world 
       destroys =
           λ requests slot_accepted. destroy_not_offered _ slot hart_state.world runs_enclave
           (requested-is_offered hart_state.world hart_state.hart.regs Destroy requests.asked).1;
-      measures = λ requests no_refusal. (record { region = refl; window = refl }, write_keeps_size shared.memory _ _ (write shared.memory _ _) refl);
-      enters = λ call requests is_entry_call from_host slot_accepted. not_host _ slot hart_state.world runs_enclave from_host;
+      measures =
+          λ requests no_refusal. (record { region = refl; window = refl }, write_keeps_size shared.memory _ _ (write shared.memory _ _) refl);
+      enters =
+          λ call requests is_entry_call from_host slot_accepted. not_host _ slot hart_state.world runs_enclave from_host;
       -- an exit changes only the state in the record of `slot`
       leaves =
           let running_slot_is_slot : running_slot hart_state.world ≡ slot = rw runs_enclave refl in
@@ -193,7 +204,8 @@ module _ (slot : ℕ) (hart_state : HartState) (runs_enclave : hart_state.world 
     measured =
         λ is_requested. create_not_offered _ slot hart_state.world runs_enclave
         (request_is_offered trap.cause hart_state (is_call trap.cause) Create refl is_requested);
-    entered = λ enters. entry_not_offered _ slot trap.cause hart_state (requested_by trap.cause hart_state) runs_enclave refl enters;
+    entered =
+        λ enters. entry_not_offered _ slot trap.cause hart_state (requested_by trap.cause hart_state) runs_enclave refl enters;
   }
 
 -- ---- the step
@@ -205,7 +217,8 @@ pub record OwnAlike (slot : ℕ) (one other : HartViewStepped) : Type 0 where
   pub shared : SharedFor slot one.state.shared other.state.shared
 
 -- a byte within the region or window of `slot` after a change was within them before, if `slot` keeps its region and window
-pub within_before : (slot : ℕ) (before after : Slots) (byte : ℕ) → KeepsExtent slot before after → is_beyond after slot byte ≡ false
+pub within_before : (slot : ℕ) (before after : Slots) (byte : ℕ) → KeepsExtent slot before after
+    → is_beyond after slot byte ≡ false
     → is_beyond before slot byte ≡ false
 within_before slot before after byte keeps byte_within =
     ap₂ (λ (region window : Block). not (has region byte || has window byte)) (sym keeps.region) (sym keeps.window) ∙ byte_within
@@ -229,7 +242,8 @@ own_alike_after_trap slot outcome (Some trap) hart_state one other runs_enclave 
     let keeps_one = handled_keeps slot hart_state runs_enclave trap one table_length in
     let keeps_other =
     handled_keeps slot hart_state runs_enclave trap other (ap (λ (table : Slots). length table) (sym same_for_slot.table) ∙ table_length) in
-    let returned_by : HartState → Next → HartState = λ hart_state next. record hart_state { hart = returned_to hart_state.hart next.pc next.mode } in
+    let returned_by : HartState → Next → HartState =
+    λ hart_state next. record hart_state { hart = returned_to hart_state.hart next.pc next.mode } in
     let shows : Next → Outcome = λ next. record { step = outcome; entered = next.entered } in
     record {
       outcome = ap shows handler_results.next;
@@ -273,7 +287,8 @@ own_step_alike slot hart_state one other view_invariant_one runs_enclave same_co
     let first_bare = stepped hart_state one in
     let second_bare = stepped hart_state other in
     -- the bare steps are alike, because the enclave accesses only its region and window
-    let alike = enclave_bare_step_alike slot (view_of hart_state one) view_invariant_one runs_enclave other.memory same_for_slot.memory in
+    let alike =
+    enclave_bare_step_alike slot (view_of hart_state one) view_invariant_one runs_enclave other.memory same_for_slot.memory in
     let shared : SharedFor slot (stored hart_state one) (stored hart_state other) =
     record { table = same_for_slot.table; memory = alike.memory; context = same_for_slot.context } in
     -- the trap handler, if the bare steps trap, leaves both shared states equal for the enclave

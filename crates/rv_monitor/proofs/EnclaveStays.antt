@@ -90,7 +90,8 @@ module _ (slot : ℕ) (view : HartView) (view_invariant : HartViewInvariant view
               λ requests slot_accepted. destroy_not_offered _ slot hart_state.world runs_enclave
               (requested-is_offered hart_state.world hart_state.hart.regs _ requests.asked).1;
           measures = λ requests no_refusal enclave_runs_after. (refl, rw mprv refl, refl, refl);
-          enters = λ call requests is_entry_call from_host slot_accepted. not_host _ slot hart_state.world runs_enclave from_host;
+          enters =
+              λ call requests is_entry_call from_host slot_accepted. not_host _ slot hart_state.world runs_enclave from_host;
           leaves = λ enclave_runs_after. cc;
           redirects = λ enclave_runs_after. (refl, rw mprv refl, refl, refl);
         })
@@ -113,10 +114,12 @@ module _ (slot : ℕ) (view : HartView) (view_invariant : HartViewInvariant view
   stays_behind = step_cases view (λ after. is_host after.state.hart_state.world ≡ false → StaysBehind view after)
       (λ no_trap enclave_runs_after. stays_without_trap no_trap) (λ trap trapped. stays_with_trap trap (step (bare_machine view)).outcome)
 
-  -- a byte is not both within the enclave's memory and beyond it
-  not_within_and_beyond : (byte : ℕ) → is_beyond view.shared.table slot byte ≡ false → is_beyond view.shared.table slot byte ≡ true
+  -- a byte is not both within and beyond the enclave's memory
+  not_within_and_beyond : (byte : ℕ) → is_beyond view.shared.table slot byte ≡ false
+      → is_beyond view.shared.table slot byte ≡ true
       → (Claim : Type 0) → Claim
-  not_within_and_beyond byte byte_within byte_beyond Claim = let contradiction : false ≡ true = sym byte_within ∙ byte_beyond in cc
+  not_within_and_beyond byte byte_within byte_beyond Claim =
+      let contradiction : false ≡ true = sym byte_within ∙ byte_beyond in cc
 
   -- each byte that the enclave may write is in its region or window
   writes_within : (address size byte : ℕ)
@@ -127,7 +130,7 @@ module _ (slot : ℕ) (view : HartView) (view_invariant : HartViewInvariant view
       (subst (λ (world : World). is_accessible view.shared.memory view.shared.table world Write
       (bytes_from address size) ≡ true) runs_enclave may_write) byte from_start before_end
 
-  -- a byte that the step leaves unchanged, or changes as the enclave may, is unchanged if it is beyond the enclave's memory
+  -- a byte that the step leaves unchanged, or changes as the enclave may, is unchanged if the byte is beyond the enclave's memory
   unchanged_beyond : (byte : ℕ) → is_beyond view.shared.table slot byte ≡ true
       → byte_at (monitored_step view).state.shared.memory byte ≡ byte_at view.shared.memory byte ⊎ IsChanged view (monitored_step view) byte
       → byte_at (monitored_step view).state.shared.memory byte ≡ byte_at view.shared.memory byte
@@ -139,7 +142,8 @@ module _ (slot : ℕ) (view : HartView) (view_invariant : HartViewInvariant view
     | inl destroyed ↦
         destroy_not_offered _ slot view.hart_state.world runs_enclave
         (requested-is_offered view.hart_state.world view.hart_state.hart.regs _ destroyed.asked).1
-    | inr measured ↦ not_within_and_beyond byte (writes_within byte 1 byte measured.accessible (omega arith) (omega arith)) byte_beyond _
+    | inr measured ↦
+        not_within_and_beyond byte (writes_within byte 1 byte measured.accessible (omega arith) (omega arith)) byte_beyond _
   ]
 
   -- a step after which the enclave still runs changes no byte outside its region and window
@@ -157,10 +161,12 @@ pub record Unchanged (enclave hart : ℕ) (before after : MonitoredMachine) : Ty
   pub table : before.shared.table ≡ after.shared.table
   pub contexts : before.shared.contexts ≡ after.shared.contexts
   pub size : length before.shared.memory ≡ length after.shared.memory
-  pub bytes : (byte : ℕ) → is_beyond before.shared.table enclave byte ≡ true → byte_at after.shared.memory byte ≡ byte_at before.shared.memory byte
+  pub bytes : (byte : ℕ) → is_beyond before.shared.table enclave byte ≡ true
+      → byte_at after.shared.memory byte ≡ byte_at before.shared.memory byte
 
 -- a step of an enclave after which the enclave still runs changes only its hart, its region and its window
-pub enclave_step_unchanged : (enclave hart : ℕ) (machine : MonitoredMachine) → Invariant machine → runs_on enclave hart machine ≡ true
+pub enclave_step_unchanged : (enclave hart : ℕ) (machine : MonitoredMachine) → Invariant machine
+    → runs_on enclave hart machine ≡ true
     → runs_on enclave hart (step_of hart machine).state ≡ true
     → Unchanged enclave hart machine (step_of hart machine).state
 enclave_step_unchanged enclave hart machine invariant runs_on_hart runs_after =
@@ -205,7 +211,8 @@ enclave_step_unchanged enclave hart machine invariant runs_on_hart runs_after =
 -- ---- bytes of equal memories
 
 -- the byte at the address of an index is the byte of the memory at this index
-byte_at_index : (memory : List ℕ) (index : ℕ) → index < length memory → byte_at memory (ram_base + index) ≡ Some (slice_index memory index)
+byte_at_index : (memory : List ℕ) (index : ℕ) → index < length memory
+    → byte_at memory (ram_base + index) ≡ Some (slice_index memory index)
 byte_at_index memory index in_range =
     let inside : is_inside memory (ram_base + index) 1 ≡ true =
     and_from _ _ (le-leb ram_base (ram_base + index) (omega arith))
@@ -220,9 +227,11 @@ pub equal_bytes_at_index : (memory other_memory : List ℕ) (index : ℕ) → le
 equal_bytes_at_index memory other_memory index same_length bytes_equal = elim (cases_lt index (length memory)) [
   | inl in_range ↦
       let some_bytes_equal : Some (slice_index other_memory index) ≡ Some (slice_index memory index) =
-      sym (byte_at_index other_memory index (omega (arith, same_length, in_range))) ∙ bytes_equal ∙ byte_at_index memory index in_range in
+      sym (byte_at_index other_memory index (omega (arith, same_length, in_range))) ∙ bytes_equal
+      ∙ byte_at_index memory index in_range in
       let same_element : slice_index other_memory index ≡ slice_index memory index = cc in
       sym same_element
   | inr past_last ↦
-      get_or_past {X = ℕ} memory index 0 past_last ∙ sym (get_or_past {X = ℕ} other_memory index 0 (omega (arith, same_length, past_last)))
+      get_or_past {X = ℕ} memory index 0 past_last
+      ∙ sym (get_or_past {X = ℕ} other_memory index 0 (omega (arith, same_length, past_last)))
 ]

@@ -77,7 +77,8 @@ equal_tests_hold_alike test other_test (value ∷ numbers) same_tests =
     ap₂ (λ (a test : Bool). a && test) (same_tests value) (equal_tests_hold_alike test other_test numbers same_tests)
 
 -- a read that returns bytes reads only bytes inside memory
-read_is_inside : (memory : List ℕ) (address count : ℕ) → is_some (read memory address count) ≡ true → is_inside memory address count ≡ true
+read_is_inside : (memory : List ℕ) (address count : ℕ) → is_some (read memory address count) ≡ true
+    → is_inside memory address count ≡ true
 read_is_inside memory address count returns_bytes = elim (cases_Bool (is_inside memory address count)) [
   | inl inside ↦ inside
   | inr outside ↦
@@ -149,7 +150,8 @@ module _ (first_slot second_slot : ℕ) (first_state second_state : HartState) (
 
   -- loads and stores of the second hart are in the mode of the first hart
   second_data_mode : data_mode second_state.hart ≡ first_state.hart.mode
-  second_data_mode = let mprv_is_0 = view_invariant_two.hart.layout.mprv in let mode = modes_equal in rw mprv_is_0 (sym mode)
+  second_data_mode =
+      let mprv_is_0 = view_invariant_two.hart.layout.mprv in let mode = modes_equal in rw mprv_is_0 (sym mode)
 
   -- fetches, loads and stores of both machines have the same results
   same_access_results : SameAccess (bare_machine (view_of first_state first_shared)) (bare_machine (view_of second_state second_shared))
@@ -172,7 +174,7 @@ module _ (first_slot second_slot : ℕ) (first_state second_state : HartState) (
             (verdict second_entries mode Fetch (bytes_from pc (bytes_in Word))) number_of_bytes _
             (λ some_read. same_permissions mode Fetch pc Word first_below_m (read_is_inside first_shared.memory pc (bytes_in Word) some_read))
             ∙ ap (λ (memory : List ℕ). given (fetched memory second_entries mode pc)) alike.memory
-            ∙ ap₂ (λ (o : Mode) (first_view : ℕ). given (fetched second_shared.memory second_entries o first_view)) modes_equal pcs_equal;
+            ∙ ap₂ (λ (mode : Mode) (pc : ℕ). given (fetched second_shared.memory second_entries mode pc)) modes_equal pcs_equal;
         loaded = λ address width.
             ap (λ (mode : Mode). given (loaded first_shared.memory first_entries mode address width)) first_data_mode
             ∙ same_value_if_verdicts_agree (read first_shared.memory address (bytes_in width))
@@ -189,7 +191,7 @@ module _ (first_slot second_slot : ℕ) (first_state second_state : HartState) (
             (verdict first_entries mode Write (bytes_from address (bytes_in width)))
             (verdict second_entries mode Write (bytes_from address (bytes_in width))) (λ after. after) _
             (λ some_write. same_permissions mode Write address width first_below_m
-            (ap (λ (n : ℕ). is_inside first_shared.memory address n) (sym (length-bytes_of width value))
+            (ap (λ (count : ℕ). is_inside first_shared.memory address count) (sym (length-bytes_of width value))
             ∙ write_is_inside first_shared.memory address bytes some_write))
             ∙ ap (λ (memory : List ℕ). given (stored memory second_entries mode address width value)) alike.memory
             ∙ ap (λ (mode : Mode). given (stored second_shared.memory second_entries mode address width value)) (sym second_data_mode);
@@ -227,7 +229,8 @@ module _ (first_slot second_slot : ℕ) (first_state second_state : HartState) (
 record StepAlike (first_slot second_slot : ℕ) (first_step second_step : HartViewStepped) : Type 0 where
   outcome : first_step.outcome ≡ second_step.outcome
   hosts : is_host first_step.state.hart_state.world ≡ is_host second_step.state.hart_state.world
-  runs : is_host first_step.state.hart_state.world ≡ false → Alike first_slot second_slot first_step.state second_step.state
+  runs : is_host first_step.state.hart_state.world ≡ false
+      → Alike first_slot second_slot first_step.state second_step.state
 
 -- ---- the trap handler
 
@@ -270,7 +273,8 @@ module _ (first_slot second_slot : ℕ) (hart : Hart) (m_csrs : CsrState) (pc : 
 
   -- the returns from two results of the trap handler are alike
   abbrev ResultsAlike : Handled → Handled → Type 0
-  ResultsAlike result other_result = StepAlike first_slot second_slot (returned step_outcome result) (returned step_outcome other_result)
+  ResultsAlike result other_result =
+      StepAlike first_slot second_slot (returned step_outcome result) (returned step_outcome other_result)
 
   -- a return to the caller is alike for both enclaves
   returns_alike : (shared other_shared : Shared) (status result : ℕ) → shared.memory ≡ other_shared.memory
@@ -279,7 +283,8 @@ module _ (first_slot second_slot : ℕ) (hart : Hart) (m_csrs : CsrState) (pc : 
   returns_alike shared other_shared status result memories_after_equal records_after_equal = record {
     outcome = refl;
     hosts = refl;
-    runs = λ runs_after. record { first = refl; second = refl; hart = rw mprv refl; slot = records_after_equal; memory = memories_after_equal };
+    runs =
+        λ runs_after. record { first = refl; second = refl; hart = rw mprv refl; slot = records_after_equal; memory = memories_after_equal };
   }
 
   -- a measure is alike for both enclaves
@@ -287,7 +292,7 @@ module _ (first_slot second_slot : ℕ) (hart : Hart) (m_csrs : CsrState) (pc : 
   unfolding performed measured
   measure_alike =
       returns_alike (measured first_shared first_slot (a1 first_at_trap)) (measured second_shared second_slot (a1 first_at_trap)) _ _
-      (ap₂ (λ (m : List ℕ) (maybe_info : Option SlotInfo). with_bytes_at m (a1 first_at_trap)
+      (ap₂ (λ (memory : List ℕ) (maybe_info : Option SlotInfo). with_bytes_at memory (a1 first_at_trap)
       (option_case maybe_info [] (λ info. info.measurement))) memories_equal records_equal) records_equal
 
   -- a measure has the same refusals for both enclaves
@@ -302,7 +307,8 @@ module _ (first_slot second_slot : ℕ) (hart : Hart) (m_csrs : CsrState) (pc : 
       → ResultsAlike (option_case maybe_refusal result (refused first_at_trap first_shared))
       (option_case maybe_refusal other_result (refused second_at_trap second_shared))
   refusal_alike None result other_result alike = alike
-  refusal_alike (Some refusal) result other_result alike = returns_alike first_shared second_shared (status_of refusal) 0 memories_equal records_equal
+  refusal_alike (Some refusal) result other_result alike =
+      returns_alike first_shared second_shared (status_of refusal) 0 memories_equal records_equal
 
   -- each call that is offered to an enclave is alike for both enclaves
   call_alike : (call : Call) → is_offered (Enclave first_slot) call ≡ true
@@ -321,8 +327,10 @@ module _ (first_slot second_slot : ℕ) (hart : Hart) (m_csrs : CsrState) (pc : 
   requested_call_alike : (maybe_call : Option Call) → requested_call (Enclave first_slot) hart.regs ≡ maybe_call
       → ResultsAlike (option_case maybe_call (refused first_at_trap first_shared NotSupported) (called first_at_trap first_shared))
       (option_case maybe_call (refused second_at_trap second_shared NotSupported) (called second_at_trap second_shared))
-  requested_call_alike None requested = returns_alike first_shared second_shared (status_of NotSupported) 0 memories_equal records_equal
-  requested_call_alike (Some call) requested = call_alike call (requested-is_offered (Enclave first_slot) hart.regs call requested).1
+  requested_call_alike None requested =
+      returns_alike first_shared second_shared (status_of NotSupported) 0 memories_equal records_equal
+  requested_call_alike (Some call) requested =
+      call_alike call (requested-is_offered (Enclave first_slot) hart.regs call requested).1
 
   -- both enclaves request the same call
   same_request : requested_call (Enclave first_slot) hart.regs ≡ requested_call (Enclave second_slot) hart.regs
@@ -334,15 +342,16 @@ module _ (first_slot second_slot : ℕ) (hart : Hart) (m_csrs : CsrState) (pc : 
       → ResultsAlike (handled_exception first_at_trap first_shared trap exception) (handled_exception second_at_trap second_shared trap exception)
   unfolding call_handled with_redirected_trap
   exception_alike trap EnvironmentCallFromS =
-      let P : Option Call → Type 0 = λ maybe_call.
+      let ResultsAlikeFor : Option Call → Type 0 = λ maybe_call.
       ResultsAlike (option_case (requested_call (Enclave first_slot) hart.regs) (refused first_at_trap first_shared NotSupported)
       (called first_at_trap first_shared))
       (option_case maybe_call (refused second_at_trap second_shared NotSupported) (called second_at_trap second_shared)) in
-      subst P same_request (requested_call_alike (requested_call (Enclave first_slot) hart.regs) refl)
+      subst ResultsAlikeFor same_request (requested_call_alike (requested_call (Enclave first_slot) hart.regs) refl)
   exception_alike trap _ = record {
     outcome = refl;
     hosts = refl;
-    runs = λ runs_after. record { first = refl; second = refl; hart = rw mprv refl; slot = records_equal; memory = memories_equal };
+    runs =
+        λ runs_after. record { first = refl; second = refl; hart = rw mprv refl; slot = records_equal; memory = memories_equal };
   }
 
   -- the trap handler handles each cause alike for both enclaves
@@ -393,14 +402,16 @@ module _ (first_slot second_slot : ℕ) (first_state second_state : HartState) (
     (alike : Alike first_slot second_slot (view_of first_state first_shared) (view_of second_state second_shared)) where
   -- the bare steps are equal, as S and U see them
   abbrev bare : SameBelowM (step (bare_machine (view_of first_state first_shared))) (step (bare_machine (view_of second_state second_shared)))
-  bare = bare_steps_alike first_slot second_slot first_state second_state first_shared second_shared view_invariant_one view_invariant_two alike
+  bare =
+      bare_steps_alike first_slot second_slot first_state second_state first_shared second_shared view_invariant_one view_invariant_two alike
 
   -- the second hart is the first one with the parts of M-mode from the second
   second_is_first_with_m_parts : with_m_parts_of second_state.hart first_state.hart ≡ second_state.hart
   second_is_first_with_m_parts = ap (with_m_parts_of second_state.hart) alike.hart
 
   -- the second hart at the trap is the first one at the trap, with the parts of M-mode from the second
-  second_hart_after_trap : (trap : Trap) → hart_after second_state.hart trap ≡ with_m_parts (hart_after second_state.hart trap).csrs
+  second_hart_after_trap : (trap : Trap)
+      → hart_after second_state.hart trap ≡ with_m_parts (hart_after second_state.hart trap).csrs
       (hart_after second_state.hart trap).pc (hart_after first_state.hart trap)
   second_hart_after_trap trap =
       let with_m_parts_at_trap : Hart → Hart =
@@ -415,7 +426,8 @@ module _ (first_slot second_slot : ℕ) (first_state second_state : HartState) (
       (view_after_trap (view_of second_state second_shared) trap)
   trapped_alike trap =
       let bare_outcome = (step (bare_machine (view_of first_state first_shared))).outcome in
-      let state_with : Option Context → Hart → World → HartState = λ host hart world. record { hart = hart; host_context = host; world = world } in
+      let state_with : Option Context → Hart → World → HartState =
+      λ host hart world. record { hart = hart; host_context = host; world = world } in
       -- the first hart at the trap
       let first : hart_state_after first_state trap ≡ running first_slot first_state.host_context (hart_after first_state.hart trap) =
       ap (state_with first_state.host_context (hart_after first_state.hart trap)) alike.first in
@@ -444,9 +456,11 @@ module _ (first_slot second_slot : ℕ) (first_state second_state : HartState) (
       → StepAlike first_slot second_slot (view_without_trap (view_of first_state first_shared))
       (view_without_trap (view_of second_state second_shared))
   untrapped_alike no_trap = record {
-    outcome = ap (λ (outcome : StepOutcome). let monitored : Outcome = record { step = outcome; entered = None } in monitored) bare.outcome;
+    outcome =
+        ap (λ (outcome : StepOutcome). let monitored : Outcome = record { step = outcome; entered = None } in monitored) bare.outcome;
     hosts = ap is_host alike.first ∙ sym (ap is_host alike.second);
-    runs = λ runs_after. record { first = alike.first; second = alike.second; hart = bare.hart no_trap; slot = alike.slot; memory = bare.memory };
+    runs =
+        λ runs_after. record { first = alike.first; second = alike.second; hart = bare.hart no_trap; slot = alike.slot; memory = bare.memory };
   }
 
   -- the steps of both views are alike
@@ -488,7 +502,8 @@ pub record HasExited (place : Place) (cause : Cause) (before after : MonitoredMa
 
 -- after a trap of an enclave after which the host runs, the enclave has exited
 pub exited : (place : Place) (machine : MonitoredMachine) (trap : Trap) → Invariant machine → runs_at place machine ≡ true
-    → (step_at place machine).outcome.step.trap ≡ Some trap → (hart_state_of place.hart (step_at place machine).state).world ≡ Host
+    → (step_at place machine).outcome.step.trap ≡ Some trap
+    → (hart_state_of place.hart (step_at place machine).state).world ≡ Host
     → (saved_host : Option Context) → (hart_state_of place.hart machine).host_context ≡ saved_host
     → HasExited place trap.cause machine (step_at place machine).state
 -- a hart that runs an enclave has a saved context of the host
@@ -496,7 +511,8 @@ exited place machine trap invariant runs trapped host_runs_after None host_conte
     let in_range = running_hart_in_range place.slot place.hart machine runs in
     let world = world_is_enclave place.slot (hart_state_of place.hart machine).world runs in
     let contradiction : false ≡ true =
-    ap (λ (maybe_context : Option Context). is_some maybe_context) (sym host_context_is) ∙ (invariant.hart_states place.hart in_range).host.kept
+    ap (λ (maybe_context : Option Context). is_some maybe_context) (sym host_context_is)
+    ∙ (invariant.hart_states place.hart in_range).host.kept
     ∙ ap (λ (world : World). not (is_host world)) world in
     absurd (false≢true contradiction)
 -- the machine after the step is the machine that `leave_law` gives
@@ -509,7 +525,8 @@ exited place machine trap invariant runs trapped host_runs_after (Some host) hos
     let after = enclave_state_after trap.cause hart.regs in
     let count = invariant.shared.valid.count in
     let contexts = invariant.shared.contexts.count in
-    let left = (leave_law place.hart machine invariant place.slot host trap world host_context_is trapped host_runs_after).0 in
+    let left =
+    (leave_law place.hart machine invariant place.slot host trap world host_context_is trapped host_runs_after).0 in
     let hart_state_is = left_hart_state place.hart machine place.slot trap host in_range in
     let live = running_is_live place.slot place.hart machine invariant runs in
     let slot_in_range = live_slot_in_range table place.slot slot count refl live in
@@ -520,7 +537,8 @@ exited place machine trap invariant runs trapped host_runs_after (Some host) hos
         regs = ap (λ (hart_state : HartState). hart_state.hart.regs) hart_state_is;
       };
       slot = slot_with_new_state table place.slot slot after count refl;
-      context = at_written_slot machine.shared.contexts place.slot (Some (saved_after trap.cause hart)) (omega (arith, slot_in_range, contexts));
+      context =
+          at_written_slot machine.shared.contexts place.slot (Some (saved_after trap.cause hart)) (omega (arith, slot_in_range, contexts));
       memory = refl;
       extent = new_state_keeps_extent table place.slot slot after count refl;
     })
@@ -533,7 +551,8 @@ exit_saves_no_m_parts (causes.Exception exception) hart = refl
 -- ---- the step of the machine
 
 -- two slots with equal records have the same bytes beyond their region and window
-same_bytes_beyond : (table other_table : Slots) (slot other_slot byte : ℕ) → slot_at table slot ≡ slot_at other_table other_slot
+same_bytes_beyond : (table other_table : Slots) (slot other_slot byte : ℕ)
+    → slot_at table slot ≡ slot_at other_table other_slot
     → is_beyond table slot byte ≡ is_beyond other_table other_slot byte
 same_bytes_beyond table other_table slot other_slot byte same_slot =
     ap (λ (maybe_info : Option SlotInfo). not (has (region_of maybe_info) byte || has (window_of maybe_info) byte)) same_slot
@@ -603,7 +622,8 @@ module _ (place other_place : Place) (one other : MonitoredMachine) (invariant_o
   -- the steps of both machines have equal outcomes
   same_outcome : (step_at place one).outcome ≡ (step_at other_place other).outcome
   same_outcome =
-      ap (λ (stepped : HartViewStepped). stepped.outcome) (step_of_view place.hart one has_one) ∙ first_steps_alike.outcome ∙ own_steps_alike.outcome
+      ap (λ (stepped : HartViewStepped). stepped.outcome) (step_of_view place.hart one has_one)
+      ∙ first_steps_alike.outcome ∙ own_steps_alike.outcome
       ∙ sym (ap (λ (stepped : HartViewStepped). stepped.outcome) (step_of_view other_place.hart other has_other))
 
   -- if the first enclave still runs after the step, then both enclaves have the same state after the step
@@ -613,9 +633,11 @@ module _ (place other_place : Place) (one other : MonitoredMachine) (invariant_o
       let after_one = (monitored_step (hart_view place.hart one)).state in
       let after_mixed = (monitored_step (hart_view other_place.hart mixed)).state in
       let shared_one = ap (λ (stepped : HartViewStepped). stepped.state.shared) (step_of_view place.hart one has_one) in
-      let shared_other = ap (λ (stepped : HartViewStepped). stepped.state.shared) (step_of_view other_place.hart other has_other) in
+      let shared_other =
+      ap (λ (stepped : HartViewStepped). stepped.state.shared) (step_of_view other_place.hart other has_other) in
       -- the first machine and the mixed machine are alike after the step, because the enclave still runs
-      let alike = first_steps_alike.runs (sym (ap (λ (hart_state : HartState). is_host hart_state.world) first_state_of_view)
+      let alike =
+      first_steps_alike.runs (sym (ap (λ (hart_state : HartState). is_host hart_state.world) first_state_of_view)
       ∙ enclave_world_is_not_host place.slot (hart_state_of place.hart (step_at place one).state).world runs_after) in
       -- bytes within the region and the window are equal in the first, the mixed and the second machine
       let bytes : EqualOutside (is_beyond after_one.shared.table place.slot) after_one.shared.memory
@@ -650,16 +672,19 @@ module _ (place other_place : Place) (one other : MonitoredMachine) (invariant_o
       }
 
   -- if the first enclave does not run after the step, then its hart runs the host
-  first_runs_host : runs_at place (step_at place one).state ≡ false → (hart_state_of place.hart (step_at place one).state).world ≡ Host
-  first_runs_host not_running = elim (cases_Bool (is_host (monitored_step (hart_view place.hart one)).state.hart_state.world)) [
-    | inl host_runs_after ↦ world_is_host _ (ap (λ (hart_state : HartState). is_host hart_state.world) first_state_of_view ∙ host_runs_after)
-    | inr enclave_runs_after ↦
-        let runs =
-        ap (λ (hart_state : HartState). is_world_of place.slot hart_state.world) first_state_of_view
-        ∙ ap (is_world_of place.slot) (first_steps_alike.runs enclave_runs_after).first
-        ∙ eq-eqb place.slot place.slot refl in
-        absurd (both_ways _ not_running runs)
-  ]
+  first_runs_host : runs_at place (step_at place one).state ≡ false
+      → (hart_state_of place.hart (step_at place one).state).world ≡ Host
+  first_runs_host not_running =
+      elim (cases_Bool (is_host (monitored_step (hart_view place.hart one)).state.hart_state.world)) [
+        | inl host_runs_after ↦
+            world_is_host _ (ap (λ (hart_state : HartState). is_host hart_state.world) first_state_of_view ∙ host_runs_after)
+        | inr enclave_runs_after ↦
+            let runs =
+            ap (λ (hart_state : HartState). is_world_of place.slot hart_state.world) first_state_of_view
+            ∙ ap (is_world_of place.slot) (first_steps_alike.runs enclave_runs_after).first
+            ∙ eq-eqb place.slot place.slot refl in
+            absurd (both_ways _ not_running runs)
+      ]
 
   -- if the hart of the first enclave runs the host after the step, then so does the hart of the second enclave
   second_runs_host : (hart_state_of place.hart (step_at place one).state).world ≡ Host
@@ -687,7 +712,8 @@ module _ (place other_place : Place) (one other : MonitoredMachine) (invariant_o
       let hart_other = (hart_state_of other_place.hart other).hart in
       let regs : hart_one.regs ≡ hart_other.regs = ap (λ (hart : Hart). hart.regs) same_enclave.hart in
       let saved_contexts_equal =
-      sym (exit_saves_no_m_parts cause hart_one) ∙ ap (saved_after cause) same_enclave.hart ∙ exit_saves_no_m_parts cause hart_other in
+      sym (exit_saves_no_m_parts cause hart_one) ∙ ap (saved_after cause) same_enclave.hart
+      ∙ exit_saves_no_m_parts cause hart_other in
       let some_context : Context → Option Context = λ context. Some context in
       -- the cause of the trap and the registers of the first enclave determine what both enclaves hand over
       record {
@@ -721,11 +747,13 @@ module _ (place other_place : Place) (one other : MonitoredMachine) (invariant_o
   pub enclave_step : SameEnclaveStep place other_place (step_at place one) (step_at other_place other)
   enclave_step = record {
     outcome = same_outcome;
-    state = record { runs = still_runs; exits = λ not_running. exits_alike (step_at place one).outcome.step.trap refl (first_runs_host not_running) };
+    state =
+        record { runs = still_runs; exits = λ not_running. exits_alike (step_at place one).outcome.step.trap refl (first_runs_host not_running) };
   }
 
 -- proves that a step of an enclave depends only on the state of the enclave
-pub enclave_step_law : (hart : ℕ) (machine : MonitoredMachine) → Invariant machine → DependsOnEnclave hart machine (step_of hart machine)
+pub enclave_step_law : (hart : ℕ) (machine : MonitoredMachine) → Invariant machine
+    → DependsOnEnclave hart machine (step_of hart machine)
 enclave_step_law hart machine invariant slot other_place other invariant_other same_enclave =
     enclave_step (record { slot = slot; hart = hart }) other_place machine other invariant invariant_other same_enclave
 
@@ -737,7 +765,8 @@ pub enclave_run_law : EnclaveRunLaw
 enclave_run_law place other_place zero one other _ _ same_enclave are_high_steps =
     record {
       outcomes = refl;
-      state = record { runs = λ runs. same_enclave; exits = λ not_running. absurd (both_ways _ not_running same_enclave.first) };
+      state =
+          record { runs = λ runs. same_enclave; exits = λ not_running. absurd (both_ways _ not_running same_enclave.first) };
     }
 -- one step: `enclave_step`
 enclave_run_law place other_place (suc zero) one other invariant_one invariant_other same_enclave are_high_steps =
@@ -752,6 +781,7 @@ enclave_run_law place other_place (suc (suc count)) one other invariant_one inva
     (invariant_law other_place.hart other invariant_other)
     (step.state.runs are_high_steps.1.0) are_high_steps.1 in
     record {
-      outcomes = ap₂ (λ (outcome : Outcome) (outcomes : List Outcome). outcome ∷ outcomes) step.outcome remaining.outcomes;
+      outcomes =
+          ap₂ (λ (outcome : Outcome) (outcomes : List Outcome). outcome ∷ outcomes) step.outcome remaining.outcomes;
       state = remaining.state;
     }

@@ -75,7 +75,8 @@ module _ (before : HartView) (slot : ℕ) (context : Context) (from_host : befor
       rw (a0_is_slot, has_context, aligned, or-false (is_set before.hart_state.hart.csrs.mcountinhibit 0), mprv) (refl, refl)
 
   -- if an entry leaves the hart in `slot`, then a0 names `slot`
-  a0_names_slot : (result : Handled) → result ≡ with_reprogrammed_hart entry_result → result.hart_state.world ≡ Enclave slot → a0 hart_state ≡ slot
+  a0_names_slot : (result : Handled) → result ≡ with_reprogrammed_hart entry_result
+      → result.hart_state.world ≡ Enclave slot → a0 hart_state ≡ slot
   unfolding entered_slot
   a0_names_slot result is_entry_result enclave_runs_after =
       let worlds_equal : Enclave (a0 hart_state) ≡ Enclave slot =
@@ -83,8 +84,9 @@ module _ (before : HartView) (slot : ℕ) (context : Context) (from_host : befor
       let slots_equal : a0 hart_state ≡ slot = cc in
       slots_equal
 
-  -- if the result of the trap handler is in `slot`, then the return from it gives the view after the entry
-  entry_if_in_slot : (outcome : StepOutcome) (result : Handled) → HartViewInvariant before → can_go_on context ≡ true → HostOrEntry result
+  -- if the result of the trap handler is in `slot`, then the return from the trap handler gives the view after the entry
+  entry_if_in_slot : (outcome : StepOutcome) (result : Handled) → HartViewInvariant before
+      → can_go_on context ≡ true → HostOrEntry result
       → result.hart_state.world ≡ Enclave slot
       → IsEntryStep (returned outcome result)
   entry_if_in_slot outcome result view_invariant can_continue (inl host_stays) enclave_runs_after =
@@ -94,11 +96,13 @@ module _ (before : HartView) (slot : ℕ) (context : Context) (from_host : befor
       (returned_entered outcome view_invariant can_continue (a0_names_slot result is_entry enclave_runs_after))
 
   -- a step with a trap after which the hart is in `slot` is an entry of `slot`
-  step_is_entry : HartViewInvariant before → can_go_on context ≡ true → (monitored_step before).outcome.step.trap ≡ Some trap
+  step_is_entry : HartViewInvariant before → can_go_on context ≡ true
+      → (monitored_step before).outcome.step.trap ≡ Some trap
       → (monitored_step before).state.hart_state.world ≡ Enclave slot → IsEntryStep (monitored_step before)
   step_is_entry view_invariant can_continue trapped enclave_runs_after =
       let step_is = trapped_step before trap trapped in
-      let handled_enclave = subst (λ (after : HartViewStepped). after.state.hart_state.world ≡ Enclave slot) step_is enclave_runs_after in
+      let handled_enclave =
+      subst (λ (after : HartViewStepped). after.state.hart_state.world ≡ Enclave slot) step_is enclave_runs_after in
       subst IsEntryStep (sym step_is)
       (entry_if_in_slot (step (bare_machine before)).outcome _ view_invariant can_continue handled_host_or_entry handled_enclave)
 
@@ -106,16 +110,20 @@ module _ (before : HartView) (slot : ℕ) (context : Context) (from_host : befor
 
 -- The host has a trap. The saved contexts agree with the table.
 module _ (before : HartView) (saves : SavedContextsInvariant before.shared) (runs : before.hart_state.world ≡ Host) (trap : Trap) where
-  -- each slot that runs after the trap handler had a saved context before it
+  -- each slot that runs after the trap handler had a saved context before the trap handler
   abbrev HadContext : Handled → Type 0
-  HadContext result = (slot : ℕ) → result.hart_state.world ≡ Enclave slot → is_some (context_at before.shared.contexts slot) ≡ true
+  HadContext result =
+      (slot : ℕ) → result.hart_state.world ≡ Enclave slot → is_some (context_at before.shared.contexts slot) ≡ true
 
   -- the host is not an enclave, so nothing is to show for a result in which the host runs
-  no_entry : (world : World) → world ≡ Host → (slot : ℕ) → world ≡ Enclave slot → is_some (context_at before.shared.contexts slot) ≡ true
-  no_entry world from_host slot enclave_runs_after = let contradiction : Host ≡ Enclave slot = sym from_host ∙ enclave_runs_after in cc
+  no_entry : (world : World) → world ≡ Host → (slot : ℕ) → world ≡ Enclave slot
+      → is_some (context_at before.shared.contexts slot) ≡ true
+  no_entry world from_host slot enclave_runs_after =
+      let contradiction : Host ≡ Enclave slot = sym from_host ∙ enclave_runs_after in cc
 
   -- a slot with an enclave in a state that the call accepts has a saved context
-  accepted_slot_has_context : (call : Call) (named_slot : ℕ) → SlotIsAccepted before.shared.table call named_slot → (slot : ℕ)
+  accepted_slot_has_context : (call : Call) (named_slot : ℕ)
+      → SlotIsAccepted before.shared.table call named_slot → (slot : ℕ)
       → Enclave named_slot ≡ Enclave slot
       → is_some (context_at before.shared.contexts slot) ≡ true
   accepted_slot_has_context call named_slot slot_accepted slot same_enclave =
@@ -139,7 +147,8 @@ module _ (before : HartView) (saves : SavedContextsInvariant before.shared) (run
   })
 
   -- the slot that a step enters had a saved context before the step
-  had_context : (monitored_step before).outcome.step.trap ≡ Some trap → (slot : ℕ) → (monitored_step before).state.hart_state.world ≡ Enclave slot
+  had_context : (monitored_step before).outcome.step.trap ≡ Some trap → (slot : ℕ)
+      → (monitored_step before).state.hart_state.world ≡ Enclave slot
       → is_some (context_at before.shared.contexts slot) ≡ true
   had_context trapped slot enclave_runs_after =
       handled_had_context slot
@@ -150,13 +159,15 @@ module _ (before : HartView) (saves : SavedContextsInvariant before.shared) (run
 -- a step of the host after which the hart is in `slot` leaves the machine after an entry by a call
 enters_from : (hart : ℕ) (machine : MonitoredMachine) → Invariant machine → (slot : ℕ) (context : Context) (trap : Trap)
     → (hart_state_of hart machine).world ≡ Host → context_at machine.shared.contexts slot ≡ Some context
-    → (step_of hart machine).outcome.step.trap ≡ Some trap → (hart_state_of hart (step_of hart machine).state).world ≡ Enclave slot
+    → (step_of hart machine).outcome.step.trap ≡ Some trap
+    → (hart_state_of hart (step_of hart machine).state).world ≡ Enclave slot
     → ((step_of hart machine).state ≡ entered_by_call hart machine slot trap context) × ((step_of hart machine).outcome.entered ≡ Some slot)
 enters_from hart machine invariant slot context trap from_host has_context trapped enclave_runs_after =
     let trapping = is_trapping hart machine trap trapped in
     let view_ends_in_slot =
     sym (ap (λ (after : HartViewStepped). after.state.hart_state.world) (step_of_view hart machine trapping.has)) ∙ enclave_runs_after in
-    let CanGoOnIfSome : Option Context → Type 0 = λ maybe_context. IfSome maybe_context (λ some_context. can_go_on some_context ≡ true) in
+    let CanGoOnIfSome : Option Context → Type 0 =
+    λ maybe_context. IfSome maybe_context (λ some_context. can_go_on some_context ≡ true) in
     let can_continue : can_go_on context ≡ true = subst CanGoOnIfSome has_context (invariant.shared.contexts.held slot) in
     let view_enters =
     step_is_entry (hart_view hart machine) slot context from_host has_context trap
@@ -167,7 +178,8 @@ enters_from hart machine invariant slot context trap from_host has_context trapp
 module _ (hart slot : ℕ) (machine : MonitoredMachine) (invariant : Invariant machine) (from_host : (hart_state_of hart machine).world ≡ Host)
     (enclave_runs_after : (hart_state_of hart (step_of hart machine).state).world ≡ Enclave slot) where
   -- the step of the hart's view ends in `slot`
-  view_ends_in_slot : hart < count_of machine → (monitored_step (hart_view hart machine)).state.hart_state.world ≡ Enclave slot
+  view_ends_in_slot : hart < count_of machine
+      → (monitored_step (hart_view hart machine)).state.hart_state.world ≡ Enclave slot
   view_ends_in_slot in_range =
       sym (ap (λ (after : HartViewStepped). after.state.hart_state.world) (step_of_view hart machine in_range)) ∙ enclave_runs_after
 
@@ -184,16 +196,19 @@ module _ (hart slot : ℕ) (machine : MonitoredMachine) (invariant : Invariant m
   ]
 
   -- a step with a trap that ends in `slot` enters `slot` with the saved context of `slot`
-  entry_with_context : (trap : Trap) → (step_of hart machine).outcome.step.trap ≡ Some trap → (maybe_context : Option Context)
+  entry_with_context : (trap : Trap) → (step_of hart machine).outcome.step.trap ≡ Some trap
+      → (maybe_context : Option Context)
       → context_at machine.shared.contexts slot ≡ maybe_context → HasEntered hart slot machine (step_of hart machine)
   entry_with_context trap trapped None no_context =
       let trapping = is_trapping hart machine trap trapped in
       let slot_has_context =
       had_context (hart_view hart machine) invariant.shared.contexts from_host trap trapping.trapped slot (view_ends_in_slot trapping.has) in
-      let contradiction : false ≡ true = ap (λ (maybe_context : Option Context). is_some maybe_context) (sym no_context) ∙ slot_has_context in
+      let contradiction : false ≡ true =
+      ap (λ (maybe_context : Option Context). is_some maybe_context) (sym no_context) ∙ slot_has_context in
       cc
   entry_with_context trap trapped (Some context) has_context =
-      let entry_is = enters_from hart machine invariant slot context trap from_host has_context trapped enclave_runs_after in
+      let entry_is =
+      enters_from hart machine invariant slot context trap from_host has_context trapped enclave_runs_after in
       record { trap = trap; trapped = trapped; call = record { context = context; kept = has_context; state = entry_is.0; entered = entry_is.1 } }
 
   -- a step that ends in `slot` has a trap, and enters `slot` with its saved context
@@ -203,6 +218,7 @@ module _ (hart slot : ℕ) (machine : MonitoredMachine) (invariant : Invariant m
   entry_by_trap (Some trap) trapped = entry_with_context trap trapped (context_at machine.shared.contexts slot) refl
 
 -- proves that a hart which enters an enclave continues with exactly the saved context of this enclave
-pub enter_law : (hart : ℕ) (machine : MonitoredMachine) → Invariant machine → EntersOnly hart machine (step_of hart machine)
+pub enter_law : (hart : ℕ) (machine : MonitoredMachine) → Invariant machine
+    → EntersOnly hart machine (step_of hart machine)
 enter_law hart machine invariant slot from_host enclave_runs_after =
     entry_by_trap hart slot machine invariant from_host enclave_runs_after (step_of hart machine).outcome.step.trap refl

@@ -14,22 +14,27 @@ free_has_none : (slot : ℕ) (machine : MonitoredMachine) → Invariant machine 
 free_has_none slot machine invariant slot_is_free = invariant.shared.contexts.kept slot ∙ ap is_held slot_is_free
 
 -- no step of the host that obeys the law of the entry enters a slot that is free before the step
-pub never_enters_new : (hart slot : ℕ) (before : MonitoredMachine) (after : MonitoredStepped) → Invariant before → EntersOnly hart before after
-    → slot_at before.shared.table slot ≡ None → (hart_state_of hart before).world ≡ Host → (hart_state_of hart after.state).world ≡ Enclave slot → ⊥
+pub never_enters_new : (hart slot : ℕ) (before : MonitoredMachine) (after : MonitoredStepped) → Invariant before
+    → EntersOnly hart before after
+    → slot_at before.shared.table slot ≡ None → (hart_state_of hart before).world ≡ Host
+    → (hart_state_of hart after.state).world ≡ Enclave slot → ⊥
 never_enters_new hart slot before after invariant_before enters_only slot_is_free from_host enclave_runs_after =
     let entry = enters_only slot from_host enclave_runs_after in
     let contradiction : false ≡ true =
-    sym (free_has_none slot before invariant_before slot_is_free) ∙ ap (λ (maybe_context : Option Context). is_some maybe_context) entry.call.kept in
+    sym (free_has_none slot before invariant_before slot_is_free)
+    ∙ ap (λ (maybe_context : Option Context). is_some maybe_context) entry.call.kept in
     cc
 
 -- no step that obeys the law of a new enclave leaves this enclave with the state Running
 pub never_runs_new : (slot : ℕ) (info : SlotInfo) (before : MonitoredMachine) (after : MonitoredStepped) → KeepsAsCreated before after
-    → slot_at before.shared.table slot ≡ None → slot_at after.state.shared.table slot ≡ Some info → info.state ≡ Running → ⊥
+    → slot_at before.shared.table slot ≡ None
+    → slot_at after.state.shared.table slot ≡ Some info → info.state ≡ Running → ⊥
 never_runs_new slot info before after as_created slot_is_free slot_is runs =
     let new_enclave =
     as_created.creates slot (ap (λ (maybe_info : Option SlotInfo). is_some maybe_info) slot_is_free)
     (ap (λ (maybe_info : Option SlotInfo). is_some maybe_info) slot_is) in
     let some_infos_equal : Some new_enclave.info ≡ Some info = sym new_enclave.is ∙ slot_is in
     let infos_equal : new_enclave.info ≡ info = cc in
-    let contradiction : Fresh ≡ Running = sym new_enclave.fresh ∙ ap (λ (info : SlotInfo). info.state) infos_equal ∙ runs in
+    let contradiction : Fresh ≡ Running =
+    sym new_enclave.fresh ∙ ap (λ (info : SlotInfo). info.state) infos_equal ∙ runs in
     cc

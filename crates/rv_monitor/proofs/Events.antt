@@ -21,25 +21,29 @@ use Rattle.rv_monitor.proofs.SchedNoninterference.{entry_law}
 -- ---- the invariant
 
 -- a change of a timer line preserves the invariant
-pub line_invariant : (hart : ℕ) (raised : Bool) (machine : MonitoredMachine) → Invariant machine → Invariant (with_timer hart machine raised)
+pub line_invariant : (hart : ℕ) (raised : Bool) (machine : MonitoredMachine) → Invariant machine
+    → Invariant (with_timer hart machine raised)
 line_invariant hart raised machine = written_invariant hart (hart_state_of hart machine).hart.regs raised machine
 
 -- every event preserves the invariant
-pub event_invariant : (event : Event) (machine : MonitoredMachine) → Invariant machine → Invariant (event_of event machine).state
+pub event_invariant : (event : Event) (machine : MonitoredMachine) → Invariant machine
+    → Invariant (event_of event machine).state
 event_invariant (StepOf hart) machine invariant = invariant_law hart machine invariant
 event_invariant (LineOf hart raised) machine invariant = line_invariant hart raised machine invariant
 
 -- proves that every list of events preserves the invariant
 pub events_invariant : EventInvariantLaw
 events_invariant [] machine invariant = invariant
-events_invariant (event ∷ events) machine invariant = events_invariant events (event_of event machine).state (event_invariant event machine invariant)
+events_invariant (event ∷ events) machine invariant =
+    events_invariant events (event_of event machine).state (event_invariant event machine invariant)
 
 -- ---- noninterference
 
 -- the timer line of the same hart changes in two machines
 module _ (enclave hart : ℕ) (raised : Bool) (one other : MonitoredMachine) where
   -- the same change of a timer line leaves equivalent machines equivalent
-  line_equiv : EquivExcept enclave one other → EquivExcept enclave (with_timer hart one raised) (with_timer hart other raised)
+  line_equiv : EquivExcept enclave one other
+      → EquivExcept enclave (with_timer hart one raised) (with_timer hart other raised)
   line_equiv equiv =
       let first_changed = timer_line_set raised (hart_state_of hart one) in
       let second_changed = timer_line_set raised (hart_state_of hart other) in
@@ -47,7 +51,9 @@ module _ (enclave hart : ℕ) (raised : Bool) (one other : MonitoredMachine) whe
       let same_hart = equiv.hart_states hart in
       elim (cases_lt hart (count_of one)) [
         | inl in_range ↦ record {
-          harts = length-set one.hart_states hart first_changed ∙ same_harts ∙ sym (length-set other.hart_states hart second_changed);
+          harts =
+              length-set one.hart_states hart first_changed ∙ same_harts
+              ∙ sym (length-set other.hart_states hart second_changed);
           hart_states =
               hart_cases_of_both one.hart_states other.hart_states hart first_changed second_changed
               (λ some_hart first_state second_state. HartStatesEquivExcept enclave first_state second_state) same_harts in_range
@@ -64,12 +70,16 @@ module _ (enclave hart : ℕ) (raised : Bool) (one other : MonitoredMachine) whe
       ]
 
   -- the same change of a timer line leaves related machines related
-  pub line_related : AreRelated enclave one other → AreRelated enclave (with_timer hart one raised) (with_timer hart other raised)
-  line_related related = changed_related enclave hart (timer_line_set raised) (timer_line_set raised) one other related (record {
-    world = refl;
-    state = λ parts. record { world = parts.world; same = λ not_running. ap (timer_line_set raised) (parts.same not_running) };
-    host = λ parts. record { host = parts.host; rest = ap (λ (csrs : CsrState). record csrs { timer = raised }) parts.rest };
-  })
+  pub line_related : AreRelated enclave one other
+      → AreRelated enclave (with_timer hart one raised) (with_timer hart other raised)
+  line_related related =
+      changed_related enclave hart (timer_line_set raised) (timer_line_set raised) one other related (record {
+        world = refl;
+        state =
+            λ parts. record { world = parts.world; same = λ not_running. ap (timer_line_set raised) (parts.same not_running) };
+        host =
+            λ parts. record { host = parts.host; rest = ap (λ (csrs : CsrState). record csrs { timer = raised }) parts.rest };
+      })
 
 -- proves the noninterference law for events, by induction on the list
 pub event_law : EventLaw
@@ -82,7 +92,8 @@ event_law enclave (StepOf hart ∷ rest_events) one other invariant_one invarian
     (invariant_law hart other invariant_other)
     first_step.state low_steps.1 in
     record {
-      outcomes = ap₂ (λ (outcome : Outcome) (outcomes : List Outcome). outcome ∷ outcomes) first_step.outcome remaining.outcomes;
+      outcomes =
+          ap₂ (λ (outcome : Outcome) (outcomes : List Outcome). outcome ∷ outcomes) first_step.outcome remaining.outcomes;
       state = remaining.state;
     }
 -- a change of a timer line has no outcome and leaves equivalent machines
@@ -91,7 +102,8 @@ event_law enclave (LineOf hart raised ∷ rest_events) one other invariant_one i
     event_law enclave rest_events (with_timer hart one raised) (with_timer hart other raised) (line_invariant hart raised one invariant_one)
     (line_invariant hart raised other invariant_other) (line_equiv enclave hart raised one other equiv) low_steps.1 in
     record {
-      outcomes = ap (λ (outcomes : List Outcome). (event_of (LineOf hart raised) one).outcome ∷ outcomes) remaining.outcomes;
+      outcomes =
+          ap (λ (outcomes : List Outcome). (event_of (LineOf hart raised) one).outcome ∷ outcomes) remaining.outcomes;
       state = remaining.state;
     }
 
@@ -102,7 +114,8 @@ untouched_but_line_twice : (slot : ℕ) (before middle after : MonitoredMachine)
     → IsUntouchedButLine slot middle after
     → IsUntouchedButLine slot before after
 untouched_but_line_twice slot before middle after first_change second_change = record {
-  preserved = preserved_twice slot before.shared middle.shared after.shared first_change.preserved second_change.preserved;
+  preserved =
+      preserved_twice slot before.shared middle.shared after.shared first_change.preserved second_change.preserved;
   hart_state = λ hart runs.
       let middle_state_is = first_change.hart_state hart runs in
       second_change.hart_state hart (ap (λ (hart_state : HartState). is_world_of slot hart_state.world) middle_state_is ∙ runs)
@@ -122,7 +135,8 @@ line_change_leaves_untouched slot hart raised machine invariant = record {
 }
 
 -- an enclave that is untouched is untouched except for the timer line
-untouched_but_line : (slot : ℕ) (before after : MonitoredMachine) → IsUntouched slot before after → IsUntouchedButLine slot before after
+untouched_but_line : (slot : ℕ) (before after : MonitoredMachine) → IsUntouched slot before after
+    → IsUntouchedButLine slot before after
 untouched_but_line slot before after untouched =
     record { preserved = untouched.preserved; hart_state = λ hart runs. ap (timer_line_set false) (untouched.hart_state hart runs) }
 
@@ -164,7 +178,8 @@ line_worlds slot hart other_hart raised machine =
     (λ hart_state. refl) hart other_hart machine
 
 -- if no event of a list steps a hart that runs the enclave, then this also holds after a change of a timer line
-none_after_line : (slot hart : ℕ) (raised : Bool) (events : List Event) (machine : MonitoredMachine) → StepsNone slot events machine
+none_after_line : (slot hart : ℕ) (raised : Bool) (events : List Event) (machine : MonitoredMachine)
+    → StepsNone slot events machine
     → StepsNone slot events (with_timer hart machine raised)
 none_after_line slot hart raised [] machine steps_none = tt
 none_after_line slot hart raised (StepOf running_hart ∷ rest_events) machine steps_none =
@@ -183,7 +198,8 @@ none_after_step slot hart (LineOf running_hart is_raised ∷ rest_events) machin
 
 -- proves that events of other harts leave a running enclave undisturbed
 pub running_events : RunningEventLaw
-running_events slot running_hart [] machine invariant runs_on_hart steps_none = running_is_live slot running_hart machine invariant runs_on_hart
+running_events slot running_hart [] machine invariant runs_on_hart steps_none =
+    running_is_live slot running_hart machine invariant runs_on_hart
 -- a step of another hart neither enters nor destroys the enclave, and the enclave still runs on its hart
 running_events slot running_hart (StepOf hart ∷ rest_events) machine invariant runs_on_hart steps_none =
     let after = (step_of hart machine).state in

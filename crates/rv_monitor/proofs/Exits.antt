@@ -37,9 +37,11 @@ module _ (slot : ℕ) (hart_state : HartState) (shared : Shared) (runs_enclave :
   enclave_runs_after_measure (Some refusal) call = ap is_host runs_enclave
 
   -- a claim about a call that is not offered to the enclave holds, because such a call is not requested
-  not_offered : (Claim : Type 0) (call : Call) → is_offered (Enclave slot) call ≡ false → is_offered hart_state.world call ≡ true → Claim
+  not_offered : (Claim : Type 0) (call : Call) → is_offered (Enclave slot) call ≡ false
+      → is_offered hart_state.world call ≡ true → Claim
   not_offered Claim call is_not_offered offered =
-      let offered_to_enclave : is_offered (Enclave slot) call ≡ true = sym (ap (λ (world : World). is_offered world call) runs_enclave) ∙ offered in
+      let offered_to_enclave : is_offered (Enclave slot) call ≡ true =
+      sym (ap (λ (world : World). is_offered world call) runs_enclave) ∙ offered in
       let contradiction : false ≡ true = sym is_not_offered ∙ offered_to_enclave in
       cc
 
@@ -49,7 +51,8 @@ module _ (slot : ℕ) (hart_state : HartState) (shared : Shared) (runs_enclave :
   unfolding called performed left
   exits_by_call Stop offered = refl
   exits_by_call Exit offered = refl
-  exits_by_call Measure offered = enclave_runs_after_measure (first_refusal (call_refusals hart_state shared Measure)) Measure
+  exits_by_call Measure offered =
+      enclave_runs_after_measure (first_refusal (call_refusals hart_state shared Measure)) Measure
   exits_by_call Create offered = not_offered _ Create refl offered
   exits_by_call Destroy offered = not_offered _ Destroy refl offered
   exits_by_call Run offered = not_offered _ Run refl offered
@@ -60,14 +63,16 @@ module _ (slot : ℕ) (hart_state : HartState) (shared : Shared) (runs_enclave :
       → is_host (option_case maybe_call (refused hart_state shared NotSupported) (called hart_state shared)).hart_state.world
       ≡ is_exit_call maybe_call
   exits_by_requested_call None requested = ap is_host runs_enclave
-  exits_by_requested_call (Some call) requested = exits_by_call call (requested-is_offered hart_state.world hart_state.hart.regs call requested).1
+  exits_by_requested_call (Some call) requested =
+      exits_by_call call (requested-is_offered hart_state.world hart_state.hart.regs call requested).1
 
   -- after an exception, the host runs if and only if the exception is an ecall that requests stop or exit
   exits_by_exception : (trap : Trap) (exception : Exception)
       → is_host (handled_cause hart_state shared trap (causes.Exception exception)).hart_state.world
       ≡ causes_exit hart_state (causes.Exception exception)
   unfolding call_handled
-  exits_by_exception trap EnvironmentCallFromS = exits_by_requested_call (requested_call hart_state.world hart_state.hart.regs) refl
+  exits_by_exception trap EnvironmentCallFromS =
+      exits_by_requested_call (requested_call hart_state.world hart_state.hart.regs) refl
   exits_by_exception trap _ = ap is_host runs_enclave
 
   -- after a trap, the host runs if and only if the cause is one that exits
@@ -118,11 +123,13 @@ module _ (state : HartView) (view_invariant : HartViewInvariant state) (trap : T
       → IsRedirectedTo (returned outcome (handled (hart_state_after state.hart_state trap) state.shared trap))
   unfolding handled
   handler_redirects outcome is_redirection =
-      let result = cause_is_redirected (hart_state_after state.hart_state trap) state.shared trap trap.cause is_redirection in
+      let result =
+      cause_is_redirected (hart_state_after state.hart_state trap) state.shared trap trap.cause is_redirection in
       rw result (returned_redirected outcome, refl)
 
   -- a step with a redirected exception leads to the view after a redirected trap
-  step_is_redirected : (monitored_step state).outcome.step.trap ≡ Some trap → is_redirected trap.cause ≡ true → IsRedirectedTo (monitored_step state)
+  step_is_redirected : (monitored_step state).outcome.step.trap ≡ Some trap → is_redirected trap.cause ≡ true
+      → IsRedirectedTo (monitored_step state)
   step_is_redirected trapped is_redirection =
       subst IsRedirectedTo (sym (trapped_step state trap trapped)) (handler_redirects (step (bare_machine state)).outcome is_redirection)
 
@@ -134,7 +141,8 @@ pub redirects_step : (hart : ℕ) (machine : MonitoredMachine) → Invariant mac
 redirects_step hart machine invariant trap trapped is_redirection =
     let trapping = is_trapping hart machine trap trapped in
     let state = hart_view hart machine in
-    let view_is = step_is_redirected state (hart_view_invariant hart machine invariant trapping.has) trap trapping.trapped is_redirection in
+    let view_is =
+    step_is_redirected state (hart_view_invariant hart machine invariant trapping.has) trap trapping.trapped is_redirection in
     let left : HartState = record state.hart_state { hart = redirected_hart state.hart_state.hart trap } in (
       trapping.state ∙ ap (programmed_by hart machine) view_is.0
           ∙ ap (λ (hart_states : List HartState). let after : MonitoredMachine =
@@ -149,7 +157,8 @@ module _ (slot : ℕ) (view : HartView) (runs_enclave : view.hart_state.world �
   exits_by_cause : (monitored_step view).outcome.step.trap ≡ Some trap
       → is_host (monitored_step view).state.hart_state.world ≡ causes_exit view.hart_state trap.cause
   unfolding handled
-  exits_by_cause trapped = subst (λ (after : HartViewStepped). is_host after.state.hart_state.world ≡ causes_exit view.hart_state trap.cause)
+  exits_by_cause trapped =
+      subst (λ (after : HartViewStepped). is_host after.state.hart_state.world ≡ causes_exit view.hart_state trap.cause)
       (sym (trapped_step view trap trapped)) (exits_by_cause_of_trap slot
       (hart_state_after view.hart_state trap) view.shared runs_enclave trap trap.cause)
 
@@ -172,7 +181,8 @@ find_timer is_external is_software is_timer is_s_external is_s_software is_s_tim
     rw (and-false is_s_external, and-false is_s_software, and-false is_s_timer) refl)
 
 -- if mie enables only the timer interrupt, then a hart below M has a pending interrupt if and only if its timer line is set
-pub pending_is_timer : (csrs : CsrState) (mode : Mode) → is_machine mode ≡ false → csrs.mie ≡ 0x80 → pending csrs mode ≡ timer_or_none csrs.timer
+pub pending_is_timer : (csrs : CsrState) (mode : Mode) → is_machine mode ≡ false → csrs.mie ≡ 0x80
+    → pending csrs mode ≡ timer_or_none csrs.timer
 pending_is_timer csrs mode mode_below_m enabled =
     let mip = mip_word csrs in
     let timer_bit_is_line : is_set mip 7 ≡ csrs.timer = timer_part csrs.software_pending csrs.timer in
@@ -180,24 +190,30 @@ pending_is_timer csrs mode mode_below_m enabled =
     (find_timer (is_set mip 11) (is_set mip 3) (is_set mip 7) (is_set mip 9) (is_set mip 1) (is_set mip 5) ∙ ap timer_or_none timer_bit_is_line)
 
 -- if `timer_or_none` gives an interrupt, then this is the timer interrupt, and the timer line is set
-timer_only : (timer_set : Bool) (interrupt : Interrupt) → timer_or_none timer_set ≡ Some interrupt → (interrupt ≡ MachineTimer) × (timer_set ≡ true)
-timer_only true interrupt timer_or_none_is = let same_interrupt : MachineTimer ≡ interrupt = cc in (sym same_interrupt, refl)
+timer_only : (timer_set : Bool) (interrupt : Interrupt) → timer_or_none timer_set ≡ Some interrupt
+    → (interrupt ≡ MachineTimer) × (timer_set ≡ true)
+timer_only true interrupt timer_or_none_is =
+    let same_interrupt : MachineTimer ≡ interrupt = cc in (sym same_interrupt, refl)
 timer_only false interrupt timer_or_none_is = cc
 
 -- ---- the step
 
 -- a hart that runs an enclave is a hart of the machine
-pub hart_of_enclave_in_range : (slot hart : ℕ) (machine : MonitoredMachine) → (hart_state_of hart machine).world ≡ Enclave slot
+pub hart_of_enclave_in_range : (slot hart : ℕ) (machine : MonitoredMachine)
+    → (hart_state_of hart machine).world ≡ Enclave slot
     → hart < count_of machine
-hart_of_enclave_in_range slot hart machine runs = running_hart_in_range slot hart machine (ap (is_world_of slot) runs ∙ eq-eqb slot slot refl)
+hart_of_enclave_in_range slot hart machine runs =
+    running_hart_in_range slot hart machine (ap (is_world_of slot) runs ∙ eq-eqb slot slot refl)
 
 -- the world of the hart after the step is the world in the hart's view after its step
 world_of_view : (hart : ℕ) (machine : MonitoredMachine) → hart < count_of machine
     → (hart_state_of hart (step_of hart machine).state).world ≡ (monitored_step (hart_view hart machine)).state.hart_state.world
-world_of_view hart machine in_range = ap (λ (after : HartViewStepped). after.state.hart_state.world) (step_of_view hart machine in_range)
+world_of_view hart machine in_range =
+    ap (λ (after : HartViewStepped). after.state.hart_state.world) (step_of_view hart machine in_range)
 
 -- proves that an enclave exits only by stop, by exit or by the timer interrupt
-pub exits_law : (hart : ℕ) (machine : MonitoredMachine) → Invariant machine → ExitsOnRequest hart machine (step_of hart machine)
+pub exits_law : (hart : ℕ) (machine : MonitoredMachine) → Invariant machine
+    → ExitsOnRequest hart machine (step_of hart machine)
 exits_law hart machine invariant slot runs = record {
   -- a step without a trap keeps the world
   quiet = λ no_trap.

@@ -28,7 +28,8 @@ use Rattle.rv_monitor.specs.Declassification.{EquivToGuests, SameHost, SameHostO
 -- ---- the guest view of a machine is a machine
 
 -- the guest state of a hart with the invariant has the invariant
-guest_hart_invariant : (slots : Slots) (hart_state : HartState) → HartInvariant slots hart_state → HartInvariant slots (guest_state hart_state)
+guest_hart_invariant : (slots : Slots) (hart_state : HartState) → HartInvariant slots hart_state
+    → HartInvariant slots (guest_state hart_state)
 guest_hart_invariant slots hart_state hart_invariant = record {
   host = record { kept = hart_invariant.host.kept; held = hart_invariant.host.held };
   layout = record {
@@ -52,14 +53,16 @@ pub guest_invariant : (machine : MonitoredMachine) → Invariant machine → Inv
 guest_invariant machine invariant =
     let same_length = length-map machine.hart_states guest_state in
     record {
-      shared = subst (SharedInvariant machine.shared) (sym (map-map world_of guest_state machine.hart_states)) invariant.shared;
+      shared =
+          subst (SharedInvariant machine.shared) (sym (map-map world_of guest_state machine.hart_states)) invariant.shared;
       hart_states = λ hart in_range. subst (HartInvariant machine.shared.table) (sym (guest_hart_state hart machine))
           (guest_hart_invariant machine.shared.table (hart_state_of hart machine)
           (invariant.hart_states hart (omega (arith, same_length, in_range))));
     }
 
 -- two machines that are equivalent except `enclave` have guest views that are equivalent except `enclave`
-pub guest_equiv : (enclave : ℕ) (one other : MonitoredMachine) → EquivExcept enclave one other → EquivToGuests enclave one other
+pub guest_equiv : (enclave : ℕ) (one other : MonitoredMachine) → EquivExcept enclave one other
+    → EquivToGuests enclave one other
 guest_equiv enclave one other equiv = record {
   harts = length-map one.hart_states guest_state ∙ equiv.harts ∙ sym (length-map other.hart_states guest_state);
   hart_states = λ hart.
@@ -72,8 +75,10 @@ guest_equiv enclave one other equiv = record {
 }
 
 -- the same harts run the same enclaves in the guest view
-pub guest_view_runs_same : (enclave hart : ℕ) (machine : MonitoredMachine) → runs_on enclave hart (guest_view machine) ≡ runs_on enclave hart machine
-guest_view_runs_same enclave hart machine = ap (λ (hart_state : HartState). is_world_of enclave hart_state.world) (guest_hart_state hart machine)
+pub guest_view_runs_same : (enclave hart : ℕ) (machine : MonitoredMachine)
+    → runs_on enclave hart (guest_view machine) ≡ runs_on enclave hart machine
+guest_view_runs_same enclave hart machine =
+    ap (λ (hart_state : HartState). is_world_of enclave hart_state.world) (guest_hart_state hart machine)
 
 -- If the steps of two guest views lead to equivalent machines, then the steps of the machines lead to machines that are equivalent in the guest view.
 pub equiv_from_guests : (enclave hart : ℕ) (one other : MonitoredMachine) → Invariant one → Invariant other
@@ -82,7 +87,8 @@ pub equiv_from_guests : (enclave hart : ℕ) (one other : MonitoredMachine) → 
 equiv_from_guests enclave hart one other invariant_one invariant_other equiv =
     let guest_one = (guest_step_of hart one invariant_one).state in
     let guest_other = (guest_step_of hart other invariant_other).state in
-    let guest_views_equiv = guest_equiv enclave (step_of hart (guest_view one)).state (step_of hart (guest_view other)).state equiv in
+    let guest_views_equiv =
+    guest_equiv enclave (step_of hart (guest_view one)).state (step_of hart (guest_view other)).state equiv in
     subst (λ (machine : MonitoredMachine). EquivExcept enclave machine (guest_view (step_of hart other).state)) (sym guest_one)
     (subst (EquivExcept enclave (guest_view (step_of hart (guest_view one)).state)) (sym guest_other) guest_views_equiv)
 
@@ -92,7 +98,8 @@ pub record GuestStepEquiv (enclave : ℕ) (one other : MonitoredStepped) : Type 
   pub state : EquivToGuests enclave one.state other.state
 
 -- low steps of two machines that are equivalent in the guest view have equal outcomes, and leave machines that are equivalent in the guest view
-pub guest_step_equiv : (enclave hart : ℕ) (one other : MonitoredMachine) → Invariant one → Invariant other → EquivToGuests enclave one other
+pub guest_step_equiv : (enclave hart : ℕ) (one other : MonitoredMachine) → Invariant one → Invariant other
+    → EquivToGuests enclave one other
     → runs_on enclave hart one ≡ false → GuestStepEquiv enclave (step_of hart one) (step_of hart other)
 guest_step_equiv enclave hart one other invariant_one invariant_other equiv not_running =
     let invariant_guest_one = guest_invariant one invariant_one in
@@ -101,7 +108,9 @@ guest_step_equiv enclave hart one other invariant_one invariant_other equiv not_
     noninterference hart (guest_view one) invariant_guest_one enclave (guest_view other) invariant_guest_other equiv
     (guest_view_runs_same enclave hart one ∙ not_running) in
     record {
-      outcome = (guest_step_of hart one invariant_one).outcome ∙ step.outcome ∙ sym (guest_step_of hart other invariant_other).outcome;
+      outcome =
+          (guest_step_of hart one invariant_one).outcome ∙ step.outcome
+          ∙ sym (guest_step_of hart other invariant_other).outcome;
       state = equiv_from_guests enclave hart one other invariant_one invariant_other step.state;
     }
 
@@ -113,7 +122,8 @@ rest_of hart_state = unswitched (guest_csrs hart_state.hart.csrs)
 
 -- Two results of the trap handler have the same host context. The host continues with this context, or the hart saves this context.
 abbrev SameHostHandled : Handled → Handled → Type 0
-SameHostHandled result other_result = SameHost (guest_state (continuing_from result)) (guest_state (continuing_from other_result))
+SameHostHandled result other_result =
+    SameHost (guest_state (continuing_from result)) (guest_state (continuing_from other_result))
 
 -- the bit MPRV of the hart is 0
 module _ (hart_state : HartState) (mprv : hart_state.hart.csrs.mstatus.mprv ≡ false) where
@@ -140,7 +150,8 @@ view_of hart_state shared = record { hart_state = hart_state; shared = shared }
 
 -- two views after a step have the same host
 abbrev SameHostAfter : HartViewStepped → HartViewStepped → Type 0
-SameHostAfter stepped other_stepped = SameHost (guest_state stepped.state.hart_state) (guest_state other_stepped.state.hart_state)
+SameHostAfter stepped other_stepped =
+    SameHost (guest_state stepped.state.hart_state) (guest_state other_stepped.state.hart_state)
 
 -- the hart does not run `enclave`, and makes a step over two shared states that are equivalent except `enclave`
 module _ (enclave : ℕ) (hart_state : HartState) (one other : Shared) (view_invariant_one : HartViewInvariant (view_of hart_state one))
@@ -160,7 +171,8 @@ module _ (enclave : ℕ) (hart_state : HartState) (one other : Shared) (view_inv
   -- a step leaves the same host over both shared states
   step_host : SameHostAfter (monitored_step (view_of hart_state one)) (monitored_step (view_of hart_state other))
   step_host =
-      let bare_steps_alike = bare_law enclave (view_of hart_state one) other.memory view_invariant_one runs_other shared_equiv.memory in
+      let bare_steps_alike =
+      bare_law enclave (view_of hart_state one) other.memory view_invariant_one runs_other shared_equiv.memory in
       let traps = ap (λ (outcome : StepOutcome). outcome.trap) bare_steps_alike.outcome in
       step_cases (view_of hart_state one) (λ after. SameHostAfter after (monitored_step (view_of hart_state other)))
       (λ no_trap. step_cases (view_of hart_state other) (λ after. SameHostAfter (view_without_trap (view_of hart_state one)) after)
@@ -184,7 +196,8 @@ guest_state_after : (hart : ℕ) (machine : MonitoredMachine) → Invariant mach
 guest_state_after hart machine invariant in_range =
     let same_length = length-map machine.hart_states guest_state in
     let view_step = step_of_view hart (guest_view machine) (omega (arith, same_length, in_range)) in
-    sym (guest_hart_state hart (step_of hart machine).state) ∙ ap (hart_state_of hart) (guest_step_of hart machine invariant).state
+    sym (guest_hart_state hart (step_of hart machine).state)
+    ∙ ap (hart_state_of hart) (guest_step_of hart machine invariant).state
     ∙ guest_hart_state hart (step_of hart (guest_view machine)).state
     ∙ ap (λ (stepped : HartViewStepped). guest_state stepped.state.hart_state) view_step
 
@@ -192,12 +205,14 @@ guest_state_after hart machine invariant in_range =
 pub other_harts_keep_host : (hart other_hart : ℕ) (machine : MonitoredMachine) → other_hart ≢ hart
     → SameHostOn other_hart (step_of hart machine).state machine
 other_harts_keep_host hart other_hart machine distinct = record {
-  host = other_harts_keep (λ (hart_state : HartState). hart_state.host_context) (λ slots hart_state. refl) hart other_hart machine distinct;
+  host =
+      other_harts_keep (λ (hart_state : HartState). hart_state.host_context) (λ slots hart_state. refl) hart other_hart machine distinct;
   rest = other_harts_keep rest_of (λ slots hart_state. refl) hart other_hart machine distinct;
 }
 
 -- If the machines of each neighbouring pair of four have the same saved host on a hart, then so have the first and the last machine.
-pub same_host_chain : (some_hart : ℕ) (machine one other other_machine : MonitoredMachine) → SameHostOn some_hart machine one
+pub same_host_chain : (some_hart : ℕ) (machine one other other_machine : MonitoredMachine)
+    → SameHostOn some_hart machine one
     → SameHostOn some_hart one other
     → SameHostOn some_hart other_machine other
     → SameHostOn some_hart machine other_machine
@@ -232,7 +247,8 @@ module _ (enclave hart : ℕ) (one other : MonitoredMachine) (invariant_one : In
       let not_running_in_view : runs_on enclave hart first_view ≡ false =
       ap (λ (hart_state : HartState). is_world_of enclave hart_state.world) (guest_hart_state hart one) ∙ not_running in
       let hart_states = (equiv.hart_states hart).same not_running_in_view in
-      let view_invariant = hart_view_invariant hart first_view (guest_invariant one invariant_one) (omega (arith, size_one, in_range)) in
+      let view_invariant =
+      hart_view_invariant hart first_view (guest_invariant one invariant_one) (omega (arith, size_one, in_range)) in
       let same_over_shared =
       step_host enclave (hart_state_of hart first_view) first_view.shared second_view.shared view_invariant not_running_in_view equiv.shared in
       let same_host_after : SameHostAfter (monitored_step (hart_view hart first_view)) (monitored_step (hart_view hart second_view)) =

@@ -27,7 +27,8 @@ with_counters mcycle minstret hart_state = record hart_state {
 
 -- the result of the trap handler with these values of mcycle and minstret
 abbrev result_with_counters : ℕ → ℕ → Handled → Handled
-result_with_counters mcycle minstret result = record result { hart_state = with_counters mcycle minstret result.hart_state }
+result_with_counters mcycle minstret result =
+    record result { hart_state = with_counters mcycle minstret result.hart_state }
 
 -- the hart state with its own counters, and with other values of the counters
 module _ (mcycle minstret : ℕ) (hart_state : HartState) (shared : Shared) where
@@ -46,8 +47,9 @@ module _ (mcycle minstret : ℕ) (hart_state : HartState) (shared : Shared) wher
   same_performed Create = refl
   same_performed _ = refl
 
-  -- a call, refused or not, has the same result with other counters, if its effect has
-  same_refused : (maybe_refusal : Option Refusal) (result other_result : Handled) → other_result ≡ result_with_counters mcycle minstret result
+  -- a call, refused or not, has the same result with other counters, if the effect of the call has the same result
+  same_refused : (maybe_refusal : Option Refusal) (result other_result : Handled)
+      → other_result ≡ result_with_counters mcycle minstret result
       → option_case maybe_refusal other_result (refused state_with_counters shared) ≡ result_with_counters mcycle minstret
       (option_case maybe_refusal result (refused hart_state shared))
   same_refused None result other_result results_alike = results_alike
@@ -113,7 +115,8 @@ module _ (view : HartView) (alike : SameToGuests (step (bare_machine view)) (ste
   -- a step without a trap is the same to guests from the view and from the view with the guest state
   untrapped_same : SameShown (view_without_trap view) (view_without_trap guest_state_view)
   untrapped_same = record {
-    outcome = ap (λ (outcome : StepOutcome). let shown : Outcome = record { step = outcome; entered = None } in shown) alike.outcome;
+    outcome =
+        ap (λ (outcome : StepOutcome). let shown : Outcome = record { step = outcome; entered = None } in shown) alike.outcome;
     shared = ap (λ (memory : List ℕ). record view.shared { memory = memory }) alike.memory;
     hart_state = ap (λ (hart : Hart). record view.hart_state { hart = hart }) alike.hart;
   }
@@ -151,9 +154,11 @@ module _ (view : HartView) (alike : SameToGuests (step (bare_machine view)) (ste
 -- ---- the step of the machine
 
 -- the state of a hart in the guest view of a machine is the guest state of this hart in the machine
-pub guest_hart_state : (hart : ℕ) (machine : MonitoredMachine) → hart_state_of hart (guest_view machine) ≡ guest_state (hart_state_of hart machine)
+pub guest_hart_state : (hart : ℕ) (machine : MonitoredMachine)
+    → hart_state_of hart (guest_view machine) ≡ guest_state (hart_state_of hart machine)
 guest_hart_state hart machine = elim (cases_lt hart (count_of machine)) [
-  | inl in_range ↦ get_or-map guest_state machine.hart_states hart (hart_state_at_start 0) (hart_state_at_start 0) in_range
+  | inl in_range ↦
+      get_or-map guest_state machine.hart_states hart (hart_state_at_start 0) (hart_state_at_start 0) in_range
   | inr past_last ↦
       let same_length = length-map machine.hart_states guest_state in
       past_hart_state (guest_view machine).hart_states hart (omega (arith, same_length, past_last))
@@ -161,7 +166,8 @@ guest_hart_state hart machine = elim (cases_lt hart (count_of machine)) [
 ]
 
 -- the guest states of guest states are the guest states
-guest_states_twice : (hart_states : List HartState) → map guest_state hart_states ≡ map guest_state (map guest_state hart_states)
+guest_states_twice : (hart_states : List HartState)
+    → map guest_state hart_states ≡ map guest_state (map guest_state hart_states)
 guest_states_twice hart_states = sym (map-map guest_state guest_state hart_states)
 
 -- reprogramming after a trap leaves the same guest states from the hart states and from their guest states
@@ -176,7 +182,8 @@ reprogrammed_same (Some trap) slots hart_states =
     ∙ map-map (λ (hart_state : HartState). guest_state (reprogrammed slots hart_state)) guest_state hart_states)
 
 -- if two views after a step are the same to guests, then so are the machines after the step
-stepped_same : (hart : ℕ) (machine : MonitoredMachine) (stepped other_stepped : HartViewStepped) → SameShown stepped other_stepped
+stepped_same : (hart : ℕ) (machine : MonitoredMachine) (stepped other_stepped : HartViewStepped)
+    → SameShown stepped other_stepped
     → guest_view (stepped_by hart machine stepped).state ≡ guest_view (stepped_by hart (guest_view machine) other_stepped).state
 stepped_same hart machine stepped other_stepped same_shown_after =
     let hart_states = machine.hart_states in
@@ -185,9 +192,11 @@ stepped_same hart machine stepped other_stepped same_shown_after =
     let first_table = stepped.state.shared.table in
     let same_trap = ap (λ (outcome : Outcome). outcome.step.trap) same_shown_after.outcome in
     let same_table = ap (λ (shared : Shared). shared.table) same_shown_after.shared in
-    let machine_of : List HartState → Shared → MonitoredMachine = λ hart_states shared. record { hart_states = hart_states; shared = shared } in
+    let machine_of : List HartState → Shared → MonitoredMachine =
+    λ hart_states shared. record { hart_states = hart_states; shared = shared } in
     -- the guest states of a written list are the written list of guest states
-    let first_states = map-set guest_state (hart_states_reprogrammed first_trap first_table hart_states) hart stepped.state.hart_state in
+    let first_states =
+    map-set guest_state (hart_states_reprogrammed first_trap first_table hart_states) hart stepped.state.hart_state in
     let second_states =
     map-set guest_state (hart_states_reprogrammed other_stepped.outcome.step.trap other_stepped.state.shared.table guest_states) hart
     other_stepped.state.hart_state in
@@ -213,7 +222,8 @@ guest_step_of hart machine invariant = elim (cases_lt hart (count_of machine)) [
       rw (outside hart machine past_last, guest_outside)
       (record {
         outcome = refl;
-        state = ap (λ (hart_states : List HartState). record machine { hart_states = hart_states }) (guest_states_twice machine.hart_states);
+        state =
+            ap (λ (hart_states : List HartState). record machine { hart_states = hart_states }) (guest_states_twice machine.hart_states);
       })
   -- the step of the hart's view and the step of its guest view are the same to guests
   | inl in_range ↦
@@ -229,12 +239,14 @@ guest_step_of hart machine invariant = elim (cases_lt hart (count_of machine)) [
       let guest_inside = machine_step_is hart (guest_view machine) (omega (arith, size, in_range)) in
       rw (machine_step_is hart machine in_range, guest_inside) (record {
         outcome = same_to_guests.outcome;
-        state = stepped_same hart machine (monitored_step view) (monitored_step (hart_view hart (guest_view machine))) same_to_guests;
+        state =
+            stepped_same hart machine (monitored_step view) (monitored_step (hart_view hart (guest_view machine))) same_to_guests;
       })
 ]
 
 -- proves that a step depends only on the guest view of the machine
-pub guest_law : (hart : ℕ) (machine : MonitoredMachine) → Invariant machine → DependsOnGuestView hart machine (step_of hart machine)
+pub guest_law : (hart : ℕ) (machine : MonitoredMachine) → Invariant machine
+    → DependsOnGuestView hart machine (step_of hart machine)
 guest_law hart machine invariant other invariant_other same_guest_view =
     let first_guest_step = guest_step_of hart machine invariant in
     let second_guest_step = guest_step_of hart other invariant_other in

@@ -56,14 +56,16 @@ module _ (enclave : ℕ) (table : Slots) (memory other_memory : List ℕ) (conte
   unfolding entered_slot
   own_entry_alike a0_is_enclave = record {
     entered = refl;
-    hart_state = record { world = refl; same = λ not_running. absurd (both_ways _ not_running (eq-eqb (a0 hart_state) enclave a0_is_enclave)) };
+    hart_state =
+        record { world = refl; same = λ not_running. absurd (both_ways _ not_running (eq-eqb (a0 hart_state) enclave a0_is_enclave)) };
     shared = cases.switches (a0 hart_state) states.Running None;
   }
 
   -- an entry of the slot in a0 gives equivalent results
   enters_alike : HandledAlike enclave (with_reprogrammed_hart (entering hart_state first_shared))
       (with_reprogrammed_hart (entering hart_state second_shared))
-  enters_alike = elim (cases_eq (a0 hart_state) enclave) [ inl is_enclave ↦ own_entry_alike is_enclave | inr is_other ↦ other_entry_alike is_other ]
+  enters_alike =
+      elim (cases_eq (a0 hart_state) enclave) [ inl is_enclave ↦ own_entry_alike is_enclave | inr is_other ↦ other_entry_alike is_other ]
 
   -- an exit of the running enclave gives equivalent results
   leaves_alike : HandledAlike enclave (with_reprogrammed_hart (leaving trap.cause hart_state first_shared))
@@ -80,22 +82,26 @@ module _ (enclave : ℕ) (table : Slots) (memory other_memory : List ℕ) (conte
   -- the trap handler gives equivalent results over both shared states
   handled_alike : length memory ≡ length other_memory
       → HandledAlike enclave (handled hart_state first_shared trap) (handled hart_state second_shared trap)
-  handled_alike = handler_cases_of_both hart_state trap table memory other_memory contexts other_contexts (HandledAlike enclave) (record {
-    answers = λ status result. returned_alike first_shared second_shared status result cases.before;
-    creates = λ requests no_refusal. returned_alike _ _ 0 (new_slot table) (cases.creates (create_args_of hart_state.hart.regs) no_refusal);
-    destroys = λ requests slot_accepted. returned_alike _ _ 0 0 (cases.destroys (a0 hart_state) slot_accepted);
-    measures = λ requests no_refusal. returned_alike _ _ 0 0 (cases.measures (measured_slot hart_state.world (a0 hart_state)) (a1 hart_state));
-    enters = λ call requests is_entry_call from_host slot_accepted. enters_alike;
-    leaves = leaves_alike;
-    redirects = record { entered = refl; hart_state = record { world = refl; same = λ not_running. refl }; shared = cases.before };
-  })
+  handled_alike =
+      handler_cases_of_both hart_state trap table memory other_memory contexts other_contexts (HandledAlike enclave) (record {
+        answers = λ status result. returned_alike first_shared second_shared status result cases.before;
+        creates =
+            λ requests no_refusal. returned_alike _ _ 0 (new_slot table) (cases.creates (create_args_of hart_state.hart.regs) no_refusal);
+        destroys = λ requests slot_accepted. returned_alike _ _ 0 0 (cases.destroys (a0 hart_state) slot_accepted);
+        measures = λ requests no_refusal. returned_alike _ _ 0 0 (cases.measures (measured_slot hart_state.world (a0 hart_state)) (a1 hart_state));
+        enters = λ call requests is_entry_call from_host slot_accepted. enters_alike;
+        leaves = leaves_alike;
+        redirects =
+            record { entered = refl; hart_state = record { world = refl; same = λ not_running. refl }; shared = cases.before };
+      })
 
 -- proves the noninterference of the trap handler, by case analysis
 pub handler_law : HandlerLaw
 handler_law enclave worlds hart_state one other trap shared_invariant_one shared_invariant_other not_running equiv =
     let tables_equal = equiv.table in
     let cases = works_alike enclave one other worlds shared_invariant_one shared_invariant_other equiv in
-    let cases_over_table = subst (λ (table : Slots). WorksAlike enclave one (shared_of table other.memory other.contexts)) (sym tables_equal) cases in
+    let cases_over_table =
+    subst (λ (table : Slots). WorksAlike enclave one (shared_of table other.memory other.contexts)) (sym tables_equal) cases in
     subst (λ (table : Slots). HandledAlike enclave (handled hart_state one trap)
     (handled hart_state (shared_of table other.memory other.contexts) trap)) tables_equal
     (handled_alike enclave one.table one.memory other.memory one.contexts other.contexts cases_over_table hart_state trap equiv.memory.size)

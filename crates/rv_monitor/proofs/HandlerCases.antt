@@ -43,10 +43,12 @@ found-call world a7 a6 false call found = cc
 pub requested-is_offered : (world : World) (regs : List ℕ) (call : Call) → requested_call world regs ≡ Some call
     → ((call_number call == register regs 16) ≡ true) × (is_offered world call ≡ true)
 unfolding call_requested
-requested-is_offered world regs call requested = found-call world (register regs 17) (register regs 16) (register regs 17 == call_key) call requested
+requested-is_offered world regs call requested =
+    found-call world (register regs 17) (register regs 16) (register regs 17 == call_key) call requested
 
 -- A call that enters an enclave is offered only to the host. Each case holds by computation, or has a false premise.
-pub entered-by-host : (world : World) (call : Call) → is_entering (Some call) ≡ true → is_offered world call ≡ true → world ≡ Host
+pub entered-by-host : (world : World) (call : Call) → is_entering (Some call) ≡ true
+    → is_offered world call ≡ true → world ≡ Host
 entered-by-host Host call is_entry_call offered = refl
 entered-by-host (Enclave slot) Run is_entry_call offered = cc
 entered-by-host (Enclave slot) Resume is_entry_call offered = cc
@@ -73,7 +75,8 @@ pub record Requests (hart_state : HartState) (cause : Cause) (call : Call) : Typ
 
 -- the context that the monitor saves when an enclave exits by this cause, from the state of the hart at the trap
 abbrev pub context_saved_by : Cause → HartState → Context
-context_saved_by (causes.Interrupt interrupt) hart_state = saved hart_state.hart (trapped_pc hart_state) (trapped_mode hart_state)
+context_saved_by (causes.Interrupt interrupt) hart_state =
+    saved hart_state.hart (trapped_pc hart_state) (trapped_mode hart_state)
 context_saved_by (causes.Exception exception) hart_state =
     if register hart_state.hart.regs 16 == call_number Exit then exited_context else stopped_context hart_state
 
@@ -97,7 +100,8 @@ leaving cause hart_state shared = left (lowered_by cause hart_state) shared (enc
 
 -- the result of the trap handler if the host enters the enclave that a0 names
 abbrev pub entering : HartState → Shared → Handled
-entering hart_state shared = entered_slot hart_state shared (a0 hart_state) (saved_context shared.contexts (a0 hart_state)) (past_call hart_state)
+entering hart_state shared =
+    entered_slot hart_state shared (a0 hart_state) (saved_context shared.contexts (a0 hart_state)) (past_call hart_state)
 
 -- A proof by cases of a claim about the results of the trap handler on two shared states with the same table.
 module _ (hart_state : HartState) (trap : Trap) (table : Slots) (memory other_memory : List ℕ) (contexts other_contexts : Contexts)
@@ -130,7 +134,8 @@ module _ (hart_state : HartState) (trap : Trap) (table : Slots) (memory other_me
         → HoldsForBoth (λ shared.
         returned_to_caller hart_state (measured shared (measured_slot hart_state.world (a0 hart_state)) (a1 hart_state)) 0 0)
     -- an accepted run or resume of the host enters the enclave that a0 names
-    pub enters : (call : Call) → Requests hart_state trap.cause call → is_entering (Some call) ≡ true → hart_state.world ≡ Host
+    pub enters : (call : Call) → Requests hart_state trap.cause call
+        → is_entering (Some call) ≡ true → hart_state.world ≡ Host
         → SlotIsAccepted table call (a0 hart_state)
         → HoldsForBoth (entering hart_state)
     -- the running enclave exits by stop, by exit or by the timer interrupt
@@ -145,10 +150,12 @@ module _ (hart_state : HartState) (trap : Trap) (table : Slots) (memory other_me
     by-leaving cause cause_is = subst (λ (cause : Cause). HoldsForBoth (leaving cause hart_state)) cause_is cases.leaves
 
     -- the claim holds for each requested call that is not refused
-    by-accepted : (call : Call) → Requests hart_state trap.cause call → first_refusal (call_refusals hart_state first_shared call) ≡ None
+    by-accepted : (call : Call) → Requests hart_state trap.cause call
+        → first_refusal (call_refusals hart_state first_shared call) ≡ None
         → HoldsForBoth (λ shared. performed hart_state shared call)
     unfolding performed
-    by-accepted Create requests no_refusal = cases.creates requests (may_create first_shared (create_args_of hart_state.hart.regs) no_refusal)
+    by-accepted Create requests no_refusal =
+        cases.creates requests (may_create first_shared (create_args_of hart_state.hart.regs) no_refusal)
     by-accepted Destroy requests no_refusal = cases.destroys requests (may_take table Destroy (a0 hart_state) no_refusal)
     by-accepted Run requests no_refusal =
         let is_offered_call = requested-is_offered hart_state.world hart_state.hart.regs Run requests.asked in
@@ -173,7 +180,8 @@ module _ (hart_state : HartState) (trap : Trap) (table : Slots) (memory other_me
 
     -- a call has the same refusals in both shared states
     same-refusals : (call : Call) → call_refusals hart_state first_shared call ≡ call_refusals hart_state second_shared call
-    same-refusals Create = same_create_refusals table memory other_memory contexts other_contexts (create_args_of hart_state.hart.regs) same_length
+    same-refusals Create =
+        same_create_refusals table memory other_memory contexts other_contexts (create_args_of hart_state.hart.regs) same_length
     same-refusals Measure =
         same_measure_refusals table memory other_memory contexts other_contexts hart_state.hart.csrs.pmp
         (measured_slot hart_state.world (a0 hart_state))
@@ -187,13 +195,14 @@ module _ (hart_state : HartState) (trap : Trap) (table : Slots) (memory other_me
     by-refusal (Some refusal) one other claim_if_accepted = cases.answers (status_of refusal) 0
 
     -- the claim holds for a requested call with its refusals
-    by-called : (call : Call) → Requests hart_state trap.cause call → HoldsForBoth (λ shared. called hart_state shared call)
+    by-called : (call : Call) → Requests hart_state trap.cause call
+        → HoldsForBoth (λ shared. called hart_state shared call)
     unfolding called
     by-called call requests =
         let rows = same-refusals call in
         rw (← rows) (by-refusal (first_refusal (call_refusals hart_state first_shared call)) _ _ (by-accepted call requests))
 
-    -- the claim holds for an ecall from S, whether it requests a call or not
+    -- the claim holds for an ecall from S that requests a call, and for one that requests no call
     by-call : (maybe_call : Option Call) → requested_call hart_state.world hart_state.hart.regs ≡ maybe_call
         → trap.cause ≡ causes.Exception EnvironmentCallFromS
         → HoldsForBoth (λ shared. option_case maybe_call (refused hart_state shared NotSupported) (called hart_state shared))
@@ -204,7 +213,8 @@ module _ (hart_state : HartState) (trap : Trap) (table : Slots) (memory other_me
     by-exception : (exception : Exception) → trap.cause ≡ causes.Exception exception
         → HoldsForBoth (λ shared. handled_exception hart_state shared trap exception)
     unfolding call_handled
-    by-exception EnvironmentCallFromS cause_is = by-call (requested_call hart_state.world hart_state.hart.regs) refl cause_is
+    by-exception EnvironmentCallFromS cause_is =
+        by-call (requested_call hart_state.world hart_state.hart.regs) refl cause_is
     by-exception _ cause_is = cases.redirects
 
     -- the claim holds for each cause
@@ -213,7 +223,7 @@ module _ (hart_state : HartState) (trap : Trap) (table : Slots) (memory other_me
     by-cause (causes.Interrupt interrupt) cause_is = by-leaving (causes.Interrupt interrupt) cause_is
     by-cause (causes.Exception exception) cause_is = by-exception exception cause_is
 
-    -- the claim holds for the trap handler before it reprograms the PMP of the hart, if it holds in each case
+    -- if the claim holds in each case, then the claim holds for the trap handler before the trap handler reprograms the PMP of the hart
     pub by_cause_cases : Claim (handled_cause hart_state first_shared trap trap.cause) (handled_cause hart_state second_shared trap trap.cause)
     by_cause_cases = by-cause trap.cause refl
 
@@ -225,10 +235,11 @@ HandlerCasesOfBoth hart_state trap table memory other_memory contexts other_cont
     CauseCases hart_state trap table memory other_memory contexts other_contexts
     (λ one other. Claim (with_reprogrammed_hart one) (with_reprogrammed_hart other))
 
--- a claim about the trap handler on two shared states with one table holds if it holds in each case
+-- a claim about the trap handler on two shared states with one table holds if the claim holds in each case
 pub handler_cases_of_both : (hart_state : HartState) (trap : Trap) (table : Slots) (memory other_memory : List ℕ) (contexts other_contexts : Contexts)
     (Claim : Handled → Handled → Type 0)
-    → HandlerCasesOfBoth hart_state trap table memory other_memory contexts other_contexts Claim → length memory ≡ length other_memory
+    → HandlerCasesOfBoth hart_state trap table memory other_memory contexts other_contexts Claim
+    → length memory ≡ length other_memory
     → Claim (handled hart_state (shared_of table memory contexts) trap) (handled hart_state (shared_of table other_memory other_contexts) trap)
 unfolding handled
 handler_cases_of_both hart_state trap table memory other_memory contexts other_contexts Claim cases same_length =
@@ -240,8 +251,9 @@ abbrev pub OneHandlerCases : HartState → Trap → Shared → (Handled → Type
 OneHandlerCases hart_state trap shared Claim =
     HandlerCasesOfBoth hart_state trap shared.table shared.memory shared.memory shared.contexts shared.contexts (λ one _. Claim one)
 
--- a claim about the trap handler on one shared state holds if it holds in each case
-pub handler_cases : (hart_state : HartState) (trap : Trap) (shared : Shared) (Claim : Handled → Type 0) → OneHandlerCases hart_state trap shared Claim
+-- a claim about the trap handler on one shared state holds if the claim holds in each case
+pub handler_cases : (hart_state : HartState) (trap : Trap) (shared : Shared) (Claim : Handled → Type 0)
+    → OneHandlerCases hart_state trap shared Claim
     → Claim (handled hart_state shared trap)
 handler_cases hart_state trap shared Claim cases =
     handler_cases_of_both hart_state trap shared.table shared.memory shared.memory shared.contexts shared.contexts (λ one _. Claim one) cases refl

@@ -21,7 +21,8 @@ use Rattle.rv_monitor.proofs.TrapSteps.{hart_state_after, trapped_step}
 use Rattle.rv_monitor.proofs.HandlerCases.{Requests, handler_cases_of_both, entering, context_saved_by, shared_of}
 
 -- after the same write to two memories of equal size, the memories have equal bytes at each index at which they had equal bytes
-same_byte : (memory other_memory : List ℕ) (address : ℕ) (bytes : List ℕ) (index : ℕ) → length memory ≡ length other_memory
+same_byte : (memory other_memory : List ℕ) (address : ℕ) (bytes : List ℕ) (index : ℕ)
+    → length memory ≡ length other_memory
     → slice_index memory index ≡ slice_index other_memory index
     → slice_index (or_unchanged memory (write memory address bytes)) index ≡ slice_index
     (or_unchanged other_memory (write other_memory address bytes)) index
@@ -39,7 +40,8 @@ same_byte memory other_memory address bytes index same_length same_element =
             absurd (both_ways _ not_hidden is_hidden)
       ];
     } in
-    let same_address : (ram_base + index == ram_base + index) ≡ true = eq-eqb (ram_base + index) (ram_base + index) refl in
+    let same_address : (ram_base + index == ram_base + index) ≡ true =
+    eq-eqb (ram_base + index) (ram_base + index) refl in
     (write-alike not_at_index memory other_memory address bytes equal_at_index).bytes index (rw same_address refl)
 
 -- two shared states have the same table, memories of the same size, and lists of contexts of the same length
@@ -78,7 +80,8 @@ module _ (table : Slots) (memory other_memory : List ℕ) (contexts other_contex
   same_after_new_context after slot maybe_context = record {
     table = refl;
     bytes = λ index same. same;
-    contexts = λ other_slot same. same_after_set contexts other_contexts slot other_slot maybe_context None contexts_length same;
+    contexts =
+        λ other_slot same. same_after_set contexts other_contexts slot other_slot maybe_context None contexts_length same;
   }
 
   -- a create makes the same record from both memories, if the bytes of the region are equal
@@ -118,7 +121,8 @@ module _ (table : Slots) (memory other_memory : List ℕ) (contexts other_contex
     HandlerCases one other = SameHandling first_shared second_shared one other
 
     -- a requested call is the call that the definition `requested_by` gives
-    requested_call_is : (call : Call) → Requests hart_state trap.cause call → requested_by trap.cause hart_state ≡ Some call
+    requested_call_is : (call : Call) → Requests hart_state trap.cause call
+        → requested_by trap.cause hart_state ≡ Some call
     requested_call_is call requests = let is_call = requests.is_call in rw is_call requests.asked
 
     -- a return to the caller gives equal results
@@ -127,7 +131,8 @@ module _ (table : Slots) (memory other_memory : List ℕ) (contexts other_contex
         (with_reprogrammed_hart (returned_to_caller hart_state other status result))
     caller_same one other status result same =
         record {
-          hart_state = ap (λ (slots : Slots). reprogrammed slots (returned_to_caller hart_state one status result).hart_state) same.table;
+          hart_state =
+              ap (λ (slots : Slots). reprogrammed slots (returned_to_caller hart_state one status result).hart_state) same.table;
           next = refl;
           shared = same;
         }
@@ -150,20 +155,22 @@ module _ (table : Slots) (memory other_memory : List ℕ) (contexts other_contex
     -- the trap handler gives equal results
     handled_same : HandlerCases (handled hart_state first_shared trap) (handled hart_state second_shared trap)
     unfolding left
-    handled_same = handler_cases_of_both hart_state trap table memory other_memory contexts other_contexts HandlerCases (record {
-      answers = λ status result. caller_same first_shared second_shared status result same_if_unchanged;
-      creates =
-          λ requests no_refusal. caller_same _ _ 0 (new_slot table)
-          (created_same (create_args_of hart_state.hart.regs) (same_read.measured (requested_call_is Create requests)));
-      destroys = λ requests slot_accepted. caller_same _ _ 0 0 (destroyed_same (a0 hart_state));
-      measures = λ requests no_refusal. caller_same _ _ 0 0 (measured_same (measured_slot hart_state.world (a0 hart_state)) (a1 hart_state));
-      enters = λ call requests is_entry_call from_host slot_accepted. enters_same (same_read.entered (entering_call call is_entry_call requests));
-      leaves =
-          let slot = running_slot hart_state.world in
-          let after = with_state table slot (enclave_state_after trap.cause hart_state.hart.regs) in
-          record { hart_state = refl; next = refl; shared = same_after_new_context after slot (Some (context_saved_by trap.cause hart_state)) };
-      redirects = record { hart_state = refl; next = refl; shared = same_if_unchanged };
-    }) same_length
+    handled_same =
+        handler_cases_of_both hart_state trap table memory other_memory contexts other_contexts HandlerCases (record {
+          answers = λ status result. caller_same first_shared second_shared status result same_if_unchanged;
+          creates =
+              λ requests no_refusal. caller_same _ _ 0 (new_slot table)
+              (created_same (create_args_of hart_state.hart.regs) (same_read.measured (requested_call_is Create requests)));
+          destroys = λ requests slot_accepted. caller_same _ _ 0 0 (destroyed_same (a0 hart_state));
+          measures = λ requests no_refusal. caller_same _ _ 0 0 (measured_same (measured_slot hart_state.world (a0 hart_state)) (a1 hart_state));
+          enters =
+              λ call requests is_entry_call from_host slot_accepted. enters_same (same_read.entered (entering_call call is_entry_call requests));
+          leaves =
+              let slot = running_slot hart_state.world in
+              let after = with_state table slot (enclave_state_after trap.cause hart_state.hart.regs) in
+              record { hart_state = refl; next = refl; shared = same_after_new_context after slot (Some (context_saved_by trap.cause hart_state)) };
+          redirects = record { hart_state = refl; next = refl; shared = same_if_unchanged };
+        }) same_length
 
 -- proves that the trap handler depends only on what it reads, by case analysis
 pub handler_reads_law : HandlerReadsLaw
@@ -179,7 +186,8 @@ handler_reads_law hart_state trap one other same_reads =
 -- ---- the step
 
 -- what the trap handler reads is the same for the hart state before the trap and for the hart state at the trap
-reads_alike_at_trap : (cause : Cause) (hart_state : HartState) (trap : Trap) (one other : Shared) → SameRead hart_state cause one other
+reads_alike_at_trap : (cause : Cause) (hart_state : HartState) (trap : Trap) (one other : Shared)
+    → SameRead hart_state cause one other
     → SameRead (hart_state_after hart_state trap) cause one other
 reads_alike_at_trap cause hart_state trap one other same_reads = record {
   table = same_reads.table;
@@ -200,7 +208,8 @@ returned_same : (one other : Shared) (outcome other_outcome : StepOutcome) (resu
     → SameHandling one other result other_result
     → SameHartStep one other (returned outcome result) (returned other_outcome other_result)
 returned_same one other outcome other_outcome result other_result same_reads =
-    let returned_by : HartState → Next → HartState = λ hart_state next. record hart_state { hart = returned_to hart_state.hart next.pc next.mode } in
+    let returned_by : HartState → Next → HartState =
+    λ hart_state next. record hart_state { hart = returned_to hart_state.hart next.pc next.mode } in
     record {
       hart_state = ap₂ returned_by same_reads.hart_state same_reads.next;
       entered = ap (λ (next : Next). next.entered) same_reads.next;
@@ -227,7 +236,8 @@ pub step_reads_law : (hart : ℕ) (machine : MonitoredMachine) → ReadsOnly har
 step_reads_law hart machine other trap hart_states trapped second_trapped same_reads =
     let first_trapping = is_trapping hart machine trap trapped in
     let second_trapping = is_trapping hart other trap second_trapped in
-    let hart_state : List HartState → HartState = λ hart_states. slice_index_or hart_states hart (hart_state_at_start 0) in
+    let hart_state : List HartState → HartState =
+    λ hart_states. slice_index_or hart_states hart (hart_state_at_start 0) in
     let view_of : HartState → HartView = λ hart_state. record { hart_state = hart_state; shared = other.shared } in
     let same_hart_state = ap hart_state hart_states in
     let SameStepFrom : HartState → Type 0 =

@@ -11,7 +11,8 @@ use Rattle.rv_monitor.proofs.PmpProgramming.{reprogramming_changes_nothing}
 use Rattle.rv_monitor.proofs.TrapSteps.{step_cases}
 
 -- a number that is not the number of a hart has the state of the host at reset
-pub past_hart_state : (hart_states : List HartState) (hart : ℕ) → length hart_states ≤ hart → hart_state_in hart_states hart ≡ hart_state_at_start 0
+pub past_hart_state : (hart_states : List HartState) (hart : ℕ) → length hart_states ≤ hart
+    → hart_state_in hart_states hart ≡ hart_state_at_start 0
 past_hart_state hart_states hart past_end = get_or_past {X = HartState} hart_states hart (hart_state_at_start 0) past_end
 
 -- Case analysis of the harts of two machines after a change of one hart in each. A claim about both states of each hart holds if it holds for the new
@@ -115,14 +116,16 @@ unfolding step_of
 machine_step_is hart machine in_range = rw (lt-ltb hart (count_of machine) in_range) refl
 
 -- a step with a number that is not the number of a hart has no effect
-pub outside : (hart : ℕ) (machine : MonitoredMachine) → count_of machine ≤ hart → step_of hart machine ≡ not_stepped machine
+pub outside : (hart : ℕ) (machine : MonitoredMachine) → count_of machine ≤ hart
+    → step_of hart machine ≡ not_stepped machine
 unfolding step_of
 outside hart machine past_last =
     let not_a_hart : nat_lt hart (count_of machine) ≡ false = grind (arith, nat_tests, past_last) in rw not_a_hart refl
 
--- a claim about a step holds if it holds for a step without effect, and for the step of a hart of the machine
+-- a claim about a step holds if the claim holds for a step without effect, and for the step of a hart of the machine
 pub by_hart : (hart : ℕ) (machine : MonitoredMachine) (Claim : MonitoredStepped → Type 0) → Claim (not_stepped machine)
-    → (hart < count_of machine → Claim (stepped_by hart machine (monitored_step (hart_view hart machine)))) → Claim (step_of hart machine)
+    → (hart < count_of machine → Claim (stepped_by hart machine (monitored_step (hart_view hart machine))))
+    → Claim (step_of hart machine)
 by_hart hart machine Claim no_hart with_hart = elim (cases_lt hart (count_of machine)) [
   | inl in_range ↦ subst Claim (sym (machine_step_is hart machine in_range)) (with_hart in_range)
   | inr past_last ↦ subst Claim (sym (outside hart machine past_last)) no_hart
@@ -140,7 +143,8 @@ step_of_view hart machine in_range =
     let after = monitored_step (hart_view hart machine) in
     let view_with : HartState → HartViewStepped =
     λ hart_state. record { state = record { hart_state = hart_state; shared = after.state.shared }; outcome = after.outcome } in
-    ap (hart_view_after hart) (machine_step_is hart machine in_range) ∙ ap view_with (stepping_hart_state hart machine after hart refl in_range)
+    ap (hart_view_after hart) (machine_step_is hart machine in_range)
+    ∙ ap view_with (stepping_hart_state hart machine after hart refl in_range)
 
 -- a step of one hart preserves each property of the other harts that does not depend on the PMP entries and mie
 pub other_harts_keep : {X : Type 0} (property : HartState → X)
@@ -174,7 +178,8 @@ untrapped_table_unchanged view =
     (λ trap traps is_untrapped. let contradiction : None ≡ Some trap = sym is_untrapped ∙ traps in cc)
 
 -- after a step of another hart, a hart with the invariant has the state that a reprogramming for the new table gives
-state_is_reprogrammed : (maybe_trap : Option Trap) (before after : Slots) (hart_state : HartState) → (maybe_trap ≡ None → after ≡ before)
+state_is_reprogrammed : (maybe_trap : Option Trap) (before after : Slots) (hart_state : HartState)
+    → (maybe_trap ≡ None → after ≡ before)
     → HartInvariant before hart_state
     → hart_state_reprogrammed maybe_trap after hart_state ≡ reprogrammed after hart_state
 state_is_reprogrammed None before after hart_state same_if_untrapped hart_invariant =
@@ -183,7 +188,8 @@ state_is_reprogrammed None before after hart_state same_if_untrapped hart_invari
 state_is_reprogrammed (Some trap) before after hart_state same_if_untrapped hart_invariant = refl
 
 -- after a step of another hart, each hart has the state that a reprogramming for the new table gives
-pub other_hart_is_programmed : (hart other_hart : ℕ) (machine : MonitoredMachine) → Invariant machine → other_hart < count_of machine
+pub other_hart_is_programmed : (hart other_hart : ℕ) (machine : MonitoredMachine) → Invariant machine
+    → other_hart < count_of machine
     → (let after = monitored_step (hart_view hart machine) in
     hart_state_reprogrammed after.outcome.step.trap after.state.shared.table (hart_state_of other_hart machine)
     ≡ reprogrammed after.state.shared.table (hart_state_of other_hart machine))
@@ -194,7 +200,8 @@ other_hart_is_programmed hart other_hart machine invariant in_range =
     (invariant.hart_states other_hart in_range)
 
 -- after a step of another hart, each hart has its old state with the PMP entries and mie of the new table
-pub step_programmed : (hart other_hart : ℕ) (machine : MonitoredMachine) → Invariant machine → other_hart ≢ hart → other_hart < count_of machine
+pub step_programmed : (hart other_hart : ℕ) (machine : MonitoredMachine) → Invariant machine → other_hart ≢ hart
+    → other_hart < count_of machine
     → hart_state_of other_hart (step_of hart machine).state ≡ reprogrammed (step_of hart machine).state.shared.table
     (hart_state_of other_hart machine)
 step_programmed hart other_hart machine invariant distinct other_in_range =
@@ -218,7 +225,8 @@ pub record IsTrapping (hart : ℕ) (machine : MonitoredMachine) (trap : Trap) : 
   pub outcome : (step_of hart machine).outcome ≡ (monitored_step (hart_view hart machine)).outcome
 
 -- a step with a trap is the step of a hart of the machine whose view has the trap
-pub is_trapping : (hart : ℕ) (machine : MonitoredMachine) (trap : Trap) → (step_of hart machine).outcome.step.trap ≡ Some trap
+pub is_trapping : (hart : ℕ) (machine : MonitoredMachine) (trap : Trap)
+    → (step_of hart machine).outcome.step.trap ≡ Some trap
     → IsTrapping hart machine trap
 is_trapping hart machine trap traps = elim (cases_lt hart (count_of machine)) [
   -- a step with the number of no hart has no trap
@@ -230,9 +238,11 @@ is_trapping hart machine trap traps = elim (cases_lt hart (count_of machine)) [
   | inl in_range ↦
       let after = monitored_step (hart_view hart machine) in
       let step_is = machine_step_is hart machine in_range in
-      let trapped : after.outcome.step.trap ≡ Some trap = sym (ap (λ (stepped : MonitoredStepped). stepped.outcome.step.trap) step_is) ∙ traps in
+      let trapped : after.outcome.step.trap ≡ Some trap =
+      sym (ap (λ (stepped : MonitoredStepped). stepped.outcome.step.trap) step_is) ∙ traps in
       let programmed_after : Option Trap → MonitoredMachine = λ maybe_trap. record {
-        hart_states = slice_set (hart_states_reprogrammed maybe_trap after.state.shared.table machine.hart_states) hart after.state.hart_state;
+        hart_states =
+            slice_set (hart_states_reprogrammed maybe_trap after.state.shared.table machine.hart_states) hart after.state.hart_state;
         shared = after.state.shared;
       } in
       record {

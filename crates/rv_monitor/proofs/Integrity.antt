@@ -37,20 +37,24 @@ state_keeps_other_slots : (other_slot slot : ℕ) (shared : Shared) (state : Enc
       contexts = with_context shared.contexts slot maybe_context;
     })
 state_keeps_other_slots other_slot slot shared state maybe_context distinct =
-    let is_other_slot : other_slot ≢ slot = λ slots_equal. both_ways _ distinct (eq-eqb slot other_slot (sym slots_equal)) in
+    let is_other_slot : other_slot ≢ slot =
+    λ slots_equal. both_ways _ distinct (eq-eqb slot other_slot (sym slots_equal)) in
     record {
       slot = new_state_keeps_other_slot shared.table other_slot slot (slot_at shared.table slot) state is_other_slot;
       context = at_other_slot shared.contexts slot other_slot maybe_context is_other_slot;
     }
 
 -- the slot of the running world is not the slot of an enclave that does not run
-running_slot_is_other : (slot : ℕ) (world : World) → slot < slot_count → is_world_of slot world ≡ false → (running_slot world == slot) ≡ false
-running_slot_is_other slot Host in_table not_running = ne_eqb slot_count slot (λ slots_equal. omega (arith, in_table, slots_equal))
+running_slot_is_other : (slot : ℕ) (world : World) → slot < slot_count → is_world_of slot world ≡ false
+    → (running_slot world == slot) ≡ false
+running_slot_is_other slot Host in_table not_running =
+    ne_eqb slot_count slot (λ slots_equal. omega (arith, in_table, slots_equal))
 running_slot_is_other slot (Enclave running) in_table not_running = not_running
 
 -- if the trap handler does not enter the slot, and the slot is live after the trap handler, then the slot is unchanged
 abbrev Keeps : ℕ → Shared → Handled → Type 0
-Keeps slot before result = enters slot result.next.entered ≡ false → is_live result.shared.table slot ≡ true → KeepsSlot slot before result.shared
+Keeps slot before result =
+    enters slot result.next.entered ≡ false → is_live result.shared.table slot ≡ true → KeepsSlot slot before result.shared
 
 -- the enclave of the slot is live before the trap handler of a hart that does not run this enclave
 module _ (slot : ℕ) (hart_state : HartState) (shared : Shared) (valid : IsValid shared.memory shared.table)
@@ -70,7 +74,8 @@ module _ (slot : ℕ) (hart_state : HartState) (shared : Shared) (valid : IsVali
       }
 
   -- a destroy after which the slot is live leaves the slot unchanged
-  destroyed_keeps : (other_slot : ℕ) → SlotIsAccepted shared.table Destroy other_slot → is_live (destroyed shared other_slot).table slot ≡ true
+  destroyed_keeps : (other_slot : ℕ) → SlotIsAccepted shared.table Destroy other_slot
+      → is_live (destroyed shared other_slot).table slot ≡ true
       → KeepsSlot slot shared (destroyed shared other_slot)
   unfolding destroyed
   destroyed_keeps other_slot slot_accepted live_after = elim (cases_eq slot other_slot) [
@@ -91,7 +96,8 @@ module _ (slot : ℕ) (hart_state : HartState) (shared : Shared) (valid : IsVali
   unfolding measured entered_slot left
   handled_keeps trap = handler_cases hart_state trap shared (Keeps slot shared) (record {
     answers = λ status result not_entered live_after. record { slot = refl; context = refl };
-    creates = λ requests no_refusal not_entered live_after. created_keeps (create_args_of hart_state.hart.regs) no_refusal;
+    creates =
+        λ requests no_refusal not_entered live_after. created_keeps (create_args_of hart_state.hart.regs) no_refusal;
     destroys = λ requests slot_accepted not_entered live_after. destroyed_keeps (a0 hart_state) slot_accepted live_after;
     measures = λ requests no_refusal not_entered live_after. record { slot = refl; context = refl };
     enters =
@@ -108,9 +114,11 @@ module _ (slot : ℕ) (hart_state : HartState) (shared : Shared) (valid : IsVali
 -- ---- the bytes in the region of the enclave
 
 -- a step changes no byte in the region of an enclave that is not the running world and is live after the step
-region_byte_unchanged : (view : HartView) (slot byte : ℕ) → HartViewInvariant view → is_world_of slot view.hart_state.world ≡ false
+region_byte_unchanged : (view : HartView) (slot byte : ℕ) → HartViewInvariant view
+    → is_world_of slot view.hart_state.world ≡ false
     → is_live (monitored_step view).state.shared.table slot ≡ true
-    → has (region view.shared.table slot) byte ≡ true → byte_at (monitored_step view).state.shared.memory byte ≡ byte_at view.shared.memory byte
+    → has (region view.shared.table slot) byte ≡ true
+    → byte_at (monitored_step view).state.shared.memory byte ≡ byte_at view.shared.memory byte
 region_byte_unchanged view slot byte view_invariant not_running live_after in_region =
     let shared = view.shared in
     let valid = view_invariant.valid in
@@ -143,9 +151,11 @@ region_byte_unchanged view slot byte view_invariant not_running live_after in_re
 -- ---- the step
 
 -- a step of a view preserves each live enclave that is not the running world, unless the step enters or destroys this enclave
-pub integrity_in : (view : HartView) → HartViewInvariant view → (slot : ℕ) → is_world_of slot view.hart_state.world ≡ false
+pub integrity_in : (view : HartView) → HartViewInvariant view → (slot : ℕ)
+    → is_world_of slot view.hart_state.world ≡ false
     → is_live view.shared.table slot ≡ true
-    → enters slot (monitored_step view).outcome.entered ≡ false → is_live (monitored_step view).state.shared.table slot ≡ true
+    → enters slot (monitored_step view).outcome.entered ≡ false
+    → is_live (monitored_step view).state.shared.table slot ≡ true
     → IsPreserved slot view.shared (monitored_step view).state.shared
 integrity_in view view_invariant slot not_running live not_entered live_after =
     let keeps = step_cases view
@@ -156,12 +166,14 @@ integrity_in view view_invariant slot not_running live not_entered live_after =
     let kept_slot = keeps not_entered live_after in
     record {
       slot = kept_slot.slot;
-      bytes = λ byte in_its_region. region_byte_unchanged view slot byte view_invariant not_running live_after in_its_region;
+      bytes =
+          λ byte in_its_region. region_byte_unchanged view slot byte view_invariant not_running live_after in_its_region;
       context = kept_slot.context;
     }
 
 -- proves integrity: a step leaves each other live enclave untouched that it neither enters nor destroys
-pub integrity : (hart : ℕ) (machine : MonitoredMachine) → Invariant machine → PreservesOthers hart machine (step_of hart machine)
+pub integrity : (hart : ℕ) (machine : MonitoredMachine) → Invariant machine
+    → PreservesOthers hart machine (step_of hart machine)
 integrity hart machine invariant slot not_running live not_entered live_after = record {
   preserved = by_hart hart machine
       (λ after. enters slot after.outcome.entered ≡ false → is_live after.state.shared.table slot ≡ true

@@ -20,8 +20,10 @@ abbrev world_of : HartState → World
 world_of hart_state = hart_state.world
 
 -- each hart of the machine has its world in the list of worlds
-pub world_index_in_range : (hart : ℕ) (machine : MonitoredMachine) → hart < count_of machine → hart < length (worlds machine)
-world_index_in_range hart machine in_range = let same_length = length-map machine.hart_states world_of in omega (arith, same_length, in_range)
+pub world_index_in_range : (hart : ℕ) (machine : MonitoredMachine) → hart < count_of machine
+    → hart < length (worlds machine)
+world_index_in_range hart machine in_range =
+    let same_length = length-map machine.hart_states world_of in omega (arith, same_length, in_range)
 
 -- the world in the list at the number of a hart is the world of this hart
 pub world_at : (hart : ℕ) (machine : MonitoredMachine) → hart < count_of machine
@@ -90,7 +92,8 @@ invariant_after_step hart machine invariant in_range =
       hart_states = λ other_hart other_in_new_range.
           let other_in_range : other_hart < count_of machine = omega (arith, same_length, other_in_new_range) in
           elim (cases_eq other_hart hart) [
-            | inl equal ↦ subst (HartInvariant slots) (sym (stepping_hart_state hart machine after other_hart equal in_range)) view_invariant_after.1
+            | inl equal ↦
+                subst (HartInvariant slots) (sym (stepping_hart_state hart machine after other_hart equal in_range)) view_invariant_after.1
             | inr distinct ↦
                 subst (HartInvariant slots)
                 (sym (other_hart_state hart machine after other_hart distinct other_in_range
@@ -102,12 +105,14 @@ invariant_after_step hart machine invariant in_range =
 
 -- proves that a step preserves the invariant
 pub invariant_law : (hart : ℕ) (machine : MonitoredMachine) → Invariant machine → Invariant (step_of hart machine).state
-invariant_law hart machine invariant = by_hart hart machine (λ after. Invariant after.state) invariant (invariant_after_step hart machine invariant)
+invariant_law hart machine invariant =
+    by_hart hart machine (λ after. Invariant after.state) invariant (invariant_after_step hart machine invariant)
 
 -- proves that steps of the harts in any order preserve the invariant
 pub sched_invariant : SchedInvariantLaw
 sched_invariant [] machine invariant = invariant
-sched_invariant (hart ∷ harts) machine invariant = sched_invariant harts (step_of hart machine).state (invariant_law hart machine invariant)
+sched_invariant (hart ∷ harts) machine invariant =
+    sched_invariant harts (step_of hart machine).state (invariant_law hart machine invariant)
 
 -- ---- changes by the debugger
 
@@ -118,14 +123,16 @@ written regs raised hart_state = record hart_state {
 }
 
 -- a hart keeps its invariant if the debugger writes its registers or its timer line
-written_hart_invariant : (slots : Slots) (regs : List ℕ) (raised : Bool) (hart_state : HartState) → HartInvariant slots hart_state
+written_hart_invariant : (slots : Slots) (regs : List ℕ) (raised : Bool) (hart_state : HartState)
+    → HartInvariant slots hart_state
     → HartInvariant slots (written regs raised hart_state)
 written_hart_invariant slots regs raised hart_state hart_invariant =
     let layout = hart_invariant.layout in
     reprogrammed_by slots slots hart_state (written regs raised hart_state).hart hart_invariant layout.entries layout.mie refl refl
 
 -- a machine keeps its invariant if the debugger writes the registers or the timer line of one of its harts
-written_invariant_of_hart : (hart : ℕ) (regs : List ℕ) (raised : Bool) (machine : MonitoredMachine) → Invariant machine → hart < count_of machine
+written_invariant_of_hart : (hart : ℕ) (regs : List ℕ) (raised : Bool) (machine : MonitoredMachine)
+    → Invariant machine → hart < count_of machine
     → Invariant (with_hart_state hart (written regs raised (hart_state_of hart machine)) machine)
 written_invariant_of_hart hart regs raised machine invariant in_range =
     let hart_state = hart_state_of hart machine in
@@ -155,11 +162,13 @@ pub written_invariant : (hart : ℕ) (regs : List ℕ) (raised : Bool) (machine 
     → Invariant (with_hart_state hart (written regs raised (hart_state_of hart machine)) machine)
 written_invariant hart regs raised machine invariant = elim (cases_lt hart (count_of machine)) [
   | inl in_range ↦ written_invariant_of_hart hart regs raised machine invariant in_range
-  | inr past_last ↦ subst Invariant (sym (no_hart_unchanged hart (written regs raised (hart_state_of hart machine)) machine past_last)) invariant
+  | inr past_last ↦
+      subst Invariant (sym (no_hart_unchanged hart (written regs raised (hart_state_of hart machine)) machine past_last)) invariant
 ]
 
 -- the saved host contexts of a machine stay legal if one hart gets a state with a legal saved host context
-pub hart_write_keeps_contexts_legal : (hart : ℕ) (hart_state : HartState) (machine : MonitoredMachine) → HostContextsAreLegal machine
+pub hart_write_keeps_contexts_legal : (hart : ℕ) (hart_state : HartState) (machine : MonitoredMachine)
+    → HostContextsAreLegal machine
     → hart < count_of machine
     → HostContextIsLegal hart_state
     → HostContextsAreLegal (with_hart_state hart hart_state machine)
@@ -184,7 +193,8 @@ change_preserves property change preserved hart other_hart machine = elim (cases
 ]
 
 -- a machine keeps its invariant with another memory of the same size
-pub invariant_by_size : (machine : MonitoredMachine) (memory : List ℕ) → Invariant machine → length machine.shared.memory ≡ length memory
+pub invariant_by_size : (machine : MonitoredMachine) (memory : List ℕ) → Invariant machine
+    → length machine.shared.memory ≡ length memory
     → Invariant (record machine { shared = record machine.shared { memory = memory } })
 invariant_by_size machine memory invariant same_length =
     record { shared = sound_by_size machine.shared (worlds machine) memory invariant.shared same_length; hart_states = invariant.hart_states }

@@ -26,7 +26,8 @@ module _ (before : HartView) (slot : ℕ) (host : Context) (runs_enclave : befor
 
   -- the result of an exit that saves the given context of the enclave
   abbrev leaving_with : Context → Handled
-  leaving_with context = left (lowered_by trap.cause hart_state) before.shared (record (enclave_exit_of trap.cause hart_state) { kept = context })
+  leaving_with context =
+      left (lowered_by trap.cause hart_state) before.shared (record (enclave_exit_of trap.cause hart_state) { kept = context })
 
   -- the result of an exit
   abbrev exit_result : Handled
@@ -64,7 +65,8 @@ module _ (before : HartView) (slot : ℕ) (host : Context) (runs_enclave : befor
   view_after_exit =
       let shared = left_shared before.shared slot trap.cause before.hart_state.hart in
       record {
-        hart_state = record { hart = left_hart before.hart_state.hart shared.table trap host; host_context = None; world = Host };
+        hart_state =
+            record { hart = left_hart before.hart_state.hart shared.table trap host; host_context = None; world = Host };
         shared = shared;
       }
 
@@ -73,16 +75,19 @@ module _ (before : HartView) (slot : ℕ) (host : Context) (runs_enclave : befor
   IsExitStep after = (after.state ≡ view_after_exit) × (after.outcome.entered ≡ None)
 
   -- the return from an exit gives the view after an exit
-  returned_left : (outcome : StepOutcome) → HartViewInvariant before → IsExitStep (returned outcome (with_reprogrammed_hart exit_result))
+  returned_left : (outcome : StepOutcome) → HartViewInvariant before
+      → IsExitStep (returned outcome (with_reprogrammed_hart exit_result))
   unfolding left
   returned_left outcome view_invariant =
-      let CanGoOnIfSome : Option Context → Type 0 = λ maybe_context. IfSome maybe_context (λ some_context. can_go_on some_context ≡ true) in
+      let CanGoOnIfSome : Option Context → Type 0 =
+      λ maybe_context. IfSome maybe_context (λ some_context. can_go_on some_context ≡ true) in
       let aligned = pc_is_aligned host.mode host.pc (subst CanGoOnIfSome host_is_saved view_invariant.hart.host.held) in
       let mprv = view_invariant.hart.layout.mprv in
       (rw (runs_enclave, host_is_saved, aligned, or-false (is_set before.hart_state.hart.csrs.mcountinhibit 0), mprv) refl, refl)
 
   -- if the host runs after the trap handler, then the return from the trap handler gives the view after an exit
-  exit_if_host_runs : (outcome : StepOutcome) (result : Handled) → HartViewInvariant before → StaysOrExits result → result.hart_state.world ≡ Host
+  exit_if_host_runs : (outcome : StepOutcome) (result : Handled) → HartViewInvariant before → StaysOrExits result
+      → result.hart_state.world ≡ Host
       → IsExitStep (returned outcome result)
   exit_if_host_runs outcome result view_invariant (inl stays) host_runs_after =
       let contradiction : Enclave slot ≡ Host = sym stays ∙ host_runs_after in cc
@@ -95,13 +100,15 @@ module _ (before : HartView) (slot : ℕ) (host : Context) (runs_enclave : befor
       → IsExitStep (monitored_step before)
   step_is_exit view_invariant trapped host_runs_after =
       let step_is = trapped_step before trap trapped in
-      let handled_host = subst (λ (after : HartViewStepped). after.state.hart_state.world ≡ Host) step_is host_runs_after in
+      let handled_host =
+      subst (λ (after : HartViewStepped). after.state.hart_state.world ≡ Host) step_is host_runs_after in
       subst IsExitStep (sym step_is) (exit_if_host_runs (step (bare_machine before)).outcome _ view_invariant handled_stays_or_exits handled_host)
 
 -- a step of an enclave with a trap after which the host runs leaves the machine after an exit, and enters no slot
 pub leave_law : (hart : ℕ) (machine : MonitoredMachine) → Invariant machine → (slot : ℕ) (host : Context) (trap : Trap)
     → (hart_state_of hart machine).world ≡ Enclave slot → (hart_state_of hart machine).host_context ≡ Some host
-    → (step_of hart machine).outcome.step.trap ≡ Some trap → (hart_state_of hart (step_of hart machine).state).world ≡ Host
+    → (step_of hart machine).outcome.step.trap ≡ Some trap
+    → (hart_state_of hart (step_of hart machine).state).world ≡ Host
     → ((step_of hart machine).state ≡ left_machine hart machine slot trap host) × ((step_of hart machine).outcome.entered ≡ None)
 leave_law hart machine invariant slot host trap runs host_is_saved trapped host_runs_after =
     let trapping = is_trapping hart machine trap trapped in
@@ -116,7 +123,8 @@ leave_law hart machine invariant slot host trap runs host_is_saved trapped host_
 pub left_hart_state : (hart : ℕ) (machine : MonitoredMachine) (slot : ℕ) (trap : Trap) (host : Context) → hart < count_of machine
     → (let hart_before = (hart_state_of hart machine).hart in
     let shared = left_shared machine.shared slot trap.cause hart_before in
-    let hart_state : HartState = record { hart = left_hart hart_before shared.table trap host; host_context = None; world = Host } in
+    let hart_state : HartState =
+    record { hart = left_hart hart_before shared.table trap host; host_context = None; world = Host } in
     hart_state_of hart (left_machine hart machine slot trap host) ≡ hart_state)
 left_hart_state hart machine slot trap host in_range =
     let hart_before = (hart_state_of hart machine).hart in

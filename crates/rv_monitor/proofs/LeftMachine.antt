@@ -24,7 +24,8 @@ stopped_at hart = record (saved hart (past_ecall hart) S) { regs = with_return_v
 -- context is the empty context.
 abbrev pub saved_after : Cause → Hart → Context
 saved_after (causes.Interrupt interrupt) hart = saved hart (aligned_to_4 hart.pc) hart.mode
-saved_after (causes.Exception exception) hart = if register hart.regs 16 == call_number Exit then exited_context else stopped_at hart
+saved_after (causes.Exception exception) hart =
+    if register hart.regs 16 == call_number Exit then exited_context else stopped_at hart
 
 -- the shared state after an exit of `slot`, with its new state and its saved context
 abbrev pub left_shared : Shared → ℕ → Cause → Hart → Shared

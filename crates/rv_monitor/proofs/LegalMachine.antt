@@ -41,7 +41,8 @@ legal_after_write : (saved_contexts : Contexts) (written_slot : ℕ) (maybe_cont
     → IfSome maybe_context (λ context. IsLegal context.supervisor)
     → AllLegal (with_context saved_contexts written_slot maybe_context)
 legal_after_write saved_contexts written_slot maybe_context all_legal legal slot =
-    let LegalIfSome : Option Context → Type 0 = λ maybe_context. IfSome maybe_context (λ context. IsLegal context.supervisor) in
+    let LegalIfSome : Option Context → Type 0 =
+    λ maybe_context. IfSome maybe_context (λ context. IsLegal context.supervisor) in
     elim (cases_lt written_slot (length saved_contexts)) [
       | inr past_last ↦
           subst (λ (contexts : Contexts). LegalIfSome (context_at contexts slot)) (sym (set_past saved_contexts written_slot maybe_context past_last))
@@ -51,28 +52,33 @@ legal_after_write saved_contexts written_slot maybe_context all_legal legal slot
             subst (λ (some_slot : ℕ). LegalIfSome (context_at (with_context saved_contexts written_slot maybe_context) some_slot))
             (sym is_written_slot)
             (subst LegalIfSome (sym (at_written_slot saved_contexts written_slot maybe_context in_range)) legal)
-        | inr is_other_slot ↦ subst LegalIfSome (sym (at_other_slot saved_contexts written_slot slot maybe_context is_other_slot)) (all_legal slot)
+        | inr is_other_slot ↦
+            subst LegalIfSome (sym (at_other_slot saved_contexts written_slot slot maybe_context is_other_slot)) (all_legal slot)
       ]
     ]
 
 -- the S-mode registers are legal after the monitor restores a context
 restored_legal : (csrs : CsrState) (supervisor : SContext) → Legal (with_s_context csrs supervisor)
-restored_legal csrs supervisor = let stored = with_s_context_stored csrs supervisor in record { stvec = stored.stvec; sepc = stored.sepc }
+restored_legal csrs supervisor =
+    let stored = with_s_context_stored csrs supervisor in record { stvec = stored.stvec; sepc = stored.sepc }
 
 -- a context whose stvec and sepc are 0 is legal
-zero_context_legal : (context : Context) → context.supervisor.stvec ≡ 0 → context.supervisor.sepc ≡ 0 → IsLegal context.supervisor
+zero_context_legal : (context : Context) → context.supervisor.stvec ≡ 0
+    → context.supervisor.sepc ≡ 0 → IsLegal context.supervisor
 zero_context_legal context stvec sepc =
     let zero_vector : vector_of 0 ≡ 0 = omega arith in
     let zero_aligned : aligned_to_4 0 ≡ 0 = omega arith in
     record { stvec = ap vector_of stvec ∙ zero_vector ∙ sym stvec; sepc = ap aligned_to_4 sepc ∙ zero_aligned ∙ sym sepc }
 
 -- the context that an exit saves is legal
-saved_legal : (cause : Cause) (hart_state : HartState) → Legal hart_state.hart.csrs → IsLegal (context_saved_by cause hart_state).supervisor
+saved_legal : (cause : Cause) (hart_state : HartState) → Legal hart_state.hart.csrs
+    → IsLegal (context_saved_by cause hart_state).supervisor
 saved_legal (causes.Interrupt interrupt) hart_state legal = legal
 saved_legal (causes.Exception exception) hart_state legal =
     stopped_or_exited_legal (register hart_state.hart.regs 16 == call_number Exit) where
       -- both the empty context and the context that stop saves are legal
-      stopped_or_exited_legal : (is_exit : Bool) → IsLegal (if is_exit then exited_context else stopped_context hart_state).supervisor
+      stopped_or_exited_legal : (is_exit : Bool)
+          → IsLegal (if is_exit then exited_context else stopped_context hart_state).supervisor
       stopped_or_exited_legal true = zero_context_legal exited_context refl refl
       stopped_or_exited_legal false = legal
 
@@ -89,7 +95,8 @@ module _ (hart_state : HartState) (shared : Shared) (trap : Trap) (legal : Legal
   unfolding created destroyed measured entered_slot left with_redirected_trap first_context
   handler_keeps_legal =
       handler_cases hart_state trap shared LegalAfterHandler (record {
-        answers = λ status result. record { supervisor = record { stvec = legal.stvec; sepc = legal.sepc }; contexts = all_legal };
+        answers =
+            λ status result. record { supervisor = record { stvec = legal.stvec; sepc = legal.sepc }; contexts = all_legal };
         creates = λ requests no_refusal. record {
           supervisor = record { stvec = legal.stvec; sepc = legal.sepc };
           contexts = legal_after_write shared.contexts _ _ all_legal
@@ -99,9 +106,11 @@ module _ (hart_state : HartState) (shared : Shared) (trap : Trap) (legal : Legal
           supervisor = record { stvec = legal.stvec; sepc = legal.sepc };
           contexts = legal_after_write shared.contexts _ None all_legal tt;
         };
-        measures = λ requests no_refusal. record { supervisor = record { stvec = legal.stvec; sepc = legal.sepc }; contexts = all_legal };
+        measures =
+            λ requests no_refusal. record { supervisor = record { stvec = legal.stvec; sepc = legal.sepc }; contexts = all_legal };
         enters = λ call requests is_entry_call from_host slot_accepted.
-            let restored = restored_legal hart_state.hart.csrs (saved_context shared.contexts (a0 hart_state)).supervisor in
+            let restored =
+            restored_legal hart_state.hart.csrs (saved_context shared.contexts (a0 hart_state)).supervisor in
             record {
               supervisor = record { stvec = restored.stvec; sepc = restored.sepc };
               contexts = legal_after_write shared.contexts _ None all_legal tt;
@@ -124,7 +133,8 @@ record ViewIsLegal (view : HartView) : Type 0 where
   contexts : AllLegal view.shared.contexts
 
 -- a step of a view leaves pc, the S-mode registers and the saved contexts legal
-step_keeps_view_legal : (view : HartView) → HartViewInvariant view → ViewIsLegal view → ViewIsLegal (monitored_step view).state
+step_keeps_view_legal : (view : HartView) → HartViewInvariant view → ViewIsLegal view
+    → ViewIsLegal (monitored_step view).state
 step_keeps_view_legal view view_invariant legal = step_cases view (λ after. ViewIsLegal after.state)
     (λ no_trap.
     let hart = without_trap _ _ no_trap (keeps_stored (bare_machine view) view_invariant.hart.layout.mode (record {
@@ -145,16 +155,19 @@ step_keeps_view_legal view view_invariant legal = step_cases view (λ after. Vie
 -- ---- the machine
 
 -- a step of a legal machine leaves a legal machine
-step_keeps_legal : (hart : ℕ) (machine : MonitoredMachine) → Invariant machine → IsLegalMachine machine → IsLegalMachine (step_of hart machine).state
+step_keeps_legal : (hart : ℕ) (machine : MonitoredMachine) → Invariant machine → IsLegalMachine machine
+    → IsLegalMachine (step_of hart machine).state
 step_keeps_legal hart machine invariant legal = elim (cases_lt hart (count_of machine)) [
   -- a step with the number of no hart changes nothing
-  | inr past_last ↦ subst (λ (after : MonitoredStepped). IsLegalMachine after.state) (sym (outside hart machine past_last)) legal
+  | inr past_last ↦
+      subst (λ (after : MonitoredStepped). IsLegalMachine after.state) (sym (outside hart machine past_last)) legal
   | inl in_range ↦
       let view = hart_view hart machine in
       let legal_hart = legal.harts hart in
       let after = step_keeps_view_legal view (hart_view_invariant hart machine invariant in_range)
       (record { pc = legal_hart.pc; supervisor = legal_hart.supervisor; contexts = legal.contexts }) in
-      let view_legal = subst (λ (stepped : HartViewStepped). ViewIsLegal stepped.state) (sym (step_of_view hart machine in_range)) after in
+      let view_legal =
+      subst (λ (stepped : HartViewStepped). ViewIsLegal stepped.state) (sym (step_of_view hart machine in_range)) after in
       record {
         harts = λ other_hart. elim (cases_eq other_hart hart) [
           -- the stepping hart is legal, because the step of its view leaves legal registers
@@ -213,10 +226,12 @@ no_context slot = elim (cases_lt slot slot_count) [
 
 -- the saved contexts at reset are legal, because there are none
 none_legal : (slot : ℕ) → IfSome (context_at no_contexts slot) (λ context. IsLegal context.supervisor)
-none_legal slot = subst (λ (maybe_context : Option Context). IfSome maybe_context (λ context. IsLegal context.supervisor)) (sym (no_context slot)) tt
+none_legal slot =
+    subst (λ (maybe_context : Option Context). IfSome maybe_context (λ context. IsLegal context.supervisor)) (sym (no_context slot)) tt
 
 -- the machine at reset is legal, if the entry point is a multiple of 4
-start_is_legal : (memory : List ℕ) (entry harts : ℕ) → aligned_to_4 entry ≡ entry → IsLegalMachine (at_start memory entry harts)
+start_is_legal : (memory : List ℕ) (entry harts : ℕ) → aligned_to_4 entry ≡ entry
+    → IsLegalMachine (at_start memory entry harts)
 unfolding at_start
 start_is_legal memory entry harts aligned =
     let reset_state = reset_is_legal entry aligned in

@@ -60,11 +60,13 @@ use Rattle.rv_monitor.proofs.Booleans.{left_if_nor_fails, nand_fails, right_if_n
 -- ---- an enclave runs on one hart
 
 -- an index at which the list of worlds has the enclave is below the length of the list
-hart_is_in_list : (slot : ℕ) (worlds : List World) (index : ℕ) → is_world_of slot (slice_index_or worlds index Host) ≡ true → index < length worlds
+hart_is_in_list : (slot : ℕ) (worlds : List World) (index : ℕ)
+    → is_world_of slot (slice_index_or worlds index Host) ≡ true → index < length worlds
 hart_is_in_list slot worlds index runs_at_index = elim (cases_lt index (length worlds)) [
   | inl in_range ↦ in_range
   | inr past_end ↦
-      let contradiction : false ≡ true = sym (ap (is_world_of slot) (get_or_past {X = World} worlds index Host past_end)) ∙ runs_at_index in
+      let contradiction : false ≡ true =
+      sym (ap (is_world_of slot) (get_or_past {X = World} worlds index Host past_end)) ∙ runs_at_index in
       cc
 ]
 
@@ -85,7 +87,8 @@ runs_at_one_index slot (world ∷ worlds) worlds_apart (suc index) (suc other_in
     ap suc (runs_at_one_index slot worlds worlds_apart.1 index other_index runs_at_index runs_at_other)
 
 -- an enclave runs on at most one hart
-runs_on_one_hart : (slot hart other_hart : ℕ) (machine : MonitoredMachine) → Invariant machine → runs_on slot hart machine ≡ true
+runs_on_one_hart : (slot hart other_hart : ℕ) (machine : MonitoredMachine) → Invariant machine
+    → runs_on slot hart machine ≡ true
     → runs_on slot other_hart machine ≡ true → hart ≡ other_hart
 runs_on_one_hart slot hart other_hart machine invariant runs_on_hart runs_on_other =
     runs_at_one_index slot (worlds machine) invariant.shared.apart hart other_hart
@@ -95,7 +98,8 @@ runs_on_one_hart slot hart other_hart machine invariant runs_on_hart runs_on_oth
 -- an enclave that runs on a hart has the state Running
 runs_if_on_hart : (slot hart : ℕ) (machine : MonitoredMachine) → Invariant machine → runs_on slot hart machine ≡ true
     → runs machine.shared.table slot ≡ true
-runs_if_on_hart slot hart machine invariant runs_on_hart = invariant.shared.running slot ∙ runs_among slot hart machine runs_on_hart
+runs_if_on_hart slot hart machine invariant runs_on_hart =
+    invariant.shared.running slot ∙ runs_among slot hart machine runs_on_hart
 
 -- an enclave with a saved context does not have the state Running
 not_running_if_saved : (maybe_info : Option SlotInfo) → is_held maybe_info ≡ true
@@ -113,7 +117,8 @@ module _ (slot : ℕ) (machine : MonitoredMachine) (context : Context) (invarian
     (saves : context_at machine.shared.contexts slot ≡ Some context) where
   -- the slot has a live enclave that does not run, because it has a saved context
   slot_has_saved_context : is_held (slot_at machine.shared.table slot) ≡ true
-  slot_has_saved_context = sym (invariant.shared.contexts.kept slot) ∙ ap (λ (maybe_context : Option Context). is_some maybe_context) saves
+  slot_has_saved_context =
+      sym (invariant.shared.contexts.kept slot) ∙ ap (λ (maybe_context : Option Context). is_some maybe_context) saves
 
   -- the enclave of the slot does not have the state Running
   saved_enclave_not_running : runs machine.shared.table slot ≡ false
@@ -126,12 +131,14 @@ module _ (slot : ℕ) (machine : MonitoredMachine) (context : Context) (invarian
   -- the enclave of the slot continues with its saved context
   pub saved_continues : ContinuesWith slot context machine
   saved_continues = record {
-    running = λ hart runs_on_hart. absurd (both_ways _ saved_enclave_not_running (runs_if_on_hart slot hart machine invariant runs_on_hart));
+    running =
+        λ hart runs_on_hart. absurd (both_ways _ saved_enclave_not_running (runs_if_on_hart slot hart machine invariant runs_on_hart));
     resting = λ not_running. saves;
   }
 
 -- an enclave that runs continues with the registers of its hart
-running_continues : (slot hart : ℕ) (machine : MonitoredMachine) (context : Context) → Invariant machine → runs_on slot hart machine ≡ true
+running_continues : (slot hart : ℕ) (machine : MonitoredMachine) (context : Context) → Invariant machine
+    → runs_on slot hart machine ≡ true
     → continuation (hart_state_of hart machine).hart ≡ context → ContinuesWith slot context machine
 running_continues slot hart machine context invariant runs_on_hart continuation_is = record {
   running =
@@ -154,29 +161,35 @@ identity_window None = refl
 identity_window (Some info) = refl
 
 -- two slots with equal identities have the same region
-same_region : (table other_table : Slots) (slot other_slot : ℕ) → identity_at table slot ≡ identity_at other_table other_slot
+same_region : (table other_table : Slots) (slot other_slot : ℕ)
+    → identity_at table slot ≡ identity_at other_table other_slot
     → region table slot ≡ region other_table other_slot
 same_region table other_table slot other_slot same_identity =
-    sym (identity_region (slot_at table slot)) ∙ ap region_of same_identity ∙ identity_region (slot_at other_table other_slot)
+    sym (identity_region (slot_at table slot)) ∙ ap region_of same_identity
+    ∙ identity_region (slot_at other_table other_slot)
 
 -- two slots with equal identities have the same window
-same_window : (table other_table : Slots) (slot other_slot : ℕ) → identity_at table slot ≡ identity_at other_table other_slot
+same_window : (table other_table : Slots) (slot other_slot : ℕ)
+    → identity_at table slot ≡ identity_at other_table other_slot
     → window table slot ≡ window other_table other_slot
 same_window table other_table slot other_slot same_identity =
-    sym (identity_window (slot_at table slot)) ∙ ap window_of same_identity ∙ identity_window (slot_at other_table other_slot)
+    sym (identity_window (slot_at table slot)) ∙ ap window_of same_identity
+    ∙ identity_window (slot_at other_table other_slot)
 
 -- two slots with equal identities are both live, or both free
-same_liveness : (table other_table : Slots) (slot other_slot : ℕ) → identity_at table slot ≡ identity_at other_table other_slot
+same_liveness : (table other_table : Slots) (slot other_slot : ℕ)
+    → identity_at table slot ≡ identity_at other_table other_slot
     → is_live table slot ≡ is_live other_table other_slot
 same_liveness table other_table slot other_slot same_identity =
     sym (some_identity (slot_at table slot)) ∙ ap (λ (maybe_info : Option SlotInfo). is_some maybe_info) same_identity
     ∙ some_identity (slot_at other_table other_slot)
 
 -- two slots with equal identities have the same bytes beyond their region and window
-same_beyond : (table other_table : Slots) (slot other_slot byte : ℕ) → identity_at table slot ≡ identity_at other_table other_slot
+same_beyond : (table other_table : Slots) (slot other_slot byte : ℕ)
+    → identity_at table slot ≡ identity_at other_table other_slot
     → is_beyond table slot byte ≡ is_beyond other_table other_slot byte
 same_beyond table other_table slot other_slot byte same_identity =
-    ap₂ (λ (r w : Block). not (has r byte || has w byte)) (same_region table other_table slot other_slot same_identity)
+    ap₂ (λ (region window : Block). not (has region byte || has window byte)) (same_region table other_table slot other_slot same_identity)
     (same_window table other_table slot other_slot same_identity)
 
 -- a state that passes the test `is_running` is Running
@@ -185,8 +198,10 @@ state_is_running Running running = refl
 state_is_running _ running = cc
 
 -- two Running records with equal identities are equal
-running_records_equal : (maybe_info other_info : Option SlotInfo) → option_map identity_of maybe_info ≡ option_map identity_of other_info
-    → option_case maybe_info false (λ info. is_running info.state) ≡ true → option_case other_info false (λ info. is_running info.state) ≡ true
+running_records_equal : (maybe_info other_info : Option SlotInfo)
+    → option_map identity_of maybe_info ≡ option_map identity_of other_info
+    → option_case maybe_info false (λ info. is_running info.state) ≡ true
+    → option_case other_info false (λ info. is_running info.state) ≡ true
     → maybe_info ≡ other_info
 running_records_equal None other_info same_identity info_runs other_runs = cc
 running_records_equal (Some info) None same_identity info_runs other_runs = cc
@@ -209,7 +224,8 @@ context_csrs timer supervisor =
       sepc = supervisor.sepc;
       scause = supervisor.scause;
       stval = supervisor.stval;
-      mstatus = record csrs.mstatus { sie = supervisor.sie; spie = supervisor.spie; spp = supervisor.spp; mxr = supervisor.mxr };
+      mstatus =
+          record csrs.mstatus { sie = supervisor.sie; spie = supervisor.spie; spp = supervisor.spp; mxr = supervisor.mxr };
     }
 
 -- the hart with the registers of a context and the given timer line, as S and U see it
@@ -240,23 +256,26 @@ record StaysAtPoint (slot : ℕ) (context : Context) (before after : MonitoredMa
       → slice_index after.shared.memory index ≡ slice_index before.shared.memory index
 
 -- a change of a timer line leaves the enclave at its point
-line_stays : (slot hart : ℕ) (raised : Bool) (machine : MonitoredMachine) (context : Context) → ContinuesWith slot context machine
+line_stays : (slot hart : ℕ) (raised : Bool) (machine : MonitoredMachine) (context : Context)
+    → ContinuesWith slot context machine
     → is_live machine.shared.table slot ≡ true → StaysAtPoint slot context machine (with_timer hart machine raised)
 line_stays slot hart raised machine context continues live = record {
   continues = record {
     running = λ other_hart runs_on_other.
-        change_preserves (λ (hart_state : HartState). continuation hart_state.hart) (timer_line_set raised) (λ s. refl) hart other_hart machine
+        change_preserves (λ (hart_state : HartState). continuation hart_state.hart) (timer_line_set raised)
+        (λ hart_state. refl) hart other_hart machine
         ∙ continues.running other_hart (sym (line_worlds slot hart other_hart raised machine) ∙ runs_on_other);
     resting = continues.resting;
   };
   live = live;
   identity = refl;
   size = refl;
-  bytes = λ i runs_on_other. refl;
+  bytes = λ index runs_on_other. refl;
 }
 
 -- if the trap handler reports an entry of the slot, then the host ran before the trap, and the enclave runs after the trap handler
-handled_entry_from_host : (slot : ℕ) (hart_state : HartState) (trap : Trap) (result : Handled) → StaysEntersOrExits hart_state trap result
+handled_entry_from_host : (slot : ℕ) (hart_state : HartState) (trap : Trap) (result : Handled)
+    → StaysEntersOrExits hart_state trap result
     → result.next.entered ≡ Some slot
     → (hart_state.world ≡ Host) × (result.hart_state.world ≡ Enclave slot)
 handled_entry_from_host slot hart_state trap result (inl stays) enters_slot =
@@ -270,7 +289,8 @@ handled_entry_from_host slot hart_state trap result (inr (inr leaves)) enters_sl
 
 -- if the step of a view enters the slot, then the host ran before the step, and the enclave of the slot runs after the step
 abbrev EntersFromHost : ℕ → HartView → HartViewStepped → Type 0
-EntersFromHost slot state after = after.outcome.entered ≡ Some slot → (state.hart_state.world ≡ Host) × (after.state.hart_state.world ≡ Enclave slot)
+EntersFromHost slot state after =
+    after.outcome.entered ≡ Some slot → (state.hart_state.world ≡ Host) × (after.state.hart_state.world ≡ Enclave slot)
 
 -- each step of a view satisfies `EntersHere`
 entry_from_host : (slot : ℕ) (view : HartView) → EntersFromHost slot view (monitored_step view)
@@ -279,7 +299,7 @@ entry_from_host slot view = step_cases view (EntersFromHost slot view) (λ no_tr
     handled_entry_from_host slot (hart_state_after view.hart_state trap) trap (handled (hart_state_after view.hart_state trap) view.shared trap)
     (handled_stays_or_switches (hart_state_after view.hart_state trap) view.shared trap) enters_slot)
 
--- if a step of the machine enters the slot, then its hart ran the host before the step, and runs the enclave after it
+-- if a step of the machine enters the slot, then its hart ran the host before the step, and runs the enclave after the step
 worlds_around_entry : (slot hart : ℕ) (machine : MonitoredMachine) → (step_of hart machine).outcome.entered ≡ Some slot
     → ((hart_state_of hart machine).world ≡ Host) × ((hart_state_of hart (step_of hart machine).state).world ≡ Enclave slot)
 worlds_around_entry slot hart machine enters_slot = elim (cases_lt hart (count_of machine)) [
@@ -322,7 +342,8 @@ module _ (slot hart : ℕ) (machine : MonitoredMachine) (context : Context) (inv
                 ap (λ (hart_state : HartState). continuation hart_state.hart) (preserved.hart_state other_hart ran_before)
                 ∙ continues.running other_hart ran_before
             -- an enclave that did not run before the step does not run after it, because the step does not enter the enclave
-            | inr idle_before ↦ absurd (both_ways _ (entry_law slot hart other_hart machine idle_before not_entered) in_region)
+            | inr idle_before ↦
+                absurd (both_ways _ (entry_law slot hart other_hart machine idle_before not_entered) in_region)
           ];
           resting = λ not_running_now.
               preserved.preserved.context
@@ -340,9 +361,11 @@ module _ (slot hart : ℕ) (machine : MonitoredMachine) (context : Context) (inv
       }
 
   -- a step that enters the enclave leaves the enclave at its point
-  entered_stays : enters slot (step_of hart machine).outcome.entered ≡ true → StaysAtPoint slot context machine (step_of hart machine).state
+  entered_stays : enters slot (step_of hart machine).outcome.entered ≡ true
+      → StaysAtPoint slot context machine (step_of hart machine).state
   entered_stays enters_slot =
-      let worlds_of_step = worlds_around_entry slot hart machine (entered_some slot (step_of hart machine).outcome.entered enters_slot) in
+      let worlds_of_step =
+      worlds_around_entry slot hart machine (entered_some slot (step_of hart machine).outcome.entered enters_slot) in
       -- the step is an entry by a call, which restores the saved context of the slot
       let entry = enter_law hart machine invariant slot worlds_of_step.0 worlds_of_step.1 in
       let saved = entry.call.kept in
@@ -359,7 +382,8 @@ module _ (slot hart : ℕ) (machine : MonitoredMachine) (context : Context) (inv
       let entered_hart_state =
       get_or-set_at (map (reprogrammed table_after) machine.hart_states) hart hart _ (hart_state_at_start 0) refl
       (omega (arith, same_length, in_range)) in
-      let runs_after : runs_on slot hart (step_of hart machine).state ≡ true = ap (is_world_of slot) worlds_of_step.1 ∙ eq-eqb slot slot refl in
+      let runs_after : runs_on slot hart (step_of hart machine).state ≡ true =
+      ap (is_world_of slot) worlds_of_step.1 ∙ eq-eqb slot slot refl in
       -- the hart continues with the saved context
       let continuation_is : continuation (hart_state_of hart (step_of hart machine).state).hart
       ≡ record saved_context { supervisor = s_context (with_s_context (hart_state_of hart machine).hart.csrs saved_context.supervisor) } =
@@ -374,12 +398,14 @@ module _ (slot hart : ℕ) (machine : MonitoredMachine) (context : Context) (inv
         live = live_after;
         identity = record_law hart machine invariant slot live live_after;
         size = same_size hart machine;
-        bytes = λ index in_region. ap (λ (machine : MonitoredMachine). slice_index machine.shared.memory index) entry.call.state;
+        bytes =
+            λ index in_region. ap (λ (machine : MonitoredMachine). slice_index machine.shared.memory index) entry.call.state;
       }
 
   -- an enclave on a hart whose timer line is set exits by the timer interrupt
-  timer_exit : (o : Option Context) → (hart_state_of hart machine).host_context ≡ o → runs_on slot hart machine ≡ true
-      → (hart_state_of hart machine).hart.csrs.timer ≡ true → (host : Context) × ExitsByTimer hart slot host machine (step_of hart machine)
+  timer_exit : (saved_host : Option Context) → (hart_state_of hart machine).host_context ≡ saved_host → runs_on slot hart machine ≡ true
+      → (hart_state_of hart machine).hart.csrs.timer ≡ true
+      → (host : Context) × ExitsByTimer hart slot host machine (step_of hart machine)
   timer_exit None host_context_is runs_on_hart timer_set =
       let world = world_is_enclave slot (hart_state_of hart machine).world runs_on_hart in
       let contradiction : false ≡ true =
@@ -402,7 +428,7 @@ module _ (slot hart : ℕ) (machine : MonitoredMachine) (context : Context) (inv
       exited (at slot hart) machine timer_trap invariant runs_on_hart exit.trapped exit.world (hart_state_of hart machine).host_context refl in
       let pc : saved_after timer_trap.cause (hart_state_of hart machine).hart ≡ continuation (hart_state_of hart machine).hart =
       ap (λ (pc : ℕ). record (continuation (hart_state_of hart machine).hart) { pc = pc }) (legal_machine.harts hart).pc in
-      let some : Context → Option Context = λ c. Some c in
+      let some : Context → Option Context = λ some_context. Some some_context in
       record {
         continues = saved_continues slot (step_of hart machine).state context invariant_after
             (has_exited.context ∙ ap some (pc ∙ continues.running hart runs_on_hart));
@@ -425,16 +451,19 @@ module _ (slot hart : ℕ) (machine : MonitoredMachine) (context : Context) (inv
   ]
 
 -- a foreign event leaves the enclave at its point
-foreign_stays : (slot : ℕ) (event : Event) (machine : MonitoredMachine) (context : Context) → Invariant machine → IsLegalMachine machine
+foreign_stays : (slot : ℕ) (event : Event) (machine : MonitoredMachine) (context : Context)
+    → Invariant machine → IsLegalMachine machine
     → ContinuesWith slot context machine
-    → is_live machine.shared.table slot ≡ true → IsForeign slot event machine → StaysAtPoint slot context machine (event_of event machine).state
+    → is_live machine.shared.table slot ≡ true → IsForeign slot event machine
+    → StaysAtPoint slot context machine (event_of event machine).state
 foreign_stays slot (StepOf hart) machine context invariant legal continues live foreign =
     step_stays slot hart machine context invariant continues live foreign.1 legal foreign.0
 foreign_stays slot (LineOf hart raised) machine context invariant legal continues live foreign =
     line_stays slot hart raised machine context continues live
 
 -- a foreign event of the first machine leaves both enclaves at one point
-foreign_event_keeps_point : (slot other_slot : ℕ) (event : Event) (one other : MonitoredMachine) → Invariant one → IsLegalMachine one
+foreign_event_keeps_point : (slot other_slot : ℕ) (event : Event) (one other : MonitoredMachine)
+    → Invariant one → IsLegalMachine one
     → AreAtOnePoint slot other_slot one other
     → IsForeign slot event one
     → AreAtOnePoint slot other_slot (event_of event one).state other
@@ -458,7 +487,8 @@ foreign_event_keeps_point slot other_slot event one other invariant_one legal po
     }
 
 -- two enclaves at one point are at one point in the other order too
-swapped : (slot other_slot : ℕ) (one other : MonitoredMachine) → AreAtOnePoint slot other_slot one other → AreAtOnePoint other_slot slot other one
+swapped : (slot other_slot : ℕ) (one other : MonitoredMachine) → AreAtOnePoint slot other_slot one other
+    → AreAtOnePoint other_slot slot other one
 swapped slot other_slot one other point =
     let block = same_region one.shared.table other.shared.table slot other_slot point.identity in
     record {
@@ -491,32 +521,38 @@ accessible_span_is_own slot machine hart access (Some span) world is_accessible_
     byte (leb-true _ _ parts.0) (ltb-true _ _ parts.1)
 
 -- an own step reads only bytes of the enclave's region and window
-reads_only_own_bytes : (place : Place) (machine : MonitoredMachine) → Invariant machine → runs_at place machine ≡ true → (byte : ℕ)
-    → reads_byte (step_at place machine).outcome.step.touched byte ≡ true → is_beyond machine.shared.table place.slot byte ≡ false
+reads_only_own_bytes : (place : Place) (machine : MonitoredMachine) → Invariant machine
+    → runs_at place machine ≡ true → (byte : ℕ)
+    → reads_byte (step_at place machine).outcome.step.touched byte ≡ true
+    → is_beyond machine.shared.table place.slot byte ≡ false
 reads_only_own_bytes place machine invariant runs byte byte_read =
     let in_range = running_hart_in_range place.slot place.hart machine runs in
     let world = world_is_enclave place.slot (hart_state_of place.hart machine).world runs in
     let view = hart_view place.hart machine in
     let step_is : (step_at place machine).outcome.step ≡ (monitored_step view).outcome.step =
     ap (λ (stepped : HartViewStepped). stepped.outcome.step) (step_of_view place.hart machine in_range) in
-    let accessed = subst (IsTouchedAccessible view) (sym step_is) (touch_law view (hart_view_invariant place.hart machine invariant in_range)) in
+    let accessed =
+    subst (IsTouchedAccessible view) (sym step_is) (touch_law view (hart_view_invariant place.hart machine invariant in_range)) in
     let touched = (step_at place machine).outcome.step.touched in
     elim (cases_Bool (in_span touched.fetched byte)) [
-      | inl is_fetched ↦ accessible_span_is_own place.slot machine place.hart Fetch touched.fetched world accessed.fetched byte is_fetched
+      | inl is_fetched ↦
+          accessible_span_is_own place.slot machine place.hart Fetch touched.fetched world accessed.fetched byte is_fetched
       | inr not_fetched ↦
           accessible_span_is_own place.slot machine place.hart Read touched.loaded world accessed.loaded byte
           (right_if_not_left _ _ byte_read not_fetched)
     ]
 
 -- an own step changes no byte beyond the enclave's region and window
-changes_only_own_bytes : (place : Place) (machine : MonitoredMachine) → Invariant machine → runs_at place machine ≡ true → (index : ℕ)
+changes_only_own_bytes : (place : Place) (machine : MonitoredMachine) → Invariant machine
+    → runs_at place machine ≡ true → (index : ℕ)
     → is_beyond machine.shared.table place.slot (ram_base + index) ≡ true
     → slice_index (step_at place machine).state.shared.memory index ≡ slice_index machine.shared.memory index
 changes_only_own_bytes place machine invariant runs index byte_beyond =
     let in_range = running_hart_in_range place.slot place.hart machine runs in
     let world = world_is_enclave place.slot (hart_state_of place.hart machine).world runs in
     let view = hart_view place.hart machine in
-    let memory_of_view = ap (λ (stepped : HartViewStepped). stepped.state.shared.memory) (step_of_view place.hart machine in_range) in
+    let memory_of_view =
+    ap (λ (stepped : HartViewStepped). stepped.state.shared.memory) (step_of_view place.hart machine in_range) in
     let byte_unchanged =
     bytes_beyond_unchanged place.slot view (hart_view_invariant place.hart machine invariant in_range) world (ram_base + index) byte_beyond in
     let same_length = same_size place.hart machine in
@@ -572,7 +608,7 @@ module _ (place other_place : Place) (one other : MonitoredMachine) (invariant_o
     second = own_step_premises.second;
     hart = same_hart;
     slot = same_record;
-    memory = record { size = refl; bytes = λ n not_hidden. refl };
+    memory = record { size = refl; bytes = λ index not_hidden. refl };
   }
 
   -- the step of the enclave is the same in the first machine and in the mixed machine
@@ -592,7 +628,8 @@ module _ (place other_place : Place) (one other : MonitoredMachine) (invariant_o
   -- the step reads no byte in which the memories of both machines differ
   reads : ReadsSeen (differs one.shared.memory other.shared.memory) (step_at other_place mixed).outcome.step.touched
   reads index read =
-      let touched = ap (λ (outcome : Outcome). reads_byte outcome.step.touched (ram_base + index)) same_own_step.outcome in
+      let touched =
+      ap (λ (outcome : Outcome). reads_byte outcome.step.touched (ram_base + index)) same_own_step.outcome in
       same_does_not_differ one.shared.memory other.shared.memory index (read_bytes_equal index (touched ∙ read))
 
   -- the step measures no byte in which the memories of both machines differ, because no enclave may create
@@ -659,7 +696,7 @@ module _ (place other_place : Place) (one other : MonitoredMachine) (invariant_o
           changes_only_own_bytes place one invariant_one own_step_premises.first index byte_beyond,
           changes_only_own_bytes other_place other invariant_other own_step_premises.second index beyond_other,
         )
-    -- a byte within them is equal in the first and the mixed machine, and changes alike in the mixed and the second machine
+    -- an own byte is equal in the first and the mixed machine, and changes alike in the mixed and the second machine
     | inr byte_within ↦
         let bytes_equal =
         own_bytes_equal index (same_beyond after_one.shared.table one.shared.table first_slot first_slot (ram_base + index) identity_kept
@@ -681,7 +718,8 @@ module _ (place other_place : Place) (one other : MonitoredMachine) (invariant_o
 
   -- the hart has the same state after the step in the mixed machine and in the second machine
   same_hart_after : hart_state_of other_place.hart after_mixed ≡ hart_state_of other_place.hart after_other
-  same_hart_after = ap (λ (hart_states : List HartState). hart_state_in hart_states other_place.hart) same_over_memory.hart_states
+  same_hart_after =
+      ap (λ (hart_states : List HartState). hart_state_in hart_states other_place.hart) same_over_memory.hart_states
 
   -- the context with which both enclaves continue after the step
   record ContinueAlike : Type 0 where
@@ -696,7 +734,8 @@ module _ (place other_place : Place) (one other : MonitoredMachine) (invariant_o
     | inl runs_still ↦
         let still_same_enclave = same_own_step.state.runs runs_still in
         let other_runs : runs_at other_place after_other ≡ true =
-        ap (λ (hart_state : HartState). is_world_of second_slot hart_state.world) (sym same_hart_after) ∙ still_same_enclave.second in
+        ap (λ (hart_state : HartState). is_world_of second_slot hart_state.world) (sym same_hart_after)
+        ∙ still_same_enclave.second in
         let continuations_equal : continuation (hart_state_of place.hart after_one).hart
         ≡ continuation (hart_state_of other_place.hart after_mixed).hart =
         ap (λ (hart : Hart). continuation hart) still_same_enclave.hart in
@@ -773,7 +812,7 @@ life_law slot other_slot (InFirst event ∷ moves) one other invariant_one invar
     (event_stored event one invariant_one legal_one) legal_other
     (foreign_event_keeps_point slot other_slot event one other invariant_one legal_one point are_moves.0) are_moves.1 in
     record { steps = remaining.steps; point = remaining.point }
--- a foreign event of the second machine does so by symmetry
+-- a foreign event of the second machine keeps both enclaves at one point, by symmetry
 life_law slot other_slot (InSecond event ∷ moves) one other invariant_one invariant_other legal_one legal_other point are_moves =
     let after = (event_of event other).state in
     let next =
@@ -815,7 +854,8 @@ life_begins slot other_slot one other invariant_one invariant_other same_identit
     let digest : first_enclave.info.measurement ≡ second_enclave.info.measurement =
     first_enclave.measurement ∙ same_digest memory other_memory (args_of first_enclave.info) (args_of second_enclave.info) same_identity.input
     ∙ sym second_enclave.measurement in
-    let same_info_record = equal_fresh_records first_enclave.info second_enclave.info measured.args digest first_enclave.fresh second_enclave.fresh in
+    let same_info_record =
+    equal_fresh_records first_enclave.info second_enclave.info measured.args digest first_enclave.fresh second_enclave.fresh in
     let some_info : SlotInfo → Option SlotInfo = λ info. Some info in
     let begin : SlotInfo → Option Context = λ info. Some (first_context info) in
     record {

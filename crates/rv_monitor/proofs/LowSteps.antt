@@ -32,10 +32,12 @@ use Rattle.rv_monitor.proofs.Booleans.{left_if_nand_fails, nand_fails, right_if_
 
 -- whether two memories differ at an address
 abbrev pub differs : List ℕ → List ℕ → ℕ → Bool
-differs memory other_memory byte = not (slice_index memory (byte - ram_base) == slice_index other_memory (byte - ram_base))
+differs memory other_memory byte =
+    not (slice_index memory (byte - ram_base) == slice_index other_memory (byte - ram_base))
 
 -- two memories with equal bytes at an index do not differ at the address of this index
-pub same_does_not_differ : (memory other_memory : List ℕ) (index : ℕ) → slice_index memory index ≡ slice_index other_memory index
+pub same_does_not_differ : (memory other_memory : List ℕ) (index : ℕ)
+    → slice_index memory index ≡ slice_index other_memory index
     → differs memory other_memory (ram_base + index) ≡ false
 same_does_not_differ memory other_memory index same_element =
     let hart_is : ram_base + index - ram_base ≡ index = omega arith in
@@ -48,7 +50,8 @@ equal_outside_differing memory other_memory same_length = record {
   size = same_length;
   bytes = λ index not_differing.
       let hart_is : ram_base + index - ram_base ≡ index = omega arith in
-      let bytes_equal : (slice_index memory index == slice_index other_memory index) ≡ true = not-false _ (rw hart_is at not_differing) in
+      let bytes_equal : (slice_index memory index == slice_index other_memory index) ≡ true =
+      not-false _ (rw hart_is at not_differing) in
       eqb-true (slice_index memory index) (slice_index other_memory index) bytes_equal;
 }
 
@@ -60,7 +63,8 @@ pub record RunsSomewhere (enclave : ℕ) (machine : MonitoredMachine) : Type 0 w
   pub runs : runs_on enclave hart machine ≡ true
 
 -- if some hart state of a list runs the enclave, then the hart state at some index runs the enclave
-hart_in_list : (enclave : ℕ) (hart_states : List HartState) → list_any (is_world_of enclave) (map (λ hart_state. hart_state.world) hart_states) ≡ true
+hart_in_list : (enclave : ℕ) (hart_states : List HartState)
+    → list_any (is_world_of enclave) (map (λ hart_state. hart_state.world) hart_states) ≡ true
     → (hart : ℕ) × (is_world_of enclave (hart_state_in hart_states hart).world ≡ true)
 hart_in_list enclave [] some_runs = cc
 hart_in_list enclave (hart_state ∷ hart_states) some_runs = elim (cases_Bool (is_world_of enclave hart_state.world)) [
@@ -69,7 +73,8 @@ hart_in_list enclave (hart_state ∷ hart_states) some_runs = elim (cases_Bool (
 ]
 
 -- an enclave with the state Running runs on some hart
-pub runs_somewhere : (enclave : ℕ) (machine : MonitoredMachine) → Invariant machine → runs machine.shared.table enclave ≡ true
+pub runs_somewhere : (enclave : ℕ) (machine : MonitoredMachine) → Invariant machine
+    → runs machine.shared.table enclave ≡ true
     → RunsSomewhere enclave machine
 runs_somewhere enclave machine invariant running =
     let hart_is = hart_in_list enclave machine.hart_states (sym (invariant.shared.running enclave) ∙ running) in
@@ -80,7 +85,8 @@ runs_somewhere enclave machine invariant running =
 -- bytes that are accessible to another world are not in the region of `enclave`
 span_apart : (enclave : ℕ) (machine : MonitoredMachine) (hart : ℕ) (access : Access) (maybe_span : Option Span) → Invariant machine
     → hart < count_of machine
-    → runs_on enclave hart machine ≡ false → SpanIsAccessible (hart_view hart machine) access maybe_span → (byte : ℕ) → in_span maybe_span byte ≡ true
+    → runs_on enclave hart machine ≡ false → SpanIsAccessible (hart_view hart machine) access maybe_span → (byte : ℕ)
+    → in_span maybe_span byte ≡ true
     → has (region machine.shared.table enclave) byte ≡ false
 span_apart enclave machine hart access None invariant in_range not_running is_accessible_span byte byte_in_span = cc
 span_apart enclave machine hart access (Some span) invariant in_range not_running is_accessible_span byte byte_in_span =
@@ -89,8 +95,10 @@ span_apart enclave machine hart access (Some span) invariant in_range not_runnin
     invariant.shared.valid not_running is_accessible_span byte (leb-true _ _ parts.0) (ltb-true _ _ parts.1)
 
 -- a low step reads no byte in the region of the enclave
-pub reads_apart : (enclave hart : ℕ) (machine : MonitoredMachine) → Invariant machine → runs_on enclave hart machine ≡ false → (byte : ℕ)
-    → reads_byte (step_of hart machine).outcome.step.touched byte ≡ true → has (region machine.shared.table enclave) byte ≡ false
+pub reads_apart : (enclave hart : ℕ) (machine : MonitoredMachine) → Invariant machine
+    → runs_on enclave hart machine ≡ false → (byte : ℕ)
+    → reads_byte (step_of hart machine).outcome.step.touched byte ≡ true
+    → has (region machine.shared.table enclave) byte ≡ false
 reads_apart enclave hart machine invariant not_running byte byte_read = elim (cases_lt hart (count_of machine)) [
   -- a step with the number of no hart reads nothing
   | inr past_last ↦
@@ -102,10 +110,12 @@ reads_apart enclave hart machine invariant not_running byte byte_read = elim (ca
       let view = hart_view hart machine in
       let step_is : (step_of hart machine).outcome.step ≡ (monitored_step view).outcome.step =
       ap (λ (stepped : HartViewStepped). stepped.outcome.step) (step_of_view hart machine in_range) in
-      let accessed = subst (IsTouchedAccessible view) (sym step_is) (touch_law view (hart_view_invariant hart machine invariant in_range)) in
+      let accessed =
+      subst (IsTouchedAccessible view) (sym step_is) (touch_law view (hart_view_invariant hart machine invariant in_range)) in
       let touched = (step_of hart machine).outcome.step.touched in
       elim (cases_Bool (in_span touched.fetched byte)) [
-        | inl is_fetched ↦ span_apart enclave machine hart Fetch touched.fetched invariant in_range not_running accessed.fetched byte is_fetched
+        | inl is_fetched ↦
+            span_apart enclave machine hart Fetch touched.fetched invariant in_range not_running accessed.fetched byte is_fetched
         | inr not_fetched ↦
             span_apart enclave machine hart Read touched.loaded invariant in_range not_running accessed.loaded byte
             (right_if_not_left _ _ byte_read not_fetched)
@@ -146,7 +156,8 @@ module _ (enclave hart : ℕ) (one other : MonitoredMachine) (invariant_one : In
 
   -- the first machine and the mixed machine are equivalent except `enclave` in the guest view
   mixed_equiv : EquivToGuests enclave one mixed
-  mixed_equiv = related_equiv enclave one mixed mixed_related (λ enclave_runs. record { size = refl; bytes = λ index not_hidden. refl })
+  mixed_equiv =
+      related_equiv enclave one mixed mixed_related (λ enclave_runs. record { size = refl; bytes = λ index not_hidden. refl })
 
   -- the low steps of the first machine and of the mixed machine have equal outcomes, and leave machines that are equivalent in the guest view
   first_step : GuestStepEquiv enclave (step_of hart one) (step_of hart mixed)
@@ -232,7 +243,8 @@ module _ (enclave hart : ℕ) (one other : MonitoredMachine) (invariant_one : In
               | inl unchanged ↦
                   let before =
                   ap (λ (maybe_info : Option SlotInfo). may_differ_by maybe_info (ram_base + index)) (sym record_unchanged.0) ∙ not_hidden in
-                  related_after.memory.bytes index not_hidden ∙ unchanged.0 ∙ related.memory.bytes index before ∙ sym unchanged.1
+                  related_after.memory.bytes index not_hidden ∙ unchanged.0
+                  ∙ related.memory.bytes index before ∙ sym unchanged.1
             ];
           };
           contexts = record {
@@ -248,6 +260,7 @@ module _ (enclave hart : ℕ) (one other : MonitoredMachine) (invariant_one : In
 -- ---- equal windows
 
 -- if all bytes of the window are equal in two machines, then so are the bytes of the window that a step reads
-pub window_read : (enclave hart : ℕ) (one other : MonitoredMachine) → SameWindow enclave one other → SameWindowRead enclave hart one other
+pub window_read : (enclave hart : ℕ) (one other : MonitoredMachine) → SameWindow enclave one other
+    → SameWindowRead enclave hart one other
 window_read enclave hart one other bytes_equal =
     record { size = bytes_equal.size; bytes = λ index not_hidden. bytes_equal.bytes index (left_if_nand_fails _ _ not_hidden) }

@@ -30,15 +30,18 @@ record Agree (enclave : ℕ) (one other : HartViewStepped) : Type 0 where
 
 -- the end of the step, with or without a trap, leaves views that are equivalent except `enclave`
 trapped_equiv : (enclave : ℕ) (outcome : StepOutcome) (maybe_trap : Option Trap) (worlds : List World) (hart_state : HartState) (one other : Shared)
-    → SharedInvariant one worlds → SharedInvariant other worlds → is_world_of enclave hart_state.world ≡ false → SharedEquivExcept enclave one other
+    → SharedInvariant one worlds → SharedInvariant other worlds → is_world_of enclave hart_state.world ≡ false
+    → SharedEquivExcept enclave one other
     → Agree enclave (option_case maybe_trap (unhandled outcome hart_state one) (λ trap. returned outcome (handled hart_state one trap)))
     (option_case maybe_trap (unhandled outcome hart_state other) (λ trap. returned outcome (handled hart_state other trap)))
 trapped_equiv enclave outcome None worlds hart_state one other shared_invariant_one shared_invariant_other not_running shared_equiv =
     record { outcome = refl; hart_state = record { world = refl; same = λ not_running. refl }; shared = shared_equiv }
 trapped_equiv enclave outcome (Some trap) worlds hart_state one other shared_invariant_one shared_invariant_other not_running shared_equiv =
-    let handler_results = handler_law enclave worlds hart_state one other trap shared_invariant_one shared_invariant_other not_running shared_equiv in
+    let handler_results =
+    handler_law enclave worlds hart_state one other trap shared_invariant_one shared_invariant_other not_running shared_equiv in
     record {
-      outcome = ap (λ (entered : Option ℕ). let shown : Outcome = record { step = outcome; entered = entered } in shown) handler_results.entered;
+      outcome =
+          ap (λ (entered : Option ℕ). let shown : Outcome = record { step = outcome; entered = entered } in shown) handler_results.entered;
       hart_state = handler_results.hart_state;
       shared = handler_results.shared;
     }
@@ -64,15 +67,18 @@ stored_sound worlds hart_state shared shared_invariant =
     sound_by_size shared worlds (stepped hart_state shared).state.memory shared_invariant (step_size before (step before) (confined before))
 
 -- a step of a world other than `enclave` over two equivalent shared states has equal outcomes, and leaves equivalent views
-step_equiv : (enclave : ℕ) (hart_state : HartState) (worlds : List World) (one other : Shared) → HartViewInvariant (view_of hart_state one)
-    → SharedInvariant one worlds → SharedInvariant other worlds → is_world_of enclave hart_state.world ≡ false → SharedEquivExcept enclave one other
+step_equiv : (enclave : ℕ) (hart_state : HartState) (worlds : List World) (one other : Shared)
+    → HartViewInvariant (view_of hart_state one)
+    → SharedInvariant one worlds → SharedInvariant other worlds → is_world_of enclave hart_state.world ≡ false
+    → SharedEquivExcept enclave one other
     → Agree enclave (monitored_step (view_of hart_state one)) (monitored_step (view_of hart_state other))
 unfolding monitored_step
 step_equiv enclave hart_state worlds one other view_invariant_one shared_invariant_one shared_invariant_other not_running shared_equiv =
     let first_bare = stepped hart_state one in
     let second_bare = stepped hart_state other in
     -- the bare steps are alike, because they access no byte in the region of `enclave`
-    let bare_steps_alike = bare_law enclave (view_of hart_state one) other.memory view_invariant_one not_running shared_equiv.memory in
+    let bare_steps_alike =
+    bare_law enclave (view_of hart_state one) other.memory view_invariant_one not_running shared_equiv.memory in
     let shared : SharedEquivExcept enclave (stored hart_state one) (stored hart_state other) = record {
       table = shared_equiv.table;
       memory = bare_steps_alike.memory;
@@ -106,13 +112,15 @@ same_worlds enclave one other equiv =
     ∙ sym (get_or-map world_of other.hart_states hart (hart_state_at_start 0) default (omega (arith, same_harts, in_range))))
 
 -- the low steps of the views of one hart of two equivalent machines leave equivalent views
-views_equiv : (enclave hart : ℕ) (one other : MonitoredMachine) → Invariant one → Invariant other → EquivExcept enclave one other
+views_equiv : (enclave hart : ℕ) (one other : MonitoredMachine) → Invariant one → Invariant other
+    → EquivExcept enclave one other
     → hart < count_of one
     → runs_on enclave hart one ≡ false
     → Agree enclave (monitored_step (hart_view hart one)) (monitored_step (hart_view hart other))
 views_equiv enclave hart one other invariant_one invariant_other equiv in_range not_running =
     let hart_states = equiv.hart_states hart in
-    let shared_invariant_other = subst (SharedInvariant other.shared) (sym (same_worlds enclave one other equiv)) invariant_other.shared in
+    let shared_invariant_other =
+    subst (SharedInvariant other.shared) (sym (same_worlds enclave one other equiv)) invariant_other.shared in
     subst (λ (hart_state : HartState). Agree enclave (monitored_step (hart_view hart one)) (monitored_step (view_of hart_state other.shared)))
     (hart_states.same not_running)
     (step_equiv enclave (hart_state_of hart one) (worlds one) one.shared other.shared
@@ -127,7 +135,8 @@ reprogrammed_equiv enclave (Some trap) slots hart_state other_state equiv =
     record { world = equiv.world; same = λ not_running. ap (reprogrammed slots) (equiv.same not_running) }
 
 -- after low steps of two equivalent machines, the states of each hart are equivalent
-stepped_equiv : (enclave hart : ℕ) (one other : MonitoredMachine) (stepped other_stepped : HartViewStepped) → EquivExcept enclave one other
+stepped_equiv : (enclave hart : ℕ) (one other : MonitoredMachine) (stepped other_stepped : HartViewStepped)
+    → EquivExcept enclave one other
     → hart < count_of one
     → Agree enclave stepped other_stepped
     → (other_hart : ℕ) → HartStatesEquivExcept enclave (hart_state_of other_hart (stepped_by hart one stepped).state)
@@ -165,7 +174,8 @@ stepped_equiv enclave hart one other stepped other_stepped equiv in_range view_s
     ]
 
 -- proves noninterference: a low step has the same outcome on every equivalent machine, and leaves equivalent machines
-pub noninterference : (hart : ℕ) (machine : MonitoredMachine) → Invariant machine → StepNoninterference hart machine (step_of hart machine)
+pub noninterference : (hart : ℕ) (machine : MonitoredMachine) → Invariant machine
+    → StepNoninterference hart machine (step_of hart machine)
 noninterference hart one invariant enclave other invariant_other equiv not_running =
     let same_harts = equiv.harts in
     elim (cases_lt hart (count_of one)) [
@@ -175,7 +185,8 @@ noninterference hart one invariant enclave other invariant_other equiv not_runni
       | inl in_range ↦
           let first_after = monitored_step (hart_view hart one) in
           let second_after = monitored_step (hart_view hart other) in
-          let view_steps_agree = views_equiv enclave hart one other invariant invariant_other equiv in_range not_running in
+          let view_steps_agree =
+          views_equiv enclave hart one other invariant invariant_other equiv in_range not_running in
           rw (machine_step_is hart one in_range, machine_step_is hart other (omega (arith, same_harts, in_range))) (record {
             outcome = view_steps_agree.outcome;
             state = record {
@@ -193,7 +204,8 @@ pub gone_equal : (enclave : ℕ) (one other : MonitoredMachine) → Invariant on
     → is_live one.shared.table enclave ≡ false → one ≡ other
 gone_equal enclave one other invariant_one equiv not_live =
     let same_harts = equiv.harts in
-    let machine_of : List HartState → Shared → MonitoredMachine = λ hart_states shared. record { hart_states = hart_states; shared = shared } in
+    let machine_of : List HartState → Shared → MonitoredMachine =
+    λ hart_states shared. record { hart_states = hart_states; shared = shared } in
     ap₂ machine_of (same_lists one.hart_states other.hart_states equiv.harts (λ hart default in_range.
     get_or_default one.hart_states hart default (hart_state_at_start 0) in_range
     ∙ (equiv.hart_states hart).same (not_running hart)

@@ -40,11 +40,13 @@ no_row_holds ((true, refusal) ∷ rows) status_is_0 = absurd (no_success refusal
 no_row_holds ((false, refusal) ∷ rows) status_is_0 = no_row_holds rows status_is_0
 
 -- if the status of a table is not 0, then the monitor returns this status to the caller
-refused_by_status : (hart_state : HartState) (shared : Shared) (result : Handled) (rows : List (Bool × Refusal)) → first_status (in_numbers rows) ≢ 0
+refused_by_status : (hart_state : HartState) (shared : Shared) (result : Handled) (rows : List (Bool × Refusal))
+    → first_status (in_numbers rows) ≢ 0
     → option_case (first_refusal rows) result (refused hart_state shared) ≡ returned_to_caller hart_state shared (first_status (in_numbers rows)) 0
 refused_by_status hart_state shared result [] status_is_not_0 = absurd (status_is_not_0 refl)
 refused_by_status hart_state shared result ((true, refusal) ∷ rows) status_is_not_0 = refl
-refused_by_status hart_state shared result ((false, refusal) ∷ rows) status_is_not_0 = refused_by_status hart_state shared result rows status_is_not_0
+refused_by_status hart_state shared result ((false, refusal) ∷ rows) status_is_not_0 =
+    refused_by_status hart_state shared result rows status_is_not_0
 
 -- ---- the trap handler
 
@@ -79,8 +81,10 @@ module _ (hart_state : HartState) (shared : Shared) where
   status = call_status hart_state.world shared hart_state.hart.csrs.pmp hart_state.hart.regs
 
   -- no refusal of a call applies, if the status of its table is 0
-  not_refused : (call : Call) → first_status (rows_of call) ≡ 0 → first_refusal (call_refusals hart_state shared call) ≡ None
-  not_refused call status_is_0 = no_row_holds (call_refusals hart_state shared call) (ap first_status (refusals_are_rows call) ∙ status_is_0)
+  not_refused : (call : Call) → first_status (rows_of call) ≡ 0
+      → first_refusal (call_refusals hart_state shared call) ≡ None
+  not_refused call status_is_0 =
+      no_row_holds (call_refusals hart_state shared call) (ap first_status (refusals_are_rows call) ∙ status_is_0)
 
   -- if the status of a call's table is not 0, then the monitor refuses the call with this status
   called_refused : (call : Call) → first_status (rows_of call) ≢ 0
@@ -116,16 +120,20 @@ module _ (hart_state : HartState) (shared : Shared) where
       subst (λ (maybe_call : Option Call). option_case maybe_call 0xFFFFFFFF (λ some_call. first_status (rows_of some_call)) ≡ 0) call_is status_is_0
 
   -- no refusal of the requested call applies, if the status is 0
-  pub no_refusal_of_call : (call : Call) → numbered ≡ Some call → status ≡ 0 → first_refusal (call_refusals hart_state shared call) ≡ None
+  pub no_refusal_of_call : (call : Call) → numbered ≡ Some call → status ≡ 0
+      → first_refusal (call_refusals hart_state shared call) ≡ None
   unfolding call_status
-  no_refusal_of_call call numbered_is status_is_0 = not_refused call (status_of_call call numbered numbered_is status_is_0)
+  no_refusal_of_call call numbered_is status_is_0 =
+      not_refused call (status_of_call call numbered numbered_is status_is_0)
 
   -- the call with the numbers in a7 and a6 is the requested call
-  pub numbered_call_is_requested : (call : Call) → numbered ≡ Some call → requested_call hart_state.world hart_state.hart.regs ≡ Some call
+  pub numbered_call_is_requested : (call : Call) → numbered ≡ Some call
+      → requested_call hart_state.world hart_state.hart.regs ≡ Some call
   numbered_call_is_requested call numbered_is = numbers.call hart_state.world ∙ numbered_is
 
   -- the trap handler performs the requested call, if the status is 0
-  pub handled_done : (trap : Trap) (cause : Cause) (call : Call) → cause ≡ causes.Exception EnvironmentCallFromS → numbered ≡ Some call → status ≡ 0
+  pub handled_done : (trap : Trap) (cause : Cause) (call : Call) → cause ≡ causes.Exception EnvironmentCallFromS
+      → numbered ≡ Some call → status ≡ 0
       → handled_cause hart_state shared trap cause ≡ performed hart_state shared call
   unfolding call_handled called
   handled_done trap cause call by_ecall numbered_is status_is_0 =
@@ -145,7 +153,8 @@ module _ (hart_state : HartState) (shared : Shared) where
   -- destroy returns 0 and 0, and removes the enclave in the slot of a0 from the shared state
   pub performs_destroy : performed hart_state shared Destroy ≡ returned_to_caller hart_state (shared_without shared (a0 hart_state)) 0 0
   unfolding performed
-  performs_destroy = ap (λ (shared : Shared). returned_to_caller hart_state shared 0 0) (numbers.destroyed (a0 hart_state))
+  performs_destroy =
+      ap (λ (shared : Shared). returned_to_caller hart_state shared 0 0) (numbers.destroyed (a0 hart_state))
 
   -- measure returns 0 and 0, and writes the measurement of the named slot at a1
   pub performs_measure : performed hart_state shared Measure
@@ -158,7 +167,8 @@ module _ (hart_state : HartState) (shared : Shared) where
 
   -- the result of an entry of the slot in a0
   abbrev entry : Handled
-  entry = entered_slot hart_state shared (a0 hart_state) (saved_context shared.contexts (a0 hart_state)) (past_call hart_state)
+  entry =
+      entered_slot hart_state shared (a0 hart_state) (saved_context shared.contexts (a0 hart_state)) (past_call hart_state)
 
   -- run enters the slot in a0
   pub performs_run : performed hart_state shared Run ≡ entry
@@ -235,8 +245,10 @@ module _ (hart : ℕ) (machine : MonitoredMachine) (invariant : Invariant machin
       ∙ ap (λ (result : Handled). result.hart_state.world) handled_is
 
   -- a step of the host after which the enclave runs is an entry of the slot by a call
-  entry_is_by_call : (slot : ℕ) → view_before.hart_state.world ≡ Host → (step_of hart machine).outcome.step.trap ≡ Some trap
-      → (hart_state_of hart (step_of hart machine).state).world ≡ Enclave slot → EntersByCall hart machine (step_of hart machine) trap slot
+  entry_is_by_call : (slot : ℕ) → view_before.hart_state.world ≡ Host
+      → (step_of hart machine).outcome.step.trap ≡ Some trap
+      → (hart_state_of hart (step_of hart machine).state).world ≡ Enclave slot
+      → EntersByCall hart machine (step_of hart machine) trap slot
   entry_is_by_call slot from_host traps enclave_runs_after =
       let has_entered = enter_law hart machine invariant slot from_host enclave_runs_after in
       let some_traps_equal : Some has_entered.trap ≡ Some trap = sym has_entered.trapped ∙ traps in
@@ -245,8 +257,10 @@ module _ (hart : ℕ) (machine : MonitoredMachine) (invariant : Invariant machin
 
   -- a call that enters the slot in a0 makes the step of the machine an entry of this slot
   entering_call_enters : (call : Call) → performed after_trap machine.shared call ≡ entry after_trap machine.shared
-      → handled_cause after_trap machine.shared trap trap.cause ≡ performed after_trap machine.shared call → view_before.hart_state.world ≡ Host
-      → (step_of hart machine).outcome.step.trap ≡ Some trap → EntersByCall hart machine (step_of hart machine) trap (a0 after_trap)
+      → handled_cause after_trap machine.shared trap trap.cause ≡ performed after_trap machine.shared call
+      → view_before.hart_state.world ≡ Host
+      → (step_of hart machine).outcome.step.trap ≡ Some trap
+      → EntersByCall hart machine (step_of hart machine) trap (a0 after_trap)
   entering_call_enters call performs_entry handled_is from_host trapped =
       entry_is_by_call (a0 after_trap) from_host trapped (slot_runs_after_entry (handled_is ∙ performs_entry))
 
@@ -279,16 +293,20 @@ six_not_seven a6 is_six = grind (arith, nat_tests)
 -- if an enclave requests stop, then a6 does not have the number of exit
 requests_stop-a6 : (slot a7 a6 : ℕ) → call_numbered (Enclave slot) a7 a6 ≡ Some Stop → (a6 == call_number Exit) ≡ false
 unfolding call_numbered
-requests_stop-a6 slot a7 a6 call_numbered_is = six_not_seven a6 (stop_numbered (a7 == 0x0A454E43) (a6 == 5) (a6 == 6) (a6 == 7) call_numbered_is)
+requests_stop-a6 slot a7 a6 call_numbered_is =
+    six_not_seven a6 (stop_numbered (a7 == 0x0A454E43) (a6 == 5) (a6 == 6) (a6 == 7) call_numbered_is)
 
 -- if an enclave requests exit, then a6 has the number of exit
 requests_exit-a6 : (slot a7 a6 : ℕ) → call_numbered (Enclave slot) a7 a6 ≡ Some Exit → (a6 == call_number Exit) ≡ true
 unfolding call_numbered
-requests_exit-a6 slot a7 a6 call_numbered_is = exit_numbered (a7 == 0x0A454E43) (a6 == 5) (a6 == 6) (a6 == 7) call_numbered_is
+requests_exit-a6 slot a7 a6 call_numbered_is =
+    exit_numbered (a7 == 0x0A454E43) (a6 == 5) (a6 == 6) (a6 == 7) call_numbered_is
 
 -- an ecall that requests stop or exit is a cause that exits
-exit_call_is_exit_cause : (hart_state : HartState) (cause : Cause) (call : Call) → cause ≡ causes.Exception EnvironmentCallFromS
-    → requested_call hart_state.world hart_state.hart.regs ≡ Some call → is_exit_call (Some call) ≡ true → causes_exit hart_state cause ≡ true
+exit_call_is_exit_cause : (hart_state : HartState) (cause : Cause) (call : Call)
+    → cause ≡ causes.Exception EnvironmentCallFromS
+    → requested_call hart_state.world hart_state.hart.regs ≡ Some call → is_exit_call (Some call) ≡ true
+    → causes_exit hart_state cause ≡ true
 exit_call_is_exit_cause hart_state cause call by_ecall requested is_exit = rw (by_ecall, requested) is_exit
 
 -- the enclave of the slot exits from a hart by this trap, to the host with this saved context
@@ -298,12 +316,14 @@ module _ (hart : ℕ) (machine : MonitoredMachine) (slot : ℕ) (trap : Trap) (h
   hart_before = (hart_state_of hart machine).hart
 
   -- both definitions of the machine after a stop agree
-  machines_after_stop_equal : trap.cause ≡ causes.Exception EnvironmentCallFromS → (register hart_before.regs 16 == call_number Exit) ≡ false
+  machines_after_stop_equal : trap.cause ≡ causes.Exception EnvironmentCallFromS
+      → (register hart_before.regs 16 == call_number Exit) ≡ false
       → left_machine hart machine slot trap host ≡ handed_over_machine hart machine slot trap host (by_stop_call hart_before)
   machines_after_stop_equal by_ecall is_not_exit = rw (by_ecall, is_not_exit) refl
 
   -- both definitions of the machine after an exit agree
-  machines_after_exit_equal : trap.cause ≡ causes.Exception EnvironmentCallFromS → (register hart_before.regs 16 == call_number Exit) ≡ true
+  machines_after_exit_equal : trap.cause ≡ causes.Exception EnvironmentCallFromS
+      → (register hart_before.regs 16 == call_number Exit) ≡ true
       → left_machine hart machine slot trap host ≡ handed_over_machine hart machine slot trap host (by_exit_call hart_before)
   machines_after_exit_equal by_ecall is_exit = rw (by_ecall, is_exit) refl
 
@@ -315,14 +335,16 @@ module _ (hart : ℕ) (machine : MonitoredMachine) (slot : ℕ) (trap : Trap) (h
 -- ---- the law
 
 -- proves that an interrupt of an enclave hands its hart over to the host
-pub interrupts_enclave : (hart : ℕ) (machine : MonitoredMachine) → Invariant machine → InterruptsEnclave hart machine (step_of hart machine)
+pub interrupts_enclave : (hart : ℕ) (machine : MonitoredMachine) → Invariant machine
+    → InterruptsEnclave hart machine (step_of hart machine)
 interrupts_enclave hart machine invariant slot host trap interrupt runs host_is_saved traps cause_is =
     let left = leave_law hart machine invariant slot host trap runs host_is_saved traps
     (world_is_host _ ((exits_law hart machine invariant slot runs).exits trap traps ∙ ap (causes_exit (hart_state_of hart machine)) cause_is)) in
     (left.0 ∙ machines_after_interrupt_equal hart machine slot trap host interrupt cause_is, left.1)
 
 -- proves the result of each call by its number and its status
-pub answers_calls : (hart : ℕ) (machine : MonitoredMachine) → Invariant machine → AnswersCalls hart machine (step_of hart machine)
+pub answers_calls : (hart : ℕ) (machine : MonitoredMachine) → Invariant machine
+    → AnswersCalls hart machine (step_of hart machine)
 answers_calls hart machine invariant trap traps by_ecall =
     let trapping = is_trapping hart machine trap traps in
     let shared = machine.shared in
@@ -378,14 +400,16 @@ answers_calls hart machine invariant trap traps by_ecall =
     }
 
 -- proves that each call succeeds under its conditions in numbers
-pub calls_succeed : (hart : ℕ) (machine : MonitoredMachine) → Invariant machine → CallsSucceed hart machine (step_of hart machine)
+pub calls_succeed : (hart : ℕ) (machine : MonitoredMachine) → Invariant machine
+    → CallsSucceed hart machine (step_of hart machine)
 calls_succeed hart machine invariant trap traps by_ecall =
     let before = hart_state_of hart machine in
     let regs = before.hart.regs in
     let call_results = answers_calls hart machine invariant trap traps by_ecall in
     let accepted_calls = accepts_calls machine.shared before.hart.csrs.pmp regs in
     -- `AcceptsCall world call`: the monitor accepts this call of this world
-    let AcceptsCall : World → Call → Type 0 = λ world call. IsAccepted world machine.shared before.hart.csrs.pmp regs call in
+    let AcceptsCall : World → Call → Type 0 =
+    λ world call. IsAccepted world machine.shared before.hart.csrs.pmp regs call in
     let accepted_of_world : (world : World) (call : Call) → before.world ≡ world → AcceptsCall world call → AcceptsCall before.world call =
     λ world call world_is_enclave. subst (λ (world : World). AcceptsCall world call) (sym world_is_enclave) in
     record {

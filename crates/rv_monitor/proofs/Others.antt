@@ -27,7 +27,8 @@ any_prefix test (first ∷ rest) (suc index) world in_range =
     ∙ or_swap (test first) (test world) (list_any test (without rest index))
 
 -- worlds that are apart stay apart if the world at the index moves to the front
-apart_prefix : (worlds : List World) (index : ℕ) (world : World) → index < length worlds → AreApart (slice_set worlds index world)
+apart_prefix : (worlds : List World) (index : ℕ) (world : World) → index < length worlds
+    → AreApart (slice_set worlds index world)
     → AreApart (world ∷ without worlds index)
 apart_prefix [] index world in_range worlds_apart = absurd (omega (arith, in_range))
 apart_prefix (first ∷ rest) zero world in_range worlds_apart = worlds_apart
@@ -45,16 +46,18 @@ apart_prefix (first ∷ rest) (suc index) world in_range worlds_apart =
     )
 
 -- worlds that are apart stay apart if the first world moves to the index
-apart_back : (worlds : List World) (index : ℕ) (world : World) → index < length worlds → AreApart (world ∷ without worlds index)
+apart_back : (worlds : List World) (index : ℕ) (world : World) → index < length worlds
+    → AreApart (world ∷ without worlds index)
     → AreApart (slice_set worlds index world)
 apart_back [] index world in_range worlds_apart = absurd (omega (arith, in_range))
 apart_back (first ∷ rest) zero world in_range worlds_apart = worlds_apart
 apart_back (first ∷ rest) (suc index) world in_range worlds_apart =
     let in_tail : index < length rest = omega (arith, in_range) in (
-      λ slot first_runs. any_prefix (is_world_of slot) rest index world in_tail ∙ elim (cases_Bool (is_world_of slot world)) [
-        | inl runs_enclave ↦ absurd (both_ways _ (or_parts _ _ (worlds_apart.0 slot runs_enclave)).0 first_runs)
-        | inr world_runs_other ↦ or_from (is_world_of slot world) _ world_runs_other (worlds_apart.1.0 slot first_runs)
-      ],
+      λ slot first_runs. any_prefix (is_world_of slot) rest index world in_tail
+          ∙ elim (cases_Bool (is_world_of slot world)) [
+            | inl runs_enclave ↦ absurd (both_ways _ (or_parts _ _ (worlds_apart.0 slot runs_enclave)).0 first_runs)
+            | inr world_runs_other ↦ or_from (is_world_of slot world) _ world_runs_other (worlds_apart.1.0 slot first_runs)
+          ],
       apart_back rest index world in_tail (λ slot first_runs. (or_parts _ _ (worlds_apart.0 slot first_runs)).1, worlds_apart.1.1),
     )
 

@@ -18,8 +18,10 @@ use Rattle.rv_monitor.proofs.TrapSteps.{same_outcome, step_cases, view_without_t
 -- ---- without a trap
 
 -- a step of a view without a trap is the bare step
-step_without_trap : (view : HartView) → (monitored_step view).outcome.step.trap ≡ None → monitored_step view ≡ view_without_trap view
-step_without_trap view = step_cases view (λ after. after.outcome.step.trap ≡ None → after ≡ view_without_trap view) (λ no_trap is_untrapped. refl)
+step_without_trap : (view : HartView) → (monitored_step view).outcome.step.trap ≡ None
+    → monitored_step view ≡ view_without_trap view
+step_without_trap view =
+    step_cases view (λ after. after.outcome.step.trap ≡ None → after ≡ view_without_trap view) (λ no_trap is_untrapped. refl)
     (λ trap traps is_untrapped. let contradiction : None ≡ Some trap = sym is_untrapped ∙ traps in cc)
 
 -- ---- no interrupt
@@ -55,7 +57,8 @@ steps_plainly hart machine in_range =
       quiet = λ no_trap.
           let bare_step_untrapped : (step (bare_machine view)).outcome.trap ≡ None =
           sym (ap (λ (outcome : StepOutcome). outcome.trap) outcome) ∙ no_trap in
-          let view_step_is = step_without_trap view (ap (λ (outcome : StepOutcome). outcome.trap) (same_outcome view) ∙ bare_step_untrapped) in
+          let view_step_is =
+          step_without_trap view (ap (λ (outcome : StepOutcome). outcome.trap) (same_outcome view) ∙ bare_step_untrapped) in
           let step_is : step_of hart machine ≡ stepped_by hart machine (view_without_trap view) =
           machine_step_is hart machine in_range ∙ ap (stepped_by hart machine) view_step_is in
           let machine_after : Option Trap → MonitoredMachine = λ maybe_trap. record {
@@ -71,7 +74,8 @@ steps_plainly hart machine in_range =
     }
 
 -- proves that a step of the host takes no interrupt, and redirects each exception that is not a call
-pub host_continues : (hart : ℕ) (machine : MonitoredMachine) → Invariant machine → HostContinues hart machine (step_of hart machine)
+pub host_continues : (hart : ℕ) (machine : MonitoredMachine) → Invariant machine
+    → HostContinues hart machine (step_of hart machine)
 host_continues hart machine invariant host = record {
   uninterrupted = λ trap interrupt trapped cause_is.
       let trapping = is_trapping hart machine trap trapped in

@@ -23,13 +23,15 @@ pub programmed_harts_unchanged : (slots : Slots) (hart_states : List HartState)
     → map (reprogrammed slots) hart_states ≡ hart_states
 programmed_harts_unchanged slots [] each = refl
 programmed_harts_unchanged slots (hart_state ∷ hart_states) each =
-    let rest_unchanged = programmed_harts_unchanged slots hart_states (λ hart in_range. each (suc hart) (omega (arith, in_range))) in
+    let rest_unchanged =
+    programmed_harts_unchanged slots hart_states (λ hart in_range. each (suc hart) (omega (arith, in_range))) in
     ap (λ (hart_state : HartState). hart_state ∷ map (reprogrammed slots) hart_states)
     (reprogramming_changes_nothing slots hart_state (each 0 (omega arith))) ∙ ap
     (λ (hart_states : List HartState). hart_state ∷ hart_states) rest_unchanged
 
 -- after a redirected trap, reprogramming does not change a hart that was programmed before the trap
-pub redirected_is_programmed : (hart_state : HartState) (shared : Shared) (trap : Trap) → reprogrammed shared.table hart_state ≡ hart_state
+pub redirected_is_programmed : (hart_state : HartState) (shared : Shared) (trap : Trap)
+    → reprogrammed shared.table hart_state ≡ hart_state
     → with_reprogrammed_hart (redirected hart_state shared trap) ≡ redirected hart_state shared trap
 unfolding with_redirected_trap
 redirected_is_programmed hart_state shared trap is_programmed =

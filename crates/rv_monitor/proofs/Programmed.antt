@@ -15,7 +15,8 @@ pub record AreProgrammed (slots : Slots) (original current : List HartState) (co
 
 -- at the start of the loop, no hart state is reprogrammed
 pub none_programmed : (slots : Slots) (original : List HartState) → AreProgrammed slots original original 0
-none_programmed slots original = record { size = refl; done = λ hart below. absurd (omega (arith, below)); rest = λ hart not_below. refl }
+none_programmed slots original =
+    record { size = refl; done = λ hart below. absurd (omega (arith, below)); rest = λ hart not_below. refl }
 
 -- the loop is about to handle the hart `hart`
 module _ (slots : Slots) (original current : List HartState) (hart : ℕ) (so_far : AreProgrammed slots original current hart) where
@@ -61,14 +62,16 @@ module _ (slots : Slots) (original current : List HartState) (hart : ℕ) (so_fa
       ∙ sym (get_or-map (reprogrammed slots) (take hart original) index default some_default (omega (arith, original_length, below))))
 
 -- the loop changes nothing on a machine with one hart that is already programmed
-pub single_hart_unchanged : (slots : Slots) (state_array : List HartState) (hart_count hart : ℕ) → hart < hart_count → hart_count ≤ 1
+pub single_hart_unchanged : (slots : Slots) (state_array : List HartState) (hart_count hart : ℕ)
+    → hart < hart_count → hart_count ≤ 1
     → hart_count ≤ length state_array
     → reprogrammed slots (hart_state_in state_array hart) ≡ hart_state_in state_array hart
     → take hart_count state_array ≡ map (reprogrammed slots) (take hart_count state_array)
 single_hart_unchanged slots state_array hart_count hart in_range at_most_one in_array is_programmed =
     let hart_is_0 : hart ≡ 0 = omega (arith, in_range, at_most_one) in
     let one_hart : 1 ≡ hart_count = omega (arith, in_range, at_most_one) in
-    let IsProgrammed : ℕ → Type 0 = λ hart. reprogrammed slots (hart_state_in state_array hart) ≡ hart_state_in state_array hart in
+    let IsProgrammed : ℕ → Type 0 =
+    λ hart. reprogrammed slots (hart_state_in state_array hart) ≡ hart_state_in state_array hart in
     let programmed : AreProgrammed slots state_array state_array 1 =
     next_hart_unchanged slots state_array state_array 0 (none_programmed slots state_array) (subst IsProgrammed hart_is_0 is_programmed) in
     subst (λ (count : ℕ). take count state_array ≡ map (reprogrammed slots) (take count state_array)) one_hart

@@ -28,7 +28,8 @@ new_state_keeps_identity : (slots : Slots) (slot : ℕ) (maybe_info : Option Slo
 new_state_keeps_identity slots slot None state table_length slot_is = refl
 new_state_keeps_identity slots slot (Some info) state table_length slot_is =
     let slot_in_range = live_in_range slots slot info table_length slot_is in
-    let written_record = at_written_slot slots slot (Some (record info { state = state })) (omega (arith, table_length, slot_in_range)) in
+    let written_record =
+    at_written_slot slots slot (Some (record info { state = state })) (omega (arith, table_length, slot_in_range)) in
     ap (option_map identity_of) written_record ∙ sym (ap (option_map identity_of) slot_is)
 
 -- a new state of the other slot leaves the identity of each slot unchanged
@@ -36,14 +37,16 @@ pub new_state_keeps_identities : (slots : Slots) (slot other_slot : ℕ) (state 
     → identity_at (with_state slots other_slot state) slot ≡ identity_at slots slot
 new_state_keeps_identities slots slot other_slot state table_length = elim (cases_eq slot other_slot) [
   | inl equal ↦ rw (← equal) (new_state_keeps_identity slots slot (slot_at slots slot) state table_length refl)
-  | inr distinct ↦ ap (option_map identity_of) (new_state_keeps_other_slot slots slot other_slot (slot_at slots other_slot) state distinct)
+  | inr distinct ↦
+      ap (option_map identity_of) (new_state_keeps_other_slot slots slot other_slot (slot_at slots other_slot) state distinct)
 ]
 
 -- enclave `slot` is live before the trap handler
 module _ (slot : ℕ) (hart_state : HartState) (shared : Shared) (valid : IsValid shared.memory shared.table)
     (live : is_live shared.table slot ≡ true) where
   -- a create leaves the identity of the live `slot` unchanged
-  created_keeps : (new : CreateArgs) → MayCreate shared new → identity_at (created shared new).table slot ≡ identity_at shared.table slot
+  created_keeps : (new : CreateArgs) → MayCreate shared new
+      → identity_at (created shared new).table slot ≡ identity_at shared.table slot
   unfolding created
   created_keeps new no_refusal =
       let free = (free_slot_from shared.table (new_slot shared.table) no_refusal.free).free in
@@ -52,7 +55,8 @@ module _ (slot : ℕ) (hart_state : HartState) (shared : Shared) (valid : IsVali
       ap (option_map identity_of) (at_other_slot shared.table (new_slot shared.table) slot (Some (recorded shared.memory new)) distinct)
 
   -- a destroy after which `slot` is live leaves the identity of `slot` unchanged
-  destroyed_keeps : (other_slot : ℕ) → SlotIsAccepted shared.table Destroy other_slot → is_live (destroyed shared other_slot).table slot ≡ true
+  destroyed_keeps : (other_slot : ℕ) → SlotIsAccepted shared.table Destroy other_slot
+      → is_live (destroyed shared other_slot).table slot ≡ true
       → identity_at (destroyed shared other_slot).table slot ≡ identity_at shared.table slot
   unfolding destroyed
   destroyed_keeps other_slot slot_accepted live_after = elim (cases_eq slot other_slot) [
@@ -66,7 +70,8 @@ module _ (slot : ℕ) (hart_state : HartState) (shared : Shared) (valid : IsVali
 
   -- if `slot` is live after the trap handler, then its identity is unchanged
   abbrev Keeps : Handled → Type 0
-  Keeps result = is_live result.shared.table slot ≡ true → identity_at result.shared.table slot ≡ identity_at shared.table slot
+  Keeps result =
+      is_live result.shared.table slot ≡ true → identity_at result.shared.table slot ≡ identity_at shared.table slot
 
   -- the trap handler satisfies `Keeps`
   handled_keeps : (trap : Trap) → Keeps (handled hart_state shared trap)
@@ -86,7 +91,8 @@ module _ (slot : ℕ) (hart_state : HartState) (shared : Shared) (valid : IsVali
   })
 
 -- proves that a step keeps the identity of each enclave that stays live
-pub record_law : (hart : ℕ) (machine : MonitoredMachine) → Invariant machine → PreservesRecords machine (step_of hart machine)
+pub record_law : (hart : ℕ) (machine : MonitoredMachine) → Invariant machine
+    → PreservesRecords machine (step_of hart machine)
 record_law hart machine invariant slot live =
     by_hart hart machine
     (λ after. is_live after.state.shared.table slot ≡ true → identity_at after.state.shared.table slot ≡ identity_at machine.shared.table slot)

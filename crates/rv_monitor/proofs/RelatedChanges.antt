@@ -14,7 +14,8 @@ pub record ChangesAlike (enclave : ℕ) (one other : HartState) (change other_ch
   pub world : (change one).world ≡ one.world
   pub state : HartStatesEquivExcept enclave (guest_state one) (guest_state other)
       → HartStatesEquivExcept enclave (guest_state (change one)) (guest_state (other_change other))
-  pub host : SameHost (guest_state one) (guest_state other) → SameHost (guest_state (change one)) (guest_state (other_change other))
+  pub host : SameHost (guest_state one) (guest_state other)
+      → SameHost (guest_state (change one)) (guest_state (other_change other))
 
 -- the state of the same hart changes in two related machines by changes that are alike
 module _ (enclave hart : ℕ) (change other_change : HartState → HartState) (one other : MonitoredMachine) (related : AreRelated enclave one other)
@@ -26,7 +27,9 @@ module _ (enclave hart : ℕ) (change other_change : HartState → HartState) (o
       let second_changed = other_change (hart_state_of hart other) in
       let same_harts = related.harts in
       record {
-        harts = length-set one.hart_states hart first_changed ∙ same_harts ∙ sym (length-set other.hart_states hart second_changed);
+        harts =
+            length-set one.hart_states hart first_changed ∙ same_harts
+            ∙ sym (length-set other.hart_states hart second_changed);
         hart_states = hart_cases_of_both one.hart_states other.hart_states hart first_changed second_changed
             (λ some_hart first_state second_state. HartStatesEquivExcept enclave (guest_state first_state)
             (guest_state second_state)) same_harts in_range (alike.state (related.hart_states hart))
@@ -49,13 +52,16 @@ module _ (enclave hart : ℕ) (change other_change : HartState → HartState) (o
     | inr past_last ↦
         let same_harts = related.harts in
         let first_unchanged = no_hart_unchanged hart (change (hart_state_of hart one)) one past_last in
-        let second_unchanged = no_hart_unchanged hart (other_change (hart_state_of hart other)) other (omega (arith, same_harts, past_last)) in
+        let second_unchanged =
+        no_hart_unchanged hart (other_change (hart_state_of hart other)) other (omega (arith, same_harts, past_last)) in
         rw (first_unchanged, second_unchanged) related
   ]
 
 -- two related machines stay related with two memories that are equal outside the bytes that may differ, and that are equal if the enclave is not live
-pub memory_related : (enclave : ℕ) (one other : MonitoredMachine) (memory other_memory : List ℕ) → AreRelated enclave one other
-    → EqualOutside (may_differ one.shared.table enclave) memory other_memory → (is_live one.shared.table enclave ≡ false → memory ≡ other_memory)
+pub memory_related : (enclave : ℕ) (one other : MonitoredMachine) (memory other_memory : List ℕ)
+    → AreRelated enclave one other
+    → EqualOutside (may_differ one.shared.table enclave) memory other_memory
+    → (is_live one.shared.table enclave ≡ false → memory ≡ other_memory)
     → AreRelated enclave (with_memory one memory) (with_memory other other_memory)
 memory_related enclave one other memory other_memory related equal_outside same_once_dead = record {
   harts = related.harts;
@@ -64,7 +70,8 @@ memory_related enclave one other memory other_memory related equal_outside same_
   table = related.table;
   memory = equal_outside;
   contexts = related.contexts;
-  gone = λ not_live. ap₂ (λ (shared : Shared) (memory : List ℕ). record shared { memory = memory }) (related.gone not_live) (same_once_dead not_live);
+  gone =
+      λ not_live. ap₂ (λ (shared : Shared) (memory : List ℕ). record shared { memory = memory }) (related.gone not_live) (same_once_dead not_live);
 }
 
 -- a machine is related to itself

@@ -41,7 +41,8 @@ module _ (enclave : ℕ) (one other : MonitoredMachine) where
     ]
 
   -- two machines that are equivalent except `enclave` in the guest view are related, if each hart that runs `enclave` has the same saved host in both
-  pub equiv_related : EquivToGuests enclave one other → ((hart : ℕ) → runs_on enclave hart one ≡ true → SameHostOn hart one other)
+  pub equiv_related : EquivToGuests enclave one other
+      → ((hart : ℕ) → runs_on enclave hart one ≡ true → SameHostOn hart one other)
       → AreRelated enclave one other
   equiv_related equiv hosts = record {
     harts = sym (length-map one.hart_states guest_state) ∙ equiv.harts ∙ length-map other.hart_states guest_state;

@@ -25,12 +25,14 @@ same_state (causes.Interrupt interrupt) one other same_handover = refl
 same_state (causes.Exception exception) one other same_handover = let a6 = same_handover.a6 in rw a6 refl
 
 -- two exits that hand over the same give the host the same reason
-same_reason : (cause : Cause) (one other : Hart) → SameHandoverBy cause one other → reason cause one.regs ≡ reason cause other.regs
+same_reason : (cause : Cause) (one other : Hart) → SameHandoverBy cause one other
+    → reason cause one.regs ≡ reason cause other.regs
 same_reason (causes.Interrupt interrupt) one other same_handover = refl
 same_reason (causes.Exception exception) one other same_handover = let a6 = same_handover.a6 in rw a6 refl
 
 -- two exits that hand over the same give the host the same value
-same_value : (cause : Cause) (one other : Hart) → SameHandoverBy cause one other → value cause one.regs ≡ value cause other.regs
+same_value : (cause : Cause) (one other : Hart) → SameHandoverBy cause one other
+    → value cause one.regs ≡ value cause other.regs
 same_value (causes.Interrupt interrupt) one other same_handover = refl
 same_value (causes.Exception exception) one other same_handover = same_handover.a0
 
@@ -38,7 +40,8 @@ same_value (causes.Exception exception) one other same_handover = same_handover.
 new_state_keeps_liveness : (slots : Slots) (slot : ℕ) (maybe_info : Option SlotInfo) (state : EnclaveState) → length slots ≡ slot_count
     → slot_at slots slot ≡ maybe_info
     → is_live (option_case maybe_info slots (λ info. with_slot slots slot (Some (record info { state = state })))) slot ≡ is_some maybe_info
-new_state_keeps_liveness slots slot None state table_length slot_is = ap (λ (maybe_info : Option SlotInfo). is_some maybe_info) slot_is
+new_state_keeps_liveness slots slot None state table_length slot_is =
+    ap (λ (maybe_info : Option SlotInfo). is_some maybe_info) slot_is
 new_state_keeps_liveness slots slot (Some info) state table_length slot_is =
     let slot_in_range = live_in_range slots slot info table_length slot_is in
     ap (λ (maybe_info : Option SlotInfo). is_some maybe_info)
@@ -101,7 +104,9 @@ module _ (enclave hart : ℕ) (one other : MonitoredMachine) (trap : Trap) (host
 
   -- both machines have the same number of harts
   same_count : length (map (reprogrammed first_table) one.hart_states) ≡ length (map (reprogrammed second_table) other.hart_states)
-  same_count = length-map one.hart_states (reprogrammed first_table) ∙ equiv.harts ∙ sym (length-map other.hart_states (reprogrammed second_table))
+  same_count =
+      length-map one.hart_states (reprogrammed first_table) ∙ equiv.harts
+      ∙ sym (length-map other.hart_states (reprogrammed second_table))
 
   -- the states of each other hart are equivalent after the exit
   other_harts_equiv : (hart : ℕ)
@@ -124,7 +129,8 @@ module _ (enclave hart : ℕ) (one other : MonitoredMachine) (trap : Trap) (host
             (reprogrammed second_table (hart_state_of hart other)) =
             record {
               world = hart_states.world;
-              same = λ not_running. ap₂ (λ (table : Slots) (state : HartState). reprogrammed table state) same_table (hart_states.same not_running);
+              same =
+                  λ not_running. ap₂ (λ (table : Slots) (state : HartState). reprogrammed table state) same_table (hart_states.same not_running);
             } in
             subst (λ (hart_state : HartState). HartStatesEquivExcept enclave hart_state
             (hart_state_in (map (reprogrammed second_table) other.hart_states) hart))
@@ -132,7 +138,8 @@ module _ (enclave hart : ℕ) (one other : MonitoredMachine) (trap : Trap) (host
             (subst (HartStatesEquivExcept enclave (reprogrammed first_table (hart_state_of hart one))) (sym second_state_is) harts_alike)
         -- neither machine has this hart
         | inr past_last ↦
-            let first_state_is = past_hart_state (map (reprogrammed first_table) one.hart_states) hart (omega (arith, first_length, past_last)) in
+            let first_state_is =
+            past_hart_state (map (reprogrammed first_table) one.hart_states) hart (omega (arith, first_length, past_last)) in
             let second_state_is =
             past_hart_state (map (reprogrammed second_table) other.hart_states) hart (omega (arith, second_length, same_harts, past_last)) in
             let reset_states_equiv : HartStatesEquivExcept enclave (hart_state_at_start 0) (hart_state_at_start 0) =
@@ -147,7 +154,8 @@ module _ (enclave hart : ℕ) (one other : MonitoredMachine) (trap : Trap) (host
   machines_equiv_after_exit : EquivExcept enclave (left_machine hart one enclave trap host) (left_machine hart other enclave trap host)
   machines_equiv_after_exit =
       let first_length = length-map one.hart_states (reprogrammed first_table) in
-      let extent = new_state_keeps_extent one.shared.table enclave (slot_at one.shared.table enclave) state_after table_length refl in
+      let extent =
+      new_state_keeps_extent one.shared.table enclave (slot_at one.shared.table enclave) state_after table_length refl in
       let first_contexts = one.shared.contexts in
       let second_contexts = other.shared.contexts in
       let first_saved = Some (saved_after trap.cause first_hart) in
@@ -174,9 +182,12 @@ module _ (enclave hart : ℕ) (one other : MonitoredMachine) (trap : Trap) (host
                 (ap (λ (block : Block). has block (ram_base + index)) (sym extent.region) ∙ not_hidden);
           };
           contexts = record {
-            size = length-set first_contexts enclave first_saved ∙ equiv.shared.contexts.size ∙ sym (length-set second_contexts enclave second_saved);
+            size =
+                length-set first_contexts enclave first_saved ∙ equiv.shared.contexts.size
+                ∙ sym (length-set second_contexts enclave second_saved);
             others =
-                λ slot distinct. at_other_slot first_contexts enclave slot first_saved distinct ∙ equiv.shared.contexts.others slot distinct
+                λ slot distinct. at_other_slot first_contexts enclave slot first_saved distinct
+                ∙ equiv.shared.contexts.others slot distinct
                 ∙ sym (at_other_slot second_contexts enclave slot second_saved distinct);
           };
           gone =
@@ -195,7 +206,8 @@ equiv_after_exit : (enclave hart : ℕ) (one other : MonitoredMachine) (trap : T
     → SameHost (hart_state_of hart one) (hart_state_of hart other)
     → SameHandoverBy trap.cause (hart_state_of hart one).hart (hart_state_of hart other).hart
     → (step_of hart one).outcome.step.trap ≡ Some trap → (step_of hart other).outcome.step.trap ≡ Some trap
-    → (hart_state_of hart (step_of hart one).state).world ≡ Host → (hart_state_of hart (step_of hart other).state).world ≡ Host
+    → (hart_state_of hart (step_of hart one).state).world ≡ Host
+    → (hart_state_of hart (step_of hart other).state).world ≡ Host
     → EquivExcept enclave (step_of hart one).state (step_of hart other).state
 -- a hart that runs an enclave has a saved host context
 equiv_after_exit enclave hart one other trap None host_context_is invariant_one invariant_other equiv runs_enclave same_host same_handover traps
@@ -207,7 +219,7 @@ equiv_after_exit enclave hart one other trap None host_context_is invariant_one 
     ap (λ (maybe_context : Option Context). is_some maybe_context) (sym host_context_is) ∙ has_host_context
     ∙ ap (λ world. not (is_host world)) world in
     cc
--- both machines are those that `leave_law` gives
+-- `leave_law` gives both machines after the exits
 equiv_after_exit enclave hart one other trap (Some host) host_context_is invariant_one invariant_other equiv runs_enclave same_host same_handover
     traps other_traps one_exits other_exits =
     let in_range = running_hart_in_range enclave hart one runs_enclave in
@@ -226,6 +238,8 @@ pub release : (enclave hart : ℕ) (one other : MonitoredMachine) (trap : Trap) 
     → SameHost (hart_state_of hart one) (hart_state_of hart other)
     → SameHandoverBy trap.cause (hart_state_of hart one).hart (hart_state_of hart other).hart
     → (step_of hart one).outcome.step.trap ≡ Some trap → (step_of hart other).outcome.step.trap ≡ Some trap
-    → (hart_state_of hart (step_of hart one).state).world ≡ Host → (hart_state_of hart (step_of hart other).state).world ≡ Host
+    → (hart_state_of hart (step_of hart one).state).world ≡ Host
+    → (hart_state_of hart (step_of hart other).state).world ≡ Host
     → EquivExcept enclave (step_of hart one).state (step_of hart other).state
-release enclave hart one other trap = equiv_after_exit enclave hart one other trap (hart_state_of hart one).host_context refl
+release enclave hart one other trap =
+    equiv_after_exit enclave hart one other trap (hart_state_of hart one).host_context refl

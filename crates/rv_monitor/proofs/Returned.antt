@@ -18,21 +18,26 @@ no_context_is_legal None no_context = tt
 no_context_is_legal (Some context) no_context = cc
 
 -- a hart that runs the host has no saved context of the host, so each saved context of the host is legal
-pub host_stored : (hart_state : HartState) → HostContextInvariant hart_state → is_host hart_state.world ≡ true → HostContextIsLegal hart_state
+pub host_stored : (hart_state : HartState) → HostContextInvariant hart_state → is_host hart_state.world ≡ true
+    → HostContextIsLegal hart_state
 host_stored hart_state keeps host_runs = no_context_is_legal hart_state.host_context (keeps.kept ∙ ap not host_runs)
 
 -- the step that enters an enclave saves the context of the host after its ecall
-pub entry_saves_host : (view : HartView) (after : HartViewStepped) → StaysOrSwitches view after → is_host view.hart_state.world ≡ true
+pub entry_saves_host : (view : HartView) (after : HartViewStepped) → StaysOrSwitches view after
+    → is_host view.hart_state.world ≡ true
     → is_host after.state.hart_state.world ≡ false
     → after.state.hart_state.host_context ≡ Some (saved view.hart_state.hart (past_ecall view.hart_state.hart) S)
-entry_saves_host view after (inl stays) host_runs enclave_runs_after = absurd (both_ways _ enclave_runs_after (ap is_host stays.world ∙ host_runs))
+entry_saves_host view after (inl stays) host_runs enclave_runs_after =
+    absurd (both_ways _ enclave_runs_after (ap is_host stays.world ∙ host_runs))
 entry_saves_host view after (inr (inl enters)) host_runs enclave_runs_after = enters.host
-entry_saves_host view after (inr (inr leaves)) host_runs enclave_runs_after = absurd (both_ways _ enclave_runs_after (ap is_host leaves.world))
+entry_saves_host view after (inr (inr leaves)) host_runs enclave_runs_after =
+    absurd (both_ways _ enclave_runs_after (ap is_host leaves.world))
 
 -- the step with which the enclave exits restores the saved context of the host
 pub exit_restores_host : (before state : HartView) (after : HartViewStepped) → StaysOrSwitches state after
     → state.hart_state.host_context ≡ Some (saved before.hart_state.hart (past_ecall before.hart_state.hart) S)
-    → is_host state.hart_state.world ≡ false → is_host after.state.hart_state.world ≡ true → HostIsRestored before state after
+    → is_host state.hart_state.world ≡ false → is_host after.state.hart_state.world ≡ true
+    → HostIsRestored before state after
 -- the hart runs an enclave before the step and the host after it, so the world does not continue
 exit_restores_host before state after (inl stays) host_is_saved enclave_runs host_runs_after =
     absurd (both_ways _ enclave_runs (sym (ap is_host stays.world) ∙ host_runs_after))
@@ -58,7 +63,8 @@ abbrev pub host_on : ℕ → MonitoredMachine → Option Context
 host_on hart machine = (hart_state_of hart machine).host_context
 
 -- a hart that runs an enclave is a hart of the machine
-pub enclave_hart_in_range : (hart : ℕ) (machine : MonitoredMachine) → is_host (hart_state_of hart machine).world ≡ false → hart < count_of machine
+pub enclave_hart_in_range : (hart : ℕ) (machine : MonitoredMachine)
+    → is_host (hart_state_of hart machine).world ≡ false → hart < count_of machine
 enclave_hart_in_range hart machine enclave_runs = elim (cases_lt hart (count_of machine)) [
   | inl in_range ↦ in_range
   | inr past_last ↦
@@ -71,7 +77,8 @@ enclave_hart_in_range hart machine enclave_runs = elim (cases_lt hart (count_of 
 
 -- a step of a hart that runs an enclave before and after the step keeps the saved context of the host
 own_step_keeps_context : (hart : ℕ) (machine : MonitoredMachine) → is_host (hart_state_of hart machine).world ≡ false
-    → is_host (hart_state_of hart (step_of hart machine).state).world ≡ false → host_on hart (step_of hart machine).state ≡ host_on hart machine
+    → is_host (hart_state_of hart (step_of hart machine).state).world ≡ false
+    → host_on hart (step_of hart machine).state ≡ host_on hart machine
 own_step_keeps_context hart machine enclave_runs enclave_runs_after =
     let step_is = step_of_view hart machine (enclave_hart_in_range hart machine enclave_runs) in
     ap (λ (after : HartViewStepped). after.state.hart_state.host_context) step_is
@@ -106,18 +113,21 @@ pub steps_keep : (hart : ℕ) (harts : List ℕ) (machine : MonitoredMachine) �
 steps_keep hart [] machine runs_through = refl
 steps_keep hart (stepping_hart ∷ harts) machine runs_through =
     let after = (step_of stepping_hart machine).state in
-    steps_keep hart harts after runs_through.1 ∙ step_keeps hart stepping_hart machine runs_through.0 (first_runs hart harts after runs_through.1)
+    steps_keep hart harts after runs_through.1
+    ∙ step_keeps hart stepping_hart machine runs_through.0 (first_runs hart harts after runs_through.1)
 
 -- a hart that runs an enclave through a list of steps runs an enclave after the last step
 pub last_runs : (hart : ℕ) (harts : List ℕ) (machine : MonitoredMachine) → RunsThrough hart harts machine
     → is_host (hart_state_of hart (sched harts machine).state).world ≡ false
 last_runs hart [] machine runs_through = runs_through
-last_runs hart (stepping_hart ∷ harts) machine runs_through = last_runs hart harts (step_of stepping_hart machine).state runs_through.1
+last_runs hart (stepping_hart ∷ harts) machine runs_through =
+    last_runs hart harts (step_of stepping_hart machine).state runs_through.1
 
 -- ---- from entry to exit
 
 -- a hart that runs an enclave after its step is a hart of the machine
-entering_hart_in_range : (hart : ℕ) (machine : MonitoredMachine) → is_host (hart_state_of hart (step_of hart machine).state).world ≡ false
+entering_hart_in_range : (hart : ℕ) (machine : MonitoredMachine)
+    → is_host (hart_state_of hart (step_of hart machine).state).world ≡ false
     → hart < count_of machine
 entering_hart_in_range hart machine enclave_runs_after =
     let after = (step_of hart machine).state in
@@ -125,7 +135,8 @@ entering_hart_in_range hart machine enclave_runs_after =
     subst (λ (hart_count : ℕ). hart < hart_count) (step_count hart machine) in_range
 
 -- the entry saves the context of the host after its ecall
-pub entered_is : (hart : ℕ) (machine : MonitoredMachine) → Invariant machine → is_host (hart_state_of hart machine).world ≡ true
+pub entered_is : (hart : ℕ) (machine : MonitoredMachine) → Invariant machine
+    → is_host (hart_state_of hart machine).world ≡ true
     → is_host (hart_state_of hart (step_of hart machine).state).world ≡ false
     → host_on hart (step_of hart machine).state ≡ Some (saved (hart_state_of hart machine).hart (past_ecall (hart_state_of hart machine).hart) S)
 entered_is hart machine invariant host_runs enclave_runs_after =
@@ -138,7 +149,8 @@ entered_is hart machine invariant host_runs enclave_runs_after =
     (sym (ap (λ (after : HartViewStepped). is_host after.state.hart_state.world) step_is) ∙ enclave_runs_after)
 
 -- the exit restores the saved context of the host
-pub comes_back : (hart : ℕ) (before : HartView) (machine : MonitoredMachine) → Invariant machine → HostContextIsLegal (hart_state_of hart machine)
+pub comes_back : (hart : ℕ) (before : HartView) (machine : MonitoredMachine) → Invariant machine
+    → HostContextIsLegal (hart_state_of hart machine)
     → host_on hart machine ≡ Some (saved before.hart_state.hart (past_ecall before.hart_state.hart) S)
     → is_host (hart_state_of hart machine).world ≡ false
     → is_host (monitored_step (hart_view hart machine)).state.hart_state.world ≡ true

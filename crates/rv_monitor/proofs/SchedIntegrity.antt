@@ -17,7 +17,8 @@ use Rattle.rv_monitor.proofs.HartCases.{by_hart, outside, step_of_view}
 -- ---- two changes in turn
 
 -- an enclave that two changes in turn preserve is preserved by both together
-pub preserved_twice : (slot : ℕ) (before middle after : Shared) → IsPreserved slot before middle → IsPreserved slot middle after
+pub preserved_twice : (slot : ℕ) (before middle after : Shared) → IsPreserved slot before middle
+    → IsPreserved slot middle after
     → IsPreserved slot before after
 preserved_twice slot before middle after first_change second_change = record {
   slot = second_change.slot ∙ first_change.slot;
@@ -28,10 +29,12 @@ preserved_twice slot before middle after first_change second_change = record {
 }
 
 -- an enclave that two steps in turn leave untouched is untouched by both together
-untouched_twice : (slot : ℕ) (before middle after : MonitoredMachine) → IsUntouched slot before middle → IsUntouched slot middle after
+untouched_twice : (slot : ℕ) (before middle after : MonitoredMachine) → IsUntouched slot before middle
+    → IsUntouched slot middle after
     → IsUntouched slot before after
 untouched_twice slot before middle after first_change second_change = record {
-  preserved = preserved_twice slot before.shared middle.shared after.shared first_change.preserved second_change.preserved;
+  preserved =
+      preserved_twice slot before.shared middle.shared after.shared first_change.preserved second_change.preserved;
   hart_state = λ hart runs.
       let middle_state_is = first_change.hart_state hart runs in
       second_change.hart_state hart (ap (λ (hart_state : HartState). is_world_of slot hart_state.world) middle_state_is ∙ runs)
@@ -50,7 +53,8 @@ untouched_itself slot machine invariant = record {
 -- ---- every order of steps
 
 -- an enclave that a list of steps leaves undisturbed is live before these steps
-first_live : (slot : ℕ) (harts : List ℕ) (machine : MonitoredMachine) → IsUndisturbed slot harts machine → is_live machine.shared.table slot ≡ true
+first_live : (slot : ℕ) (harts : List ℕ) (machine : MonitoredMachine) → IsUndisturbed slot harts machine
+    → is_live machine.shared.table slot ≡ true
 first_live slot [] machine undisturbed = undisturbed
 first_live slot (hart ∷ harts) machine undisturbed = undisturbed.0
 
@@ -66,7 +70,8 @@ sched_integrity slot (hart ∷ harts) machine invariant undisturbed =
 -- ---- a running enclave is neither entered nor ended by another hart
 
 -- proves that a step neither enters nor destroys an enclave that runs on another hart
-pub others_keep_running_law : (hart : ℕ) (machine : MonitoredMachine) → Invariant machine → KeepsOthersRunning hart machine (step_of hart machine)
+pub others_keep_running_law : (hart : ℕ) (machine : MonitoredMachine) → Invariant machine
+    → KeepsOthersRunning hart machine (step_of hart machine)
 others_keep_running_law hart machine invariant slot slot_hart runs not_running = by_hart hart machine (KeepsRunning slot)
     (record { passes = refl; live = running_is_live slot slot_hart machine invariant runs })
     (λ in_range.
@@ -105,7 +110,8 @@ step_changes : (hart : ℕ) (machine : MonitoredMachine) (byte : ℕ) → Invari
     → byte_at (step_of hart machine).state.shared.memory byte ≡ byte_at machine.shared.memory byte
     ⊎ IsChanged (hart_view hart machine) (hart_view_after hart (step_of hart machine)) byte
 step_changes hart machine byte invariant = elim (cases_lt hart (count_of machine)) [
-  | inr past_last ↦ inl (ap (λ (after : MonitoredStepped). byte_at after.state.shared.memory byte) (outside hart machine past_last))
+  | inr past_last ↦
+      inl (ap (λ (after : MonitoredStepped). byte_at after.state.shared.memory byte) (outside hart machine past_last))
   | inl in_range ↦
       subst (λ (after : HartViewStepped). byte_at after.state.shared.memory byte ≡ byte_at machine.shared.memory byte
       ⊎ IsChanged (hart_view hart machine) after byte) (sym (step_of_view hart machine in_range))

@@ -14,7 +14,8 @@ use Rattle.rv_monitor.proofs.TrapSteps.{step_cases, hart_state_after}
 
 -- proves the noninterference law for steps in any order, by induction on the list
 pub sched_law : SchedLaw
-sched_law enclave [] one other invariant_one invariant_other equiv low_steps = record { outcomes = refl; state = equiv; low_steps = tt }
+sched_law enclave [] one other invariant_one invariant_other equiv low_steps =
+    record { outcomes = refl; state = equiv; low_steps = tt }
 sched_law enclave (hart ∷ harts) one other invariant_one invariant_other equiv low_steps =
     let first_step = noninterference hart one invariant_one enclave other invariant_other equiv low_steps.0 in
     let remaining =
@@ -31,8 +32,9 @@ sched_law enclave (hart ∷ harts) one other invariant_one invariant_other equiv
 
 -- ---- the hart on which the enclave runs after a step
 
--- if the trap handler reports an entry of `enclave`, then the hart runs `enclave` after it
-runs_after_entry : (enclave : ℕ) (hart_state : HartState) (trap : Trap) (result : Handled) → StaysEntersOrExits hart_state trap result
+-- if the trap handler reports an entry of `enclave`, then the hart runs `enclave` after the trap handler
+runs_after_entry : (enclave : ℕ) (hart_state : HartState) (trap : Trap) (result : Handled)
+    → StaysEntersOrExits hart_state trap result
     → result.next.entered ≡ Some enclave → is_world_of enclave result.hart_state.world ≡ true
 runs_after_entry enclave hart_state trap result (inl stays) enters_slot =
     let contradiction : None ≡ Some enclave = sym stays.entered ∙ enters_slot in cc
@@ -40,13 +42,15 @@ runs_after_entry enclave hart_state trap result (inr (inl enter)) enters_slot =
     let some_slots_equal : Some enter.slot ≡ Some enclave = sym enter.entered ∙ enters_slot in
     let slots_equal : enter.slot ≡ enclave = cc in
     ap (is_world_of enclave) enter.world ∙ eq-eqb enter.slot enclave slots_equal
-runs_after_entry enclave hart_state trap result (inr (inr leaves)) enters_slot = let contradiction : None ≡ Some enclave = sym leaves.entered
+runs_after_entry enclave hart_state trap result (inr (inr leaves)) enters_slot =
+    let contradiction : None ≡ Some enclave = sym leaves.entered
     ∙ enters_slot in cc
 
 -- if a step reports an entry of `enclave`, then the hart runs `enclave` after the step
 pub is_entered : (enclave : ℕ) (view : HartView) → (monitored_step view).outcome.entered ≡ Some enclave
     → is_world_of enclave (monitored_step view).state.hart_state.world ≡ true
-is_entered enclave view = step_cases view (λ after. after.outcome.entered ≡ Some enclave → is_world_of enclave after.state.hart_state.world ≡ true)
+is_entered enclave view =
+    step_cases view (λ after. after.outcome.entered ≡ Some enclave → is_world_of enclave after.state.hart_state.world ≡ true)
     (λ no_trap enters_slot. cc)
     (λ trap traps enters_slot.
     let hart_state = hart_state_after view.hart_state trap in
@@ -54,7 +58,8 @@ is_entered enclave view = step_cases view (λ after. after.outcome.entered ≡ S
     (handled_stays_or_switches hart_state view.shared trap) enters_slot)
 
 -- the test `enters` fails for an outcome that names no entry of the slot
-pub entered_by : (slot : ℕ) (maybe_entered : Option ℕ) → (maybe_entered ≡ Some slot → ⊥) → enters slot maybe_entered ≡ false
+pub entered_by : (slot : ℕ) (maybe_entered : Option ℕ) → (maybe_entered ≡ Some slot → ⊥)
+    → enters slot maybe_entered ≡ false
 entered_by slot None not_entry = refl
 entered_by slot (Some entered) not_entry = elim (cases_Bool (entered == slot)) [
   | inl equal ↦ absurd (not_entry (ap Some (eqb-true entered slot equal)))
@@ -67,9 +72,12 @@ entered_some slot None is_entered = cc
 entered_some slot (Some entered_slot) is_entered = ap Some (eqb-true entered_slot slot is_entered)
 
 -- a hart that does not run `enclave` before the trap handler, which does not enter `enclave`, does not run `enclave` after it
-still_not_running : (enclave : ℕ) (hart_state : HartState) (trap : Trap) (result : Handled) → StaysEntersOrExits hart_state trap result
-    → is_world_of enclave hart_state.world ≡ false → enters enclave result.next.entered ≡ false → is_world_of enclave result.hart_state.world ≡ false
-still_not_running enclave hart_state trap result (inl stays) not_running not_entered = ap (is_world_of enclave) stays.world ∙ not_running
+still_not_running : (enclave : ℕ) (hart_state : HartState) (trap : Trap) (result : Handled)
+    → StaysEntersOrExits hart_state trap result
+    → is_world_of enclave hart_state.world ≡ false → enters enclave result.next.entered ≡ false
+    → is_world_of enclave result.hart_state.world ≡ false
+still_not_running enclave hart_state trap result (inl stays) not_running not_entered =
+    ap (is_world_of enclave) stays.world ∙ not_running
 still_not_running enclave hart_state trap result (inr (inl enter)) not_running not_entered =
     ap (is_world_of enclave) enter.world ∙ sym (ap (enters enclave) enter.entered) ∙ not_entered
 still_not_running enclave hart_state trap result (inr (inr leaves)) not_running not_entered = ap (is_world_of enclave) leaves.world
@@ -91,7 +99,8 @@ hart_still_not_running : (enclave hart : ℕ) (machine : MonitoredMachine) → r
     → enters enclave (step_of hart machine).outcome.entered ≡ false
     → runs_on enclave hart (step_of hart machine).state ≡ false
 hart_still_not_running enclave hart machine not_running not_entered = elim (cases_lt hart (count_of machine)) [
-  | inr past_last ↦ ap (λ (after : MonitoredStepped). runs_on enclave hart after.state) (outside hart machine past_last) ∙ not_running
+  | inr past_last ↦
+      ap (λ (after : MonitoredStepped). runs_on enclave hart after.state) (outside hart machine past_last) ∙ not_running
   | inl in_range ↦
       let step_is = step_of_view hart machine in_range in
       ap (λ (after : HartViewStepped). is_world_of enclave after.state.hart_state.world) step_is
@@ -99,7 +108,7 @@ hart_still_not_running enclave hart machine not_running not_entered = elim (case
       (sym (ap (λ (after : HartViewStepped). enters enclave after.outcome.entered) step_is) ∙ not_entered)
 ]
 
--- proves that a hart runs the enclave after a step only if it did before, or the step entered the enclave
+-- proves that a hart runs the enclave after a step only if the hart ran the enclave before, or the step entered the enclave
 pub entry_law : EntryLaw
 entry_law enclave hart other_hart machine not_running not_entered = elim (cases_eq other_hart hart) [
   | inl equal ↦
@@ -112,8 +121,10 @@ entry_law enclave hart other_hart machine not_running not_entered = elim (cases_
 ]
 
 -- if none of the harts in a list runs `enclave`, then this also holds after a step that does not enter `enclave`
-pub still_runs_on_none : (enclave hart : ℕ) (harts : List ℕ) (machine : MonitoredMachine) → RunsOnNone enclave harts machine
-    → enters enclave (step_of hart machine).outcome.entered ≡ false → RunsOnNone enclave harts (step_of hart machine).state
+pub still_runs_on_none : (enclave hart : ℕ) (harts : List ℕ) (machine : MonitoredMachine)
+    → RunsOnNone enclave harts machine
+    → enters enclave (step_of hart machine).outcome.entered ≡ false
+    → RunsOnNone enclave harts (step_of hart machine).state
 still_runs_on_none enclave hart [] machine runs_on_none not_entered = tt
 still_runs_on_none enclave hart (other_hart ∷ harts) machine runs_on_none not_entered =
     (entry_law enclave hart other_hart machine runs_on_none.0 not_entered, still_runs_on_none enclave hart harts machine runs_on_none.1 not_entered)

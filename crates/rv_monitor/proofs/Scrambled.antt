@@ -13,7 +13,8 @@ use Rattle.rv_monitor.proofs.EquivLemmas.{equiv_itself, shared_equiv}
 -- ---- the machine
 
 -- a scramble of `slot` preserves the invariant
-pub scramble_invariant : (machine : MonitoredMachine) (slot : ℕ) → Invariant machine → can_scramble machine.shared.table slot ≡ true
+pub scramble_invariant : (machine : MonitoredMachine) (slot : ℕ) → Invariant machine
+    → can_scramble machine.shared.table slot ≡ true
     → Invariant (scrambled machine slot)
 unfolding scrambled_shared
 scramble_invariant machine slot invariant may_scramble = record {
@@ -22,7 +23,8 @@ scramble_invariant machine slot invariant may_scramble = record {
 }
 
 -- the scrambled machine is equivalent except `slot` to the machine before the scramble
-pub scramble_equiv : (machine : MonitoredMachine) (slot : ℕ) → Invariant machine → can_scramble machine.shared.table slot ≡ true
+pub scramble_equiv : (machine : MonitoredMachine) (slot : ℕ) → Invariant machine
+    → can_scramble machine.shared.table slot ≡ true
     → EquivExcept slot machine (scrambled machine slot)
 scramble_equiv machine slot invariant may_scramble =
     shared_equiv slot machine machine machine.shared (scrambled_shared machine.shared slot) (equiv_itself slot machine (itself slot machine.shared))
@@ -38,18 +40,21 @@ with_shared machine shared = record machine { shared = shared }
 abbrev pub scrambled_if : Bool → MonitoredMachine → ℕ → Shared
 scrambled_if done machine slot = if done then scrambled_shared machine.shared slot else machine.shared
 
--- a machine keeps the invariant if `slot` is scrambled in the case that it may be scrambled
-pub scrambled_if_invariant : (done : Bool) (machine : MonitoredMachine) (slot : ℕ) → done ≡ can_scramble machine.shared.table slot → Invariant machine
+-- a machine keeps the invariant if the monitor scrambles `slot` only when `slot` may be scrambled
+pub scrambled_if_invariant : (done : Bool) (machine : MonitoredMachine) (slot : ℕ)
+    → done ≡ can_scramble machine.shared.table slot → Invariant machine
     → Invariant (with_shared machine (scrambled_if done machine slot))
 scrambled_if_invariant true machine slot done_is invariant = scramble_invariant machine slot invariant (sym done_is)
 scrambled_if_invariant false machine slot done_is invariant = invariant
 
--- a machine in which `slot` is scrambled, if it may be, is equivalent except `slot` to the machine before
-pub scrambled_if_equiv : (done : Bool) (machine : MonitoredMachine) (slot : ℕ) → done ≡ can_scramble machine.shared.table slot → Invariant machine
+-- the machine after a call of scramble, which may have had no effect, is equivalent except `slot` to the machine before the call
+pub scrambled_if_equiv : (done : Bool) (machine : MonitoredMachine) (slot : ℕ)
+    → done ≡ can_scramble machine.shared.table slot → Invariant machine
     → EquivExcept slot machine (with_shared machine (scrambled_if done machine slot))
 scrambled_if_equiv true machine slot done_is invariant = scramble_equiv machine slot invariant (sym done_is)
 scrambled_if_equiv false machine slot done_is invariant = equiv_itself slot machine (itself slot machine.shared)
 
 -- proves that two scrambles restore the machine
 pub scramble_law : ScrambleLaw
-scramble_law machine slot bytes words = ap (λ (shared : Shared). record machine { shared = shared }) (shared_twice machine.shared slot bytes words)
+scramble_law machine slot bytes words =
+    ap (λ (shared : Shared). record machine { shared = shared }) (shared_twice machine.shared slot bytes words)

@@ -30,12 +30,14 @@ layout_unlocked slots world entry = elim (cases_lt entry 16) [
       get_or-map-range_with_len (λ some_entry. (entry_at slots world some_entry).cfg) 0 16 entry entry 0 in_range (omega arith) in
       rw cfg_is (entry_is_plain slots world entry).unlocked
   | inr past_last ↦
-      let cfg_is_0 : cfg_of (layout slots world) entry ≡ 0 = get_or_past {X = ℕ} (layout slots world).cfgs entry 0 past_last in
+      let cfg_is_0 : cfg_of (layout slots world) entry ≡ 0 =
+      get_or_past {X = ℕ} (layout slots world).cfgs entry 0 past_last in
       rw cfg_is_0 refl
 ]
 
 -- no PMP entry of a hart with the invariant is locked
-pub hart_state_unlocked : (slots : Slots) (hart_state : HartState) → HartInvariant slots hart_state → IsUnlocked hart_state.hart.csrs.pmp
+pub hart_state_unlocked : (slots : Slots) (hart_state : HartState) → HartInvariant slots hart_state
+    → IsUnlocked hart_state.hart.csrs.pmp
 hart_state_unlocked slots hart_state hart_invariant =
     let layout = hart_invariant.layout in subst IsUnlocked (sym layout.entries) (layout_unlocked slots hart_state.world)
 
@@ -49,7 +51,8 @@ unlocked_at_trap slots hart_state (Some some_trap) hart memory memory_after trap
     subst (λ (hart : Hart). IsUnlocked hart.csrs.pmp) (sym keeps.0) (hart_state_unlocked slots hart_state hart_invariant)
 
 -- no PMP entry is locked after a bare step that traps
-pub unlocked_after : (hart_state : HartState) (shared : Shared) (after : Stepped) (trap : Trap) → after.outcome.trap ≡ Some trap
+pub unlocked_after : (hart_state : HartState) (shared : Shared) (after : Stepped) (trap : Trap)
+    → after.outcome.trap ≡ Some trap
     → HartInvariant shared.table hart_state
     → TrapKeeps (record { hart = hart_state.hart; memory = shared.memory }) after → IsUnlocked after.state.hart.csrs.pmp
 unlocked_after hart_state shared after trap trapped hart_invariant keeps =
@@ -58,7 +61,8 @@ unlocked_after hart_state shared after trap trapped hart_invariant keeps =
 -- ---- the bare step
 
 -- a store does not change the size of the memory
-stored_size : (bytes before after : List ℕ) (span : Option Span) → Stores bytes before after span → length before ≡ length after
+stored_size : (bytes before after : List ℕ) (span : Option Span) → Stores bytes before after span
+    → length before ≡ length after
 stored_size bytes before after None stores = sym (ap length stores)
 stored_size bytes before after (Some span) stores = sym (length-write before span.addr bytes after stores.1)
 
@@ -69,10 +73,12 @@ same_in_span memory (Some span) = refl
 
 -- a memory is equal to itself on all accessed bytes
 pub equal_to_itself : (memory : List ℕ) (touched : Touched) → EqualOn memory memory touched
-equal_to_itself memory touched = record { size = refl; fetched = same_in_span memory touched.fetched; loaded = same_in_span memory touched.loaded }
+equal_to_itself memory touched =
+    record { size = refl; fetched = same_in_span memory touched.fetched; loaded = same_in_span memory touched.loaded }
 
 -- a step whose stores are confined keeps the size of the memory
-pub step_size : (before : Machine) (after : Stepped) → IsConfined before after → length before.memory ≡ length after.state.memory
+pub step_size : (before : Machine) (after : Stepped) → IsConfined before after
+    → length before.memory ≡ length after.state.memory
 step_size before after confined =
     let same_memory = equal_to_itself before.memory after.outcome.touched in
     stored_size confined.bytes before.memory after.state.memory after.outcome.touched.stored (confined.alike before.memory same_memory).here
@@ -103,13 +109,15 @@ without_trap (Some trap) Claim no_trap claim = cc
 invariant_with_hart : (slots : Slots) (hart_state : HartState) (hart : Hart) → HostContextInvariant hart_state
     → HasPmpLayout slots (record hart_state { hart = hart })
     → HartInvariant slots (record hart_state { hart = hart })
-invariant_with_hart slots hart_state hart host layout = record { host = record { kept = host.kept; held = host.held }; layout = layout }
+invariant_with_hart slots hart_state hart host layout =
+    record { host = record { kept = host.kept; held = host.held }; layout = layout }
 
 -- the hart state has the invariant for a new table with another hart that keeps the mode and mstatus, and has the PMP entries and mie of the new
 -- table
 pub reprogrammed_by : (before after : Slots) (hart_state : HartState) (hart : Hart) → HartInvariant before hart_state
     → hart.csrs.pmp ≡ layout after hart_state.world
-    → hart.csrs.mie ≡ mie_of hart_state.world → hart.mode ≡ hart_state.hart.mode → hart.csrs.mstatus ≡ hart_state.hart.csrs.mstatus
+    → hart.csrs.mie ≡ mie_of hart_state.world → hart.mode ≡ hart_state.hart.mode
+    → hart.csrs.mstatus ≡ hart_state.hart.csrs.mstatus
     → HartInvariant after (record hart_state { hart = hart })
 reprogrammed_by before after hart_state hart hart_invariant entries mie mode_unchanged mstatus_unchanged =
     let layout_before = hart_invariant.layout in
@@ -133,10 +141,12 @@ reprogrammed_invariant before after hart_state hart_invariant =
 -- ---- a step of one hart, for given worlds of the other harts
 
 -- the view of a hart has the invariant, if the shared state and the hart have their invariants
-pub view_invariant_of_parts : (hart_state : HartState) (shared : Shared) (worlds : List World) → SharedInvariant shared worlds
+pub view_invariant_of_parts : (hart_state : HartState) (shared : Shared) (worlds : List World)
+    → SharedInvariant shared worlds
     → HartInvariant shared.table hart_state
     → HartViewInvariant (record { hart_state = hart_state; shared = shared })
-view_invariant_of_parts hart_state shared worlds shared_invariant hart_invariant = record { valid = shared_invariant.valid; hart = hart_invariant }
+view_invariant_of_parts hart_state shared worlds shared_invariant hart_invariant =
+    record { valid = shared_invariant.valid; hart = hart_invariant }
 
 -- the shared invariant holds after the step with the new world of the hart and the worlds of the other harts, and the hart has the invariant
 abbrev pub InvariantBeside : List World → HartViewStepped → Type 0
@@ -159,7 +169,8 @@ module _ (beside : List World) (hart_state : HartState) (shared : Shared) (share
         ready = record {
           sound = shared_invariant;
           host = record { kept = host.kept; held = host.held };
-          quiet = record { mpie = layout.mstatus_mie; mprv = layout.mprv; tvm = layout.tvm; tw = layout.tw; tsr = layout.tsr };
+          quiet =
+              record { mpie = layout.mstatus_mie; mprv = layout.mprv; tvm = layout.tvm; tw = layout.tw; tsr = layout.tsr };
         };
         layout = record { entries = layout.entries; mie = layout.mie };
         mode = layout.mode;
@@ -167,7 +178,8 @@ module _ (beside : List World) (hart_state : HartState) (shared : Shared) (share
       }
 
   -- a step without a trap satisfies `InvariantBeside`
-  kept_without_trap : (after : Stepped) → IsConfined (bare_machine state) after → StaysBelow hart_state.hart after.state.hart
+  kept_without_trap : (after : Stepped) → IsConfined (bare_machine state) after
+      → StaysBelow hart_state.hart after.state.hart
       → after.state.hart.csrs.mstatus.mprv ≡ false
       → InvariantBeside beside (unhandled after.outcome (record hart_state { hart = after.state.hart })
       (record shared { memory = after.state.memory }))

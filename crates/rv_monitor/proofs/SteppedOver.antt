@@ -27,46 +27,49 @@ use Rattle.rv_monitor.proofs.TrapSteps.{same_outcome}
 -- ---- changes of two memories
 
 -- the same write changes two memories alike
-pub writes_change_alike : (memory other_memory : List ℕ) (address : ℕ) (bytes : List ℕ) → length memory ≡ length other_memory
+pub writes_change_alike : (memory other_memory : List ℕ) (address : ℕ) (bytes : List ℕ)
+    → length memory ≡ length other_memory
     → ChangeAlike memory other_memory (or_unchanged memory (write memory address bytes))
     (or_unchanged other_memory (write other_memory address bytes))
-writes_change_alike memory other_memory address bytes same_length position = elim (cases_Bool (is_inside memory address (length bytes))) [
-  -- both writes fail, because the memories have the same size
-  | inr outside ↦
-      let first_write = write-none memory address bytes outside in
-      let second_write = write-none other_memory address bytes (rw (← same_length) outside) in
-      rw (first_write, second_write) (inl (refl, refl))
-  -- both writes succeed, and write the same bytes at the same indices
-  | inl is_inside_memory ↦
-      let first_write = write-some memory address bytes is_inside_memory in
-      let second_write = write-some other_memory address bytes (rw (← same_length) is_inside_memory) in
-      let bounds = inside-bounds memory address (length bytes) is_inside_memory in
-      let start = address - ram_base in
-      let fits : start + length bytes ≤ length memory = omega (arith, bounds.0, bounds.1) in
-      let fits_other : start + length bytes ≤ length other_memory = omega (arith, bounds.0, bounds.1, same_length) in
-      rw (first_write, second_write) (elim (cases_lt position start) [
-        -- an index before the written bytes keeps its byte in both memories
-        | inl before_start ↦
-            inl (index-below memory start bytes position fits before_start, index-below other_memory start bytes position fits_other before_start)
-        | inr from_start ↦ elim (cases_lt position (start + length bytes)) [
-          -- an index within the written bytes gets the same byte in both memories
-          | inl before_end ↦
-              inr
-              (index-within memory start bytes position fits from_start before_end
-              ∙ sym (index-within other_memory start bytes position fits_other from_start before_end))
-          -- an index after the written bytes keeps its byte in both memories
-          | inr after_end ↦
-              inl (index-above memory start bytes position fits after_end, index-above other_memory start bytes position fits_other after_end)
-        ]
-      ])
-]
+writes_change_alike memory other_memory address bytes same_length position =
+    elim (cases_Bool (is_inside memory address (length bytes))) [
+      -- both writes fail, because the memories have the same size
+      | inr outside ↦
+          let first_write = write-none memory address bytes outside in
+          let second_write = write-none other_memory address bytes (rw (← same_length) outside) in
+          rw (first_write, second_write) (inl (refl, refl))
+      -- both writes succeed, and write the same bytes at the same indices
+      | inl is_inside_memory ↦
+          let first_write = write-some memory address bytes is_inside_memory in
+          let second_write = write-some other_memory address bytes (rw (← same_length) is_inside_memory) in
+          let bounds = inside-bounds memory address (length bytes) is_inside_memory in
+          let start = address - ram_base in
+          let fits : start + length bytes ≤ length memory = omega (arith, bounds.0, bounds.1) in
+          let fits_other : start + length bytes ≤ length other_memory = omega (arith, bounds.0, bounds.1, same_length) in
+          rw (first_write, second_write) (elim (cases_lt position start) [
+            -- an index before the written bytes keeps its byte in both memories
+            | inl before_start ↦
+                inl (index-below memory start bytes position fits before_start, index-below other_memory start bytes position fits_other before_start)
+            | inr from_start ↦ elim (cases_lt position (start + length bytes)) [
+              -- an index within the written bytes gets the same byte in both memories
+              | inl before_end ↦
+                  inr
+                  (index-within memory start bytes position fits from_start before_end
+                  ∙ sym (index-within other_memory start bytes position fits_other from_start before_end))
+              -- an index after the written bytes keeps its byte in both memories
+              | inr after_end ↦
+                  inl (index-above memory start bytes position fits after_end, index-above other_memory start bytes position fits_other after_end)
+            ]
+          ])
+    ]
 
 -- two memories that do not change are changed alike
 unchanged : (memory other_memory : List ℕ) → ChangeAlike memory other_memory memory other_memory
 unchanged memory other_memory index = inl (refl, refl)
 
 -- if two memories change alike twice in turn, then they change alike over both changes
-alike_twice : (memory other_memory middle other_middle after other_after : List ℕ) → ChangeAlike memory other_memory middle other_middle
+alike_twice : (memory other_memory middle other_middle after other_after : List ℕ)
+    → ChangeAlike memory other_memory middle other_middle
     → ChangeAlike middle other_middle after other_after
     → ChangeAlike memory other_memory after other_after
 alike_twice memory other_memory middle other_middle after other_after first_change second_change index = elim (second_change index) [
@@ -78,7 +81,8 @@ alike_twice memory other_memory middle other_middle after other_after first_chan
 ]
 
 -- two memories that are equal outside the hidden bytes are so after two changes that are alike
-pub equal_after : (hidden : ℕ → Bool) (memory other_memory after other_after : List ℕ) → EqualOutside hidden memory other_memory
+pub equal_after : (hidden : ℕ → Bool) (memory other_memory after other_after : List ℕ)
+    → EqualOutside hidden memory other_memory
     → ChangeAlike memory other_memory after other_after → length after ≡ length other_after
     → EqualOutside hidden after other_after
 equal_after hidden memory other_memory after other_after equal_outside changes same_length = record {
@@ -90,7 +94,8 @@ equal_after hidden memory other_memory after other_after equal_outside changes s
 }
 
 -- equal stores change two memories alike
-stored_alike : (stored : Option Span) (bytes memory other_memory after other_after : List ℕ) → length memory ≡ length other_memory
+stored_alike : (stored : Option Span) (bytes memory other_memory after other_after : List ℕ)
+    → length memory ≡ length other_memory
     → Stores bytes memory after stored
     → Stores bytes other_memory other_after stored
     → ChangeAlike memory other_memory after other_after
@@ -103,7 +108,8 @@ stored_alike (Some span) bytes memory other_memory after other_after same_length
     (writes_change_alike memory other_memory span.addr bytes same_length))
 
 -- a store does not change the size of the memory
-stored_size : (stored : Option Span) (bytes memory after : List ℕ) → Stores bytes memory after stored → length after ≡ length memory
+stored_size : (stored : Option Span) (bytes memory after : List ℕ) → Stores bytes memory after stored
+    → length after ≡ length memory
 stored_size None bytes memory after stores = ap (λ (some_memory : List ℕ). length some_memory) stores
 stored_size (Some span) bytes memory after stores = length-write memory span.addr bytes after stores.1
 
@@ -151,14 +157,16 @@ module _ (hidden : ℕ → Bool) (hart_state : HartState) (trap : Trap) (table :
 
   -- the two shared states are equal, except for their memories
   same_shared : SharedOver memory other_memory first_shared second_shared
-  same_shared = record { table = refl; contexts = refl; size = equal_outside.size; changes = unchanged memory other_memory }
+  same_shared =
+      record { table = refl; contexts = refl; size = equal_outside.size; changes = unchanged memory other_memory }
 
   -- a return to the caller satisfies `DifferInMemory`, if the shared states after the call satisfy `SharedOver`
   caller_over : (one other : Shared) (status result : ℕ) → SharedOver memory other_memory one other
       → DifferInMemory (with_reprogrammed_hart (returned_to_caller hart_state one status result))
       (with_reprogrammed_hart (returned_to_caller hart_state other status result))
   caller_over one other status result shared_same_over = record {
-    hart_state = ap (λ (table : Slots). reprogrammed table (returned_to_caller hart_state one status result).hart_state) shared_same_over.table;
+    hart_state =
+        ap (λ (table : Slots). reprogrammed table (returned_to_caller hart_state one status result).hart_state) shared_same_over.table;
     next = refl;
     shared = shared_same_over;
   }
@@ -198,7 +206,8 @@ module _ (hidden : ℕ → Bool) (hart_state : HartState) (trap : Trap) (table :
       let slot = new_slot table in
       record {
         table = ap (λ (same_record : SlotInfo). with_slot table slot (Some same_record)) same_record;
-        contexts = ap (λ (same_record : SlotInfo). with_context saved_contexts slot (Some (first_context same_record))) same_record;
+        contexts =
+            ap (λ (same_record : SlotInfo). with_context saved_contexts slot (Some (first_context same_record))) same_record;
         size = equal_outside.size;
         changes = unchanged memory other_memory;
       }
@@ -211,38 +220,44 @@ module _ (hidden : ℕ → Bool) (hart_state : HartState) (trap : Trap) (table :
       put_over (with_slot table slot None) (with_context saved_contexts slot None) block.base (replicate block.size 0)
 
   -- a measure gives shared states that satisfy `SharedOver`
-  measured_over : (slot address : ℕ) → SharedOver memory other_memory (measured first_shared slot address) (measured second_shared slot address)
+  measured_over : (slot address : ℕ)
+      → SharedOver memory other_memory (measured first_shared slot address) (measured second_shared slot address)
   unfolding measured
   measured_over slot address = put_over table saved_contexts address (measurement_at table slot)
 
   -- the results of the trap handler satisfy `HandledOver`
   handled_over : HandledOver memory other_memory (handled hart_state first_shared trap) (handled hart_state second_shared trap)
   unfolding left entered_slot
-  handled_over = handler_cases_of_both hart_state trap table memory other_memory saved_contexts saved_contexts DifferInMemory (record {
-    answers = λ status result. caller_over first_shared second_shared status result same_shared;
-    -- only the host creates, and the region of the new enclave has no hidden byte
-    creates = λ is_request no_refusal.
-        let host = offered_host hart_state.world (requested-is_offered hart_state.world hart_state.hart.regs Create is_request.asked).1 in
-        caller_over _ _ 0 (new_slot table)
-        (created_over (create_args_of hart_state.hart.regs) (region_bytes_equal (create_args_of hart_state.hart.regs) host no_refusal));
-    -- a destroy and a measure write the same bytes to both memories
-    destroys = λ is_request slot_accepted. caller_over _ _ 0 0 (destroyed_over (a0 hart_state));
-    measures = λ is_request no_refusal. caller_over _ _ 0 0 (measured_over (measured_slot hart_state.world (a0 hart_state)) (a1 hart_state));
-    -- an entry, an exit and a redirection change no byte
-    enters = λ call is_request is_entry_call from_host slot_accepted.
-        record {
-          hart_state = refl;
-          next = refl;
-          shared = record { table = refl; contexts = refl; size = equal_outside.size; changes = unchanged memory other_memory };
-        };
-    leaves =
-        record {
-          hart_state = refl;
-          next = refl;
-          shared = record { table = refl; contexts = refl; size = equal_outside.size; changes = unchanged memory other_memory };
-        };
-    redirects = record { hart_state = refl; next = refl; shared = same_shared };
-  }) equal_outside.size
+  handled_over =
+      handler_cases_of_both hart_state trap table memory other_memory saved_contexts saved_contexts DifferInMemory (record {
+        answers = λ status result. caller_over first_shared second_shared status result same_shared;
+        -- only the host creates, and the region of the new enclave has no hidden byte
+        creates = λ is_request no_refusal.
+            let host =
+            offered_host hart_state.world (requested-is_offered hart_state.world hart_state.hart.regs Create is_request.asked).1 in
+            caller_over _ _ 0 (new_slot table)
+            (created_over (create_args_of hart_state.hart.regs) (region_bytes_equal (create_args_of hart_state.hart.regs) host no_refusal));
+        -- a destroy and a measure write the same bytes to both memories
+        destroys = λ is_request slot_accepted. caller_over _ _ 0 0 (destroyed_over (a0 hart_state));
+        measures =
+            λ is_request no_refusal. caller_over _ _ 0 0 (measured_over (measured_slot hart_state.world (a0 hart_state)) (a1 hart_state));
+        -- an entry, an exit and a redirection change no byte
+        enters = λ call is_request is_entry_call from_host slot_accepted.
+            record {
+              hart_state = refl;
+              next = refl;
+              shared =
+                  record { table = refl; contexts = refl; size = equal_outside.size; changes = unchanged memory other_memory };
+            };
+        leaves =
+            record {
+              hart_state = refl;
+              next = refl;
+              shared =
+                  record { table = refl; contexts = refl; size = equal_outside.size; changes = unchanged memory other_memory };
+            };
+        redirects = record { hart_state = refl; next = refl; shared = same_shared };
+      }) equal_outside.size
 
 -- ---- the step of one hart
 
@@ -259,7 +274,8 @@ with_bytes shared memory = record shared { memory = memory }
 -- the end of the step, with or without a trap, satisfies `StepOver`, if the bare steps changed the memories alike
 ended_over : (hidden : ℕ → Bool) (outcome : StepOutcome) (maybe_trap : Option Trap) (hart_state : HartState) (shared : Shared)
     (memory other_memory after other_after : List ℕ)
-    → EqualOutside hidden memory other_memory → length after ≡ length other_after → ChangeAlike memory other_memory after other_after
+    → EqualOutside hidden memory other_memory → length after ≡ length other_after
+    → ChangeAlike memory other_memory after other_after
     → MeasuresSeen hidden hart_state.world shared.table shared.contexts
     → StepOver memory other_memory
     (option_case maybe_trap (unhandled outcome hart_state (with_bytes shared after))
@@ -276,7 +292,8 @@ ended_over hidden outcome (Some trap) hart_state shared memory other_memory afte
     (equal_after hidden memory other_memory after other_after equal_outside changes same_length) measures_seen in
     let first_handled = handled hart_state (with_bytes shared after) trap in
     let second_handled = handled hart_state (with_bytes shared other_after) trap in
-    let returned_by : HartState → Next → HartState = λ hart_state next. record hart_state { hart = returned_to hart_state.hart next.pc next.mode } in
+    let returned_by : HartState → Next → HartState =
+    λ hart_state next. record hart_state { hart = returned_to hart_state.hart next.pc next.mode } in
     let shows : Next → Outcome = λ next. record { step = outcome; entered = next.entered } in
     record {
       outcome = ap shows handler_results.next;
@@ -319,7 +336,8 @@ module _ (hidden : ℕ → Bool) (hart_state : HartState) (shared : Shared) (oth
 
   -- an access of no hidden byte has equal bytes in both memories
   accessed_bytes_equal : (mode : Mode) (access : Access) (touched : Option Span) → MayTouch before mode access touched
-      → ((index : ℕ) → in_span touched (ram_base + index) ≡ true → hidden (ram_base + index) ≡ false) → SameIn before.memory other_memory touched
+      → ((index : ℕ) → in_span touched (ram_base + index) ≡ true → hidden (ram_base + index) ≡ false)
+      → SameIn before.memory other_memory touched
   accessed_bytes_equal mode access None may_touch not_hidden = tt
   accessed_bytes_equal mode access (Some span) may_touch not_hidden =
       let span_above_base = (inside-bounds shared.memory span.addr (bytes_in span.len) may_touch.0).0 in
@@ -390,33 +408,37 @@ pub machine_over : (hidden : ℕ → Bool) (hart : ℕ) (machine : MonitoredMach
     → ReadsSeen hidden (step_of hart machine).outcome.step.touched
     → MeasuresSeen hidden (hart_state_of hart machine).world machine.shared.table machine.shared.contexts
     → MachineOver machine.shared.memory other_memory (step_of hart machine) (step_of hart (over_bytes machine other_memory))
-machine_over hidden hart machine other_memory equal_outside reads_seen measures_seen = elim (cases_lt hart (count_of machine)) [
-  -- a step of a hart that the machine does not have changes nothing
-  | inr past_last ↦
-      rw (outside hart machine past_last, outside hart (over_bytes machine other_memory) past_last)
-      (record {
-        outcome = refl;
-        hart_states = refl;
-        shared = record { table = refl; contexts = refl; size = equal_outside.size; changes = unchanged machine.shared.memory other_memory };
-      })
-  | inl in_range ↦
-      let first_step_is = machine_step_is hart machine in_range in
-      let second_step_is = machine_step_is hart (over_bytes machine other_memory) in_range in
-      let view = hart_view hart machine in
-      let bare_outcome_is : (step_of hart machine).outcome.step ≡ (step (bare_machine view)).outcome =
-      ap (λ (after : MonitoredStepped). after.outcome.step) first_step_is ∙ same_outcome view in
-      let reads_bare = subst (λ (outcome : StepOutcome). ReadsSeen hidden outcome.touched) bare_outcome_is reads_seen in
-      let view_steps = step_over hidden (hart_state_of hart machine) machine.shared other_memory equal_outside reads_bare measures_seen in
-      let first_after = monitored_step view in
-      let second_after = monitored_step (hart_view hart (over_bytes machine other_memory)) in
-      let states_after : Outcome → Slots → HartState → List HartState =
-      λ outcome slots hart_state. slice_set (hart_states_reprogrammed outcome.step.trap slots machine.hart_states) hart hart_state in
-      rw (first_step_is, second_step_is)
-      (record {
-        outcome = view_steps.outcome;
-        hart_states = ap (λ (outcome : Outcome). states_after outcome first_after.state.shared.table first_after.state.hart_state) view_steps.outcome
-            ∙ ap₂ (λ (slots : Slots) (hart_state : HartState). states_after second_after.outcome slots hart_state) view_steps.shared.table
-            view_steps.hart_state;
-        shared = view_steps.shared;
-      })
-]
+machine_over hidden hart machine other_memory equal_outside reads_seen measures_seen =
+    elim (cases_lt hart (count_of machine)) [
+      -- a step of a hart that the machine does not have changes nothing
+      | inr past_last ↦
+          rw (outside hart machine past_last, outside hart (over_bytes machine other_memory) past_last)
+          (record {
+            outcome = refl;
+            hart_states = refl;
+            shared =
+                record { table = refl; contexts = refl; size = equal_outside.size; changes = unchanged machine.shared.memory other_memory };
+          })
+      | inl in_range ↦
+          let first_step_is = machine_step_is hart machine in_range in
+          let second_step_is = machine_step_is hart (over_bytes machine other_memory) in_range in
+          let view = hart_view hart machine in
+          let bare_outcome_is : (step_of hart machine).outcome.step ≡ (step (bare_machine view)).outcome =
+          ap (λ (after : MonitoredStepped). after.outcome.step) first_step_is ∙ same_outcome view in
+          let reads_bare = subst (λ (outcome : StepOutcome). ReadsSeen hidden outcome.touched) bare_outcome_is reads_seen in
+          let view_steps =
+          step_over hidden (hart_state_of hart machine) machine.shared other_memory equal_outside reads_bare measures_seen in
+          let first_after = monitored_step view in
+          let second_after = monitored_step (hart_view hart (over_bytes machine other_memory)) in
+          let states_after : Outcome → Slots → HartState → List HartState =
+          λ outcome slots hart_state. slice_set (hart_states_reprogrammed outcome.step.trap slots machine.hart_states) hart hart_state in
+          rw (first_step_is, second_step_is)
+          (record {
+            outcome = view_steps.outcome;
+            hart_states =
+                ap (λ (outcome : Outcome). states_after outcome first_after.state.shared.table first_after.state.hart_state) view_steps.outcome
+                ∙ ap₂ (λ (slots : Slots) (hart_state : HartState). states_after second_after.outcome slots hart_state) view_steps.shared.table
+                view_steps.hart_state;
+            shared = view_steps.shared;
+          })
+    ]

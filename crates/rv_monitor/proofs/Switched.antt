@@ -40,23 +40,26 @@ pub record LeavesFor (hart_state : HartState) (trap : Trap) (result : Handled) :
 
 -- the trap handler continues the world, enters an enclave, or exits to the host
 abbrev pub StaysEntersOrExits : HartState → Trap → Handled → Type 0
-StaysEntersOrExits hart_state trap result = StaysIn hart_state result ⊎ (EntersFrom hart_state result ⊎ LeavesFor hart_state trap result)
+StaysEntersOrExits hart_state trap result =
+    StaysIn hart_state result ⊎ (EntersFrom hart_state result ⊎ LeavesFor hart_state trap result)
 
 -- each trap continues the world, enters an enclave, or exits to the host
 pub handled_stays_or_switches : (hart_state : HartState) (shared : Shared) (trap : Trap)
     → StaysEntersOrExits hart_state trap (handled hart_state shared trap)
 unfolding entered_slot left
-handled_stays_or_switches hart_state shared trap = handler_cases hart_state trap shared (StaysEntersOrExits hart_state trap) (record {
-  answers = λ status result. inl (record { world = refl; host = refl; entered = refl });
-  creates = λ requests no_refusal. inl (record { world = refl; host = refl; entered = refl });
-  destroys = λ requests slot_accepted. inl (record { world = refl; host = refl; entered = refl });
-  measures = λ requests no_refusal. inl (record { world = refl; host = refl; entered = refl });
-  enters =
-      λ call requests is_entry_call from_host slot_accepted. inr
-      (inl (record { slot = a0 hart_state; from_host = from_host; world = refl; host = refl; entered = refl }));
-  leaves = inr (inr (record { world = refl; regs = refl; pc = refl; mode = refl; supervisor = refl; forgotten = refl; entered = refl }));
-  redirects = inl (record { world = refl; host = refl; entered = refl });
-})
+handled_stays_or_switches hart_state shared trap =
+    handler_cases hart_state trap shared (StaysEntersOrExits hart_state trap) (record {
+      answers = λ status result. inl (record { world = refl; host = refl; entered = refl });
+      creates = λ requests no_refusal. inl (record { world = refl; host = refl; entered = refl });
+      destroys = λ requests slot_accepted. inl (record { world = refl; host = refl; entered = refl });
+      measures = λ requests no_refusal. inl (record { world = refl; host = refl; entered = refl });
+      enters =
+          λ call requests is_entry_call from_host slot_accepted. inr
+          (inl (record { slot = a0 hart_state; from_host = from_host; world = refl; host = refl; entered = refl }));
+      leaves =
+          inr (inr (record { world = refl; regs = refl; pc = refl; mode = refl; supervisor = refl; forgotten = refl; entered = refl }));
+      redirects = inl (record { world = refl; host = refl; entered = refl });
+    })
 
 -- ---- the S-mode registers of the host's saved context are as a hart stores them
 
@@ -70,17 +73,20 @@ abbrev pub KeptStored : Option Context → Type 0
 KeptStored maybe_context = IfSome maybe_context (λ context. IsLegal context.supervisor)
 
 -- each kind of result leaves a legal saved context of the host
-context_legal_by_result : (hart_state : HartState) (trap : Trap) (result : Handled) → StaysEntersOrExits hart_state trap result
+context_legal_by_result : (hart_state : HartState) (trap : Trap) (result : Handled)
+    → StaysEntersOrExits hart_state trap result
     → HostContextIsLegal hart_state
     → KeepsOwn hart_state.hart.csrs
     → HostContextIsLegal result.hart_state
 context_legal_by_result hart_state trap result (inl stays) legal keeps_own = subst KeptStored (sym stays.host) legal
 context_legal_by_result hart_state trap result (inr (inl enters)) legal keeps_own =
     subst KeptStored (sym enters.host) (own_context_legal hart_state.hart.csrs keeps_own)
-context_legal_by_result hart_state trap result (inr (inr leaves)) legal keeps_own = subst KeptStored (sym leaves.forgotten) tt
+context_legal_by_result hart_state trap result (inr (inr leaves)) legal keeps_own =
+    subst KeptStored (sym leaves.forgotten) tt
 
 -- the trap handler leaves a legal saved context of the host
-pub handler_keeps_legal : (hart_state : HartState) (shared : Shared) (trap : Trap) → HostContextIsLegal hart_state → KeepsOwn hart_state.hart.csrs
+pub handler_keeps_legal : (hart_state : HartState) (shared : Shared) (trap : Trap) → HostContextIsLegal hart_state
+    → KeepsOwn hart_state.hart.csrs
     → HostContextIsLegal (handled hart_state shared trap).hart_state
 handler_keeps_legal hart_state shared trap legal keeps_own =
     context_legal_by_result hart_state trap (handled hart_state shared trap) (handled_stays_or_switches hart_state shared trap) legal keeps_own
@@ -114,7 +120,8 @@ enclave_step_keeps_host view enclave_runs =
 -- ---- the step
 
 -- a legal context has the same S-mode registers after the monitor restores and saves it
-pub restored_context_same : (csrs : CsrState) (supervisor : SContext) → IsLegal supervisor → s_context (with_s_context csrs supervisor) ≡ supervisor
+pub restored_context_same : (csrs : CsrState) (supervisor : SContext) → IsLegal supervisor
+    → s_context (with_s_context csrs supervisor) ≡ supervisor
 restored_context_same csrs supervisor legal = let stvec = legal.stvec in let sepc = legal.sepc in rw (stvec, sepc) refl
 
 -- the pc of a context with which a hart can continue is unchanged if it is rounded down to a multiple of 4
@@ -129,14 +136,16 @@ same_context : (host : Context) (regs : List ℕ) (pc : ℕ) (mode : Mode) (supe
     → pc ≡ host.pc → mode ≡ host.mode
     → supervisor ≡ host.supervisor
     → (let context : Context = record { regs = regs; pc = pc; mode = mode; supervisor = supervisor } in context) ≡ record host { regs = new_regs }
-same_context host regs pc mode supervisor new_regs regs_is pc_is mode_is supervisor_is = rw (regs_is, pc_is, mode_is, supervisor_is) refl
+same_context host regs pc mode supervisor new_regs regs_is pc_is mode_is supervisor_is =
+    rw (regs_is, pc_is, mode_is, supervisor_is) refl
 
 -- the saved context of the host is legal and agrees with the world, and the step has this trap
 module _ (view : HartView) (host_invariant : HostContextInvariant view.hart_state) (legal : HostContextIsLegal view.hart_state) (trap : Trap) where
   -- the return from an exit to the host satisfies `StaysOrSwitches`
   return_leaves : (outcome : StepOutcome) (result : Handled) → outcome.trap ≡ Some trap
       → LeavesFor (hart_state_after view.hart_state trap) trap result
-      → (world : World) (saved_host : Option Context) → view.hart_state.world ≡ world → view.hart_state.host_context ≡ saved_host
+      → (world : World) (saved_host : Option Context) → view.hart_state.world ≡ world
+      → view.hart_state.host_context ≡ saved_host
       → is_some saved_host ≡ not (is_host world)
       → StaysOrSwitches view (returned outcome result)
   return_leaves outcome result outcome_trap_is leaves Host None world_is host_context_is saved_if_enclave =
@@ -144,7 +153,8 @@ module _ (view : HartView) (host_invariant : HostContextInvariant view.hart_stat
   return_leaves outcome result outcome_trap_is leaves Host (Some host) world_is host_context_is saved_if_enclave = cc
   return_leaves outcome result outcome_trap_is leaves (Enclave slot) None world_is host_context_is saved_if_enclave = cc
   return_leaves outcome result outcome_trap_is leaves (Enclave slot) (Some host) world_is host_context_is saved_if_enclave =
-      let CanGoOnIfSome : Option Context → Type 0 = λ saved_host. IfSome saved_host (λ some_context. can_go_on some_context ≡ true) in
+      let CanGoOnIfSome : Option Context → Type 0 =
+      λ saved_host. IfSome saved_host (λ some_context. can_go_on some_context ≡ true) in
       let can_continue : can_go_on host ≡ true = subst CanGoOnIfSome host_context_is host_invariant.held in
       let host_stored : IsLegal host.supervisor = subst KeptStored host_context_is legal in
       let host_leaves = rw host_context_is at leaves in
@@ -167,7 +177,8 @@ module _ (view : HartView) (host_invariant : HostContextInvariant view.hart_stat
 
   -- the return from each kind of result satisfies `StaysOrSwitches`
   return_stays_or_switches : (outcome : StepOutcome) (result : Handled) → outcome.trap ≡ Some trap
-      → StaysEntersOrExits (hart_state_after view.hart_state trap) trap result → StaysOrSwitches view (returned outcome result)
+      → StaysEntersOrExits (hart_state_after view.hart_state trap) trap result
+      → StaysOrSwitches view (returned outcome result)
   return_stays_or_switches outcome result outcome_trap_is (inl stays) =
       inl (record { world = stays.world; host = stays.host; entered = stays.entered })
   return_stays_or_switches outcome result outcome_trap_is (inr (inl enters)) =

@@ -57,11 +57,15 @@ module _ (view : HartView) (view_invariant : HartViewInvariant view) where
       let touched = (step (bare_machine view)).outcome.touched in
       record {
         at_pc = fetches_at_pc (bare_machine view);
-        fetched = accessible view.hart_state.hart.mode Fetch touched.fetched view_invariant.hart.layout.mode touches_permitted_bytes.fetched;
-        loaded = accessible (data_mode view.hart_state.hart) Read touched.loaded mode_below_m touches_permitted_bytes.loaded;
-        stored = accessible (data_mode view.hart_state.hart) Write touched.stored mode_below_m touches_permitted_bytes.stored;
+        fetched =
+            accessible view.hart_state.hart.mode Fetch touched.fetched view_invariant.hart.layout.mode touches_permitted_bytes.fetched;
+        loaded =
+            accessible (data_mode view.hart_state.hart) Read touched.loaded mode_below_m touches_permitted_bytes.loaded;
+        stored =
+            accessible (data_mode view.hart_state.hart) Write touched.stored mode_below_m touches_permitted_bytes.stored;
       }
 
 -- proves that a step accesses only bytes that its world may access
 pub touch_law : (view : HartView) → HartViewInvariant view → TouchesAccessible view (monitored_step view)
-touch_law view view_invariant = subst (IsTouchedAccessible view) (sym (same_outcome view)) (touches_accessible view view_invariant)
+touch_law view view_invariant =
+    subst (IsTouchedAccessible view) (sym (same_outcome view)) (touches_accessible view view_invariant)

@@ -23,7 +23,8 @@ view_without_trap state =
 
 -- the view after a step with a trap, which the trap handler handles
 abbrev pub view_after_trap : HartView → Trap → HartViewStepped
-view_after_trap state trap = returned (step (bare_machine state)).outcome (handled (hart_state_after state.hart_state trap) state.shared trap)
+view_after_trap state trap =
+    returned (step (bare_machine state)).outcome (handled (hart_state_after state.hart_state trap) state.shared trap)
 
 -- the claim holds for the end of a step, with a trap or without
 by-end : (view : HartView) (Claim : HartViewStepped → Type 0) (maybe_trap : Option Trap) (outcome : StepOutcome) (hart : Hart) (memory : List ℕ)
@@ -39,7 +40,7 @@ by-end view Claim (Some trap) outcome hart memory keeps claim_without_trap claim
     let memory_is = keeps.1 in
     rw (hart_is, memory_is) (claim_with_trap trap refl)
 
--- Case analysis of a step of a view. A claim holds for the step if it holds for a step without a trap, and for a step with each trap.
+-- Case analysis of a step of a view. A claim holds for the step if the claim holds for a step without a trap, and for a step with each trap.
 pub step_cases : (view : HartView) (Claim : HartViewStepped → Type 0)
     → ((step (bare_machine view)).outcome.trap ≡ None → Claim (view_without_trap view))
     → ((trap : Trap) → (step (bare_machine view)).outcome.trap ≡ Some trap → Claim (view_after_trap view trap)) → Claim (monitored_step view)

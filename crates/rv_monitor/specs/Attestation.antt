@@ -14,8 +14,8 @@ use Rattle.rv_monitor.specs.Step.{MonitoredStepped}
 
 -- ---- an enclave between create and its first entry
 
--- The enclave in slot k is as create made it. It is Fresh, and its saved context is the first one. Its measurement is that of its record and of the
--- bytes in its region.
+-- The enclave in slot k is in the state after create. It is Fresh, and its saved context is the first one. Its measurement is that of its record
+-- and of the bytes in its region.
 pub record IsAsCreated (k : ℕ) (shared : Shared) : Type 0 where
   pub info : SlotInfo
   pub is : slot_at shared.table k ≡ Some info
@@ -23,12 +23,13 @@ pub record IsAsCreated (k : ℕ) (shared : Shared) : Type 0 where
   pub context : context_at shared.contexts k ≡ Some (first_context info)
   pub measurement : info.measurement ≡ measurement_of shared.memory (args_of info)
 
--- each enclave that the step creates is as create made it, and each enclave that is as create made it stays so, unless the step enters or destroys it
+-- Each enclave that the step creates is in the state after create. Each enclave in the state after create stays so, unless the step enters or
+-- destroys the enclave.
 pub record KeepsAsCreated (before : MonitoredMachine) (after : MonitoredStepped) : Type 0 where
-  -- an enclave that the step creates is as create made it
+  -- an enclave that the step creates is in the state after create
   pub creates : (slot : ℕ) → is_live before.shared.table slot ≡ false → is_live after.state.shared.table slot ≡ true
       → IsAsCreated slot after.state.shared
-  -- an enclave that is as create made it stays so, unless the step enters or destroys it
+  -- an enclave in the state after create stays in this state, unless the step enters or destroys it
   pub keeps : (slot : ℕ) → IsAsCreated slot before.shared → enters slot after.outcome.entered ≡ false → is_live after.state.shared.table slot ≡ true
       → IsAsCreated slot after.state.shared
 
@@ -55,7 +56,7 @@ ReentryLaw =
 
 -- ---- the first run of the enclave
 
--- both enclaves are as create made them, from equal measured bytes
+-- both enclaves are in the state after create, from equal measured bytes
 pub record SameIdentity (slot other_slot : ℕ) (one other : Shared) : Type 0 where
   pub first : IsAsCreated slot one
   pub second : IsAsCreated other_slot other

@@ -26,7 +26,7 @@ pub record IsCleared (world : World) (regs : List ℕ) (before after : Slots) (b
   -- the byte is in the region of the enclave
   pub own : has (region before (register regs 10)) byte ≡ true
 
--- a measure that is not refused wrote the byte; it is one of the 32 bytes from a1 on, and the caller may store to it
+-- a measure that is not refused wrote the byte; the byte is one of the 32 bytes from a1 on, and the caller may store to the byte
 pub record IsMeasured (world : World) (regs : List ℕ) (shared : Shared) (byte : ℕ) : Type 0 where
   pub asked : requested_call world regs ≡ Some Measure
   pub done : first_refusal (measure_refusals shared (layout shared.table world) (measured_slot world (register regs 10)) (register regs 11)) ≡ None

@@ -12,7 +12,7 @@ pub record HasEntered (hart slot : ℕ) (before : MonitoredMachine) (after : Mon
   pub trapped : after.outcome.step.trap ≡ Some trap
   pub call : EntersByCall hart before after trap slot
 
--- each step of the hart that runs the host before it and enclave `slot` after it enters `slot` with its saved context
+-- each step of the hart that runs the host before the step and enclave `slot` after the step enters `slot` with its saved context
 abbrev pub EntersOnly : ℕ → MonitoredMachine → MonitoredStepped → Type 0
 EntersOnly hart before after =
     (slot : ℕ) → (hart_state_of hart before).world ≡ Host → (hart_state_of hart after.state).world ≡ Enclave slot → HasEntered hart slot before after

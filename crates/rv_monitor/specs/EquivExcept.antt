@@ -1,6 +1,6 @@
--- Equivalence except for one enclave: two monitored machines that differ at most in what is private to it. Private are the bytes of its region,
--- its context, and the hart on which it runs, if it runs. The specification calls this relation AgreeBut. (Not a rule of a standard; the
--- noninterference laws are about it.)
+-- Equivalence except for one enclave: two monitored machines that differ at most in what is private to this enclave. Private are the bytes of its
+-- region, its context, and the hart that runs the enclave, if one does. The specification calls this relation AgreeBut. (Not a rule of a standard;
+-- the noninterference laws are about this relation.)
 use Rattle.std.specs.Prelude.{◌≡◌, ℕ, Bool, false}
 use Rattle.rv_monitor.specs.Prelude.{HartState, SharedEquivExcept, is_world_of}
 use Rattle.rv_monitor.specs.MonitoredMachine.{MonitoredMachine, count_of, hart_state_of}

@@ -83,7 +83,7 @@ IsUndisturbed slot (hart ∷ harts) machine =
     (is_live machine.shared.table slot ≡ true) × (runs_on slot hart machine ≡ false) × (enters slot (step_of hart machine).outcome.entered ≡ false)
     × IsUndisturbed slot harts (step_of hart machine).state
 
--- every order of steps preserves each enclave that it leaves undisturbed
+-- steps in any order preserve each enclave that they leave undisturbed
 abbrev pub SchedIntegrityLaw : Type 0
 SchedIntegrityLaw =
     (slot : ℕ) (harts : List ℕ) (machine : MonitoredMachine) → Invariant machine → IsUndisturbed slot harts machine

@@ -24,14 +24,15 @@ pub record IsUntouched (slot : ℕ) (before after : MonitoredMachine) : Type 0 w
   pub hart_state : (hart : ℕ) → runs_on slot hart before ≡ true
       → hart_state_of hart after ≡ reprogrammed after.shared.table (hart_state_of hart before)
 
--- every live enclave is untouched if it is not the world of the hart that steps, is not entered, and is live after the step
+-- A step leaves a live enclave untouched if the stepping hart does not run the enclave, the step does not enter the enclave, and the enclave stays
+-- live.
 abbrev pub PreservesOthers : ℕ → MonitoredMachine → MonitoredStepped → Type 0
 PreservesOthers hart before after =
     (slot : ℕ) → runs_on slot hart before ≡ false → is_live before.shared.table slot ≡ true
     → enters slot after.outcome.entered ≡ false → is_live after.state.shared.table slot ≡ true
     → IsUntouched slot before after.state
 
--- the enclave is not entered, and it is live after the step
+-- the step does not enter the enclave, and the enclave is live after the step
 pub record KeepsRunning (slot : ℕ) (after : MonitoredStepped) : Type 0 where
   pub passes : enters slot after.outcome.entered ≡ false
   pub live : is_live after.state.shared.table slot ≡ true
