@@ -30,7 +30,8 @@ pub record KeepsAsCreated (before : MonitoredMachine) (after : MonitoredStepped)
   pub creates : (slot : ℕ) → is_live before.shared.table slot ≡ false → is_live after.state.shared.table slot ≡ true
       → IsAsCreated slot after.state.shared
   -- an enclave in the state after create stays in this state, unless the step enters or destroys it
-  pub keeps : (slot : ℕ) → IsAsCreated slot before.shared → enters slot after.outcome.entered ≡ false → is_live after.state.shared.table slot ≡ true
+  pub keeps : (slot : ℕ) → IsAsCreated slot before.shared → enters slot after.outcome.entered ≡ false
+      → is_live after.state.shared.table slot ≡ true
       → IsAsCreated slot after.state.shared
 
 -- ---- the entry
@@ -68,5 +69,6 @@ abbrev pub AttestationLaw : Type 0
 AttestationLaw =
     (place other_place : Place) (count : ℕ) (one other : MonitoredMachine) → Invariant one → Invariant other
     → SameIdentity place.slot other_place.slot one.shared other.shared
-    → SameWindow place.slot one other → BothEnter place other_place one other → AreHighSteps place count (step_at place one).state
+    → SameWindow place.slot one other → BothEnter place other_place one other
+    → AreHighSteps place count (step_at place one).state
     → SameEnclaveRun place other_place count (step_at place one).state (step_at other_place other).state

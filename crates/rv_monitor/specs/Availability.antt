@@ -17,6 +17,7 @@ timer_trap = record { cause = causes.Interrupt MachineTimer; tval = 0 }
 pub record ExitsByTimer (hart slot : ℕ) (host : Context) (before : MonitoredMachine) (after : MonitoredStepped) : Type 0 where
   pub trapped : after.outcome.step.trap ≡ Some timer_trap
   pub left : HandsOver hart before after slot timer_trap host (by_interrupt (hart_state_of hart before).hart)
+  -- the host receives 2 in a0 and 0 in a1
   pub result : (hart_state_of hart after.state).hart.regs ≡ with_return_values host.regs 2 0
   pub world : (hart_state_of hart after.state).world ≡ Host
   -- a destroy of the enclave is not refused

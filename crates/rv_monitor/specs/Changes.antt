@@ -36,7 +36,8 @@ pub record IsMeasured (world : World) (regs : List ℕ) (shared : Shared) (byte 
 
 -- a byte that the trap handler changed
 abbrev pub ByMonitor : World → List ℕ → Shared → Shared → ℕ → Type 0
-ByMonitor world regs before after byte = IsCleared world regs before.table after.table byte ⊎ IsMeasured world regs before byte
+ByMonitor world regs before after byte =
+    IsCleared world regs before.table after.table byte ⊎ IsMeasured world regs before byte
 
 -- the step trapped by an ecall from S, and the trap handler changed the byte
 pub record ByCall (before : HartView) (after : HartViewStepped) (byte : ℕ) : Type 0 where

@@ -28,6 +28,7 @@ unswitched csrs = record (with_s_context csrs no_supervisor) { pmp = record { cf
 -- two hart states have the same saved context of the host, and equal CSRs that no context switch replaces
 pub record SameHost (one other : HartState) : Type 0 where
   pub host : one.host_context ≡ other.host_context
+  -- the CSRs that no context switch replaces are equal
   pub rest : unswitched one.hart.csrs ≡ unswitched other.hart.csrs
 
 -- a hart has the same saved context of the host in both machines, in the guest view
@@ -55,7 +56,8 @@ pub record AreRelated (enclave : ℕ) (one other : MonitoredMachine) : Type 0 wh
 
 -- the bytes in the window of `enclave` are equal in both machines
 abbrev pub SameWindow : ℕ → MonitoredMachine → MonitoredMachine → Type 0
-SameWindow enclave one other = EqualOutside (λ byte. not (has (window one.shared.table enclave) byte)) one.shared.memory other.shared.memory
+SameWindow enclave one other =
+    EqualOutside (λ byte. not (has (window one.shared.table enclave) byte)) one.shared.memory other.shared.memory
 
 -- two harts have equal a0, and equal a6, which says how the enclave exits
 pub record SameHandover (one other : Hart) : Type 0 where
@@ -73,8 +75,10 @@ pub record ExitsAlike (enclave hart : ℕ) (one other : MonitoredMachine) : Type
   pub window : SameWindow enclave one other
   pub trap : Trap
   pub handover : SameHandoverBy trap.cause (hart_state_of hart one).hart (hart_state_of hart other).hart
+  -- the step traps alike in both machines
   pub first : (step_of hart one).outcome.step.trap ≡ Some trap
   pub second : (step_of hart other).outcome.step.trap ≡ Some trap
+  -- the hart runs the host after the step, in both machines
   pub first_exits : (hart_state_of hart (step_of hart one).state).world ≡ Host
   pub second_exits : (hart_state_of hart (step_of hart other).state).world ≡ Host
 
@@ -119,7 +123,8 @@ second_after (Both event) machine = (event_of event machine).state
 -- each move in the list is permitted in the two machines that the moves before it lead to
 abbrev pub AreMoves : ℕ → List Move → MonitoredMachine → MonitoredMachine → Type 0
 AreMoves enclave [] one other = Unit {0}
-AreMoves enclave (move ∷ moves) one other = IsMove enclave move one other × AreMoves enclave moves (first_after move one) (second_after move other)
+AreMoves enclave (move ∷ moves) one other =
+    IsMove enclave move one other × AreMoves enclave moves (first_after move one) (second_after move other)
 
 -- every low step has equal outcomes
 abbrev pub LowOutcomesEqual : ℕ → List Move → MonitoredMachine → MonitoredMachine → Type 0
@@ -158,8 +163,11 @@ DeclassificationLaw =
 -- Machines that are equivalent except for an enclave are so in the guest view. Machines that are so in the guest view are related, if the enclave
 -- runs on no hart. Related machines are equivalent in the guest view, if the enclave does not run.
 pub record RelationLaw : Type 0 where
-  pub guests : (enclave : ℕ) (one other : MonitoredMachine) → EquivExcept enclave one other → EquivToGuests enclave one other
-  pub begins : (enclave : ℕ) (one other : MonitoredMachine) → EquivToGuests enclave one other → ((hart : ℕ) → runs_on enclave hart one ≡ false)
+  pub guests : (enclave : ℕ) (one other : MonitoredMachine) → EquivExcept enclave one other
+      → EquivToGuests enclave one other
+  pub begins : (enclave : ℕ) (one other : MonitoredMachine) → EquivToGuests enclave one other
+      → ((hart : ℕ) → runs_on enclave hart one ≡ false)
       → AreRelated enclave one other
-  pub ends : (enclave : ℕ) (one other : MonitoredMachine) → AreRelated enclave one other → runs one.shared.table enclave ≡ false
+  pub ends : (enclave : ℕ) (one other : MonitoredMachine) → AreRelated enclave one other
+      → runs one.shared.table enclave ≡ false
       → EquivToGuests enclave one other

@@ -30,10 +30,13 @@ step_at place machine = step_of place.hart machine
 -- Two enclaves run and have the same state. Each hart is compared without the PMP entries, mie and the other registers of mode M, which no enclave
 -- reads.
 pub record SameEnclave (place other_place : Place) (one other : MonitoredMachine) : Type 0 where
+  -- each enclave runs on the hart of its place
   pub first : runs_at place one ≡ true
   pub second : runs_at other_place other ≡ true
+  -- both harts are equal, as modes S and U see them
   pub hart : below_m_hart (hart_state_of place.hart one).hart ≡ below_m_hart (hart_state_of other_place.hart other).hart
   pub slot : slot_at one.shared.table place.slot ≡ slot_at other.shared.table other_place.slot
+  -- the bytes of the region and of the window are equal
   pub memory : EqualOutside (is_beyond one.shared.table place.slot) one.shared.memory other.shared.memory
 
 -- ---- the exit
@@ -65,7 +68,9 @@ pub record SameExit (place other_place : Place) (one other : MonitoredMachine) :
 
 -- both enclaves still run and have the same state again, or both exited
 pub record SameAfter (place other_place : Place) (one other : MonitoredMachine) : Type 0 where
+  -- if the first enclave still runs, then both enclaves have the same state
   pub runs : runs_at place one ≡ true → SameEnclave place other_place one other
+  -- if the first enclave does not run, then both enclaves exited alike
   pub exits : runs_at place one ≡ false → SameExit place other_place one other
 
 -- two steps have equal outcomes, and leave the enclaves in the same state or both exited
@@ -87,7 +92,8 @@ DependsOnEnclave hart before after =
 -- the enclave runs on its hart before each of `count` steps of this hart
 abbrev pub AreHighSteps : Place → ℕ → MonitoredMachine → Type 0
 AreHighSteps place zero machine = Unit {0}
-AreHighSteps place (suc count) machine = (runs_at place machine ≡ true) × AreHighSteps place count (step_at place machine).state
+AreHighSteps place (suc count) machine =
+    (runs_at place machine ≡ true) × AreHighSteps place count (step_at place machine).state
 
 -- `count` steps of each hart have equal outcomes, and leave the enclaves in the same state or both exited
 pub record SameEnclaveRun (place other_place : Place) (count : ℕ) (one other : MonitoredMachine) : Type 0 where

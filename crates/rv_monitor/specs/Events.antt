@@ -22,11 +22,13 @@ event_of (LineOf hart raised) machine = record (not_stepped machine) { state = w
 -- the state after each event in the list, in turn, and the outcome of each
 abbrev pub events : List Event → MonitoredMachine → Scheduled
 events [] machine = record { state = machine; outcomes = [] }
-events (event ∷ rest_events) machine = first_then (event_of event machine).outcome (events rest_events (event_of event machine).state)
+events (event ∷ rest_events) machine =
+    first_then (event_of event machine).outcome (events rest_events (event_of event machine).state)
 
 -- every list of events preserves the invariant
 abbrev pub EventInvariantLaw : Type 0
-EventInvariantLaw = (list : List Event) (machine : MonitoredMachine) → Invariant machine → Invariant (events list machine).state
+EventInvariantLaw =
+    (list : List Event) (machine : MonitoredMachine) → Invariant machine → Invariant (events list machine).state
 
 -- ---- noninterference
 
@@ -57,7 +59,8 @@ EventLaw =
 
 -- a low step that does not enter the enclave, or a change of any timer line
 abbrev pub IsUndisturbing : ℕ → Event → MonitoredMachine → Type 0
-IsUndisturbing slot (StepOf hart) machine = (runs_on slot hart machine ≡ false) × (enters slot (step_of hart machine).outcome.entered ≡ false)
+IsUndisturbing slot (StepOf hart) machine =
+    (runs_on slot hart machine ≡ false) × (enters slot (step_of hart machine).outcome.entered ≡ false)
 IsUndisturbing slot (LineOf hart raised) machine = Unit {0}
 
 -- the enclave is live before, between and after the events, and no event disturbs the enclave
@@ -81,7 +84,8 @@ EventIntegrityLaw =
 -- no event is a step of a hart on which the enclave runs
 abbrev pub StepsNone : ℕ → List Event → MonitoredMachine → Type 0
 StepsNone slot [] machine = Unit {0}
-StepsNone slot (StepOf hart ∷ rest_events) machine = (runs_on slot hart machine ≡ false) × StepsNone slot rest_events machine
+StepsNone slot (StepOf hart ∷ rest_events) machine =
+    (runs_on slot hart machine ≡ false) × StepsNone slot rest_events machine
 StepsNone slot (LineOf hart raised ∷ rest_events) machine = StepsNone slot rest_events machine
 
 -- an enclave that runs on a hart is left undisturbed by every list of steps of the other harts and of changes of any timer line

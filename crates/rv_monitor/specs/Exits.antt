@@ -23,7 +23,8 @@ is_exit_call _ = false
 -- an interrupt, or an ecall from S whose a7 and a6 request stop or exit
 abbrev pub causes_exit : HartState → Cause → Bool
 causes_exit hart_state (causes.Interrupt interrupt) = true
-causes_exit hart_state (causes.Exception EnvironmentCallFromS) = is_exit_call (requested_call hart_state.world hart_state.hart.regs)
+causes_exit hart_state (causes.Exception EnvironmentCallFromS) =
+    is_exit_call (requested_call hart_state.world hart_state.hart.regs)
 causes_exit hart_state (causes.Exception exception) = false
 
 -- ---- redirection to mode S
@@ -53,7 +54,8 @@ redirected_csrs hart trap =
 
 -- the hart after a redirected trap: it continues in S at the base of stvec, with its registers
 abbrev pub redirected_hart : Hart → Trap → Hart
-redirected_hart hart trap = record { regs = hart.regs; csrs = redirected_csrs hart trap; pc = aligned_to_4 hart.csrs.stvec; mode = S }
+redirected_hart hart trap =
+    record { regs = hart.regs; csrs = redirected_csrs hart trap; pc = aligned_to_4 hart.csrs.stvec; mode = S }
 
 -- the machine after a redirected trap: only the hart that trapped changes
 abbrev pub redirected_machine : ℕ → MonitoredMachine → Trap → MonitoredMachine
@@ -71,7 +73,8 @@ pub record ExitsOnlyBy (hart slot : ℕ) (before : MonitoredMachine) (after : Mo
   pub exits : (trap : Trap) → after.outcome.step.trap ≡ Some trap
       → is_host (hart_state_of hart after.state).world ≡ causes_exit (hart_state_of hart before) trap.cause
   -- each interrupt is the timer interrupt, and the timer line is set
-  pub timer : (trap : Trap) (interrupt : Interrupt) → after.outcome.step.trap ≡ Some trap → trap.cause ≡ causes.Interrupt interrupt
+  pub timer : (trap : Trap) (interrupt : Interrupt) → after.outcome.step.trap ≡ Some trap
+      → trap.cause ≡ causes.Interrupt interrupt
       → (interrupt ≡ MachineTimer) × ((hart_state_of hart before).hart.csrs.timer ≡ true)
   -- every other exception is redirected
   pub redirects : (trap : Trap) → after.outcome.step.trap ≡ Some trap → is_redirected trap.cause ≡ true
@@ -79,4 +82,5 @@ pub record ExitsOnlyBy (hart slot : ℕ) (before : MonitoredMachine) (after : Mo
 
 -- an enclave that runs on the hart that steps exits only by stop, by exit or by a timer interrupt
 abbrev pub ExitsOnRequest : ℕ → MonitoredMachine → MonitoredStepped → Type 0
-ExitsOnRequest hart before after = (slot : ℕ) → (hart_state_of hart before).world ≡ Enclave slot → ExitsOnlyBy hart slot before after
+ExitsOnRequest hart before after =
+    (slot : ℕ) → (hart_state_of hart before).world ≡ Enclave slot → ExitsOnlyBy hart slot before after

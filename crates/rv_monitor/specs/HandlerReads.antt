@@ -71,5 +71,6 @@ pub record SameStep (one other : MonitoredMachine) (one_after other_after : Moni
 abbrev pub ReadsOnly : ℕ → MonitoredMachine → MonitoredStepped → Type 0
 ReadsOnly hart before after =
     (other : MonitoredMachine) (trap : Trap) → before.hart_states ≡ other.hart_states → after.outcome.step.trap ≡ Some trap
-    → (step_of hart other).outcome.step.trap ≡ Some trap → SameRead (hart_state_of hart before) trap.cause before.shared other.shared
+    → (step_of hart other).outcome.step.trap ≡ Some trap
+    → SameRead (hart_state_of hart before) trap.cause before.shared other.shared
     → SameStep before other after (step_of hart other)

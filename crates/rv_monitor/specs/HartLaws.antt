@@ -23,14 +23,16 @@ sched (hart ∷ harts) machine = first_then (step_of hart machine).outcome (sche
 
 -- every order of steps preserves the invariant
 abbrev pub SchedInvariantLaw : Type 0
-SchedInvariantLaw = (harts : List ℕ) (machine : MonitoredMachine) → Invariant machine → Invariant (sched harts machine).state
+SchedInvariantLaw =
+    (harts : List ℕ) (machine : MonitoredMachine) → Invariant machine → Invariant (sched harts machine).state
 
 -- ---- low steps
 
 -- all steps are low steps of `enclave`: the enclave does not run on the hart that steps
 abbrev pub AreLowSteps : ℕ → List ℕ → MonitoredMachine → Type 0
 AreLowSteps enclave [] machine = Unit {0}
-AreLowSteps enclave (hart ∷ harts) machine = (runs_on enclave hart machine ≡ false) × AreLowSteps enclave harts (step_of hart machine).state
+AreLowSteps enclave (hart ∷ harts) machine =
+    (runs_on enclave hart machine ≡ false) × AreLowSteps enclave harts (step_of hart machine).state
 
 -- the enclave runs on none of these harts
 abbrev pub RunsOnNone : ℕ → List ℕ → MonitoredMachine → Type 0

@@ -15,7 +15,8 @@ enters slot (Some entered) = entered == slot
 -- the record of the slot, the bytes of its region and its saved context are unchanged
 pub record IsPreserved (slot_number : ℕ) (before after : Shared) : Type 0 where
   pub slot : slot_at after.table slot_number ≡ slot_at before.table slot_number
-  pub bytes : (byte : ℕ) → has (region before.table slot_number) byte ≡ true → byte_at after.memory byte ≡ byte_at before.memory byte
+  pub bytes : (byte : ℕ) → has (region before.table slot_number) byte ≡ true
+      → byte_at after.memory byte ≡ byte_at before.memory byte
   pub context : context_at after.contexts slot_number ≡ context_at before.contexts slot_number
 
 -- the enclave is preserved; if it runs, its hart keeps everything except the PMP entries and mie, which are those of the table and its world
@@ -34,6 +35,7 @@ PreservesOthers hart before after =
 
 -- the step does not enter the enclave, and the enclave is live after the step
 pub record KeepsRunning (slot : ℕ) (after : MonitoredStepped) : Type 0 where
+  -- the step does not enter the slot
   pub passes : enters slot after.outcome.entered ≡ false
   pub live : is_live after.state.shared.table slot ≡ true
 

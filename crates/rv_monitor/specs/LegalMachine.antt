@@ -17,6 +17,7 @@ pub record IsLegalMachine (machine : MonitoredMachine) : Type 0 where
 
 -- the machine at reset is legal, and every event of a legal machine leaves it legal
 pub record LegalLaw : Type 0 where
-  pub start : (memory : List ℕ) (entry harts : ℕ) → aligned_to_4 entry ≡ entry → IsLegalMachine (at_start memory entry harts)
+  pub start : (memory : List ℕ) (entry harts : ℕ) → aligned_to_4 entry ≡ entry
+      → IsLegalMachine (at_start memory entry harts)
   pub keeps : (event : Event) (machine : MonitoredMachine) → Invariant machine → IsLegalMachine machine
       → IsLegalMachine (event_of event machine).state

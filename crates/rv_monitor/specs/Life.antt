@@ -29,8 +29,10 @@ pub record ContinuesWith (slot : ℕ) (context : Context) (machine : MonitoredMa
 -- they run, on which harts, and the bytes of their windows may differ.
 pub record AreAtOnePoint (slot other_slot : ℕ) (one other : MonitoredMachine) : Type 0 where
   pub context : Context
+  -- both enclaves continue with this context
   pub first : ContinuesWith slot context one
   pub second : ContinuesWith other_slot context other
+  -- the first enclave is live, and so is the second one, because the identities are equal
   pub live : is_live one.shared.table slot ≡ true
   pub identity : identity_at one.shared.table slot ≡ identity_at other.shared.table other_slot
   pub memory : EqualOutside (λ byte. not (has (region one.shared.table slot) byte)) one.shared.memory other.shared.memory
@@ -52,7 +54,9 @@ IsForeign k (LineOf hart raised) machine = Unit {0}
 pub record IsOwnStep (place other_place : Place) (one other : MonitoredMachine) : Type 0 where
   pub first : runs_at place one ≡ true
   pub second : runs_at other_place other ≡ true
+  -- the timer line of the first enclave's hart is clear
   pub line : (hart_state_of place.hart one).hart.csrs.timer ≡ false
+  -- the timer line of the second enclave's hart is clear
   pub line_too : (hart_state_of other_place.hart other).hart.csrs.timer ≡ false
   pub window : SameWindowRead place.slot place.hart one other
 
@@ -111,8 +115,10 @@ AreLifeMoves slot other_slot (move ∷ moves) one other =
 -- every own step in the list of moves is the same in both machines
 abbrev pub OwnStepsAreSame : ℕ → ℕ → List LifeMove → MonitoredMachine → MonitoredMachine → Type 0
 OwnStepsAreSame slot other_slot [] one other = Unit {0}
-OwnStepsAreSame slot other_slot (InFirst event ∷ moves) one other = OwnStepsAreSame slot other_slot moves (event_of event one).state other
-OwnStepsAreSame slot other_slot (InSecond event ∷ moves) one other = OwnStepsAreSame slot other_slot moves one (event_of event other).state
+OwnStepsAreSame slot other_slot (InFirst event ∷ moves) one other =
+    OwnStepsAreSame slot other_slot moves (event_of event one).state other
+OwnStepsAreSame slot other_slot (InSecond event ∷ moves) one other =
+    OwnStepsAreSame slot other_slot moves one (event_of event other).state
 OwnStepsAreSame slot other_slot (Own hart other_hart ∷ moves) one other =
     SameOwnStep (at slot hart) (at other_slot other_hart) one other
     × OwnStepsAreSame slot other_slot moves (step_of hart one).state (step_of other_hart other).state
@@ -139,7 +145,8 @@ abbrev pub LifeLaw : Type 0
 LifeLaw =
     (slot other_slot : ℕ) (moves : List LifeMove) (one other : MonitoredMachine) → Invariant one → Invariant other → IsLegalMachine one
     → IsLegalMachine other
-    → AreAtOnePoint slot other_slot one other → AreLifeMoves slot other_slot moves one other → LiveAlike slot other_slot moves one other
+    → AreAtOnePoint slot other_slot one other → AreLifeMoves slot other_slot moves one other
+    → LiveAlike slot other_slot moves one other
 
 -- two enclaves with equal measured bytes begin at the same point: the measurement identifies what an enclave does in its whole life
 abbrev pub LifeBeginsLaw : Type 0

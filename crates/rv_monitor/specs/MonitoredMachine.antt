@@ -30,7 +30,8 @@ reprogrammed slots hart_state = record hart_state { hart = pmp_programmed slots 
 
 -- the timer line of a hart raised or lowered
 abbrev pub timer_line_set : Bool → HartState → HartState
-timer_line_set raised hart_state = record hart_state { hart = record hart_state.hart { csrs = record hart_state.hart.csrs { timer = raised } } }
+timer_line_set raised hart_state =
+    record hart_state { hart = record hart_state.hart { csrs = record hart_state.hart.csrs { timer = raised } } }
 
 -- a hart at reset: the host in mode S, and no live enclave
 abbrev pub hart_state_at_start : ℕ → HartState
@@ -49,7 +50,8 @@ hart_states_at_start harts entry = map (numbered_hart_state_at_start entry) (ran
 
 -- the monitored machine at reset: its harts at the entry, its memory, and no enclave
 unfoldable pub at_start : List ℕ → ℕ → ℕ → MonitoredMachine
-at_start memory entry hart_count = record { hart_states = hart_states_at_start hart_count entry; shared = shared_at_start memory }
+at_start memory entry hart_count =
+    record { hart_states = hart_states_at_start hart_count entry; shared = shared_at_start memory }
 
 -- ---- the harts
 

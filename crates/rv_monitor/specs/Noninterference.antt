@@ -12,7 +12,8 @@ use Rattle.rv_monitor.specs.Switches.{Handled}
 
 -- the state of the hart as it continues after the trap handler
 abbrev pub continuing_from : Handled → HartState
-continuing_from result = record result.hart_state { hart = returned_to result.hart_state.hart result.next.pc result.next.mode }
+continuing_from result =
+    record result.hart_state { hart = returned_to result.hart_state.hart result.next.pc result.next.mode }
 
 -- Two results of the trap handler enter the same slot and are equivalent except `enclave`. If this slot is `enclave`, then the hart states need not
 -- be equal.

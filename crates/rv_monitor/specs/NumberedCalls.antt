@@ -25,7 +25,8 @@ regs_at hart machine = (hart_state_of hart machine).hart.regs
 -- the call that the hart requests by a7 and a6 (x17 and x16), if its world is offered one
 abbrev pub call_at : ℕ → MonitoredMachine → Option Call
 call_at hart machine =
-    let regs = regs_at hart machine in call_numbered (hart_state_of hart machine).world (register regs 17) (register regs 16)
+    let regs = regs_at hart machine in
+    call_numbered (hart_state_of hart machine).world (register regs 17) (register regs 16)
 
 -- the status of the request of the hart: 0 if the call succeeds
 abbrev pub status_at : ℕ → MonitoredMachine → ℕ
@@ -119,7 +120,8 @@ entered_by_call own before k trap context =
     record {
       hart_states = slice_set (map (reprogrammed slots) before.hart_states) own (record {
         hart = switched_hart hart trap context slots (Enclave k);
-        host_context = Some (record { regs = hart.regs; pc = past_ecall hart; mode = S; supervisor = supervisor_at hart.csrs });
+        host_context =
+            Some (record { regs = hart.regs; pc = past_ecall hart; mode = S; supervisor = supervisor_at hart.csrs });
         world = Enclave k;
       });
       shared = record before.shared { table = slots; contexts = slice_set before.shared.contexts k None };
@@ -161,7 +163,8 @@ handed_over_machine hart before slot trap host handover =
         host_context = None;
         world = Host;
       });
-      shared = record before.shared { table = slots; contexts = slice_set before.shared.contexts slot (Some handover.kept) };
+      shared =
+          record before.shared { table = slots; contexts = slice_set before.shared.contexts slot (Some handover.kept) };
     }
 
 -- the exit by stop: the enclave will continue after its ecall, with 0 in a0 and a1; the host receives 1 and the enclave's a0
@@ -187,7 +190,8 @@ by_exit_call hart = record {
     regs = replicate 32 0;
     pc = 0;
     mode = U;
-    supervisor = record { stvec = 0; sscratch = 0; sepc = 0; scause = 0; stval = 0; sie = false; spie = false; spp = false; mxr = false };
+    supervisor =
+        record { stvec = 0; sscratch = 0; sepc = 0; scause = 0; stval = 0; sie = false; spie = false; spp = false; mxr = false };
   };
   reason = 0;
   value = register hart.regs 10;
@@ -234,11 +238,15 @@ pub record AnswersInNumbers (hart : ℕ) (before : MonitoredMachine) (after : Mo
   pub resumes : (hart_state_of hart before).world ≡ Host → call_at hart before ≡ Some Resume → status_at hart before ≡ 0
       → EntersByCall hart before after trap (register (regs_at hart before) 10)
   -- a stop exits to the host, and the enclave can be resumed after its ecall
-  pub stops : (slot : ℕ) (host : Context) → (hart_state_of hart before).world ≡ Enclave slot → (hart_state_of hart before).host_context ≡ Some host
-      → call_at hart before ≡ Some Stop → HandsOver hart before after slot trap host (by_stop_call (hart_state_of hart before).hart)
+  pub stops : (slot : ℕ) (host : Context) → (hart_state_of hart before).world ≡ Enclave slot
+      → (hart_state_of hart before).host_context ≡ Some host
+      → call_at hart before ≡ Some Stop
+      → HandsOver hart before after slot trap host (by_stop_call (hart_state_of hart before).hart)
   -- an exit returns to the host, and zeroes the saved context of the enclave
-  pub exits : (slot : ℕ) (host : Context) → (hart_state_of hart before).world ≡ Enclave slot → (hart_state_of hart before).host_context ≡ Some host
-      → call_at hart before ≡ Some Exit → HandsOver hart before after slot trap host (by_exit_call (hart_state_of hart before).hart)
+  pub exits : (slot : ℕ) (host : Context) → (hart_state_of hart before).world ≡ Enclave slot
+      → (hart_state_of hart before).host_context ≡ Some host
+      → call_at hart before ≡ Some Exit
+      → HandsOver hart before after slot trap host (by_exit_call (hart_state_of hart before).hart)
 
 -- each ecall from S has the result of its number and its status
 abbrev pub AnswersCalls : ℕ → MonitoredMachine → MonitoredStepped → Type 0
@@ -250,7 +258,8 @@ AnswersCalls hart before after =
 abbrev pub InterruptsEnclave : ℕ → MonitoredMachine → MonitoredStepped → Type 0
 InterruptsEnclave hart before after =
     (slot : ℕ) (host : Context) (trap : Trap) (interrupt : Interrupt) → (hart_state_of hart before).world ≡ Enclave slot
-    → (hart_state_of hart before).host_context ≡ Some host → after.outcome.step.trap ≡ Some trap → trap.cause ≡ causes.Interrupt interrupt
+    → (hart_state_of hart before).host_context ≡ Some host → after.outcome.step.trap ≡ Some trap
+    → trap.cause ≡ causes.Interrupt interrupt
     → HandsOver hart before after slot trap host (by_interrupt (hart_state_of hart before).hart)
 
 -- ---- the calls that succeed
@@ -280,11 +289,15 @@ pub record SucceedsInNumbers (hart : ℕ) (before : MonitoredMachine) (after : M
       IsMeasurable before.shared hart_state.hart.csrs.pmp (slot_named hart_state.world regs) (register regs 11)
       → Returns hart before after trap (shared_with_measurement before.shared (slot_named hart_state.world regs) (register regs 11)) 0 0)
   -- a stop by an enclave whose host has a saved context
-  pub stop : (slot : ℕ) (host : Context) → (hart_state_of hart before).world ≡ Enclave slot → (hart_state_of hart before).host_context ≡ Some host
-      → Requests 6 (regs_at hart before) → HandsOver hart before after slot trap host (by_stop_call (hart_state_of hart before).hart)
+  pub stop : (slot : ℕ) (host : Context) → (hart_state_of hart before).world ≡ Enclave slot
+      → (hart_state_of hart before).host_context ≡ Some host
+      → Requests 6 (regs_at hart before)
+      → HandsOver hart before after slot trap host (by_stop_call (hart_state_of hart before).hart)
   -- an exit by an enclave whose host has a saved context
-  pub exit : (slot : ℕ) (host : Context) → (hart_state_of hart before).world ≡ Enclave slot → (hart_state_of hart before).host_context ≡ Some host
-      → Requests 7 (regs_at hart before) → HandsOver hart before after slot trap host (by_exit_call (hart_state_of hart before).hart)
+  pub exit : (slot : ℕ) (host : Context) → (hart_state_of hart before).world ≡ Enclave slot
+      → (hart_state_of hart before).host_context ≡ Some host
+      → Requests 7 (regs_at hart before)
+      → HandsOver hart before after slot trap host (by_exit_call (hart_state_of hart before).hart)
 
 -- each ecall from S whose numbers meet the conditions of a call has the result of this call
 abbrev pub CallsSucceed : ℕ → MonitoredMachine → MonitoredStepped → Type 0

@@ -26,8 +26,11 @@ plainly_stepped hart before =
 
 -- The trap and the accesses of the step are those of the plain step. Without a trap, so is the rest of the result.
 pub record IsPlain (hart : ℕ) (before : MonitoredMachine) (after : MonitoredStepped) : Type 0 where
+  -- the trap and the accesses are those of the plain step
   pub outcome : after.outcome.step ≡ (plain_step hart before).outcome
-  pub quiet : after.outcome.step.trap ≡ None → (after.state ≡ plainly_stepped hart before) × (after.outcome.entered ≡ None)
+  -- without a trap, the machine after the step is that of the plain step, and the step enters no enclave
+  pub quiet : after.outcome.step.trap ≡ None
+      → (after.state ≡ plainly_stepped hart before) × (after.outcome.entered ≡ None)
 
 -- a step of a hart of the machine is that of the same hart without the monitor, except for the trap handler's part
 abbrev pub StepsPlainly : ℕ → MonitoredMachine → MonitoredStepped → Type 0
@@ -37,8 +40,10 @@ StepsPlainly hart before after = hart < count_of before → IsPlain hart before 
 
 -- a step of the host takes no interrupt, and redirects each exception that is not a call to mode S
 pub record ContinuesHost (hart : ℕ) (before : MonitoredMachine) (after : MonitoredStepped) : Type 0 where
-  pub uninterrupted : (trap : Trap) (interrupt : Interrupt) → after.outcome.step.trap ≡ Some trap → trap.cause ≢ causes.Interrupt interrupt
-  -- an exception that is not an ecall from S
+  -- no trap of the step is an interrupt
+  pub uninterrupted : (trap : Trap) (interrupt : Interrupt) → after.outcome.step.trap ≡ Some trap
+      → trap.cause ≢ causes.Interrupt interrupt
+  -- an exception that is not an ecall from S continues at stvec, and enters no enclave
   pub redirects : (trap : Trap) → after.outcome.step.trap ≡ Some trap → is_redirected trap.cause ≡ true
       → (after.state ≡ redirected_machine hart before trap) × (after.outcome.entered ≡ None)
 

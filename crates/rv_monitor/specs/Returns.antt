@@ -22,7 +22,8 @@ pub record HostIsRestored (before last : HartView) (after : HartViewStepped) : T
   pub trapped : after.outcome.step.trap ≡ Some trap
   -- the hart continues after the ecall of the first step, with the registers of that time except a0 and a1
   pub again : continuation after.state.hart_state.hart ≡ record (saved before.hart_state.hart (past_ecall before.hart_state.hart) S) {
-    regs = with_return_values before.hart_state.hart.regs (reason trap.cause last.hart_state.hart.regs) (value trap.cause last.hart_state.hart.regs);
+    regs =
+        with_return_values before.hart_state.hart.regs (reason trap.cause last.hart_state.hart.regs) (value trap.cause last.hart_state.hart.regs);
   }
 
 -- The host runs on a hart whose step enters an enclave. An enclave runs there through steps of the harts in any order. After the next step of

@@ -48,7 +48,8 @@ pub record Leaves (before : HartView) (after : HartViewStepped) : Type 0 where
   -- the hart continues with the saved context of the host, except for the reason in a0 and the value in a1
   pub again : continuation after.state.hart_state.hart
       ≡ record host {
-        regs = with_return_values host.regs (reason trap.cause before.hart_state.hart.regs) (value trap.cause before.hart_state.hart.regs);
+        regs =
+            with_return_values host.regs (reason trap.cause before.hart_state.hart.regs) (value trap.cause before.hart_state.hart.regs);
       }
   -- the hart no longer saves the context of the host
   pub forgotten : after.state.hart_state.host_context ≡ None

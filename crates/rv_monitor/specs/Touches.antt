@@ -30,6 +30,7 @@ SpanIsAccessible state access (Some span) =
 
 -- the word at pc is fetched, or no instruction was executed; and every accessed byte is accessible
 pub record IsTouchedAccessible (before : HartView) (outcome : StepOutcome) : Type 0 where
+  -- the step fetched the word at pc, or executed no instruction
   pub at_pc : (outcome.touched.fetched ≡ span before.hart_state.hart.pc Word) ⊎ ((outcome.touched.fetched ≡ None) × (executes outcome.trap ≡ false))
   pub fetched : SpanIsAccessible before Fetch outcome.touched.fetched
   pub loaded : SpanIsAccessible before Read outcome.touched.loaded
