@@ -71,9 +71,9 @@ same_size hart machine =
 -- ---- create
 
 -- a slot has an identity if and only if it has an enclave
-pub some_identity : (maybe_info : Option SlotInfo) → is_some (option_map identity_of maybe_info) ≡ is_some maybe_info
-some_identity None = refl
-some_identity (Some info) = refl
+pub identity_if_live : (maybe_info : Option SlotInfo) → is_some (option_map identity_of maybe_info) ≡ is_some maybe_info
+identity_if_live None = refl
+identity_if_live (Some info) = refl
 
 -- the slot is free before the trap handler
 module _ (slot : ℕ) (shared : Shared) (valid : IsValid shared.memory shared.table) (contexts : length shared.contexts ≡ slot_count)
@@ -136,9 +136,9 @@ module _ (slot : ℕ) (shared : Shared) (valid : IsValid shared.memory shared.ta
       let same_liveness : is_some (identity_at (with_state shared.table other_slot state) slot) ≡ is_some (identity_at shared.table slot) =
       ap (λ (maybe_info : Option SlotInfo). is_some maybe_info) (new_state_keeps_identities shared.table slot other_slot state valid.count) in
       slot_still_free after (ap (λ (table : Slots). is_live table slot) table
-      ∙ sym (some_identity (slot_at (with_state shared.table other_slot state) slot))
+      ∙ sym (identity_if_live (slot_at (with_state shared.table other_slot state) slot))
       ∙ same_liveness
-      ∙ some_identity (slot_at shared.table slot)) live_after
+      ∙ identity_if_live (slot_at shared.table slot)) live_after
 
   -- if the trap handler makes the slot live, then the enclave in the slot is in the state after create
   handled_created : (hart_state : HartState) (trap : Trap) → AsCreatedIfLive (handled hart_state shared trap)
@@ -180,8 +180,8 @@ equal_block_bytes memory other_memory block same_length inside same =
 -- the enclave in the slot is in the state after create
 module _ (slot : ℕ) (machine : MonitoredMachine) (invariant : Invariant machine) (as_created : IsAsCreated slot machine.shared) where
   -- the record of an enclave in the state after create is valid
-  pub valid_slot : IsValidSlot machine.shared.memory as_created.info
-  valid_slot =
+  pub record_is_valid : IsValidSlot machine.shared.memory as_created.info
+  record_is_valid =
       subst (λ (maybe_info : Option SlotInfo). IfSome maybe_info (IsValidSlot machine.shared.memory)) as_created.is
       (invariant.shared.valid.well_formed slot)
 
@@ -209,7 +209,7 @@ module _ (slot : ℕ) (machine : MonitoredMachine) (invariant : Invariant machin
       (integrity hart machine invariant slot (runs_nowhere hart) live_before not_entered live_after).preserved in
       let bytes =
       equal_block_bytes machine.shared.memory (step_of hart machine).state.shared.memory as_created.info.region (same_size hart machine)
-      (valid_inside machine.shared.memory as_created.info.region valid_slot.region)
+      (valid_inside machine.shared.memory as_created.info.region record_is_valid.region)
       (λ byte in_region. same.bytes byte (ap (λ (maybe_info : Option SlotInfo). has (region_of maybe_info) byte) as_created.is ∙ in_region)) in
       record {
         info = as_created.info;
@@ -369,7 +369,7 @@ attestation_law place other_place count one other invariant_one invariant_other 
     let other_memory = other.shared.memory in
     let measured =
     measurement_law memory other_memory first_enclave.info second_enclave.info invariant_one.shared.valid.ram equal.size
-    (valid_slot slot one invariant_one first_enclave) (valid_slot other_place.slot other invariant_other second_enclave) same.input in
+    (record_is_valid slot one invariant_one first_enclave) (record_is_valid other_place.slot other invariant_other second_enclave) same.input in
     let same_digests : first_enclave.info.measurement ≡ second_enclave.info.measurement =
     first_enclave.measurement ∙ same_digest memory other_memory (args_of first_enclave.info) (args_of second_enclave.info) same.input
     ∙ sym second_enclave.measurement in

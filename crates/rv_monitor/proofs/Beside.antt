@@ -6,8 +6,8 @@ use Rattle.rv_monitor.specs.Prelude.{Host, HartState, is_live, is_running, is_wo
 use Rattle.rv_monitor.proofs.Prelude.{Invariant, MonitoredMachine, SlotInfo, both_ways, cases_lt, count_of, list_any, runs_on, hart_state_of, reprogrammed}
 use Rattle.rv_monitor.proofs.Prelude.{step_of, worlds}
 use Rattle.rv_monitor.proofs.Booleans.{right_if_not_left}
-use Rattle.rv_monitor.proofs.Others.{any_prefix}
-use Rattle.rv_monitor.proofs.InvariantLemmas.{beside, world_index_in_range, world_at, world_write_changes_nothing}
+use Rattle.rv_monitor.proofs.Others.{any_with_world_in_front}
+use Rattle.rv_monitor.proofs.InvariantLemmas.{other_worlds_of, world_index_in_range, world_at, world_write_changes_nothing}
 use Rattle.rv_monitor.proofs.HartCases.{past_hart_state, step_programmed}
 
 -- a hart that runs an enclave is a hart of the machine
@@ -46,10 +46,11 @@ running_is_live slot hart machine invariant runs_on_hart =
 -- an enclave that runs on some hart, and not on the hart that steps, is among the worlds of the other harts
 pub runs_among_others : (slot hart slot_hart : ℕ) (machine : MonitoredMachine) → hart < count_of machine
     → runs_on slot slot_hart machine ≡ true
-    → runs_on slot hart machine ≡ false → list_any (is_world_of slot) (beside hart machine) ≡ true
+    → runs_on slot hart machine ≡ false → list_any (is_world_of slot) (other_worlds_of hart machine) ≡ true
 runs_among_others slot hart slot_hart machine in_range runs_on_hart not_running =
     right_if_not_left (runs_on slot hart machine) _
-    (sym (any_prefix (is_world_of slot) (worlds machine) hart (hart_state_of hart machine).world (world_index_in_range hart machine in_range))
+    (sym (any_with_world_in_front (is_world_of slot) (worlds machine) hart (hart_state_of hart machine).world
+    (world_index_in_range hart machine in_range))
     ∙ ap (list_any (is_world_of slot)) (world_write_changes_nothing hart machine in_range) ∙ runs_among slot slot_hart machine runs_on_hart)
     not_running
 

@@ -112,8 +112,8 @@ record Alike (first_slot second_slot : ℕ) (first_view second_view : HartView) 
 
 -- the enclaves of two slots run on two harts with equal memories and equal records, and with equal harts as S and U see them
 module _ (first_slot second_slot : ℕ) (first_state second_state : HartState) (first_shared second_shared : Shared)
-    (view_invariant_one : HartViewInvariant (view_of first_state first_shared))
-    (view_invariant_two : HartViewInvariant (view_of second_state second_shared))
+    (first_view_invariant : HartViewInvariant (view_of first_state first_shared))
+    (second_view_invariant : HartViewInvariant (view_of second_state second_shared))
     (alike : Alike first_slot second_slot (view_of first_state first_shared) (view_of second_state second_shared)) where
   -- both harts are in the same mode
   modes_equal : first_state.hart.mode ≡ second_state.hart.mode
@@ -132,26 +132,26 @@ module _ (first_slot second_slot : ℕ) (first_state second_state : HartState) (
       let bytes = bytes_from address (bytes_in width) in
       let inside_second : is_inside second_shared.memory address (bytes_in width) ≡ true =
       ap (λ (memory : List ℕ). is_inside memory address (bytes_in width)) (sym alike.memory) ∙ inside in
-      access_control_law (view_of first_state first_shared) mode access address width view_invariant_one (below_M mode mode_below_m) inside
+      access_control_law (view_of first_state first_shared) mode access address width first_view_invariant (below_M mode mode_below_m) inside
       ∙ ap (λ (world : World). is_accessible first_shared.memory first_shared.table world access bytes) alike.first
       ∙ same_accessibility first_shared.memory first_shared.table second_shared.table first_slot second_slot access bytes alike.slot
       ∙ ap (λ (memory : List ℕ). is_accessible memory second_shared.table (Enclave second_slot) access bytes) alike.memory
       ∙ ap (λ (world : World). is_accessible second_shared.memory second_shared.table world access bytes) (sym alike.second)
-      ∙ sym (access_control_law (view_of second_state second_shared) mode access address width view_invariant_two
+      ∙ sym (access_control_law (view_of second_state second_shared) mode access address width second_view_invariant
       (below_M mode mode_below_m) inside_second)
 
   -- the mode of the first hart is below M
   first_below_m : is_machine first_state.hart.mode ≡ false
-  first_below_m = view_invariant_one.hart.layout.mode
+  first_below_m = first_view_invariant.hart.layout.mode
 
   -- loads and stores of the first hart are in the mode of this hart
   first_data_mode : data_mode first_state.hart ≡ first_state.hart.mode
-  first_data_mode = let mprv_is_0 = view_invariant_one.hart.layout.mprv in rw mprv_is_0 refl
+  first_data_mode = let mprv_is_0 = first_view_invariant.hart.layout.mprv in rw mprv_is_0 refl
 
   -- loads and stores of the second hart are in the mode of the first hart
   second_data_mode : data_mode second_state.hart ≡ first_state.hart.mode
   second_data_mode =
-      let mprv_is_0 = view_invariant_two.hart.layout.mprv in let mode = modes_equal in rw mprv_is_0 (sym mode)
+      let mprv_is_0 = second_view_invariant.hart.layout.mprv in let mode = modes_equal in rw mprv_is_0 (sym mode)
 
   -- fetches, loads and stores of both machines have the same results
   same_access_results : SameAccess (bare_machine (view_of first_state first_shared)) (bare_machine (view_of second_state second_shared))
@@ -162,10 +162,10 @@ module _ (first_slot second_slot : ℕ) (first_state second_state : HartState) (
       record {
         -- only the timer interrupt is enabled, and both harts have the same timer line
         pending =
-            pending_is_timer first_state.hart.csrs first_state.hart.mode first_below_m (view_invariant_one.hart.layout.mie ∙ ap mie_of alike.first)
+            pending_is_timer first_state.hart.csrs first_state.hart.mode first_below_m (first_view_invariant.hart.layout.mie ∙ ap mie_of alike.first)
             ∙ ap (λ (hart : Hart). timer_or_none hart.csrs.timer) alike.hart
-            ∙ sym (pending_is_timer second_state.hart.csrs second_state.hart.mode view_invariant_two.hart.layout.mode
-            (view_invariant_two.hart.layout.mie ∙ ap mie_of alike.second));
+            ∙ sym (pending_is_timer second_state.hart.csrs second_state.hart.mode second_view_invariant.hart.layout.mode
+            (second_view_invariant.hart.layout.mie ∙ ap mie_of alike.second));
         -- both machines have the same permissions for the bytes of an access
         fetched =
             let pc = first_state.hart.pc in
@@ -201,7 +201,7 @@ module _ (first_slot second_slot : ℕ) (first_state second_state : HartState) (
   bare_steps_alike : SameBelowM (step (bare_machine (view_of first_state first_shared))) (step (bare_machine (view_of second_state second_shared)))
   bare_steps_alike =
       depends_below_m (bare_machine (view_of first_state first_shared))
-      (bare_machine (view_of second_state second_shared)) first_below_m view_invariant_one.hart.layout.mprv alike.hart alike.memory
+      (bare_machine (view_of second_state second_shared)) first_below_m first_view_invariant.hart.layout.mprv alike.hart alike.memory
       same_access_results
 
   -- software in S may store the same bytes on both harts
@@ -397,13 +397,13 @@ with_m_parts_of m_source hart = record hart {
 
 -- the enclaves of two slots run on two harts with equal memories and equal records, and with equal harts as S and U see them
 module _ (first_slot second_slot : ℕ) (first_state second_state : HartState) (first_shared second_shared : Shared)
-    (view_invariant_one : HartViewInvariant (view_of first_state first_shared))
-    (view_invariant_two : HartViewInvariant (view_of second_state second_shared))
+    (first_view_invariant : HartViewInvariant (view_of first_state first_shared))
+    (second_view_invariant : HartViewInvariant (view_of second_state second_shared))
     (alike : Alike first_slot second_slot (view_of first_state first_shared) (view_of second_state second_shared)) where
   -- the bare steps are equal, as S and U see them
   abbrev bare : SameBelowM (step (bare_machine (view_of first_state first_shared))) (step (bare_machine (view_of second_state second_shared)))
   bare =
-      bare_steps_alike first_slot second_slot first_state second_state first_shared second_shared view_invariant_one view_invariant_two alike
+      bare_steps_alike first_slot second_slot first_state second_state first_shared second_shared first_view_invariant second_view_invariant alike
 
   -- the second hart is the first one with the parts of M-mode from the second
   second_is_first_with_m_parts : with_m_parts_of second_state.hart first_state.hart ≡ second_state.hart
@@ -447,8 +447,8 @@ module _ (first_slot second_slot : ℕ) (first_state second_state : HartState) (
       (running first_slot first_state.host_context (hart_after first_state.hart trap)) hart_state) (sym second)
       (handler_alike first_slot second_slot (hart_after first_state.hart trap) (hart_after second_state.hart trap).csrs
       (hart_after second_state.hart trap).pc first_state.host_context second_state.host_context first_shared second_shared bare_outcome
-      view_invariant_one.hart.layout.mprv alike.slot alike.memory
-      (same_may_store_all first_slot second_slot first_state second_state first_shared second_shared view_invariant_one view_invariant_two alike
+      first_view_invariant.hart.layout.mprv alike.slot alike.memory
+      (same_may_store_all first_slot second_slot first_state second_state first_shared second_shared first_view_invariant second_view_invariant alike
       (register first_state.hart.regs 11)) trap)))
 
   -- the steps of both views without a trap are alike
@@ -569,35 +569,35 @@ module _ (place other_place : Place) (one other : MonitoredMachine) (invariant_o
   mixed_invariant = invariant_by_size other one.shared.memory invariant_other (sym same_enclave.memory.size)
 
   -- the first machine has the hart of the first place, because an enclave runs on this hart
-  pub has_one : place.hart < count_of one
-  has_one = running_hart_in_range place.slot place.hart one same_enclave.first
+  pub first_in_range : place.hart < count_of one
+  first_in_range = running_hart_in_range place.slot place.hart one same_enclave.first
 
   -- the second machine has the hart of the second place, because an enclave runs on this hart
-  pub has_other : other_place.hart < count_of other
-  has_other = running_hart_in_range other_place.slot other_place.hart other same_enclave.second
+  pub second_in_range : other_place.hart < count_of other
+  second_in_range = running_hart_in_range other_place.slot other_place.hart other same_enclave.second
 
   -- the hart of the first place runs the enclave of the first place
-  pub world_one : (hart_state_of place.hart one).world ≡ Enclave place.slot
-  world_one = world_is_enclave place.slot (hart_state_of place.hart one).world same_enclave.first
+  pub first_world : (hart_state_of place.hart one).world ≡ Enclave place.slot
+  first_world = world_is_enclave place.slot (hart_state_of place.hart one).world same_enclave.first
 
   -- the hart of the second place runs the enclave of the second place
-  pub world_other : (hart_state_of other_place.hart other).world ≡ Enclave other_place.slot
-  world_other = world_is_enclave other_place.slot (hart_state_of other_place.hart other).world same_enclave.second
+  pub second_world : (hart_state_of other_place.hart other).world ≡ Enclave other_place.slot
+  second_world = world_is_enclave other_place.slot (hart_state_of other_place.hart other).world same_enclave.second
 
   -- the steps of the first machine and of the mixed machine are alike
   first_steps_alike : StepAlike place.slot other_place.slot (monitored_step (hart_view place.hart one))
       (monitored_step (hart_view other_place.hart mixed))
   first_steps_alike =
       step_alike place.slot other_place.slot (hart_state_of place.hart one) (hart_state_of other_place.hart other) one.shared mixed.shared
-      (hart_view_invariant place.hart one invariant_one has_one)
-      (hart_view_invariant other_place.hart mixed mixed_invariant has_other)
-      (record { first = world_one; second = world_other; hart = same_enclave.hart; slot = same_enclave.slot; memory = refl })
+      (hart_view_invariant place.hart one invariant_one first_in_range)
+      (hart_view_invariant other_place.hart mixed mixed_invariant second_in_range)
+      (record { first = first_world; second = second_world; hart = same_enclave.hart; slot = same_enclave.slot; memory = refl })
 
   -- the steps of the mixed machine and of the second machine are equal for the enclave
   own_steps_alike : OwnAlike other_place.slot (monitored_step (hart_view other_place.hart mixed)) (monitored_step (hart_view other_place.hart other))
   own_steps_alike =
       own_step_alike other_place.slot (hart_state_of other_place.hart other) mixed.shared other.shared
-      (hart_view_invariant other_place.hart mixed mixed_invariant has_other) world_other refl
+      (hart_view_invariant other_place.hart mixed mixed_invariant second_in_range) second_world refl
       (record {
         table = refl;
         memory = record {
@@ -611,20 +611,21 @@ module _ (place other_place : Place) (one other : MonitoredMachine) (invariant_o
 
   -- the state of the first hart after the step of the machine is its state after the step of the view
   first_state_of_view : hart_state_of place.hart (step_at place one).state ≡ (monitored_step (hart_view place.hart one)).state.hart_state
-  first_state_of_view = ap (λ (stepped : HartViewStepped). stepped.state.hart_state) (step_of_view place.hart one has_one)
+  first_state_of_view = ap (λ (stepped : HartViewStepped). stepped.state.hart_state) (step_of_view place.hart one first_in_range)
 
   -- the state of the second hart after the step of the machine is its state after the step of the mixed machine
   second_state_of_mixed_view : (monitored_step (hart_view other_place.hart mixed)).state.hart_state ≡ hart_state_of other_place.hart
       (step_at other_place other).state
   second_state_of_mixed_view =
-      own_steps_alike.hart_state ∙ sym (ap (λ (stepped : HartViewStepped). stepped.state.hart_state) (step_of_view other_place.hart other has_other))
+      own_steps_alike.hart_state ∙ sym (ap (λ (stepped : HartViewStepped). stepped.state.hart_state)
+      (step_of_view other_place.hart other second_in_range))
 
   -- the steps of both machines have equal outcomes
   same_outcome : (step_at place one).outcome ≡ (step_at other_place other).outcome
   same_outcome =
-      ap (λ (stepped : HartViewStepped). stepped.outcome) (step_of_view place.hart one has_one)
+      ap (λ (stepped : HartViewStepped). stepped.outcome) (step_of_view place.hart one first_in_range)
       ∙ first_steps_alike.outcome ∙ own_steps_alike.outcome
-      ∙ sym (ap (λ (stepped : HartViewStepped). stepped.outcome) (step_of_view other_place.hart other has_other))
+      ∙ sym (ap (λ (stepped : HartViewStepped). stepped.outcome) (step_of_view other_place.hart other second_in_range))
 
   -- if the first enclave still runs after the step, then both enclaves have the same state after the step
   still_runs : runs_at place (step_at place one).state ≡ true
@@ -632,9 +633,9 @@ module _ (place other_place : Place) (one other : MonitoredMachine) (invariant_o
   still_runs runs_after =
       let after_one = (monitored_step (hart_view place.hart one)).state in
       let after_mixed = (monitored_step (hart_view other_place.hart mixed)).state in
-      let shared_one = ap (λ (stepped : HartViewStepped). stepped.state.shared) (step_of_view place.hart one has_one) in
-      let shared_other =
-      ap (λ (stepped : HartViewStepped). stepped.state.shared) (step_of_view other_place.hart other has_other) in
+      let first_shared_after = ap (λ (stepped : HartViewStepped). stepped.state.shared) (step_of_view place.hart one first_in_range) in
+      let second_shared_after =
+      ap (λ (stepped : HartViewStepped). stepped.state.shared) (step_of_view other_place.hart other second_in_range) in
       -- the first machine and the mixed machine are alike after the step, because the enclave still runs
       let alike =
       first_steps_alike.runs (sym (ap (λ (hart_state : HartState). is_host hart_state.world) first_state_of_view)
@@ -660,15 +661,15 @@ module _ (place other_place : Place) (one other : MonitoredMachine) (invariant_o
             ap (λ (hart_state : HartState). below_m_hart hart_state.hart) first_state_of_view ∙ alike.hart
             ∙ ap (λ (hart_state : HartState). below_m_hart hart_state.hart) second_state_of_mixed_view;
         slot =
-            ap (λ (shared : Shared). slot_at shared.table place.slot) shared_one ∙ alike.slot
+            ap (λ (shared : Shared). slot_at shared.table place.slot) first_shared_after ∙ alike.slot
             ∙ ap (λ (table : Slots). slot_at table other_place.slot) own_steps_alike.shared.table
-            ∙ sym (ap (λ (shared : Shared). slot_at shared.table other_place.slot) shared_other);
+            ∙ sym (ap (λ (shared : Shared). slot_at shared.table other_place.slot) second_shared_after);
         memory =
             subst (λ (shared : Shared). EqualOutside (is_beyond shared.table place.slot) shared.memory
             (step_at other_place other).state.shared.memory)
-            (sym shared_one)
+            (sym first_shared_after)
             (subst (λ (shared : Shared). EqualOutside (is_beyond after_one.shared.table place.slot) after_one.shared.memory shared.memory)
-            (sym shared_other) bytes);
+            (sym second_shared_after) bytes);
       }
 
   -- if the first enclave does not run after the step, then its hart runs the host
@@ -699,46 +700,46 @@ module _ (place other_place : Place) (one other : MonitoredMachine) (invariant_o
       → (hart_state_of place.hart (step_at place one).state).world ≡ Host
       → SameExit place other_place (step_at place one).state (step_at other_place other).state
   exits_alike None no_trap host_runs_after =
-      not_host _ place.slot _ ((exits_law place.hart one invariant_one place.slot world_one).quiet no_trap) host_runs_after
+      not_host _ place.slot _ ((exits_law place.hart one invariant_one place.slot first_world).quiet no_trap) host_runs_after
   exits_alike (Some trap) trapped host_runs_after =
       let second_traps = sym (ap (λ (outcome : Outcome). outcome.step.trap) same_outcome) ∙ trapped in
-      let exited_one =
+      let first_exit =
       exited place one trap invariant_one same_enclave.first trapped host_runs_after (hart_state_of place.hart one).host_context refl in
-      let exited_other =
+      let second_exit =
       exited other_place other trap invariant_other same_enclave.second second_traps (second_runs_host host_runs_after)
       (hart_state_of other_place.hart other).host_context refl in
       let cause = trap.cause in
-      let hart_one = (hart_state_of place.hart one).hart in
-      let hart_other = (hart_state_of other_place.hart other).hart in
-      let regs : hart_one.regs ≡ hart_other.regs = ap (λ (hart : Hart). hart.regs) same_enclave.hart in
+      let first_hart = (hart_state_of place.hart one).hart in
+      let second_hart = (hart_state_of other_place.hart other).hart in
+      let regs : first_hart.regs ≡ second_hart.regs = ap (λ (hart : Hart). hart.regs) same_enclave.hart in
       let saved_contexts_equal =
-      sym (exit_saves_no_m_parts cause hart_one) ∙ ap (saved_after cause) same_enclave.hart
-      ∙ exit_saves_no_m_parts cause hart_other in
+      sym (exit_saves_no_m_parts cause first_hart) ∙ ap (saved_after cause) same_enclave.hart
+      ∙ exit_saves_no_m_parts cause second_hart in
       let some_context : Context → Option Context = λ context. Some context in
       -- the cause of the trap and the registers of the first enclave determine what both enclaves hand over
       record {
-        reason = reason cause hart_one.regs;
-        value = value cause hart_one.regs;
-        first = exited_one.returned;
+        reason = reason cause first_hart.regs;
+        value = value cause first_hart.regs;
+        first = first_exit.returned;
         second =
             subst (λ (regs : List ℕ). HasReturned (reason cause regs) (value cause regs) other_place.hart (step_at other_place other).state)
-            (sym regs) exited_other.returned;
+            (sym regs) second_exit.returned;
         saved = record {
-          context = saved_after cause hart_one;
-          first = exited_one.context;
-          second = exited_other.context ∙ ap some_context (sym saved_contexts_equal);
+          context = saved_after cause first_hart;
+          first = first_exit.context;
+          second = second_exit.context ∙ ap some_context (sym saved_contexts_equal);
           slot =
-              exited_one.slot ∙ ap₂ (λ (regs : List ℕ) (maybe_info : Option SlotInfo). with_its_state
+              first_exit.slot ∙ ap₂ (λ (regs : List ℕ) (maybe_info : Option SlotInfo). with_its_state
               (enclave_state_after cause regs) maybe_info) regs same_enclave.slot
-              ∙ sym exited_other.slot;
+              ∙ sym second_exit.slot;
           memory = record {
             size =
-                ap (λ (memory : List ℕ). length memory) exited_one.memory ∙ same_enclave.memory.size
-                ∙ sym (ap (λ (memory : List ℕ). length memory) exited_other.memory);
+                ap (λ (memory : List ℕ). length memory) first_exit.memory ∙ same_enclave.memory.size
+                ∙ sym (ap (λ (memory : List ℕ). length memory) second_exit.memory);
             bytes =
-                λ index not_hidden. ap (λ (memory : List ℕ). slice_index memory index) exited_one.memory
-                ∙ same_enclave.memory.bytes index (within_before place.slot _ _ (ram_base + index) exited_one.extent not_hidden)
-                ∙ sym (ap (λ (memory : List ℕ). slice_index memory index) exited_other.memory);
+                λ index not_hidden. ap (λ (memory : List ℕ). slice_index memory index) first_exit.memory
+                ∙ same_enclave.memory.bytes index (within_before place.slot _ _ (ram_base + index) first_exit.extent not_hidden)
+                ∙ sym (ap (λ (memory : List ℕ). slice_index memory index) second_exit.memory);
           };
         };
       }

@@ -109,7 +109,7 @@ module _ (before : HartView) (slot : ℕ) (context : Context) (from_host : befor
 -- ---- an entry is a trap, and the slot had a saved context
 
 -- The host has a trap. The saved contexts agree with the table.
-module _ (before : HartView) (saves : SavedContextsInvariant before.shared) (runs : before.hart_state.world ≡ Host) (trap : Trap) where
+module _ (before : HartView) (contexts_agree : SavedContextsInvariant before.shared) (runs : before.hart_state.world ≡ Host) (trap : Trap) where
   -- each slot that runs after the trap handler had a saved context before the trap handler
   abbrev HadContext : Handled → Type 0
   HadContext result =
@@ -129,7 +129,7 @@ module _ (before : HartView) (saves : SavedContextsInvariant before.shared) (run
   accepted_slot_has_context call named_slot slot_accepted slot same_enclave =
       let slots_equal : named_slot ≡ slot = cc in
       subst (λ (some_slot : ℕ). is_some (context_at before.shared.contexts some_slot) ≡ true) slots_equal
-      (saves.kept named_slot ∙ ap is_held slot_accepted.is ∙ ap not (takes_rests call slot_accepted.info.state slot_accepted.taken))
+      (contexts_agree.kept named_slot ∙ ap is_held slot_accepted.is ∙ ap not (takes_rests call slot_accepted.info.state slot_accepted.taken))
 
   -- the trap handler enters only a slot with a saved context
   handled_had_context : HadContext (handled (hart_state_after before.hart_state trap) before.shared trap)

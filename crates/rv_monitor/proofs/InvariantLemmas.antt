@@ -31,8 +31,8 @@ pub world_at : (hart : ℕ) (machine : MonitoredMachine) → hart < count_of mac
 world_at hart machine in_range = get_or-map world_of machine.hart_states hart (hart_state_at_start 0) Host in_range
 
 -- the worlds of the other harts
-abbrev pub beside : ℕ → MonitoredMachine → List World
-beside hart machine = without (worlds machine) hart
+abbrev pub other_worlds_of : ℕ → MonitoredMachine → List World
+other_worlds_of hart machine = without (worlds machine) hart
 
 -- the list of worlds is unchanged if the world of a hart is written to its own place
 pub world_write_changes_nothing : (hart : ℕ) (machine : MonitoredMachine) → hart < count_of machine
@@ -44,7 +44,7 @@ world_write_changes_nothing hart machine in_range =
 
 -- the shared invariant holds for the list of worlds that begins with the world of the hart, followed by the worlds of the other harts
 pub shared_invariant_in_front : (hart : ℕ) (machine : MonitoredMachine) → Invariant machine → hart < count_of machine
-    → SharedInvariant machine.shared ((hart_state_of hart machine).world ∷ beside hart machine)
+    → SharedInvariant machine.shared ((hart_state_of hart machine).world ∷ other_worlds_of hart machine)
 shared_invariant_in_front hart machine invariant in_range =
     shared_invariant-moved_to_front machine.shared (worlds machine) hart (hart_state_of hart machine).world
     (world_index_in_range hart machine in_range)
@@ -58,9 +58,10 @@ hart_view_invariant hart machine invariant in_range =
 
 -- a step of a hart preserves the invariant of the shared state and of the hart, with the worlds of the other harts
 pub invariant_of_others : (hart : ℕ) (machine : MonitoredMachine) → Invariant machine → hart < count_of machine
-    → InvariantBeside (beside hart machine) (monitored_step (hart_view hart machine))
+    → InvariantBeside (other_worlds_of hart machine) (monitored_step (hart_view hart machine))
 invariant_of_others hart machine invariant in_range =
-    step_invariant (beside hart machine) (hart_state_of hart machine) machine.shared (shared_invariant_in_front hart machine invariant in_range)
+    step_invariant (other_worlds_of hart machine) (hart_state_of hart machine) machine.shared
+    (shared_invariant_in_front hart machine invariant in_range)
     (invariant.hart_states hart in_range)
 
 -- ---- the machine

@@ -34,7 +34,7 @@ use Rattle.rv_monitor.specs.Prelude.{is_world_of, byte_at, bytes_from, is_access
 use Rattle.rv_monitor.proofs.Prelude.{Handled, HartInvariant, HartView, HartViewStepped, Invariant, MonitoredMachine, MonitoredStepped, SlotInfo, and_parts, both_ways}
 use Rattle.rv_monitor.proofs.Prelude.{cases_Bool, cases_lt, count_of, enters, eq-eqb, get_or-set_at, get_or_past, handled, hart_state_at_start, hart_state_of}
 use Rattle.rv_monitor.proofs.Prelude.{hart_view, length-map, monitored_step, reprogrammed, runs_on, saved_after, step_of, worlds}
-use Rattle.rv_monitor.proofs.Attestation.{equal_fresh_records, same_size, some_identity, valid_slot}
+use Rattle.rv_monitor.proofs.Attestation.{equal_fresh_records, same_size, identity_if_live, record_is_valid}
 use Rattle.rv_monitor.proofs.Availability.{timer_exits}
 use Rattle.rv_monitor.proofs.Beside.{running_is_live, runs_among, running_hart_in_range}
 use Rattle.rv_monitor.proofs.EnclaveMemory.{enclave_world_is_not_host, accessible_bytes_are_own, world_is_enclave}
@@ -114,11 +114,11 @@ live_if_saved (Some info) has_context = refl
 
 -- the slot of a machine with the invariant has the saved context `context`
 module _ (slot : ℕ) (machine : MonitoredMachine) (context : Context) (invariant : Invariant machine)
-    (saves : context_at machine.shared.contexts slot ≡ Some context) where
+    (has_saved_context : context_at machine.shared.contexts slot ≡ Some context) where
   -- the slot has a live enclave that does not run, because it has a saved context
   slot_has_saved_context : is_held (slot_at machine.shared.table slot) ≡ true
   slot_has_saved_context =
-      sym (invariant.shared.contexts.kept slot) ∙ ap (λ (maybe_context : Option Context). is_some maybe_context) saves
+      sym (invariant.shared.contexts.kept slot) ∙ ap (λ (maybe_context : Option Context). is_some maybe_context) has_saved_context
 
   -- the enclave of the slot does not have the state Running
   saved_enclave_not_running : runs machine.shared.table slot ≡ false
@@ -133,7 +133,7 @@ module _ (slot : ℕ) (machine : MonitoredMachine) (context : Context) (invarian
   saved_continues = record {
     running =
         λ hart runs_on_hart. absurd (both_ways _ saved_enclave_not_running (runs_if_on_hart slot hart machine invariant runs_on_hart));
-    resting = λ not_running. saves;
+    resting = λ not_running. has_saved_context;
   }
 
 -- an enclave that runs continues with the registers of its hart
@@ -181,8 +181,8 @@ same_liveness : (table other_table : Slots) (slot other_slot : ℕ)
     → identity_at table slot ≡ identity_at other_table other_slot
     → is_live table slot ≡ is_live other_table other_slot
 same_liveness table other_table slot other_slot same_identity =
-    sym (some_identity (slot_at table slot)) ∙ ap (λ (maybe_info : Option SlotInfo). is_some maybe_info) same_identity
-    ∙ some_identity (slot_at other_table other_slot)
+    sym (identity_if_live (slot_at table slot)) ∙ ap (λ (maybe_info : Option SlotInfo). is_some maybe_info) same_identity
+    ∙ identity_if_live (slot_at other_table other_slot)
 
 -- two slots with equal identities have the same bytes beyond their region and window
 same_beyond : (table other_table : Slots) (slot other_slot byte : ℕ)
@@ -848,8 +848,8 @@ life_begins slot other_slot one other invariant_one invariant_other same_identit
     -- equal measured bytes give equal create arguments and equal bytes in the region
     let measured =
     measurement_law memory other_memory first_enclave.info second_enclave.info invariant_one.shared.valid.ram size
-    (valid_slot slot one invariant_one first_enclave)
-    (valid_slot other_slot other invariant_other second_enclave) same_identity.input in
+    (record_is_valid slot one invariant_one first_enclave)
+    (record_is_valid other_slot other invariant_other second_enclave) same_identity.input in
     -- equal measured bytes give equal digests
     let digest : first_enclave.info.measurement ≡ second_enclave.info.measurement =
     first_enclave.measurement ∙ same_digest memory other_memory (args_of first_enclave.info) (args_of second_enclave.info) same_identity.input

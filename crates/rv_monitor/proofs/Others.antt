@@ -18,26 +18,26 @@ without (first ∷ worlds) zero = worlds
 without (first ∷ worlds) (suc index) = first ∷ without worlds index
 
 -- a test holds for some world of a list if and only if it holds for the world at the index or for some other world
-pub any_prefix : (test : World → Bool) (worlds : List World) (index : ℕ) (world : World) → index < length worlds
+pub any_with_world_in_front : (test : World → Bool) (worlds : List World) (index : ℕ) (world : World) → index < length worlds
     → list_any test (slice_set worlds index world) ≡ (test world || list_any test (without worlds index))
-any_prefix test [] index world in_range = absurd (omega (arith, in_range))
-any_prefix test (first ∷ rest) zero world in_range = refl
-any_prefix test (first ∷ rest) (suc index) world in_range =
-    ap (λ (rest_test : Bool). test first || rest_test) (any_prefix test rest index world (omega (arith, in_range)))
+any_with_world_in_front test [] index world in_range = absurd (omega (arith, in_range))
+any_with_world_in_front test (first ∷ rest) zero world in_range = refl
+any_with_world_in_front test (first ∷ rest) (suc index) world in_range =
+    ap (λ (rest_test : Bool). test first || rest_test) (any_with_world_in_front test rest index world (omega (arith, in_range)))
     ∙ or_swap (test first) (test world) (list_any test (without rest index))
 
 -- worlds that are apart stay apart if the world at the index moves to the front
-apart_prefix : (worlds : List World) (index : ℕ) (world : World) → index < length worlds
+apart_in_front : (worlds : List World) (index : ℕ) (world : World) → index < length worlds
     → AreApart (slice_set worlds index world)
     → AreApart (world ∷ without worlds index)
-apart_prefix [] index world in_range worlds_apart = absurd (omega (arith, in_range))
-apart_prefix (first ∷ rest) zero world in_range worlds_apart = worlds_apart
-apart_prefix (first ∷ rest) (suc index) world in_range worlds_apart =
+apart_in_front [] index world in_range worlds_apart = absurd (omega (arith, in_range))
+apart_in_front (first ∷ rest) zero world in_range worlds_apart = worlds_apart
+apart_in_front (first ∷ rest) (suc index) world in_range worlds_apart =
     let in_tail : index < length rest = omega (arith, in_range) in
-    let rest_apart = apart_prefix rest index world in_tail worlds_apart.1 in
+    let rest_apart = apart_in_front rest index world in_tail worlds_apart.1 in
     let prefix_facts : (slot : ℕ) → is_world_of slot first ≡ true
     → (is_world_of slot world ≡ false) × (list_any (is_world_of slot) (without rest index) ≡ false) =
-    λ slot first_runs. or_parts _ _ (sym (any_prefix (is_world_of slot) rest index world in_tail) ∙ worlds_apart.0 slot first_runs) in (
+    λ slot first_runs. or_parts _ _ (sym (any_with_world_in_front (is_world_of slot) rest index world in_tail) ∙ worlds_apart.0 slot first_runs) in (
       λ slot first_runs. elim (cases_Bool (is_world_of slot first)) [
         | inl runs_enclave ↦ absurd (both_ways _ (prefix_facts slot runs_enclave).0 first_runs)
         | inr world_runs_other ↦ or_from (is_world_of slot first) _ world_runs_other (rest_apart.0 slot first_runs)
@@ -46,19 +46,19 @@ apart_prefix (first ∷ rest) (suc index) world in_range worlds_apart =
     )
 
 -- worlds that are apart stay apart if the first world moves to the index
-apart_back : (worlds : List World) (index : ℕ) (world : World) → index < length worlds
+apart_moved_back : (worlds : List World) (index : ℕ) (world : World) → index < length worlds
     → AreApart (world ∷ without worlds index)
     → AreApart (slice_set worlds index world)
-apart_back [] index world in_range worlds_apart = absurd (omega (arith, in_range))
-apart_back (first ∷ rest) zero world in_range worlds_apart = worlds_apart
-apart_back (first ∷ rest) (suc index) world in_range worlds_apart =
+apart_moved_back [] index world in_range worlds_apart = absurd (omega (arith, in_range))
+apart_moved_back (first ∷ rest) zero world in_range worlds_apart = worlds_apart
+apart_moved_back (first ∷ rest) (suc index) world in_range worlds_apart =
     let in_tail : index < length rest = omega (arith, in_range) in (
-      λ slot first_runs. any_prefix (is_world_of slot) rest index world in_tail
+      λ slot first_runs. any_with_world_in_front (is_world_of slot) rest index world in_tail
           ∙ elim (cases_Bool (is_world_of slot world)) [
             | inl runs_enclave ↦ absurd (both_ways _ (or_parts _ _ (worlds_apart.0 slot runs_enclave)).0 first_runs)
             | inr world_runs_other ↦ or_from (is_world_of slot world) _ world_runs_other (worlds_apart.1.0 slot first_runs)
           ],
-      apart_back rest index world in_tail (λ slot first_runs. (or_parts _ _ (worlds_apart.0 slot first_runs)).1, worlds_apart.1.1),
+      apart_moved_back rest index world in_tail (λ slot first_runs. (or_parts _ _ (worlds_apart.0 slot first_runs)).1, worlds_apart.1.1),
     )
 
 -- the shared invariant for a list of worlds holds for the list with the world at the index moved to the front
@@ -68,8 +68,8 @@ pub shared_invariant-moved_to_front : (shared : Shared) (worlds : List World) (i
 shared_invariant-moved_to_front shared worlds index world in_range shared_invariant = record {
   valid = shared_invariant.valid;
   contexts = shared_invariant.contexts;
-  running = λ slot. shared_invariant.running slot ∙ any_prefix (is_world_of slot) worlds index world in_range;
-  apart = apart_prefix worlds index world in_range shared_invariant.apart;
+  running = λ slot. shared_invariant.running slot ∙ any_with_world_in_front (is_world_of slot) worlds index world in_range;
+  apart = apart_in_front worlds index world in_range shared_invariant.apart;
 }
 
 -- the shared invariant for a list of worlds holds for the list with the first world moved to the index
@@ -79,6 +79,6 @@ pub shared_invariant-moved_back : (shared : Shared) (worlds : List World) (index
 shared_invariant-moved_back shared worlds index world in_range shared_invariant = record {
   valid = shared_invariant.valid;
   contexts = shared_invariant.contexts;
-  running = λ slot. shared_invariant.running slot ∙ sym (any_prefix (is_world_of slot) worlds index world in_range);
-  apart = apart_back worlds index world in_range shared_invariant.apart;
+  running = λ slot. shared_invariant.running slot ∙ sym (any_with_world_in_front (is_world_of slot) worlds index world in_range);
+  apart = apart_moved_back worlds index world in_range shared_invariant.apart;
 }

@@ -150,18 +150,19 @@ view_invariant_of_parts hart_state shared worlds shared_invariant hart_invariant
 
 -- the shared invariant holds after the step with the new world of the hart and the worlds of the other harts, and the hart has the invariant
 abbrev pub InvariantBeside : List World → HartViewStepped → Type 0
-InvariantBeside beside after =
-    SharedInvariant after.state.shared (after.state.hart_state.world ∷ beside) × HartInvariant after.state.shared.table after.state.hart_state
+InvariantBeside other_worlds after =
+    SharedInvariant after.state.shared (after.state.hart_state.world ∷ other_worlds) × HartInvariant after.state.shared.table after.state.hart_state
 
 -- the hart and the shared state have their invariants, with the worlds of the other harts
-module _ (beside : List World) (hart_state : HartState) (shared : Shared) (shared_invariant : SharedInvariant shared (hart_state.world ∷ beside))
+module _ (other_worlds : List World) (hart_state : HartState) (shared : Shared)
+    (shared_invariant : SharedInvariant shared (hart_state.world ∷ other_worlds))
     (hart_invariant : HartInvariant shared.table hart_state) where
   -- the view of the hart before the step
   abbrev state : HartView
   state = record { hart_state = hart_state; shared = shared }
 
   -- the hart state at a trap satisfies `IsTrapped`
-  trapped_hart_state : (trap : Trap) → IsTrapped beside (hart_state_after hart_state trap) shared
+  trapped_hart_state : (trap : Trap) → IsTrapped other_worlds (hart_state_after hart_state trap) shared
   trapped_hart_state trap =
       let host = hart_invariant.host in
       let layout = hart_invariant.layout in
@@ -181,14 +182,14 @@ module _ (beside : List World) (hart_state : HartState) (shared : Shared) (share
   kept_without_trap : (after : Stepped) → IsConfined (bare_machine state) after
       → StaysBelow hart_state.hart after.state.hart
       → after.state.hart.csrs.mstatus.mprv ≡ false
-      → InvariantBeside beside (unhandled after.outcome (record hart_state { hart = after.state.hart })
+      → InvariantBeside other_worlds (unhandled after.outcome (record hart_state { hart = after.state.hart })
       (record shared { memory = after.state.memory }))
   kept_without_trap after confined stays_below mprv =
       let hart = after.state.hart in
       let same_machine_parts = same_parts hart.csrs hart_state.hart.csrs stays_below.0 in
       let layout = hart_invariant.layout in (
         -- the memory keeps its size
-        sound_by_size shared (hart_state.world ∷ beside) after.state.memory shared_invariant (step_size (bare_machine state) after confined),
+        sound_by_size shared (hart_state.world ∷ other_worlds) after.state.memory shared_invariant (step_size (bare_machine state) after confined),
         -- the hart keeps its PMP entries, mie and the fixed bits of mstatus
         invariant_with_hart shared.table hart_state hart hart_invariant.host (record {
           entries = same_machine_parts.0 ∙ layout.entries;
@@ -203,9 +204,9 @@ module _ (beside : List World) (hart_state : HartState) (shared : Shared) (share
       )
 
   -- the return from a result of the trap handler that satisfies `InvariantAfterHandler` satisfies `InvariantBeside`
-  kept_after_handler : (outcome : StepOutcome) (result : Handled) → InvariantAfterHandler beside result
+  kept_after_handler : (outcome : StepOutcome) (result : Handled) → InvariantAfterHandler other_worlds result
       → IsLaidOut result.shared.table result.hart_state
-      → InvariantBeside beside (returned outcome result)
+      → InvariantBeside other_worlds (returned outcome result)
   kept_after_handler outcome result invariant_after is_laid_out =
       let ready = invariant_after.ready in (
         ready.sound,
@@ -225,11 +226,11 @@ module _ (beside : List World) (hart_state : HartState) (shared : Shared) (share
       )
 
   -- a step of a view satisfies `InvariantBeside`
-  pub step_invariant : InvariantBeside beside (monitored_step state)
+  pub step_invariant : InvariantBeside other_worlds (monitored_step state)
   step_invariant =
       let after = step (bare_machine state) in
       let layout = hart_invariant.layout in
-      step_cases state (InvariantBeside beside)
+      step_cases state (InvariantBeside other_worlds)
       (λ no_trap.
       let parts_and_mode_kept =
       without_trap after.outcome.trap (StaysBelow hart_state.hart after.state.hart) no_trap
@@ -239,5 +240,5 @@ module _ (beside : List World) (hart_state : HartState) (shared : Shared) (share
       (λ trap traps.
       let hart_state_at_trap = hart_state_after hart_state trap in
       kept_after_handler after.outcome (handled hart_state_at_trap shared trap)
-      (handled_done beside hart_state_at_trap shared trap (trapped_hart_state trap))
+      (handled_done other_worlds hart_state_at_trap shared trap (trapped_hart_state trap))
       (handled_laid_out hart_state_at_trap shared trap))
