@@ -48,6 +48,7 @@ handled_size : (hart_state : HartState) (shared : Shared) (trap : Trap)
     → length (handled hart_state shared trap).shared.memory ≡ length shared.memory
 unfolding created destroyed measured entered_slot left
 handled_size hart_state shared trap =
+    -- only a destroy and a measure write to memory, and a write keeps the size
     handler_cases hart_state trap shared (λ result. length result.shared.memory ≡ length shared.memory) (record {
       answers = λ status result. refl;
       creates = λ requests no_refusal. refl;
@@ -143,6 +144,7 @@ module _ (slot : ℕ) (shared : Shared) (valid : IsValid shared.memory shared.ta
   -- if the trap handler makes the slot live, then the enclave in the slot is in the state after create
   handled_created : (hart_state : HartState) (trap : Trap) → AsCreatedIfLive (handled hart_state shared trap)
   unfolding measured entered_slot left
+  -- only a create makes a free slot live
   handled_created hart_state trap = handler_cases hart_state trap shared AsCreatedIfLive (record {
     answers = λ status result live. slot_still_free shared refl live;
     creates = λ requests no_refusal live. create_gives_as_created (create_args_of hart_state.hart.regs) no_refusal live;

@@ -162,6 +162,7 @@ module _ (hart_state : HartState) (shared : Shared) (valid : IsValid shared.memo
   -- the trap handler changes only bytes that the requested call may change
   handled_changes : ChangedBy (handled hart_state shared trap).shared
   unfolding created entered_slot left
+  -- only a destroy and a measure change bytes
   handled_changes = handler_cases hart_state trap shared (λ result. ChangedBy result.shared) (record {
     answers = λ status result. inl refl;
     creates = λ requests no_refusal. inl refl;

@@ -81,6 +81,7 @@ module _ (slot : ℕ) (view : HartView) (view_invariant : HartViewInvariant view
     unfolding measured left with_redirected_trap
     handler_stays =
         let mprv = view_invariant.hart.layout.mprv in
+        -- an enclave may neither create, destroy nor enter; an exit leaves for the host; every other case keeps what `StaysBehind` names
         handler_cases hart_state trap view.shared StaysIfRunning (record {
           answers = λ status result enclave_runs_after. (refl, rw mprv refl, refl, refl);
           creates =

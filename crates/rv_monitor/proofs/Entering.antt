@@ -35,6 +35,7 @@ module _ (before : HartView) (slot : ℕ) (context : Context) (from_host : befor
   -- the trap handler continues the host, or enters the slot in a0
   handled_host_or_entry : HostOrEntry (handled hart_state before.shared trap)
   unfolding left
+  -- an entry enters the slot in a0, and every other case continues with the host
   handled_host_or_entry = handler_cases hart_state trap before.shared HostOrEntry (record {
     answers = λ status result. inl from_host;
     creates = λ requests no_refusal. inl from_host;
@@ -134,6 +135,7 @@ module _ (before : HartView) (contexts_agree : SavedContextsInvariant before.sha
   -- the trap handler enters only a slot with a saved context
   handled_had_context : HadContext (handled (hart_state_after before.hart_state trap) before.shared trap)
   unfolding left entered_slot
+  -- an entry needs a slot in a state that the call accepts, and every other case continues with the host
   handled_had_context = handler_cases (hart_state_after before.hart_state trap) trap before.shared HadContext (record {
     answers = λ status result. no_entry _ runs;
     creates = λ requests no_refusal. no_entry _ runs;

@@ -134,6 +134,7 @@ module _ (hart_state : HartState) (mprv : hart_state.hart.csrs.mstatus.mprv ≡ 
       (handled hart_state (shared_of table other_memory other_contexts) trap)
   unfolding measured entered_slot left with_redirected_trap
   handled_host trap table memory other_memory contexts other_contexts same_length =
+      -- in each case both results have the same host context, because the tables are equal
       handler_cases_of_both hart_state trap table memory other_memory contexts other_contexts SameHostHandled (record {
         answers = λ status result. record { host = refl; rest = rw mprv refl };
         creates = λ requests no_refusal. record { host = refl; rest = rw mprv refl };

@@ -83,6 +83,7 @@ module _ (enclave : ℕ) (table : Slots) (memory other_memory : List ℕ) (conte
   handled_alike : length memory ≡ length other_memory
       → HandledAlike enclave (handled hart_state first_shared trap) (handled hart_state second_shared trap)
   handled_alike =
+      -- `WorksAlike` gives equivalent shared states for each effect; a call returns a status and a value
       handler_cases_of_both hart_state trap table memory other_memory contexts other_contexts (HandledAlike enclave) (record {
         answers = λ status result. returned_alike first_shared second_shared status result cases.before;
         creates =

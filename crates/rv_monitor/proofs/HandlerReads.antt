@@ -156,6 +156,7 @@ module _ (table : Slots) (memory other_memory : List ℕ) (contexts other_contex
     handled_same : HandlerCases (handled hart_state first_shared trap) (handled hart_state second_shared trap)
     unfolding left
     handled_same =
+        -- each case gives equal results, because the trap handler reads equal bytes and equal contexts
         handler_cases_of_both hart_state trap table memory other_memory contexts other_contexts HandlerCases (record {
           answers = λ status result. caller_same first_shared second_shared status result same_if_unchanged;
           creates =

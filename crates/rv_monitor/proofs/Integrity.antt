@@ -94,6 +94,7 @@ module _ (slot : ℕ) (hart_state : HartState) (shared : Shared) (valid : IsVali
   -- the trap handler satisfies `Keeps` for the slot
   handled_keeps : (trap : Trap) → Keeps slot shared (handled hart_state shared trap)
   unfolding measured entered_slot left
+  -- a create fills a free slot, a destroy ends the slot that it names, and an entry or exit changes only the slot of its enclave
   handled_keeps trap = handler_cases hart_state trap shared (Keeps slot shared) (record {
     answers = λ status result not_entered live_after. record { slot = refl; context = refl };
     creates =

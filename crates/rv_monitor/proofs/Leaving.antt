@@ -48,6 +48,7 @@ module _ (before : HartView) (slot : ℕ) (host : Context) (runs_enclave : befor
 
   -- the trap handler exits the enclave, or leaves the enclave running
   handled_stays_or_exits : StaysOrExits (handled hart_state before.shared trap)
+  -- an exit leaves for the host, an enclave may not enter, and every other case continues with the enclave
   handled_stays_or_exits = handler_cases hart_state trap before.shared StaysOrExits (record {
     answers = λ status result. inl runs_enclave;
     creates = λ requests no_refusal. inl runs_enclave;

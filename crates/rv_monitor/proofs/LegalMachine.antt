@@ -94,6 +94,7 @@ module _ (hart_state : HartState) (shared : Shared) (trap : Trap) (legal : Legal
   handler_keeps_legal : LegalAfterHandler (handled hart_state shared trap)
   unfolding created destroyed measured entered_slot left with_redirected_trap first_context
   handler_keeps_legal =
+      -- create and an exit save a legal context, an entry and a destroy clear the saved context, and a redirection moves mepc to sepc
       handler_cases hart_state trap shared LegalAfterHandler (record {
         answers =
             λ status result. record { supervisor = record { stvec = legal.stvec; sepc = legal.sepc }; contexts = all_legal };

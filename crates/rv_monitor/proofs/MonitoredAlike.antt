@@ -165,6 +165,7 @@ stepped_equiv enclave hart one other stepped other_stepped equiv in_range view_s
             (hart_state_reprogrammed maybe_trap slots (hart_state_of other_hart other)) in
             hart_states_equiv enclave _ _ _ _ (other_hart_state hart one stepped other_hart distinct other_in_range)
             (other_hart_state hart other other_stepped other_hart distinct (omega (arith, same_harts, other_in_range)))
+            -- both harts were equivalent before, and reprogramming keeps the equivalence
             (subst (λ (maybe_trap : Option Trap). ReprogrammedEquiv maybe_trap other_stepped.state.shared.table) traps
             (subst (ReprogrammedEquiv stepped.outcome.step.trap) view_steps_agree.shared.table
             (reprogrammed_equiv enclave stepped.outcome.step.trap stepped.state.shared.table (hart_state_of other_hart one)

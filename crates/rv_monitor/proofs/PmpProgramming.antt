@@ -50,6 +50,7 @@ pub handler_keeps_entries : (hart_state : HartState) (shared : Shared) (trap : T
     → entries_of (handled_cause hart_state shared trap trap.cause) ≡ hart_state.hart.csrs.pmp
 unfolding entered_slot left with_redirected_trap
 handler_keeps_entries hart_state shared trap =
+    -- no case writes a PMP entry
     by_cause_cases hart_state trap shared.table shared.memory shared.memory shared.contexts shared.contexts
     (λ result _. entries_of result ≡ hart_state.hart.csrs.pmp)
     (record {

@@ -76,6 +76,7 @@ module _ (slot : ℕ) (hart_state : HartState) (shared : Shared) (valid : IsVali
   -- the trap handler satisfies `Keeps`
   handled_keeps : (trap : Trap) → Keeps (handled hart_state shared trap)
   unfolding measured entered_slot left
+  -- no case changes the region, the window, the entry or the measurement of an enclave that stays live
   handled_keeps trap = handler_cases hart_state trap shared Keeps (record {
     answers = λ status result live_after. refl;
     creates = λ requests no_refusal live_after. created_keeps (create_args_of hart_state.hart.regs) no_refusal;

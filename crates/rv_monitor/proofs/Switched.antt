@@ -48,6 +48,7 @@ pub handled_stays_or_switches : (hart_state : HartState) (shared : Shared) (trap
     → StaysEntersOrExits hart_state trap (handled hart_state shared trap)
 unfolding entered_slot left
 handled_stays_or_switches hart_state shared trap =
+    -- an entry enters an enclave, an exit leaves for the host, and every other case continues the world
     handler_cases hart_state trap shared (StaysEntersOrExits hart_state trap) (record {
       answers = λ status result. inl (record { world = refl; host = refl; entered = refl });
       creates = λ requests no_refusal. inl (record { world = refl; host = refl; entered = refl });
