@@ -246,15 +246,15 @@ reset_csrs_with_timer timer = record at_reset { timer = timer }
 
 -- the hart after the entry of an enclave, as S and U see the hart; `csrs` are the CSRs before the entry
 abbrev hart_after_entry : CsrState → Slots → ℕ → Context → Hart
-hart_after_entry csrs slots slot context =
+hart_after_entry csrs table slot context =
     let trap : Trap = record { cause = causes.Exception EnvironmentCallFromS; tval = 0 } in
-    below_m_hart (switched_hart (record { regs = []; csrs = csrs; pc = 0; mode = context.mode }) trap context slots (Enclave slot))
+    below_m_hart (switched_hart (record { regs = []; csrs = csrs; pc = 0; mode = context.mode }) trap context table (Enclave slot))
 
 -- the hart after an entry depends on the hart before the entry only by its timer line
-entry_depends_on_timer_line : (hart_state : HartState) (old slots : Slots) (slot : ℕ) (context : Context)
+entry_depends_on_timer_line : (hart_state : HartState) (old table : Slots) (slot : ℕ) (context : Context)
     → HartInvariant old hart_state
-    → hart_after_entry hart_state.hart.csrs slots slot context ≡ hart_after_entry (reset_csrs_with_timer hart_state.hart.csrs.timer) [] 0 context
-entry_depends_on_timer_line hart_state old slots slot context hart_invariant =
+    → hart_after_entry hart_state.hart.csrs table slot context ≡ hart_after_entry (reset_csrs_with_timer hart_state.hart.csrs.timer) [] 0 context
+entry_depends_on_timer_line hart_state old table slot context hart_invariant =
     let mie = hart_invariant.layout.mstatus_mie in
     let mprv = hart_invariant.layout.mprv in
     let tvm = hart_invariant.layout.tvm in
@@ -284,14 +284,14 @@ module _ (place : Place) (machine : MonitoredMachine) (context : Context) (invar
   hart_after_step_is_entered : below_m_hart (hart_state_of place.hart (step_at place machine).state).hart
       ≡ hart_after_entry (reset_csrs_with_timer (hart_state_of place.hart machine).hart.csrs.timer) [] 0 context
   hart_after_step_is_entered =
-      let slots = slots_with_state machine.shared.table place.slot Running in
+      let table = slots_with_state machine.shared.table place.slot Running in
       let in_range = (is_trapping place.hart machine entry.trap entry.trapped).has in
-      let same_length = length-map machine.hart_states (reprogrammed slots) in
+      let same_length = length-map machine.hart_states (reprogrammed table) in
       ap (λ (machine : MonitoredMachine). below_m_hart (hart_state_of place.hart machine).hart) machine_after_entry
       ∙ ap (λ (hart_state : HartState). below_m_hart hart_state.hart)
-      (get_or-set_at (map (reprogrammed slots) machine.hart_states) place.hart place.hart _ (hart_state_at_start 0) refl
+      (get_or-set_at (map (reprogrammed table) machine.hart_states) place.hart place.hart _ (hart_state_at_start 0) refl
       (omega (arith, same_length, in_range)))
-      ∙ entry_depends_on_timer_line (hart_state_of place.hart machine) machine.shared.table slots place.slot context
+      ∙ entry_depends_on_timer_line (hart_state_of place.hart machine) machine.shared.table table place.slot context
       (invariant.hart_states place.hart in_range)
 
   -- the record of the enclave after the step is the old record with the state Running

@@ -33,17 +33,17 @@ world_is_host Host host_runs = refl
 world_is_host (Enclave slot) host_runs = cc
 
 -- the monitor does not refuse a destroy of a live enclave with the state Stopped
-stopped_enclave_is_destroyable : (slots : Slots) (slot : ℕ) (maybe_info : Option SlotInfo) → length slots ≡ slot_count
-    → slot_at slots slot ≡ maybe_info
+stopped_enclave_is_destroyable : (table : Slots) (slot : ℕ) (maybe_info : Option SlotInfo) → length table ≡ slot_count
+    → slot_at table slot ≡ maybe_info
     → is_some maybe_info ≡ true
-    → first_refusal (state_refusals (option_case maybe_info slots
-    (λ info. with_slot slots slot (Some (record info { state = Stopped })))) Destroy slot) ≡ None
+    → first_refusal (state_refusals (option_case maybe_info table
+    (λ info. with_slot table slot (Some (record info { state = Stopped })))) Destroy slot) ≡ None
 unfolding state_refusals
-stopped_enclave_is_destroyable slots slot None table_length slot_is is_live = cc
-stopped_enclave_is_destroyable slots slot (Some info) table_length slot_is is_live =
-    let slot_in_range = live_in_range slots slot info table_length slot_is in
+stopped_enclave_is_destroyable table slot None table_length slot_is is_live = cc
+stopped_enclave_is_destroyable table slot (Some info) table_length slot_is is_live =
+    let slot_in_range = live_in_range table slot info table_length slot_is in
     let written_record =
-    at_written_slot slots slot (Some (record info { state = Stopped })) (omega (arith, table_length, slot_in_range)) in
+    at_written_slot table slot (Some (record info { state = Stopped })) (omega (arith, table_length, slot_in_range)) in
     rw written_record refl
 
 -- proves that an enclave exits by the timer interrupt if the timer line of its hart is set

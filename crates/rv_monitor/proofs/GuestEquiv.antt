@@ -28,9 +28,9 @@ use Rattle.rv_monitor.specs.Declassification.{EquivToGuests, SameHost, SameHostO
 -- ---- the guest view of a machine is a machine
 
 -- the guest state of a hart with the invariant has the invariant
-guest_hart_invariant : (slots : Slots) (hart_state : HartState) → HartInvariant slots hart_state
-    → HartInvariant slots (guest_state hart_state)
-guest_hart_invariant slots hart_state hart_invariant = record {
+guest_hart_invariant : (table : Slots) (hart_state : HartState) → HartInvariant table hart_state
+    → HartInvariant table (guest_state hart_state)
+guest_hart_invariant table hart_state hart_invariant = record {
   host = record { kept = hart_invariant.host.kept; held = hart_invariant.host.held };
   layout = record {
     entries = hart_invariant.layout.entries;
@@ -207,8 +207,8 @@ pub other_harts_keep_host : (hart other_hart : ℕ) (machine : MonitoredMachine)
     → SameHostOn other_hart (step_of hart machine).state machine
 other_harts_keep_host hart other_hart machine distinct = record {
   host =
-      other_harts_keep (λ (hart_state : HartState). hart_state.host_context) (λ slots hart_state. refl) hart other_hart machine distinct;
-  rest = other_harts_keep rest_of (λ slots hart_state. refl) hart other_hart machine distinct;
+      other_harts_keep (λ (hart_state : HartState). hart_state.host_context) (λ table hart_state. refl) hart other_hart machine distinct;
+  rest = other_harts_keep rest_of (λ table hart_state. refl) hart other_hart machine distinct;
 }
 
 -- If the machines of each neighbouring pair of four have the same saved host on a hart, then so have the first and the last machine.
@@ -228,7 +228,7 @@ pub ran_before : (enclave hart other_hart : ℕ) (machine : MonitoredMachine) �
     → runs_on enclave other_hart machine ≡ true
 ran_before enclave hart other_hart machine distinct runs_after =
     sym (other_harts_keep (λ (hart_state : HartState). is_world_of enclave hart_state.world)
-    (λ slots hart_state. refl) hart other_hart machine distinct)
+    (λ table hart_state. refl) hart other_hart machine distinct)
     ∙ runs_after
 
 -- Two machines are equivalent except `enclave` in the guest view, and each hart that runs `enclave` has the same saved host in both. A hart that

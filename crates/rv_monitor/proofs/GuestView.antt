@@ -171,15 +171,15 @@ guest_states_twice : (hart_states : List HartState)
 guest_states_twice hart_states = sym (map-map guest_state guest_state hart_states)
 
 -- reprogramming after a trap leaves the same guest states from the hart states and from their guest states
-reprogrammed_same : (maybe_trap : Option Trap) (slots : Slots) (hart_states : List HartState)
-    → map guest_state (hart_states_reprogrammed maybe_trap slots hart_states)
-    ≡ map guest_state (hart_states_reprogrammed maybe_trap slots (map guest_state hart_states))
-reprogrammed_same None slots hart_states = guest_states_twice hart_states
-reprogrammed_same (Some trap) slots hart_states =
-    map-map guest_state (reprogrammed slots) hart_states
+reprogrammed_same : (maybe_trap : Option Trap) (table : Slots) (hart_states : List HartState)
+    → map guest_state (hart_states_reprogrammed maybe_trap table hart_states)
+    ≡ map guest_state (hart_states_reprogrammed maybe_trap table (map guest_state hart_states))
+reprogrammed_same None table hart_states = guest_states_twice hart_states
+reprogrammed_same (Some trap) table hart_states =
+    map-map guest_state (reprogrammed table) hart_states
     ∙ sym
-    (map-map guest_state (reprogrammed slots) (map guest_state hart_states)
-    ∙ map-map (λ (hart_state : HartState). guest_state (reprogrammed slots hart_state)) guest_state hart_states)
+    (map-map guest_state (reprogrammed table) (map guest_state hart_states)
+    ∙ map-map (λ (hart_state : HartState). guest_state (reprogrammed table hart_state)) guest_state hart_states)
 
 -- if two views after a step are the same to guests, then so are the machines after the step
 stepped_same : (hart : ℕ) (machine : MonitoredMachine) (stepped other_stepped : HartViewStepped)

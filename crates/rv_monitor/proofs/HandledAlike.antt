@@ -32,8 +32,8 @@ module _ (enclave : ℕ) (table : Slots) (memory other_memory : List ℕ) (conte
     hart_state = record {
       world = refl;
       same = λ not_running.
-          ap (λ (slots : Slots). continuing_from
-          (with_reprogrammed_hart (returned_to_caller hart_state (shared_of slots one.memory one.contexts) status result))) shared_equiv.table;
+          ap (λ (table : Slots). continuing_from
+          (with_reprogrammed_hart (returned_to_caller hart_state (shared_of table one.memory one.contexts) status result))) shared_equiv.table;
     };
     shared = shared_equiv;
   }

@@ -132,7 +132,7 @@ module _ (table : Slots) (memory other_memory : List ℕ) (contexts other_contex
     caller_same one other status result same =
         record {
           hart_state =
-              ap (λ (slots : Slots). reprogrammed slots (returned_to_caller hart_state one status result).hart_state) same.table;
+              ap (λ (table : Slots). reprogrammed table (returned_to_caller hart_state one status result).hart_state) same.table;
           next = refl;
           shared = same;
         }

@@ -56,22 +56,22 @@ hart_cases hart_states hart hart_state Claim in_range claim_for_hart claims_for_
 
 -- the state of a hart after the step of another hart: it is reprogrammed if the step traps, and unchanged otherwise
 abbrev pub hart_state_reprogrammed : Option Trap → Slots → HartState → HartState
-hart_state_reprogrammed None slots hart_state = hart_state
-hart_state_reprogrammed (Some trap) slots hart_state = reprogrammed slots hart_state
+hart_state_reprogrammed None table hart_state = hart_state
+hart_state_reprogrammed (Some trap) table hart_state = reprogrammed table hart_state
 
 -- the reprogramming after a trap does not change the number of harts
-pub reprogrammed_count : (maybe_trap : Option Trap) (slots : Slots) (hart_states : List HartState)
-    → length (hart_states_reprogrammed maybe_trap slots hart_states) ≡ length hart_states
-reprogrammed_count None slots hart_states = refl
-reprogrammed_count (Some trap) slots hart_states = length-map hart_states (reprogrammed slots)
+pub reprogrammed_count : (maybe_trap : Option Trap) (table : Slots) (hart_states : List HartState)
+    → length (hart_states_reprogrammed maybe_trap table hart_states) ≡ length hart_states
+reprogrammed_count None table hart_states = refl
+reprogrammed_count (Some trap) table hart_states = length-map hart_states (reprogrammed table)
 
 -- after the reprogramming of all harts, each hart has its reprogrammed state
-reprogrammed_hart_state : (maybe_trap : Option Trap) (slots : Slots) (hart_states : List HartState) (hart : ℕ) → hart < length hart_states
-    → hart_state_in (hart_states_reprogrammed maybe_trap slots hart_states) hart ≡ hart_state_reprogrammed maybe_trap slots
+reprogrammed_hart_state : (maybe_trap : Option Trap) (table : Slots) (hart_states : List HartState) (hart : ℕ) → hart < length hart_states
+    → hart_state_in (hart_states_reprogrammed maybe_trap table hart_states) hart ≡ hart_state_reprogrammed maybe_trap table
     (hart_state_in hart_states hart)
-reprogrammed_hart_state None slots hart_states hart in_range = refl
-reprogrammed_hart_state (Some trap) slots hart_states hart in_range =
-    get_or-map (reprogrammed slots) hart_states hart (hart_state_at_start 0) (hart_state_at_start 0) in_range
+reprogrammed_hart_state None table hart_states hart in_range = refl
+reprogrammed_hart_state (Some trap) table hart_states hart in_range =
+    get_or-map (reprogrammed table) hart_states hart (hart_state_at_start 0) (hart_state_at_start 0) in_range
 
 -- ---- a step of a hart of the machine
 
@@ -82,30 +82,30 @@ module _ (hart : ℕ) (machine : MonitoredMachine) (after : HartViewStepped) whe
   maybe_trap = after.outcome.step.trap
 
   -- the table after the step
-  abbrev slots : Slots
-  slots = after.state.shared.table
+  abbrev table : Slots
+  table = after.state.shared.table
 
   -- a step does not change the number of harts
   pub stepped_count : count_of (stepped_by hart machine after).state ≡ count_of machine
   stepped_count =
-      length-set (hart_states_reprogrammed maybe_trap slots machine.hart_states) hart after.state.hart_state
-      ∙ reprogrammed_count maybe_trap slots machine.hart_states
+      length-set (hart_states_reprogrammed maybe_trap table machine.hart_states) hart after.state.hart_state
+      ∙ reprogrammed_count maybe_trap table machine.hart_states
 
   -- the hart that steps has the state that its view has after the step
   pub stepping_hart_state : (other_hart : ℕ) → other_hart ≡ hart → hart < count_of machine
       → hart_state_of other_hart (stepped_by hart machine after).state ≡ after.state.hart_state
   stepping_hart_state other_hart is_stepping_hart in_range =
-      let same_length = reprogrammed_count maybe_trap slots machine.hart_states in
-      get_or-set_at (hart_states_reprogrammed maybe_trap slots machine.hart_states) hart other_hart after.state.hart_state
+      let same_length = reprogrammed_count maybe_trap table machine.hart_states in
+      get_or-set_at (hart_states_reprogrammed maybe_trap table machine.hart_states) hart other_hart after.state.hart_state
       (hart_state_at_start 0) is_stepping_hart
       (omega (arith, same_length, in_range))
 
   -- each other hart keeps its state, reprogrammed if the step traps
   pub other_hart_state : (other_hart : ℕ) → other_hart ≢ hart → other_hart < count_of machine
-      → hart_state_of other_hart (stepped_by hart machine after).state ≡ hart_state_reprogrammed maybe_trap slots (hart_state_of other_hart machine)
+      → hart_state_of other_hart (stepped_by hart machine after).state ≡ hart_state_reprogrammed maybe_trap table (hart_state_of other_hart machine)
   other_hart_state other_hart distinct in_range =
-      get_or-set_other (hart_states_reprogrammed maybe_trap slots machine.hart_states) hart other_hart after.state.hart_state
-      (hart_state_at_start 0) distinct ∙ reprogrammed_hart_state maybe_trap slots machine.hart_states other_hart in_range
+      get_or-set_other (hart_states_reprogrammed maybe_trap table machine.hart_states) hart other_hart after.state.hart_state
+      (hart_state_at_start 0) distinct ∙ reprogrammed_hart_state maybe_trap table machine.hart_states other_hart in_range
 
 -- ---- any step
 
@@ -148,7 +148,7 @@ step_of_view hart machine in_range =
 
 -- a step of one hart preserves each property of the other harts that does not depend on the PMP entries and mie
 pub other_harts_keep : {X : Type 0} (property : HartState → X)
-    → ((slots : Slots) (hart_state : HartState) → property (reprogrammed slots hart_state) ≡ property hart_state)
+    → ((table : Slots) (hart_state : HartState) → property (reprogrammed table hart_state) ≡ property hart_state)
     → (hart other_hart : ℕ) (machine : MonitoredMachine)
     → other_hart ≢ hart → property (hart_state_of other_hart (step_of hart machine).state) ≡ property (hart_state_of other_hart machine)
 other_harts_keep property preserved hart other_hart machine distinct =
@@ -165,10 +165,10 @@ other_harts_keep property preserved hart other_hart machine distinct =
           (past_hart_state machine.hart_states other_hart past_last))
     ]) where
       -- the property of the other hart is the same before and after the reprogramming of the other hart
-      reprogramming_keeps_property : (maybe_trap : Option Trap) (slots : Slots)
-          → property (hart_state_reprogrammed maybe_trap slots (hart_state_of other_hart machine)) ≡ property (hart_state_of other_hart machine)
-      reprogramming_keeps_property None slots = refl
-      reprogramming_keeps_property (Some trap) slots = preserved slots (hart_state_of other_hart machine)
+      reprogramming_keeps_property : (maybe_trap : Option Trap) (table : Slots)
+          → property (hart_state_reprogrammed maybe_trap table (hart_state_of other_hart machine)) ≡ property (hart_state_of other_hart machine)
+      reprogramming_keeps_property None table = refl
+      reprogramming_keeps_property (Some trap) table = preserved table (hart_state_of other_hart machine)
 
 -- a step without a trap leaves the table unchanged
 pub untrapped_table_unchanged : (view : HartView) → (monitored_step view).outcome.step.trap ≡ None
@@ -183,7 +183,7 @@ state_is_reprogrammed : (maybe_trap : Option Trap) (before after : Slots) (hart_
     → HartInvariant before hart_state
     → hart_state_reprogrammed maybe_trap after hart_state ≡ reprogrammed after hart_state
 state_is_reprogrammed None before after hart_state same_if_untrapped hart_invariant =
-    sym (ap (λ (slots : Slots). reprogrammed slots hart_state) (same_if_untrapped refl)
+    sym (ap (λ (table : Slots). reprogrammed table hart_state) (same_if_untrapped refl)
     ∙ reprogramming_changes_nothing before hart_state hart_invariant)
 state_is_reprogrammed (Some trap) before after hart_state same_if_untrapped hart_invariant = refl
 

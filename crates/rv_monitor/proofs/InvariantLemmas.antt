@@ -67,26 +67,26 @@ invariant_of_others hart machine invariant in_range =
 -- ---- the machine
 
 -- the reprogramming after a trap does not change the worlds
-reprogramming_keeps_worlds : (maybe_trap : Option Trap) (slots : Slots) (hart_states : List HartState)
-    → map world_of (hart_states_reprogrammed maybe_trap slots hart_states) ≡ map world_of hart_states
-reprogramming_keeps_worlds None slots hart_states = refl
-reprogramming_keeps_worlds (Some trap) slots hart_states = map-map world_of (reprogrammed slots) hart_states
+reprogramming_keeps_worlds : (maybe_trap : Option Trap) (table : Slots) (hart_states : List HartState)
+    → map world_of (hart_states_reprogrammed maybe_trap table hart_states) ≡ map world_of hart_states
+reprogramming_keeps_worlds None table hart_states = refl
+reprogramming_keeps_worlds (Some trap) table hart_states = map-map world_of (reprogrammed table) hart_states
 
 -- the machine after a step of one of its harts has the invariant
 invariant_after_step : (hart : ℕ) (machine : MonitoredMachine) → Invariant machine → hart < count_of machine
     → Invariant (stepped_by hart machine (monitored_step (hart_view hart machine))).state
 invariant_after_step hart machine invariant in_range =
     let after = monitored_step (hart_view hart machine) in
-    let slots = after.state.shared.table in
+    let table = after.state.shared.table in
     let trap = after.outcome.step.trap in
     let view_invariant_after = invariant_of_others hart machine invariant in_range in
     let same_length = stepped_count hart machine after in
     record {
       -- the shared invariant holds for the world of the stepping hart in front, and so for the list of worlds in the order of the harts
       shared = subst (SharedInvariant after.state.shared)
-          (sym (map-set world_of (hart_states_reprogrammed trap slots machine.hart_states) hart after.state.hart_state
+          (sym (map-set world_of (hart_states_reprogrammed trap table machine.hart_states) hart after.state.hart_state
           ∙ ap (λ (worlds : List World). slice_set worlds hart after.state.hart_state.world)
-          (reprogramming_keeps_worlds trap slots machine.hart_states)))
+          (reprogramming_keeps_worlds trap table machine.hart_states)))
           (shared_invariant-moved_back after.state.shared (worlds machine) hart after.state.hart_state.world
           (world_index_in_range hart machine in_range) view_invariant_after.0);
       -- the stepping hart keeps its invariant, and each other hart is reprogrammed for the new table
@@ -94,12 +94,12 @@ invariant_after_step hart machine invariant in_range =
           let other_in_range : other_hart < count_of machine = omega (arith, same_length, other_in_new_range) in
           elim (cases_eq other_hart hart) [
             | inl equal ↦
-                subst (HartInvariant slots) (sym (stepping_hart_state hart machine after other_hart equal in_range)) view_invariant_after.1
+                subst (HartInvariant table) (sym (stepping_hart_state hart machine after other_hart equal in_range)) view_invariant_after.1
             | inr distinct ↦
-                subst (HartInvariant slots)
+                subst (HartInvariant table)
                 (sym (other_hart_state hart machine after other_hart distinct other_in_range
                 ∙ other_hart_is_programmed hart other_hart machine invariant other_in_range))
-                (reprogrammed_invariant machine.shared.table slots (hart_state_of other_hart machine)
+                (reprogrammed_invariant machine.shared.table table (hart_state_of other_hart machine)
                 (invariant.hart_states other_hart other_in_range))
           ];
     }
@@ -124,12 +124,12 @@ written regs raised hart_state = record hart_state {
 }
 
 -- a hart keeps its invariant if the debugger writes its registers or its timer line
-written_hart_invariant : (slots : Slots) (regs : List ℕ) (raised : Bool) (hart_state : HartState)
-    → HartInvariant slots hart_state
-    → HartInvariant slots (written regs raised hart_state)
-written_hart_invariant slots regs raised hart_state hart_invariant =
+written_hart_invariant : (table : Slots) (regs : List ℕ) (raised : Bool) (hart_state : HartState)
+    → HartInvariant table hart_state
+    → HartInvariant table (written regs raised hart_state)
+written_hart_invariant table regs raised hart_state hart_invariant =
     let layout = hart_invariant.layout in
-    reprogrammed_by slots slots hart_state (written regs raised hart_state).hart hart_invariant layout.entries layout.mie refl refl
+    reprogrammed_by table table hart_state (written regs raised hart_state).hart hart_invariant layout.entries layout.mie refl refl
 
 -- a machine keeps its invariant if the debugger writes the registers or the timer line of one of its harts
 written_invariant_of_hart : (hart : ℕ) (regs : List ℕ) (raised : Bool) (machine : MonitoredMachine)

@@ -44,17 +44,17 @@ line_after (causes.Exception exception) raised = raised
 -- The CSRs after an exit. The S-mode CSRs are those of the host. The PMP entries and mie are those of the host for the new table. The other CSRs are
 -- as after a trap and its return.
 abbrev pub left_csrs : CsrState → Slots → Trap → Context → CsrState
-left_csrs csrs slots trap host = record (with_s_context (passed_csrs csrs trap host.pc) host.supervisor) {
+left_csrs csrs table trap host = record (with_s_context (passed_csrs csrs trap host.pc) host.supervisor) {
   timer = line_after trap.cause csrs.timer;
-  pmp = layout slots Host;
+  pmp = layout table Host;
   mie = mie_of Host;
 }
 
 -- the hart after an exit: the context of the host with the reason and the value, and the PMP entries of the host
 abbrev pub left_hart : Hart → Slots → Trap → Context → Hart
-left_hart hart slots trap host = record {
+left_hart hart table trap host = record {
   regs = with_return_values host.regs (reason trap.cause hart.regs) (value trap.cause hart.regs);
-  csrs = left_csrs hart.csrs slots trap host;
+  csrs = left_csrs hart.csrs table trap host;
   pc = host.pc;
   mode = host.mode;
 }

@@ -178,10 +178,10 @@ step_keeps_legal hart machine invariant legal = elim (cases_lt hart (count_of ma
           -- every other hart keeps its pc and its S-mode registers
           | inr is_other_hart ↦
               let pc_unchanged =
-              other_harts_keep (λ (hart_state : HartState). hart_state.hart.pc) (λ slots hart_state. refl) hart other_hart machine is_other_hart in
+              other_harts_keep (λ (hart_state : HartState). hart_state.hart.pc) (λ table hart_state. refl) hart other_hart machine is_other_hart in
               let supervisor_unchanged =
               other_harts_keep (λ (hart_state : HartState). s_context hart_state.hart.csrs)
-              (λ slots hart_state. refl) hart other_hart machine is_other_hart in
+              (λ table hart_state. refl) hart other_hart machine is_other_hart in
               record {
                 pc = ap aligned_to_4 pc_unchanged ∙ (legal.harts other_hart).pc ∙ sym pc_unchanged;
                 supervisor = subst IsLegal (sym supervisor_unchanged) (legal.harts other_hart).supervisor;

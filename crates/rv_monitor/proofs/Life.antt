@@ -234,9 +234,9 @@ context_hart timer context =
     record { regs = context.regs; csrs = context_csrs timer context.supervisor; pc = context.pc; mode = context.mode }
 
 -- what S and U see of a hart with the invariant is its timer line and its context
-below_m_hart_of_context : (slots : Slots) (hart_state : HartState) → HartInvariant slots hart_state
+below_m_hart_of_context : (table : Slots) (hart_state : HartState) → HartInvariant table hart_state
     → below_m_hart hart_state.hart ≡ context_hart hart_state.hart.csrs.timer (continuation hart_state.hart)
-below_m_hart_of_context slots hart_state hart_invariant =
+below_m_hart_of_context table hart_state hart_invariant =
     let mie = hart_invariant.layout.mstatus_mie in
     let mprv = hart_invariant.layout.mprv in
     let tvm = hart_invariant.layout.tvm in

@@ -127,12 +127,12 @@ views_equiv enclave hart one other invariant_one invariant_other equiv in_range 
     (hart_view_invariant hart one invariant_one in_range) invariant_one.shared shared_invariant_other not_running equiv.shared)
 
 -- reprogramming leaves equivalent hart states equivalent
-reprogrammed_equiv : (enclave : ℕ) (maybe_trap : Option Trap) (slots : Slots) (hart_state other_state : HartState)
+reprogrammed_equiv : (enclave : ℕ) (maybe_trap : Option Trap) (table : Slots) (hart_state other_state : HartState)
     → HartStatesEquivExcept enclave hart_state other_state
-    → HartStatesEquivExcept enclave (hart_state_reprogrammed maybe_trap slots hart_state) (hart_state_reprogrammed maybe_trap slots other_state)
-reprogrammed_equiv enclave None slots hart_state other_state equiv = equiv
-reprogrammed_equiv enclave (Some trap) slots hart_state other_state equiv =
-    record { world = equiv.world; same = λ not_running. ap (reprogrammed slots) (equiv.same not_running) }
+    → HartStatesEquivExcept enclave (hart_state_reprogrammed maybe_trap table hart_state) (hart_state_reprogrammed maybe_trap table other_state)
+reprogrammed_equiv enclave None table hart_state other_state equiv = equiv
+reprogrammed_equiv enclave (Some trap) table hart_state other_state equiv =
+    record { world = equiv.world; same = λ not_running. ap (reprogrammed table) (equiv.same not_running) }
 
 -- after low steps of two equivalent machines, the states of each hart are equivalent
 stepped_equiv : (enclave hart : ℕ) (one other : MonitoredMachine) (stepped other_stepped : HartViewStepped)
@@ -160,9 +160,9 @@ stepped_equiv enclave hart one other stepped other_stepped equiv in_range view_s
         | inr distinct ↦
             let traps = ap (λ (outcome : Outcome). outcome.step.trap) view_steps_agree.outcome in
             let ReprogrammedEquiv : Option Trap → Slots → Type 0 =
-            λ maybe_trap slots. HartStatesEquivExcept enclave (hart_state_reprogrammed stepped.outcome.step.trap stepped.state.shared.table
+            λ maybe_trap table. HartStatesEquivExcept enclave (hart_state_reprogrammed stepped.outcome.step.trap stepped.state.shared.table
             (hart_state_of other_hart one))
-            (hart_state_reprogrammed maybe_trap slots (hart_state_of other_hart other)) in
+            (hart_state_reprogrammed maybe_trap table (hart_state_of other_hart other)) in
             hart_states_equiv enclave _ _ _ _ (other_hart_state hart one stepped other_hart distinct other_in_range)
             (other_hart_state hart other other_stepped other_hart distinct (omega (arith, same_harts, other_in_range)))
             -- both harts were equivalent before, and reprogramming keeps the equivalence

@@ -10,23 +10,23 @@ use Rattle.rv_monitor.proofs.HandlerCases.{by_cause_cases}
 -- ---- a hart whose PMP entries and mie are already programmed
 
 -- reprogramming does not change a hart with the invariant
-pub reprogramming_changes_nothing : (slots : Slots) (hart_state : HartState) → HartInvariant slots hart_state
-    → reprogrammed slots hart_state ≡ hart_state
-reprogramming_changes_nothing slots hart_state hart_invariant =
+pub reprogramming_changes_nothing : (table : Slots) (hart_state : HartState) → HartInvariant table hart_state
+    → reprogrammed table hart_state ≡ hart_state
+reprogramming_changes_nothing table hart_state hart_invariant =
     let entries = hart_invariant.layout.entries in
     let mie = hart_invariant.layout.mie in
     rw (← entries, ← mie) refl
 
 -- reprogramming changes no hart, if each hart has the invariant
-pub programmed_harts_unchanged : (slots : Slots) (hart_states : List HartState)
-    → ((hart : ℕ) → hart < length hart_states → HartInvariant slots (slice_index_or hart_states hart (hart_state_at_start 0)))
-    → map (reprogrammed slots) hart_states ≡ hart_states
-programmed_harts_unchanged slots [] each = refl
-programmed_harts_unchanged slots (hart_state ∷ hart_states) each =
+pub programmed_harts_unchanged : (table : Slots) (hart_states : List HartState)
+    → ((hart : ℕ) → hart < length hart_states → HartInvariant table (slice_index_or hart_states hart (hart_state_at_start 0)))
+    → map (reprogrammed table) hart_states ≡ hart_states
+programmed_harts_unchanged table [] each = refl
+programmed_harts_unchanged table (hart_state ∷ hart_states) each =
     let rest_unchanged =
-    programmed_harts_unchanged slots hart_states (λ hart in_range. each (suc hart) (omega (arith, in_range))) in
-    ap (λ (hart_state : HartState). hart_state ∷ map (reprogrammed slots) hart_states)
-    (reprogramming_changes_nothing slots hart_state (each 0 (omega arith))) ∙ ap
+    programmed_harts_unchanged table hart_states (λ hart in_range. each (suc hart) (omega (arith, in_range))) in
+    ap (λ (hart_state : HartState). hart_state ∷ map (reprogrammed table) hart_states)
+    (reprogramming_changes_nothing table hart_state (each 0 (omega arith))) ∙ ap
     (λ (hart_states : List HartState). hart_state ∷ hart_states) rest_unchanged
 
 -- after a redirected trap, reprogramming does not change a hart that was programmed before the trap

@@ -15,30 +15,30 @@ use Rattle.rv_monitor.proofs.TrapSteps.{step_cases, hart_state_after}
 use Rattle.rv_monitor.proofs.HandlerCases.{handler_cases}
 
 -- a new state of one slot leaves the record of each other slot unchanged
-pub new_state_keeps_other_slot : (slots : Slots) (slot other_slot : ℕ) (maybe_info : Option SlotInfo) (state : EnclaveState) → slot ≢ other_slot
-    → slot_at (option_case maybe_info slots (λ info. with_slot slots other_slot (Some (record info { state = state })))) slot ≡ slot_at slots slot
-new_state_keeps_other_slot slots slot other_slot None state distinct = refl
-new_state_keeps_other_slot slots slot other_slot (Some info) state distinct =
-    at_other_slot slots other_slot slot (Some (record info { state = state })) distinct
+pub new_state_keeps_other_slot : (table : Slots) (slot other_slot : ℕ) (maybe_info : Option SlotInfo) (state : EnclaveState) → slot ≢ other_slot
+    → slot_at (option_case maybe_info table (λ info. with_slot table other_slot (Some (record info { state = state })))) slot ≡ slot_at table slot
+new_state_keeps_other_slot table slot other_slot None state distinct = refl
+new_state_keeps_other_slot table slot other_slot (Some info) state distinct =
+    at_other_slot table other_slot slot (Some (record info { state = state })) distinct
 
 -- a new state of `slot` leaves the identity of `slot` unchanged
-new_state_keeps_identity : (slots : Slots) (slot : ℕ) (maybe_info : Option SlotInfo) (state : EnclaveState) → length slots ≡ slot_count
-    → slot_at slots slot ≡ maybe_info
-    → identity_at (option_case maybe_info slots (λ info. with_slot slots slot (Some (record info { state = state })))) slot ≡ identity_at slots slot
-new_state_keeps_identity slots slot None state table_length slot_is = refl
-new_state_keeps_identity slots slot (Some info) state table_length slot_is =
-    let slot_in_range = live_in_range slots slot info table_length slot_is in
+new_state_keeps_identity : (table : Slots) (slot : ℕ) (maybe_info : Option SlotInfo) (state : EnclaveState) → length table ≡ slot_count
+    → slot_at table slot ≡ maybe_info
+    → identity_at (option_case maybe_info table (λ info. with_slot table slot (Some (record info { state = state })))) slot ≡ identity_at table slot
+new_state_keeps_identity table slot None state table_length slot_is = refl
+new_state_keeps_identity table slot (Some info) state table_length slot_is =
+    let slot_in_range = live_in_range table slot info table_length slot_is in
     let written_record =
-    at_written_slot slots slot (Some (record info { state = state })) (omega (arith, table_length, slot_in_range)) in
+    at_written_slot table slot (Some (record info { state = state })) (omega (arith, table_length, slot_in_range)) in
     ap (option_map identity_of) written_record ∙ sym (ap (option_map identity_of) slot_is)
 
 -- a new state of the other slot leaves the identity of each slot unchanged
-pub new_state_keeps_identities : (slots : Slots) (slot other_slot : ℕ) (state : EnclaveState) → length slots ≡ slot_count
-    → identity_at (with_state slots other_slot state) slot ≡ identity_at slots slot
-new_state_keeps_identities slots slot other_slot state table_length = elim (cases_eq slot other_slot) [
-  | inl equal ↦ rw (← equal) (new_state_keeps_identity slots slot (slot_at slots slot) state table_length refl)
+pub new_state_keeps_identities : (table : Slots) (slot other_slot : ℕ) (state : EnclaveState) → length table ≡ slot_count
+    → identity_at (with_state table other_slot state) slot ≡ identity_at table slot
+new_state_keeps_identities table slot other_slot state table_length = elim (cases_eq slot other_slot) [
+  | inl equal ↦ rw (← equal) (new_state_keeps_identity table slot (slot_at table slot) state table_length refl)
   | inr distinct ↦
-      ap (option_map identity_of) (new_state_keeps_other_slot slots slot other_slot (slot_at slots other_slot) state distinct)
+      ap (option_map identity_of) (new_state_keeps_other_slot table slot other_slot (slot_at table other_slot) state distinct)
 ]
 
 -- enclave `slot` is live before the trap handler

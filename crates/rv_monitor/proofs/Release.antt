@@ -37,15 +37,15 @@ same_value (causes.Interrupt interrupt) one other same_handover = refl
 same_value (causes.Exception exception) one other same_handover = same_handover.a0
 
 -- a new state of `slot` does not change whether `slot` is live
-new_state_keeps_liveness : (slots : Slots) (slot : ℕ) (maybe_info : Option SlotInfo) (state : EnclaveState) → length slots ≡ slot_count
-    → slot_at slots slot ≡ maybe_info
-    → is_live (option_case maybe_info slots (λ info. with_slot slots slot (Some (record info { state = state })))) slot ≡ is_some maybe_info
-new_state_keeps_liveness slots slot None state table_length slot_is =
+new_state_keeps_liveness : (table : Slots) (slot : ℕ) (maybe_info : Option SlotInfo) (state : EnclaveState) → length table ≡ slot_count
+    → slot_at table slot ≡ maybe_info
+    → is_live (option_case maybe_info table (λ info. with_slot table slot (Some (record info { state = state })))) slot ≡ is_some maybe_info
+new_state_keeps_liveness table slot None state table_length slot_is =
     ap (λ (maybe_info : Option SlotInfo). is_some maybe_info) slot_is
-new_state_keeps_liveness slots slot (Some info) state table_length slot_is =
-    let slot_in_range = live_in_range slots slot info table_length slot_is in
+new_state_keeps_liveness table slot (Some info) state table_length slot_is =
+    let slot_in_range = live_in_range table slot info table_length slot_is in
     ap (λ (maybe_info : Option SlotInfo). is_some maybe_info)
-    (at_written_slot slots slot (Some (record info { state = state })) (omega (arith, table_length, slot_in_range)))
+    (at_written_slot table slot (Some (record info { state = state })) (omega (arith, table_length, slot_in_range)))
 
 -- `enclave` exits by the same trap from the same hart of two machines that are equivalent except `enclave`. The enclave hands over the same, and
 -- both harts have the same saved host.

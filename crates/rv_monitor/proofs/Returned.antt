@@ -96,7 +96,7 @@ step_keeps hart stepping_hart machine enclave_runs enclave_runs_after = elim (ca
       (step_of stepping_hart machine).state ≡ host_on hart machine)
       equal (own_step_keeps_context hart machine enclave_runs) enclave_runs_after
   | inr distinct ↦
-      other_harts_keep (λ (hart_state : HartState). hart_state.host_context) (λ slots hart_state. refl) stepping_hart hart machine distinct
+      other_harts_keep (λ (hart_state : HartState). hart_state.host_context) (λ table hart_state. refl) stepping_hart hart machine distinct
 ]
 
 -- ---- steps of the harts in order

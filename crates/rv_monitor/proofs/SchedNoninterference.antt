@@ -116,7 +116,7 @@ entry_law enclave hart other_hart machine not_running not_entered = elim (cases_
       → runs_on enclave other_hart (step_of some_hart machine).state ≡ false) equal
       (hart_still_not_running enclave other_hart machine not_running) not_entered
   | inr distinct ↦
-      other_harts_keep (λ (hart_state : HartState). is_world_of enclave hart_state.world) (λ slots hart_state. refl) hart other_hart machine distinct
+      other_harts_keep (λ (hart_state : HartState). is_world_of enclave hart_state.world) (λ table hart_state. refl) hart other_hart machine distinct
       ∙ not_running
 ]
 

@@ -22,33 +22,33 @@ use Rattle.rv_monitor.proofs.Alignment.{aligned_is_multiple}
 -- ---- no entry of a layout is locked
 
 -- no PMP entry of the layout of a world is locked
-pub layout_unlocked : (slots : Slots) (world : World) → IsUnlocked (layout slots world)
+pub layout_unlocked : (table : Slots) (world : World) → IsUnlocked (layout table world)
 unfolding layout
-layout_unlocked slots world entry = elim (cases_lt entry 16) [
+layout_unlocked table world entry = elim (cases_lt entry 16) [
   | inl in_range ↦
-      let cfg_is : cfg_of (layout slots world) entry ≡ (entry_at slots world entry).cfg =
-      get_or-map-range_with_len (λ some_entry. (entry_at slots world some_entry).cfg) 0 16 entry entry 0 in_range (omega arith) in
-      rw cfg_is (entry_is_plain slots world entry).unlocked
+      let cfg_is : cfg_of (layout table world) entry ≡ (entry_at table world entry).cfg =
+      get_or-map-range_with_len (λ some_entry. (entry_at table world some_entry).cfg) 0 16 entry entry 0 in_range (omega arith) in
+      rw cfg_is (entry_is_plain table world entry).unlocked
   | inr past_last ↦
-      let cfg_is_0 : cfg_of (layout slots world) entry ≡ 0 =
-      get_or_past {X = ℕ} (layout slots world).cfgs entry 0 past_last in
+      let cfg_is_0 : cfg_of (layout table world) entry ≡ 0 =
+      get_or_past {X = ℕ} (layout table world).cfgs entry 0 past_last in
       rw cfg_is_0 refl
 ]
 
 -- no PMP entry of a hart with the invariant is locked
-pub hart_state_unlocked : (slots : Slots) (hart_state : HartState) → HartInvariant slots hart_state
+pub hart_state_unlocked : (table : Slots) (hart_state : HartState) → HartInvariant table hart_state
     → IsUnlocked hart_state.hart.csrs.pmp
-hart_state_unlocked slots hart_state hart_invariant =
-    let layout = hart_invariant.layout in subst IsUnlocked (sym layout.entries) (layout_unlocked slots hart_state.world)
+hart_state_unlocked table hart_state hart_invariant =
+    let layout = hart_invariant.layout in subst IsUnlocked (sym layout.entries) (layout_unlocked table hart_state.world)
 
 -- no PMP entry of a hart is locked at a trap, if the hart has the invariant before the step
-unlocked_at_trap : (slots : Slots) (hart_state : HartState) (maybe_trap : Option Trap) (hart : Hart) (memory memory_after : List ℕ) (trap : Trap)
+unlocked_at_trap : (table : Slots) (hart_state : HartState) (maybe_trap : Option Trap) (hart : Hart) (memory memory_after : List ℕ) (trap : Trap)
     → maybe_trap ≡ Some trap
-    → HartInvariant slots hart_state
+    → HartInvariant table hart_state
     → IfSome maybe_trap (λ some_trap. (hart ≡ hart_after hart_state.hart some_trap) × (memory_after ≡ memory)) → IsUnlocked hart.csrs.pmp
-unlocked_at_trap slots hart_state None hart memory memory_after trap trapped hart_invariant keeps = cc
-unlocked_at_trap slots hart_state (Some some_trap) hart memory memory_after trap trapped hart_invariant keeps =
-    subst (λ (hart : Hart). IsUnlocked hart.csrs.pmp) (sym keeps.0) (hart_state_unlocked slots hart_state hart_invariant)
+unlocked_at_trap table hart_state None hart memory memory_after trap trapped hart_invariant keeps = cc
+unlocked_at_trap table hart_state (Some some_trap) hart memory memory_after trap trapped hart_invariant keeps =
+    subst (λ (hart : Hart). IsUnlocked hart.csrs.pmp) (sym keeps.0) (hart_state_unlocked table hart_state hart_invariant)
 
 -- no PMP entry is locked after a bare step that traps
 pub unlocked_after : (hart_state : HartState) (shared : Shared) (after : Stepped) (trap : Trap)
@@ -106,10 +106,10 @@ without_trap (Some trap) Claim no_trap claim = cc
 -- ---- the state of a hart
 
 -- the hart state has the invariant with another hart whose PMP entries, mie, mode and mstatus satisfy the invariant
-invariant_with_hart : (slots : Slots) (hart_state : HartState) (hart : Hart) → HostContextInvariant hart_state
-    → HasPmpLayout slots (record hart_state { hart = hart })
-    → HartInvariant slots (record hart_state { hart = hart })
-invariant_with_hart slots hart_state hart host layout =
+invariant_with_hart : (table : Slots) (hart_state : HartState) (hart : Hart) → HostContextInvariant hart_state
+    → HasPmpLayout table (record hart_state { hart = hart })
+    → HartInvariant table (record hart_state { hart = hart })
+invariant_with_hart table hart_state hart host layout =
     record { host = record { kept = host.kept; held = host.held }; layout = layout }
 
 -- the hart state has the invariant for a new table with another hart that keeps the mode and mstatus, and has the PMP entries and mie of the new

@@ -431,13 +431,13 @@ machine_over hidden hart machine other_memory equal_outside reads_seen measures_
           let first_after = monitored_step view in
           let second_after = monitored_step (hart_view hart (over_bytes machine other_memory)) in
           let states_after : Outcome → Slots → HartState → List HartState =
-          λ outcome slots hart_state. slice_set (hart_states_reprogrammed outcome.step.trap slots machine.hart_states) hart hart_state in
+          λ outcome table hart_state. slice_set (hart_states_reprogrammed outcome.step.trap table machine.hart_states) hart hart_state in
           rw (first_step_is, second_step_is)
           (record {
             outcome = view_steps.outcome;
             hart_states =
                 ap (λ (outcome : Outcome). states_after outcome first_after.state.shared.table first_after.state.hart_state) view_steps.outcome
-                ∙ ap₂ (λ (slots : Slots) (hart_state : HartState). states_after second_after.outcome slots hart_state) view_steps.shared.table
+                ∙ ap₂ (λ (table : Slots) (hart_state : HartState). states_after second_after.outcome table hart_state) view_steps.shared.table
                 view_steps.hart_state;
             shared = view_steps.shared;
           })
