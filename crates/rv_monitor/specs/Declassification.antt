@@ -37,7 +37,7 @@ SameHostOn hart one other = SameHost (guest_state (hart_state_of hart one)) (gue
 
 -- the bytes that may differ: those in the region of `enclave`, and those in its window while the enclave runs
 abbrev pub may_differ : Slots → ℕ → ℕ → Bool
-may_differ slots enclave byte = has (region slots enclave) byte || (runs slots enclave && has (window slots enclave) byte)
+may_differ table enclave byte = has (region table enclave) byte || (runs table enclave && has (window table enclave) byte)
 
 -- Two machines are equivalent except `enclave` in the guest view, and except for the window of `enclave` while `enclave` runs. The saved contexts
 -- of the host on the hart of `enclave` are equal.

@@ -21,12 +21,12 @@ pub record HartView : Type 0 where
 
 -- a hart with the PMP entries and mie of a table and a world
 abbrev pub pmp_programmed : Slots → World → Hart → Hart
-pmp_programmed slots world hart =
-    record hart { csrs = record hart.csrs { pmp = layout slots world; mie = mie_of world } }
+pmp_programmed table world hart =
+    record hart { csrs = record hart.csrs { pmp = layout table world; mie = mie_of world } }
 
 -- the state of a hart with the PMP entries and mie of a table and its own world
 abbrev pub reprogrammed : Slots → HartState → HartState
-reprogrammed slots hart_state = record hart_state { hart = pmp_programmed slots hart_state.world hart_state.hart }
+reprogrammed table hart_state = record hart_state { hart = pmp_programmed table hart_state.world hart_state.hart }
 
 -- the timer line of a hart raised or lowered
 abbrev pub timer_line_set : Bool → HartState → HartState
@@ -82,8 +82,8 @@ with_hart_state hart hart_state machine = record machine { hart_states = slice_s
 -- ---- the invariant
 
 -- the PMP entries and mie are those of the table and the world; the mode is S or U, and MIE, MPRV, TVM, TW, TSR are 0
-pub record HasPmpLayout (slots : Slots) (hart_state : HartState) : Type 0 where
-  pub entries : hart_state.hart.csrs.pmp ≡ layout slots hart_state.world
+pub record HasPmpLayout (table : Slots) (hart_state : HartState) : Type 0 where
+  pub entries : hart_state.hart.csrs.pmp ≡ layout table hart_state.world
   pub mie : hart_state.hart.csrs.mie ≡ mie_of hart_state.world
   pub mode : is_machine hart_state.hart.mode ≡ false
   pub mstatus_mie : hart_state.hart.csrs.mstatus.mie ≡ false
@@ -108,9 +108,9 @@ abbrev pub HostContextsAreLegal : MonitoredMachine → Type 0
 HostContextsAreLegal machine = (hart : ℕ) → HostContextIsLegal (hart_state_of hart machine)
 
 -- the invariant of the state of a hart
-pub record HartInvariant (slots : Slots) (hart_state : HartState) : Type 0 where
+pub record HartInvariant (table : Slots) (hart_state : HartState) : Type 0 where
   pub host : HostContextInvariant hart_state
-  pub layout : HasPmpLayout slots hart_state
+  pub layout : HasPmpLayout table hart_state
 
 -- the invariant of the view of one hart, whatever runs on the others
 pub record HartViewInvariant (state : HartView) : Type 0 where

@@ -81,7 +81,7 @@ supervisor_at csrs = record {
 -- The hart after a context switch to a saved context. Each S-mode CSR has the value that a write would store, and the PMP entries and mie are those
 -- of the new world.
 abbrev pub switched_hart : Hart → Trap → Context → Slots → World → Hart
-switched_hart hart trap context slots world =
+switched_hart hart trap context table world =
     let passed = passed_csrs hart.csrs trap context.pc in
     record {
       regs = context.regs;
@@ -97,7 +97,7 @@ switched_hart hart trap context slots world =
         sepc = aligned_to_4 context.supervisor.sepc;
         scause = context.supervisor.scause;
         stval = context.supervisor.stval;
-        pmp = layout slots world;
+        pmp = layout table world;
         mie = mie_of world;
       };
       pc = context.pc;
@@ -106,8 +106,8 @@ switched_hart hart trap context slots world =
 
 -- the table with another state in the record of a slot
 abbrev pub slots_with_state : Slots → ℕ → EnclaveState → Slots
-slots_with_state slots slot state =
-    option_case (slice_index_or slots slot None) slots (λ info. slice_set slots slot (Some (record info { state = state })))
+slots_with_state table slot state =
+    option_case (slice_index_or table slot None) table (λ info. slice_set table slot (Some (record info { state = state })))
 
 -- ---- a call that enters an enclave
 
@@ -152,10 +152,10 @@ pub record Handover : Type 0 where
 -- mie change.
 abbrev pub handed_over_machine : ℕ → MonitoredMachine → ℕ → Trap → Context → Handover → MonitoredMachine
 handed_over_machine hart before slot trap host handover =
-    let slots = slots_with_state before.shared.table slot handover.state in
-    let host_hart = switched_hart (hart_state_of hart before).hart trap host slots Host in
+    let table = slots_with_state before.shared.table slot handover.state in
+    let host_hart = switched_hart (hart_state_of hart before).hart trap host table Host in
     record {
-      hart_states = slice_set (map (reprogrammed slots) before.hart_states) hart (record {
+      hart_states = slice_set (map (reprogrammed table) before.hart_states) hart (record {
         hart = record host_hart {
           regs = with_register (with_register host_hart.regs 10 handover.reason) 11 handover.value;
           csrs = record host_hart.csrs { timer = handover.line };
@@ -164,7 +164,7 @@ handed_over_machine hart before slot trap host handover =
         world = Host;
       });
       shared =
-          record before.shared { table = slots; contexts = slice_set before.shared.contexts slot (Some handover.kept) };
+          record before.shared { table = table; contexts = slice_set before.shared.contexts slot (Some handover.kept) };
     }
 
 -- the exit by stop: the enclave will continue after its ecall, with 0 in a0 and a1; the host receives 1 and the enclave's a0

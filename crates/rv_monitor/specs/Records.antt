@@ -14,7 +14,7 @@ identity_of info = record info { state = Fresh }
 
 -- the region, window, entry and measurement of `slot`, if it has an enclave
 abbrev pub identity_at : Slots → ℕ → Option SlotInfo
-identity_at slots slot = option_map identity_of (slot_at slots slot)
+identity_at table slot = option_map identity_of (slot_at table slot)
 
 -- a step keeps the identity of every enclave that is live before it and after it
 abbrev pub PreservesRecords : MonitoredMachine → MonitoredStepped → Type 0
