@@ -55,6 +55,7 @@ module _ (enclave : ℕ) (one other : MonitoredMachine) where
           world = sym related_harts.world;
           same = λ not_running. sym (related_harts.same (ap (is_world_of enclave) related_harts.world ∙ not_running));
         };
+    -- the machines may be exchanged, because the same harts run `enclave` in both
     hosts = λ other_hart runs_other.
         let same_hosts =
         related.hosts other_hart (ap (is_world_of enclave) (related.hart_states other_hart).world ∙ runs_other) in
@@ -108,18 +109,21 @@ module _ (enclave hart : ℕ) (one other : MonitoredMachine) (invariant_one : In
         -- the hart of the enclave runs `enclave` before and after the step, and the other harts keep their states
         hart_states = λ other_hart. elim (cases_eq other_hart hart) [
           | inl equal ↦ rw equal (record {
+            -- the hart runs `enclave` before and after the step
             world =
                 world_is_enclave enclave (hart_state_of hart after).world inside.after
                 ∙ sym (world_is_enclave enclave (hart_state_of hart one).world inside.before)
                 ∙ (related.hart_states hart).world;
             same = λ not_running. absurd (both_ways _ not_running inside.after);
           })
+          -- another hart keeps its state
           | inr distinct ↦
               hart_states_equiv enclave (guest_state (hart_state_of other_hart after)) (guest_state (hart_state_of other_hart one))
               (guest_state (hart_state_of other_hart other))
               (guest_state (hart_state_of other_hart other)) (ap guest_state (sym (unchanged.others other_hart distinct))) refl
               (related.hart_states other_hart)
         ];
+        -- the saved host of the stepping hart is unchanged, and so are the hosts of the other harts
         hosts = λ other_hart runs_on_other. elim (cases_eq other_hart hart) [
           | inl equal ↦
               let same_hosts = related.hosts hart inside.before in

@@ -157,14 +157,17 @@ module _ (hart : ℕ) (machine : MonitoredMachine) (invariant : Invariant machin
       -- two results of a call with status 0 are equal
       same_by_call : (maybe_call : Option Call) → call_at hart machine ≡ maybe_call
           → status_at hart machine ≡ 0 → SameResult
+      -- an unknown call has a status other than 0
       same_by_call None requested status_is_0 =
           absurd (unknown_status_not_zero (status_at hart machine) (no_call requested) status_is_0)
+      -- the answers of create, destroy and measure give the state after the call
       same_by_call (Some Create) requested status_is_0 =
           same_if_given (first_answers.creates requested status_is_0) (second_answers.creates requested status_is_0)
       same_by_call (Some Destroy) requested status_is_0 =
           same_if_given (first_answers.destroys requested status_is_0) (second_answers.destroys requested status_is_0)
       same_by_call (Some Measure) requested status_is_0 =
           same_if_given (first_answers.measures requested status_is_0) (second_answers.measures requested status_is_0)
+      -- run and resume enter an enclave, and stop and exit leave the running enclave
       same_by_call (Some Run) requested status_is_0 =
           same_by_entry Run hart_state.world refl (offered Run requested) (λ host. first_answers.runs host requested status_is_0)
           (λ host. second_answers.runs host requested status_is_0) (λ slot. refl)

@@ -177,6 +177,7 @@ module _ (first_slot second_slot : ℕ) (first_state second_state : HartState) (
             ∙ ap₂ (λ (mode : Mode) (pc : ℕ). given (fetched second_shared.memory second_entries mode pc)) modes_equal pcs_equal;
         loaded = λ address width.
             ap (λ (mode : Mode). given (loaded first_shared.memory first_entries mode address width)) first_data_mode
+            -- both reads have the same bytes, because the PMP permits the same reads
             ∙ same_value_if_verdicts_agree (read first_shared.memory address (bytes_in width))
             (verdict first_entries mode Read (bytes_from address (bytes_in width)))
             (verdict second_entries mode Read (bytes_from address (bytes_in width))) number_of_bytes _
@@ -187,6 +188,7 @@ module _ (first_slot second_slot : ℕ) (first_state second_state : HartState) (
         stored = λ address width value.
             let bytes = bytes_of (bytes_in width) value in
             ap (λ (mode : Mode). given (stored first_shared.memory first_entries mode address width value)) first_data_mode
+            -- both writes have the same result, because the PMP permits the same writes
             ∙ same_value_if_verdicts_agree (write first_shared.memory address bytes)
             (verdict first_entries mode Write (bytes_from address (bytes_in width)))
             (verdict second_entries mode Write (bytes_from address (bytes_in width))) (λ after. after) _
@@ -531,6 +533,7 @@ exited place machine trap invariant runs trapped host_runs_after (Some host) hos
     let live = running_is_live place.slot place.hart machine invariant runs in
     let slot_in_range = live_slot_in_range table place.slot slot count refl live in
     rw left (record {
+      -- the host received the reason and the value, and the record and the saved context have their new values
       returned = record {
         world = ap (λ (hart_state : HartState). hart_state.world) hart_state_is;
         host = host.regs;
@@ -653,6 +656,7 @@ module _ (place other_place : Place) (one other : MonitoredMachine) (invariant_o
       } in
       record {
         first = runs_after;
+        -- both enclaves still run on their harts
         second =
             ap (λ (hart_state : HartState). is_world_of other_place.slot hart_state.world) (sym second_state_of_mixed_view)
             ∙ ap (is_world_of other_place.slot) alike.second
@@ -660,10 +664,12 @@ module _ (place other_place : Place) (one other : MonitoredMachine) (invariant_o
         hart =
             ap (λ (hart_state : HartState). below_m_hart hart_state.hart) first_state_of_view ∙ alike.hart
             ∙ ap (λ (hart_state : HartState). below_m_hart hart_state.hart) second_state_of_mixed_view;
+        -- the record is equal in the first, the mixed and the second machine
         slot =
             ap (λ (shared : Shared). slot_at shared.table place.slot) first_shared_after ∙ alike.slot
             ∙ ap (λ (table : Slots). slot_at table other_place.slot) own_steps_alike.shared.table
             ∙ sym (ap (λ (shared : Shared). slot_at shared.table other_place.slot) second_shared_after);
+        -- the memories after the steps of the machines are those after the steps of the views
         memory =
             subst (λ (shared : Shared). EqualOutside (is_beyond shared.table place.slot) shared.memory
             (step_at other_place other).state.shared.memory)

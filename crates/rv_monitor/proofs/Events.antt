@@ -54,6 +54,7 @@ module _ (enclave hart : ℕ) (raised : Bool) (one other : MonitoredMachine) whe
           harts =
               length-set one.hart_states hart first_changed ∙ same_harts
               ∙ sym (length-set other.hart_states hart second_changed);
+          -- the changed hart states are equivalent, and every other hart state is unchanged
           hart_states =
               hart_cases_of_both one.hart_states other.hart_states hart first_changed second_changed
               (λ some_hart first_state second_state. HartStatesEquivExcept enclave first_state second_state) same_harts in_range

@@ -245,6 +245,7 @@ module _ (enclave hart : ℕ) (one other : MonitoredMachine) (invariant_one : In
       let size_one = length-map one.hart_states guest_state in
       let size_other = length-map other.hart_states guest_state in
       let related_harts = equiv.harts in
+      -- the hart does not run `enclave` in the guest view either, so both guest views have the same hart state
       let not_running_in_view : runs_on enclave hart first_view ≡ false =
       ap (λ (hart_state : HartState). is_world_of enclave hart_state.world) (guest_hart_state hart one) ∙ not_running in
       let hart_states = (equiv.hart_states hart).same not_running_in_view in
@@ -252,10 +253,12 @@ module _ (enclave hart : ℕ) (one other : MonitoredMachine) (invariant_one : In
       hart_view_invariant hart first_view (guest_invariant one invariant_one) (omega (arith, size_one, in_range)) in
       let same_over_shared =
       step_host enclave (hart_state_of hart first_view) first_view.shared second_view.shared view_invariant not_running_in_view equiv.shared in
+      -- the steps of the guest views leave the same host
       let same_host_after : SameHostAfter (monitored_step (hart_view hart first_view)) (monitored_step (hart_view hart second_view)) =
       subst
       (λ (hart_state : HartState). SameHostAfter (monitored_step (hart_view hart first_view))
       (monitored_step (view_of hart_state second_view.shared))) hart_states same_over_shared in
+      -- the host of each machine after the step is the host of its guest view
       subst (λ (hart_state : HartState). SameHost hart_state (guest_state (hart_state_of hart (step_of hart other).state)))
       (sym (guest_state_after hart one invariant_one in_range))
       (subst (SameHost (guest_state (monitored_step (hart_view hart first_view)).state.hart_state))

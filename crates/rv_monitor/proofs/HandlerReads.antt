@@ -257,6 +257,7 @@ step_reads_law hart machine other trap hart_states trapped second_trapped same_r
     let after_first = (monitored_step (hart_view hart machine)).state in
     let after_second = (monitored_step (hart_view hart other)).state in
     record {
+      -- both machines trap, so the step of each is the step of its view, with all harts reprogrammed
       hart_states = ap (λ (machine : MonitoredMachine). machine.hart_states) first_trapping.state
           ∙ ap (λ (hart_states : List HartState). states_after hart_states after_first.shared.table after_first.hart_state) hart_states
           ∙ ap₂ (states_after other.hart_states) table view_steps.hart_state

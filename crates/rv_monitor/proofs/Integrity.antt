@@ -165,6 +165,7 @@ integrity_in view view_invariant slot not_running live not_entered live_after =
     (λ no_trap not_entered live_after. record { slot = refl; context = refl })
     (λ trap trapped. handled_keeps slot (hart_state_after view.hart_state trap) view.shared view_invariant.valid not_running live trap) in
     let kept_slot = keeps not_entered live_after in
+    -- the bytes of the region are unchanged, because the step neither runs nor destroys the enclave
     record {
       slot = kept_slot.slot;
       bytes =

@@ -44,14 +44,17 @@ legal_after_write saved_contexts written_slot maybe_context all_legal legal slot
     let LegalIfSome : Option Context → Type 0 =
     λ maybe_context. IfSome maybe_context (λ context. IsLegal context.supervisor) in
     elim (cases_lt written_slot (length saved_contexts)) [
+      -- a write outside the list changes nothing
       | inr past_last ↦
           subst (λ (contexts : Contexts). LegalIfSome (context_at contexts slot)) (sym (set_past saved_contexts written_slot maybe_context past_last))
           (all_legal slot)
       | inl in_range ↦ elim (cases_eq slot written_slot) [
+        -- the written slot has the new context, which is legal
         | inl is_written_slot ↦
             subst (λ (some_slot : ℕ). LegalIfSome (context_at (with_context saved_contexts written_slot maybe_context) some_slot))
             (sym is_written_slot)
             (subst LegalIfSome (sym (at_written_slot saved_contexts written_slot maybe_context in_range)) legal)
+        -- every other slot keeps its context
         | inr is_other_slot ↦
             subst LegalIfSome (sym (at_other_slot saved_contexts written_slot slot maybe_context is_other_slot)) (all_legal slot)
       ]
@@ -137,12 +140,14 @@ record ViewIsLegal (view : HartView) : Type 0 where
 step_keeps_view_legal : (view : HartView) → HartViewInvariant view → ViewIsLegal view
     → ViewIsLegal (monitored_step view).state
 step_keeps_view_legal view view_invariant legal = step_cases view (λ after. ViewIsLegal after.state)
+    -- without a trap, the hart stores only legal values
     (λ no_trap.
     let hart = without_trap _ _ no_trap (keeps_stored (bare_machine view) view_invariant.hart.layout.mode (record {
       pc = legal.pc;
       csrs = record { stvec = legal.supervisor.stvec; sepc = legal.supervisor.sepc };
     })) in
     record { pc = hart.pc; supervisor = record { stvec = hart.csrs.stvec; sepc = hart.csrs.sepc }; contexts = legal.contexts })
+    -- with a trap, the trap handler leaves legal registers and legal saved contexts
     (λ trap trapped.
     let hart_state = hart_state_after view.hart_state trap in
     let legal_after = handler_keeps_legal hart_state view.shared trap

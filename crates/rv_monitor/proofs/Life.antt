@@ -423,9 +423,11 @@ module _ (slot hart : ℕ) (machine : MonitoredMachine) (context : Context) (inv
   interrupted_stays : runs_on slot hart machine ≡ true → (hart_state_of hart machine).hart.csrs.timer ≡ true
       → StaysAtPoint slot context machine (step_of hart machine).state
   interrupted_stays runs_on_hart timer_set =
+      -- the interrupt exits to the host, and saves the context of the enclave
       let exit = (timer_exit (hart_state_of hart machine).host_context refl runs_on_hart timer_set).1 in
       let has_exited =
       exited (at slot hart) machine timer_trap invariant runs_on_hart exit.trapped exit.world (hart_state_of hart machine).host_context refl in
+      -- the saved pc is the pc of the hart, because this pc is a multiple of 4
       let pc : saved_after timer_trap.cause (hart_state_of hart machine).hart ≡ continuation (hart_state_of hart machine).hart =
       ap (λ (pc : ℕ). record (continuation (hart_state_of hart machine).hart) { pc = pc }) (legal_machine.harts hart).pc in
       let some : Context → Option Context = λ some_context. Some some_context in
@@ -786,6 +788,7 @@ module _ (place other_place : Place) (one other : MonitoredMachine) (invariant_o
   own_step = record {
     outcome = same_own_step.outcome ∙ same_over_memory.outcome;
     changes = changes;
+    -- if the enclave exits, then both hosts receive the same reason and the same value
     exits = λ not_running.
         let exit = same_own_step.state.exits not_running in
         record {
@@ -854,6 +857,7 @@ life_begins slot other_slot one other invariant_one invariant_other same_identit
     let digest : first_enclave.info.measurement ≡ second_enclave.info.measurement =
     first_enclave.measurement ∙ same_digest memory other_memory (args_of first_enclave.info) (args_of second_enclave.info) same_identity.input
     ∙ sym second_enclave.measurement in
+    -- both records are equal, because both enclaves are Fresh
     let same_info_record =
     equal_fresh_records first_enclave.info second_enclave.info measured.args digest first_enclave.fresh second_enclave.fresh in
     let some_info : SlotInfo → Option SlotInfo = λ info. Some info in
@@ -868,6 +872,7 @@ life_begins slot other_slot one other invariant_one invariant_other same_identit
       identity = ap (option_map identity_of) (first_enclave.is ∙ ap some_info same_info_record ∙ sym second_enclave.is);
       memory = record {
         size = size;
+        -- a byte in the region was measured, so both machines have the same byte there
         bytes = λ index outside_region.
             measured.bytes.bytes index (ap (λ (maybe_info : Option SlotInfo). not (has (region_of maybe_info) (ram_base + index)))
             (sym first_enclave.is)

@@ -225,6 +225,7 @@ module _ (enclave hart : ℕ) (one other : MonitoredMachine) (invariant_one : In
         first_step.outcome ∙ mixed_step.outcome,
         record {
           harts = related_after.harts ∙ ap (λ (hart_states : List HartState). length hart_states) hart_states;
+          -- the hart states after the step are equal in the mixed and the second machine
           hart_states = λ hart.
               subst
               (λ (hart_states : List HartState). HartStatesEquivExcept enclave (guest_state (hart_state_of hart after_first))
@@ -247,6 +248,7 @@ module _ (enclave hart : ℕ) (one other : MonitoredMachine) (invariant_one : In
                   ∙ related.memory.bytes index before ∙ sym unchanged.1
             ];
           };
+          -- the saved contexts after the step are equal in the mixed and the second machine
           contexts = record {
             size = related_after.contexts.size ∙ ap (λ (contexts : Contexts). length contexts) mixed_step.shared.contexts;
             others =

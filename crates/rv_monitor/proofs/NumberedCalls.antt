@@ -369,9 +369,11 @@ answers_calls hart machine invariant trap traps by_ecall =
     λ slot call runs is_call. subst
     (λ (world : World). call_numbered world (register before.hart.regs 17) (register before.hart.regs 16) ≡ Some call) runs is_call in
     record {
+      -- a refused call returns its status
       refuses = λ status_is_not_0.
           returns hart machine invariant trap trapping shared (status_at hart machine) 0
           (handled_refused hart_state shared trap trap.cause by_ecall status_is_not_0);
+      -- an accepted create, destroy or measure returns to the caller
       creates =
           λ is_call status_is_0. returns hart machine invariant trap trapping _ 0 _
           (handler_performs Create is_call status_is_0 ∙ performs_create hart_state shared);
@@ -381,12 +383,14 @@ answers_calls hart machine invariant trap traps by_ecall =
       measures =
           λ is_call status_is_0. returns hart machine invariant trap trapping _ 0 0
           (handler_performs Measure is_call status_is_0 ∙ performs_measure hart_state shared);
+      -- an accepted run or resume enters the enclave that a0 names
       runs = λ host is_call status_is_0.
           entering_call_enters hart machine invariant trap trapping Run (performs_run hart_state shared)
           (handler_performs Run is_call status_is_0) host traps;
       resumes = λ host is_call status_is_0.
           entering_call_enters hart machine invariant trap trapping Resume (performs_resume hart_state shared)
           (handler_performs Resume is_call status_is_0) host traps;
+      -- the number in a6 decides between stop and exit
       stops = λ slot host runs host_is_saved is_call.
           let left = leaves_machine slot host Stop runs host_is_saved is_call refl in
           let a6_test =
@@ -413,6 +417,7 @@ calls_succeed hart machine invariant trap traps by_ecall =
     let accepted_of_world : (world : World) (call : Call) → before.world ≡ world → AcceptsCall world call → AcceptsCall before.world call =
     λ world call world_is_enclave. subst (λ (world : World). AcceptsCall world call) (sym world_is_enclave) in
     record {
+      -- the conditions of each call imply that the monitor accepts the call, which then has the result of an accepted call
       create = λ slot host is_request conditions.
           let accepted_create = accepted_calls.create slot is_request conditions in
           let accepted = accepted_of_world Host Create host accepted_create.0 in
@@ -432,6 +437,7 @@ calls_succeed hart machine invariant trap traps by_ecall =
       measure = λ is_request conditions.
           let accepted = accepted_calls.measure before.world is_request conditions in
           call_results.measures accepted.requested accepted.status;
+      -- stop and exit have no conditions, except that the host has a saved context
       stop = λ slot host runs host_is_saved is_request.
           let accepted = accepted_of_world (Enclave slot) Stop runs (accepted_calls.stop slot is_request) in
           call_results.stops slot host runs host_is_saved accepted.requested;

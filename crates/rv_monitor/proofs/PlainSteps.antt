@@ -57,6 +57,7 @@ steps_plainly hart machine in_range =
       quiet = λ no_trap.
           let bare_step_untrapped : (step (bare_machine view)).outcome.trap ≡ None =
           sym (ap (λ (outcome : StepOutcome). outcome.trap) outcome) ∙ no_trap in
+          -- the step of the view is the bare step
           let view_step_is =
           step_without_trap view (ap (λ (outcome : StepOutcome). outcome.trap) (same_outcome view) ∙ bare_step_untrapped) in
           let step_is : step_of hart machine ≡ stepped_by hart machine (view_without_trap view) =
@@ -83,6 +84,7 @@ host_continues hart machine invariant host = record {
       let view_invariant = hart_view_invariant hart machine invariant trapping.has in
       let bare_step_traps : (step (bare_machine view)).outcome.trap ≡ Some trap =
       sym (ap (λ (outcome : StepOutcome). outcome.trap) (same_outcome view)) ∙ trapping.trapped in
+      -- while the host runs, mie enables no interrupt, so no interrupt is pending
       let disabled : view.hart_state.hart.csrs.mie ≡ 0 = view_invariant.hart.layout.mie ∙ ap mie_of host in
       let contradiction : None ≡ Some interrupt =
       sym (pending_is_none view.hart_state.hart.csrs view.hart_state.hart.mode view_invariant.hart.layout.mode disabled)

@@ -30,10 +30,12 @@ module _ (enclave hart : ℕ) (change other_change : HartState → HartState) (o
         harts =
             length-set one.hart_states hart first_changed ∙ same_harts
             ∙ sym (length-set other.hart_states hart second_changed);
+        -- the changed hart states are related, and every other hart state is unchanged
         hart_states = hart_cases_of_both one.hart_states other.hart_states hart first_changed second_changed
             (λ some_hart first_state second_state. HartStatesEquivExcept enclave (guest_state first_state)
             (guest_state second_state)) same_harts in_range (alike.state (related.hart_states hart))
             (λ some_hart distinct. related.hart_states some_hart);
+        -- a change that keeps the world keeps the saved host of each hart that runs `enclave`
         hosts = hart_cases_of_both one.hart_states other.hart_states hart first_changed second_changed
             (λ some_hart first_state second_state. is_world_of enclave first_state.world ≡ true
             → SameHost (guest_state first_state) (guest_state second_state)) same_harts in_range

@@ -124,6 +124,7 @@ module _ (enclave hart : ℕ) (one other : MonitoredMachine) (trap : Trap) (host
             let second_state_is =
             get_or-map (reprogrammed second_table) other.hart_states hart (hart_state_at_start 0) (hart_state_at_start 0)
             (omega (arith, same_harts, in_range)) in
+            -- the reprogrammed states are equivalent, because both tables are equal
             let hart_states = equiv.hart_states hart in
             let harts_alike : HartStatesEquivExcept enclave (reprogrammed first_table (hart_state_of hart one))
             (reprogrammed second_table (hart_state_of hart other)) =
@@ -181,6 +182,7 @@ module _ (enclave hart : ℕ) (one other : MonitoredMachine) (trap : Trap) (host
                 λ index not_hidden. equiv.shared.memory.bytes index
                 (ap (λ (block : Block). has block (ram_base + index)) (sym extent.region) ∙ not_hidden);
           };
+          -- the exit saves a context only for `enclave`, so the other saved contexts stay equal
           contexts = record {
             size =
                 length-set first_contexts enclave first_saved ∙ equiv.shared.contexts.size

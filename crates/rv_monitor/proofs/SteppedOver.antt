@@ -295,6 +295,7 @@ ended_over hidden outcome (Some trap) hart_state shared memory other_memory afte
     let returned_by : HartState → Next → HartState =
     λ hart_state next. record hart_state { hart = returned_to hart_state.hart next.pc next.mode } in
     let shows : Next → Outcome = λ next. record { step = outcome; entered = next.entered } in
+    -- the outcomes and the hart states follow from equal results of the trap handler
     record {
       outcome = ap shows handler_results.next;
       hart_state = ap₂ returned_by handler_results.hart_state handler_results.next;
@@ -423,9 +424,11 @@ machine_over hidden hart machine other_memory equal_outside reads_seen measures_
           let first_step_is = machine_step_is hart machine in_range in
           let second_step_is = machine_step_is hart (over_bytes machine other_memory) in_range in
           let view = hart_view hart machine in
+          -- the step of the machine reads what the bare step of the view reads
           let bare_outcome_is : (step_of hart machine).outcome.step ≡ (step (bare_machine view)).outcome =
           ap (λ (after : MonitoredStepped). after.outcome.step) first_step_is ∙ same_outcome view in
           let reads_bare = subst (λ (outcome : StepOutcome). ReadsSeen hidden outcome.touched) bare_outcome_is reads_seen in
+          -- the steps of the view over both memories differ only in the memories
           let view_steps =
           step_over hidden (hart_state_of hart machine) machine.shared other_memory equal_outside reads_bare measures_seen in
           let first_after = monitored_step view in
@@ -435,6 +438,7 @@ machine_over hidden hart machine other_memory equal_outside reads_seen measures_
           rw (first_step_is, second_step_is)
           (record {
             outcome = view_steps.outcome;
+            -- the reprogrammed harts are equal, because the traps and the tables are equal
             hart_states =
                 ap (λ (outcome : Outcome). states_after outcome first_after.state.shared.table first_after.state.hart_state) view_steps.outcome
                 ∙ ap₂ (λ (table : Slots) (hart_state : HartState). states_after second_after.outcome table hart_state) view_steps.shared.table

@@ -149,10 +149,13 @@ module _ (view : HartView) (host_invariant : HostContextInvariant view.hart_stat
       → view.hart_state.host_context ≡ saved_host
       → is_some saved_host ≡ not (is_host world)
       → StaysOrSwitches view (returned outcome result)
+  -- the hart runs the host: the host has no saved context, and nothing switches
   return_leaves outcome result outcome_trap_is leaves Host None world_is host_context_is saved_if_enclave =
       inl (record { world = leaves.world ∙ sym world_is; host = leaves.forgotten ∙ sym host_context_is; entered = leaves.entered })
+  -- the host runs if and only if the hart has no saved host context, so these two cases have a false premise
   return_leaves outcome result outcome_trap_is leaves Host (Some host) world_is host_context_is saved_if_enclave = cc
   return_leaves outcome result outcome_trap_is leaves (Enclave slot) None world_is host_context_is saved_if_enclave = cc
+  -- the hart runs an enclave: the exit restores the saved context of the host
   return_leaves outcome result outcome_trap_is leaves (Enclave slot) (Some host) world_is host_context_is saved_if_enclave =
       let CanGoOnIfSome : Option Context → Type 0 =
       λ saved_host. IfSome saved_host (λ some_context. can_go_on some_context ≡ true) in
@@ -167,6 +170,7 @@ module _ (view : HartView) (host_invariant : HostContextInvariant view.hart_stat
         kept = host_context_is;
         trapped = outcome_trap_is;
         world = host_leaves.world;
+        -- the registers, pc, mode and S-mode registers of the hart are those of the saved context, except for a0 and a1
         again =
             same_context host result.hart_state.hart.regs (aligned_to_4 result.next.pc) result.next.mode
             (s_context result.hart_state.hart.csrs) _ host_leaves.regs
