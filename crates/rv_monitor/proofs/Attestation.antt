@@ -207,17 +207,19 @@ module _ (slot : ℕ) (machine : MonitoredMachine) (invariant : Invariant machin
   stays_as_created hart not_entered live_after =
       let live_before : is_live machine.shared.table slot ≡ true =
       ap (λ (maybe_info : Option SlotInfo). is_some maybe_info) as_created.is in
-      let same =
+      -- by integrity, the step preserves the record, the region and the saved context of the enclave
+      let preserved =
       (integrity hart machine invariant slot (runs_nowhere hart) live_before not_entered live_after).preserved in
       let bytes =
       equal_block_bytes machine.shared.memory (step_of hart machine).state.shared.memory as_created.info.region (same_size hart machine)
       (valid_inside machine.shared.memory as_created.info.region record_is_valid.region)
-      (λ byte in_region. same.bytes byte (ap (λ (maybe_info : Option SlotInfo). has (region_of maybe_info) byte) as_created.is ∙ in_region)) in
+      (λ byte in_region. preserved.bytes byte (ap (λ (maybe_info : Option SlotInfo). has (region_of maybe_info) byte) as_created.is ∙ in_region)) in
       record {
         info = as_created.info;
-        is = same.slot ∙ as_created.is;
+        is = preserved.slot ∙ as_created.is;
         fresh = as_created.fresh;
-        context = same.context ∙ as_created.context;
+        context = preserved.context ∙ as_created.context;
+        -- the measurement is still that of the record and of the region, whose bytes are unchanged
         measurement =
             as_created.measurement
             ∙ same_measurement machine.shared.memory (step_of hart machine).state.shared.memory (args_of as_created.info) bytes;

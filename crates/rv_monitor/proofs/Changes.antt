@@ -65,6 +65,7 @@ unfolding destroyed
 destroyed_changes hart_state shared byte valid requested slot_accepted =
     let slot = a0 hart_state in
     elim (cases_Bool (has (region shared.table slot) byte)) [
+      -- a destroy zeroes the region of the enclave that it ends
       | inl in_region ↦
           let slot_is = slot_accepted.is in
           let slot_in_range = live_in_range shared.table slot slot_accepted.info valid.count slot_accepted.is in
@@ -72,6 +73,7 @@ destroyed_changes hart_state shared byte valid requested slot_accepted =
           at_written_slot shared.table slot None
           (omega (arith, valid.count)) in
           inr (inl (record { asked = requested; live = rw slot_is refl; gone = rw slot_is_free refl; own = in_region }))
+      -- a byte outside the region is unchanged
       | inr outside_region ↦ inl (zeroed_integrity shared.memory (region shared.table slot) byte outside_region)
     ]
 

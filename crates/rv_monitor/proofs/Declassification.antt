@@ -243,12 +243,14 @@ module _ (enclave hart : ℕ) (one other : MonitoredMachine) (invariant_one : In
     λ not_running. absurd (both_ways _ not_running exits_alike.runs),
     equiv_related enclave (step_of hart one).state (step_of hart other).state (exit_equiv exits_alike)
         (λ other_hart runs_after. elim (cases_eq other_hart hart) [
+          -- the stepping hart runs the host after the step, so this hart does not run `enclave`
           | inl equal ↦
               let not_running : runs_on enclave hart (step_of hart one).state ≡ false =
               ap (is_world_of enclave) exits_alike.first_exits in
-              let still_here : runs_on enclave hart (step_of hart one).state ≡ true =
-              ap (λ (index : ℕ). runs_on enclave index (step_of hart one).state) (sym equal) ∙ runs_after in
-              absurd (both_ways _ not_running still_here)
+              let still_runs : runs_on enclave hart (step_of hart one).state ≡ true =
+              ap (λ (some_hart : ℕ). runs_on enclave some_hart (step_of hart one).state) (sym equal) ∙ runs_after in
+              absurd (both_ways _ not_running still_runs)
+          -- another hart keeps its saved host in both machines
           | inr distinct ↦
               same_host_chain other_hart (step_of hart one).state one other (step_of hart other).state
               (other_harts_keep_host hart other_hart one distinct)

@@ -24,6 +24,7 @@ results_equal : (stepped other_stepped : MonitoredStepped) → stepped.state ≡
     → stepped.outcome.step ≡ other_stepped.outcome.step
     → stepped.outcome.entered ≡ other_stepped.outcome.entered → stepped ≡ other_stepped
 results_equal stepped other_stepped same_state same_step same_entered =
+    -- the three parts are replaced one after the other
     let with_state : stepped ≡ record { state = other_stepped.state; outcome = stepped.outcome } =
     ap (λ (machine : MonitoredMachine). let after : MonitoredStepped = record { state = machine; outcome = stepped.outcome } in after) same_state in
     let with_step : stepped.outcome ≡ record { step = other_stepped.outcome.step; entered = stepped.outcome.entered } =

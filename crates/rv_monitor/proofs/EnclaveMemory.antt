@@ -248,6 +248,7 @@ own_alike_after_trap slot outcome (Some trap) hart_state one other runs_enclave 
     record {
       outcome = ap shows handler_results.next;
       hart_state = ap₂ returned_by handler_results.hart_state handler_results.next;
+      -- bytes that were equal are equal after the trap handler, and the sizes of the memories are unchanged
       shared = record {
         table = handler_results.shared.table;
         memory = record {

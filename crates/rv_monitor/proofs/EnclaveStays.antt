@@ -177,35 +177,38 @@ enclave_step_unchanged enclave hart machine invariant runs_on_hart runs_after =
     let world_is = world_is_enclave enclave view.hart_state.world runs_on_hart in
     let step_is = step_of_view hart machine in_range in
     let after = monitored_step view in
+    -- the hart still runs the enclave after the step, so the step left unchanged what `StaysBehind` names
     let enclave_runs_after : is_host after.state.hart_state.world ≡ false =
     ap (λ (stepped : HartViewStepped). is_host stepped.state.hart_state.world) (sym step_is)
     ∙ enclave_world_is_not_host enclave (hart_state_of hart (step_of hart machine).state).world runs_after in
     let stays = stays_behind enclave view view_invariant world_is enclave_runs_after in
     let shared_is = ap (λ (stepped : HartViewStepped). stepped.state.shared) step_is in
     let hart_state_is = ap (λ (stepped : HartViewStepped). stepped.state.hart_state) step_is in
-    let table_unchanged = stays.table ∙ sym (ap (λ (shared_is : Shared). shared_is.table) shared_is) in
+    let table_unchanged = stays.table ∙ sym (ap (λ (shared : Shared). shared.table) shared_is) in
     record {
       harts = sym (step_count hart machine);
       -- the table is unchanged, so a hart that the monitor reprograms for the table keeps its state
       others = λ other_hart distinct. elim (cases_lt other_hart (count_of machine)) [
         | inl in_range ↦
             sym (step_programmed hart other_hart machine invariant distinct in_range
-            ∙ ap (λ (table_unchanged : Slots). reprogrammed table_unchanged (hart_state_of other_hart machine)) (sym table_unchanged)
+            ∙ ap (λ (table : Slots). reprogrammed table (hart_state_of other_hart machine)) (sym table_unchanged)
             ∙ reprogramming_changes_nothing machine.shared.table (hart_state_of other_hart machine) (invariant.hart_states other_hart in_range))
         | inr past_last ↦
             let count = step_count hart machine in
             past_hart_state machine.hart_states other_hart past_last
             ∙ sym (past_hart_state (step_of hart machine).state.hart_states other_hart (omega (arith, count, past_last)))
       ];
+      -- the saved host and the CSRs that no context switch replaces are unchanged
       behind = record {
-        host = stays.host ∙ sym (ap (λ (hart_state_is : HartState). hart_state_is.host_context) hart_state_is);
-        rest = stays.rest ∙ sym (ap (λ (hart_state_is : HartState). rest hart_state_is.hart.csrs) hart_state_is);
+        host = stays.host ∙ sym (ap (λ (hart_state : HartState). hart_state.host_context) hart_state_is);
+        rest = stays.rest ∙ sym (ap (λ (hart_state : HartState). rest hart_state.hart.csrs) hart_state_is);
       };
       table = table_unchanged;
-      contexts = stays.contexts ∙ sym (ap (λ (shared_is : Shared). shared_is.contexts) shared_is);
-      size = stays.size ∙ sym (ap (λ (shared_is : Shared). length shared_is.memory) shared_is);
+      contexts = stays.contexts ∙ sym (ap (λ (shared : Shared). shared.contexts) shared_is);
+      size = stays.size ∙ sym (ap (λ (shared : Shared). length shared.memory) shared_is);
+      -- a step of an enclave changes no byte beyond its region and window
       bytes =
-          λ byte is_beyond_enclave. ap (λ (shared_is : Shared). byte_at shared_is.memory byte) shared_is
+          λ byte is_beyond_enclave. ap (λ (shared : Shared). byte_at shared.memory byte) shared_is
           ∙ bytes_beyond_unchanged enclave view view_invariant world_is byte is_beyond_enclave;
     }
 

@@ -484,8 +484,8 @@ module _ (first_slot second_slot : ℕ) (first_state second_state : HartState) (
       (λ second_trap second_trapped.
       let some_traps_equal : Some trap ≡ Some second_trap = sym trapped ∙ same_traps ∙ second_trapped in
       let traps_equal : trap ≡ second_trap = cc in
-      subst (λ (some_hart : Trap). StepAlike first_slot second_slot (view_after_trap (view_of first_state first_shared) trap)
-      (view_after_trap (view_of second_state second_shared) some_hart)) traps_equal (trapped_alike trap)))
+      subst (λ (some_trap : Trap). StepAlike first_slot second_slot (view_after_trap (view_of first_state first_shared) trap)
+      (view_after_trap (view_of second_state second_shared) some_trap)) traps_equal (trapped_alike trap)))
 
 -- ---- the exit of an enclave
 
@@ -730,6 +730,7 @@ module _ (place other_place : Place) (one other : MonitoredMachine) (invariant_o
         second =
             subst (λ (regs : List ℕ). HasReturned (reason cause regs) (value cause regs) other_place.hart (step_at other_place other).state)
             (sym regs) second_exit.returned;
+        -- the saved contexts are equal, because an exit saves what the enclave can see of its hart
         saved = record {
           context = saved_after cause first_hart;
           first = first_exit.context;
@@ -738,6 +739,7 @@ module _ (place other_place : Place) (one other : MonitoredMachine) (invariant_o
               first_exit.slot ∙ ap₂ (λ (regs : List ℕ) (maybe_info : Option SlotInfo). with_its_state
               (enclave_state_after cause regs) maybe_info) regs same_enclave.slot
               ∙ sym second_exit.slot;
+          -- an exit changes no byte of memory
           memory = record {
             size =
                 ap (λ (memory : List ℕ). length memory) first_exit.memory ∙ same_enclave.memory.size

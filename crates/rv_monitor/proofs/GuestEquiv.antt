@@ -176,9 +176,11 @@ module _ (enclave : ℕ) (hart_state : HartState) (one other : Shared) (view_inv
       bare_law enclave (view_of hart_state one) other.memory view_invariant_one runs_other shared_equiv.memory in
       let traps = ap (λ (outcome : StepOutcome). outcome.trap) bare_steps_alike.outcome in
       step_cases (view_of hart_state one) (λ after. SameHostAfter after (monitored_step (view_of hart_state other)))
+      -- without a trap, only the hart and the memory change, and both bare steps are alike
       (λ no_trap. step_cases (view_of hart_state other) (λ after. SameHostAfter (view_without_trap (view_of hart_state one)) after)
       (λ no_second_trap. record { host = refl; rest = ap (λ (hart : Hart). unswitched (guest_csrs hart.csrs)) (sym bare_steps_alike.hart) })
       (λ trap trapped. let contradiction : None ≡ Some trap = sym no_trap ∙ sym traps ∙ trapped in cc))
+      -- with a trap, the second step has the same trap
       (λ trap trapped. step_cases (view_of hart_state other) (λ after. SameHostAfter (view_after_trap (view_of hart_state one) trap) after)
       (λ no_trap. let contradiction : Some trap ≡ None = sym trapped ∙ sym traps ∙ no_trap in cc)
       (λ second_trap second_trapped.

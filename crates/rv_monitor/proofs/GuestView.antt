@@ -232,6 +232,7 @@ guest_step_of hart machine invariant = elim (cases_lt hart (count_of machine)) [
       let view_invariant = hart_view_invariant hart machine invariant in_range in
       let alike = guest_step (bare_machine view) view_invariant.hart.layout.mode view_invariant.hart.layout.mprv in
       let view_with : HartState → HartView = λ hart_state. record { hart_state = hart_state; shared = machine.shared } in
+      -- the state of the hart in the guest view is the guest state of the hart
       let same_to_guests : SameShown (monitored_step view) (monitored_step (hart_view hart (guest_view machine))) =
       subst (λ (hart_state : HartState). SameShown (monitored_step view) (monitored_step (view_with hart_state)))
       (sym (guest_hart_state hart machine))

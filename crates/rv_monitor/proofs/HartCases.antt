@@ -157,9 +157,11 @@ other_harts_keep property preserved hart other_hart machine distinct =
     let after = monitored_step (hart_view hart machine) in
     let same_length = stepped_count hart machine after in
     elim (cases_lt other_hart (count_of machine)) [
+      -- reprogramming after a trap keeps the property
       | inl in_range ↦
           ap property (other_hart_state hart machine after other_hart distinct in_range)
           ∙ reprogramming_keeps_property after.outcome.step.trap after.state.shared.table
+      -- a number of no hart has the state of the host at reset, before and after the step
       | inr past_last ↦
           ap property (past_hart_state (stepped_by hart machine after).state.hart_states other_hart (omega (arith, same_length, past_last)) ∙ sym
           (past_hart_state machine.hart_states other_hart past_last))
@@ -240,6 +242,7 @@ is_trapping hart machine trap traps = elim (cases_lt hart (count_of machine)) [
       let step_is = machine_step_is hart machine in_range in
       let trapped : after.outcome.step.trap ≡ Some trap =
       sym (ap (λ (stepped : MonitoredStepped). stepped.outcome.step.trap) step_is) ∙ traps in
+      -- a step with a trap reprograms every hart, and then writes the state of the stepping hart
       let programmed_after : Option Trap → MonitoredMachine = λ maybe_trap. record {
         hart_states =
             slice_set (hart_states_reprogrammed maybe_trap after.state.shared.table machine.hart_states) hart after.state.hart_state;

@@ -140,9 +140,11 @@ written_invariant_of_hart hart regs raised machine invariant in_range =
     let new_state = written regs raised hart_state in
     let same_length = length-set machine.hart_states hart new_state in
     record {
+      -- the worlds are unchanged, because the new state has the world of the old state
       shared =
           subst (SharedInvariant machine.shared)
           (sym (map-set world_of machine.hart_states hart new_state ∙ world_write_changes_nothing hart machine in_range)) invariant.shared;
+      -- the new state keeps the invariant of the hart, and the other harts are unchanged
       hart_states = λ other_hart other_in_range.
           hart_cases machine.hart_states hart new_state (λ hart some_state. hart < count_of machine
           → HartInvariant machine.shared.table some_state) in_range

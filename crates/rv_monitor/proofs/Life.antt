@@ -261,6 +261,7 @@ line_stays : (slot hart : ℕ) (raised : Bool) (machine : MonitoredMachine) (con
     → is_live machine.shared.table slot ≡ true → StaysAtPoint slot context machine (with_timer hart machine raised)
 line_stays slot hart raised machine context continues live = record {
   continues = record {
+    -- a change of a timer line changes neither the registers nor the saved contexts
     running = λ other_hart runs_on_other.
         change_preserves (λ (hart_state : HartState). continuation hart_state.hart) (timer_line_set raised)
         (λ hart_state. refl) hart other_hart machine
@@ -389,12 +390,13 @@ module _ (slot hart : ℕ) (machine : MonitoredMachine) (context : Context) (inv
       ≡ record saved_context { supervisor = s_context (with_s_context (hart_state_of hart machine).hart.csrs saved_context.supervisor) } =
       ap (λ (machine : MonitoredMachine). continuation (hart_state_of hart machine).hart) entry.call.state
       ∙ ap (λ (hart_state : HartState). continuation hart_state.hart) entered_hart_state in
-      let restored_context_same = ap (λ (supervisor : SContext). record saved_context { supervisor = supervisor })
+      let same_context_again = ap (λ (supervisor : SContext). record saved_context { supervisor = supervisor })
       (restored_context_same (hart_state_of hart machine).hart.csrs saved_context.supervisor context_is_legal) in
+      -- the enclave continues with its saved context, and the entry changes no byte of memory
       record {
         continues =
             running_continues slot hart (step_of hart machine).state context invariant_after runs_after
-            (continuation_is ∙ restored_context_same ∙ contexts_equal);
+            (continuation_is ∙ same_context_again ∙ contexts_equal);
         live = live_after;
         identity = record_law hart machine invariant slot live live_after;
         size = same_size hart machine;
@@ -480,6 +482,7 @@ foreign_event_keeps_point slot other_slot event one other invariant_one legal po
       second = point.second;
       live = stays_alike.live;
       identity = stays_alike.identity ∙ point.identity;
+      -- the region of the first enclave keeps its bytes, which are those of the second enclave
       memory = record {
         size = stays_alike.size ∙ point.memory.size;
         bytes = λ index outside_region.
@@ -499,6 +502,7 @@ swapped slot other_slot one other point =
       second = point.first;
       live = sym (same_liveness one.shared.table other.shared.table slot other_slot point.identity) ∙ point.live;
       identity = sym point.identity;
+      -- the regions are equal, because the identities are equal
       memory = record {
         size = sym point.memory.size;
         bytes =
@@ -533,6 +537,7 @@ reads_only_own_bytes place machine invariant runs byte byte_read =
     let view = hart_view place.hart machine in
     let step_is : (step_at place machine).outcome.step ≡ (monitored_step view).outcome.step =
     ap (λ (stepped : HartViewStepped). stepped.outcome.step) (step_of_view place.hart machine in_range) in
+    -- the instruction fetches and loads only bytes that are accessible to the running enclave
     let accessed =
     subst (IsTouchedAccessible view) (sym step_is) (touch_law view (hart_view_invariant place.hart machine invariant in_range)) in
     let touched = (step_at place machine).outcome.step.touched in
@@ -555,6 +560,7 @@ changes_only_own_bytes place machine invariant runs index byte_beyond =
     let view = hart_view place.hart machine in
     let memory_of_view =
     ap (λ (stepped : HartViewStepped). stepped.state.shared.memory) (step_of_view place.hart machine in_range) in
+    -- a step of an enclave changes no byte beyond its region and window
     let byte_unchanged =
     bytes_beyond_unchanged place.slot view (hart_view_invariant place.hart machine invariant in_range) world (ram_base + index) byte_beyond in
     let same_length = same_size place.hart machine in

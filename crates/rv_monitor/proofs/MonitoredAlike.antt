@@ -34,8 +34,10 @@ trapped_equiv : (enclave : ℕ) (outcome : StepOutcome) (maybe_trap : Option Tra
     → SharedEquivExcept enclave one other
     → Agree enclave (option_case maybe_trap (unhandled outcome hart_state one) (λ trap. returned outcome (handled hart_state one trap)))
     (option_case maybe_trap (unhandled outcome hart_state other) (λ trap. returned outcome (handled hart_state other trap)))
+-- without a trap, nothing follows the bare step
 trapped_equiv enclave outcome None worlds hart_state one other shared_invariant_one shared_invariant_other not_running shared_equiv =
     record { outcome = refl; hart_state = record { world = refl; same = λ not_running. refl }; shared = shared_equiv }
+-- with a trap, the noninterference of the trap handler applies
 trapped_equiv enclave outcome (Some trap) worlds hart_state one other shared_invariant_one shared_invariant_other not_running shared_equiv =
     let handler_results =
     handler_law enclave worlds hart_state one other trap shared_invariant_one shared_invariant_other not_running shared_equiv in
@@ -183,6 +185,7 @@ noninterference hart one invariant enclave other invariant_other equiv not_runni
       -- a step with the number of no hart changes neither machine
       | inr past_last ↦
           rw (outside hart one past_last, outside hart other (omega (arith, same_harts, past_last))) (record { outcome = refl; state = equiv })
+      -- the steps of both views agree, so the machines after the steps are equivalent
       | inl in_range ↦
           let first_after = monitored_step (hart_view hart one) in
           let second_after = monitored_step (hart_view hart other) in

@@ -122,6 +122,7 @@ pub reprogrammed_by : (before after : Slots) (hart_state : HartState) (hart : Ha
 reprogrammed_by before after hart_state hart hart_invariant entries mie mode_unchanged mstatus_unchanged =
     let layout_before = hart_invariant.layout in
     invariant_with_hart after hart_state hart hart_invariant.host (record {
+      -- the PMP entries and mie are those of the new table, and the mode and mstatus are unchanged
       entries = entries;
       mie = mie;
       mode = ap is_machine mode_unchanged ∙ layout_before.mode;
@@ -231,12 +232,14 @@ module _ (other_worlds : List World) (hart_state : HartState) (shared : Shared)
       let after = step (bare_machine state) in
       let layout = hart_invariant.layout in
       step_cases state (InvariantBeside other_worlds)
+      -- without a trap, the bare step keeps the PMP entries, mie and the mode below M
       (λ no_trap.
       let parts_and_mode_kept =
       without_trap after.outcome.trap (StaysBelow hart_state.hart after.state.hart) no_trap
       (keeps_machine_parts (bare_machine state) layout.mode layout.mprv) in
       kept_without_trap after (confined (bare_machine state)) parts_and_mode_kept
       (keeps_mprv_clear (bare_machine state) (λ some_bit. layout.mprv) parts_and_mode_kept.1))
+      -- with a trap, the trap handler gives the invariant again
       (λ trap traps.
       let hart_state_at_trap = hart_state_after hart_state trap in
       kept_after_handler after.outcome (handled hart_state_at_trap shared trap)

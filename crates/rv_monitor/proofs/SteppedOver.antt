@@ -205,9 +205,9 @@ module _ (hidden : ℕ → Bool) (hart_state : HartState) (trap : Trap) (table :
       let same_record : recorded memory new ≡ recorded other_memory new = rw bytes refl in
       let slot = new_slot table in
       record {
-        table = ap (λ (same_record : SlotInfo). with_slot table slot (Some same_record)) same_record;
+        table = ap (λ (info : SlotInfo). with_slot table slot (Some info)) same_record;
         contexts =
-            ap (λ (same_record : SlotInfo). with_context saved_contexts slot (Some (first_context same_record))) same_record;
+            ap (λ (info : SlotInfo). with_context saved_contexts slot (Some (first_context info))) same_record;
         size = equal_outside.size;
         changes = unchanged memory other_memory;
       }
@@ -378,9 +378,11 @@ module _ (hidden : ℕ → Bool) (hart_state : HartState) (shared : Shared) (oth
       stored_alike first_bare.outcome.touched.stored is_confined.bytes shared.memory other_memory first_bare.state.memory second_bare.state.memory
       equal_outside.size
       alike.here alike.there in
+      -- a store keeps the size of the memory
       let same_length : length first_bare.state.memory ≡ length second_bare.state.memory =
       stored_size first_bare.outcome.touched.stored is_confined.bytes shared.memory first_bare.state.memory alike.here ∙ equal_outside.size
       ∙ sym (stored_size first_bare.outcome.touched.stored is_confined.bytes other_memory second_bare.state.memory alike.there) in
+      -- the trap handler follows if the bare step traps
       let ended =
       ended_over hidden first_bare.outcome first_bare.outcome.trap
       (record hart_state { hart = first_bare.state.hart }) shared shared.memory other_memory first_bare.state.memory second_bare.state.memory
