@@ -29,6 +29,7 @@ use Rattle.rv_monitor.proofs.HandlerCases.{requested-is_offered, handler_cases, 
 -- two shared states have equal tables, equal contexts of `slot`, and equal bytes in the region and window of `slot`
 pub record SharedFor (slot : ℕ) (one other : Shared) : Type 0 where
   pub table : one.table ≡ other.table
+  -- the bytes of the region and of the window are equal
   pub memory : EqualOutside (is_beyond one.table slot) one.memory other.memory
   pub context : context_at one.contexts slot ≡ context_at other.contexts slot
 

@@ -157,11 +157,14 @@ module _ (slot : ℕ) (view : HartView) (view_invariant : HartViewInvariant view
 -- the machine after the step differs only in the hart of the enclave and in the bytes of its region and window
 pub record Unchanged (enclave hart : ℕ) (before after : MonitoredMachine) : Type 0 where
   pub harts : count_of before ≡ count_of after
+  -- the states of the other harts are unchanged
   pub others : (other_hart : ℕ) → other_hart ≢ hart → hart_state_of other_hart before ≡ hart_state_of other_hart after
+  -- the hart keeps its saved context of the host, and the CSRs that no context switch replaces
   pub behind : SameHostOn hart before after
   pub table : before.shared.table ≡ after.shared.table
   pub contexts : before.shared.contexts ≡ after.shared.contexts
   pub size : length before.shared.memory ≡ length after.shared.memory
+  -- each byte outside the region and the window of `enclave` is unchanged
   pub bytes : (byte : ℕ) → is_beyond before.shared.table enclave byte ≡ true
       → byte_at after.shared.memory byte ≡ byte_at before.shared.memory byte
 

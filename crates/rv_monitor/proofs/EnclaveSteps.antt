@@ -104,9 +104,12 @@ view_of hart_state shared = record { hart_state = hart_state; shared = shared }
 
 -- The enclaves of two slots run on two harts over equal memories. Their records are equal, and their harts are equal as S and U see them.
 record Alike (first_slot second_slot : ℕ) (first_view second_view : HartView) : Type 0 where
+  -- each hart runs the enclave in its slot
   first : first_view.hart_state.world ≡ Enclave first_slot
   second : second_view.hart_state.world ≡ Enclave second_slot
+  -- both harts are equal, as modes S and U see them
   hart : below_m_hart first_view.hart_state.hart ≡ below_m_hart second_view.hart_state.hart
+  -- the records of both enclaves are equal
   slot : slot_at first_view.shared.table first_slot ≡ slot_at second_view.shared.table second_slot
   memory : first_view.shared.memory ≡ second_view.shared.memory
 
@@ -230,7 +233,9 @@ module _ (first_slot second_slot : ℕ) (first_state second_state : HartState) (
 -- Two steps have equal outcomes. Afterwards both harts run the host, or their enclaves are alike.
 record StepAlike (first_slot second_slot : ℕ) (first_step second_step : HartViewStepped) : Type 0 where
   outcome : first_step.outcome ≡ second_step.outcome
+  -- after the steps, both harts run the host or neither does
   hosts : is_host first_step.state.hart_state.world ≡ is_host second_step.state.hart_state.world
+  -- if the first hart does not run the host, then the enclaves are alike again
   runs : is_host first_step.state.hart_state.world ≡ false
       → Alike first_slot second_slot first_step.state second_step.state
 
@@ -495,11 +500,15 @@ with_its_state state maybe_info = option_case maybe_info None (λ info. Some (re
 
 -- the enclave has exited: the host received the reason and the value, and the record and the saved context are those after the trap
 pub record HasExited (place : Place) (cause : Cause) (before after : MonitoredMachine) : Type 0 where
+  -- the host received the reason and the value in a0 and a1
   pub returned : (let regs = (hart_state_of place.hart before).hart.regs in HasReturned (reason cause regs) (value cause regs) place.hart after)
+  -- the record of the enclave has the state after the exit, and its other fields are unchanged
   pub slot : slot_at after.shared.table place.slot
       ≡ with_its_state (enclave_state_after cause (hart_state_of place.hart before).hart.regs) (slot_at before.shared.table place.slot)
+  -- the exit saves the context of the enclave
   pub context : context_at after.shared.contexts place.slot ≡ Some (saved_after cause (hart_state_of place.hart before).hart)
   pub memory : after.shared.memory ≡ before.shared.memory
+  -- the slot keeps its region and its window
   pub extent : KeepsExtent place.slot before.shared.table after.shared.table
 
 -- after a trap of an enclave after which the host runs, the enclave has exited

@@ -223,6 +223,7 @@ programmed_by hart machine after =
 pub record IsTrapping (hart : ℕ) (machine : MonitoredMachine) (trap : Trap) : Type 0 where
   pub has : hart < count_of machine
   pub trapped : (monitored_step (hart_view hart machine)).outcome.step.trap ≡ Some trap
+  -- the hart takes the step of its view, and the PMP entries of all harts are programmed for the new table
   pub state : (step_of hart machine).state ≡ programmed_by hart machine (monitored_step (hart_view hart machine)).state
   pub outcome : (step_of hart machine).outcome ≡ (monitored_step (hart_view hart machine)).outcome
 

@@ -248,10 +248,13 @@ below_m_hart_of_context table hart_state hart_invariant =
 
 -- the enclave is live, continues with the same context, and keeps its identity and the bytes of its region
 record StaysAtPoint (slot : ℕ) (context : Context) (before after : MonitoredMachine) : Type 0 where
+  -- the enclave continues with `context` after the step
   continues : ContinuesWith slot context after
   live : is_live after.shared.table slot ≡ true
+  -- the region, the window, the entry and the measurement of the enclave are unchanged
   identity : identity_at after.shared.table slot ≡ identity_at before.shared.table slot
   size : length after.shared.memory ≡ length before.shared.memory
+  -- each byte of the region is unchanged
   bytes : (index : ℕ) → has (region before.shared.table slot) (ram_base + index) ≡ true
       → slice_index after.shared.memory index ≡ slice_index before.shared.memory index
 

@@ -10,7 +10,9 @@ use Rattle.rv_monitor.proofs.Prelude.{length-set, reprogrammed, same_lists}
 -- the state of the loop: the first `count` hart states are reprogrammed, and the others are unchanged
 pub record AreProgrammed (table : Slots) (original current : List HartState) (count : ℕ) : Type 0 where
   pub size : length current ≡ length original
+  -- each hart state below `count` is reprogrammed
   pub done : (hart : ℕ) → hart < count → hart_state_in current hart ≡ reprogrammed table (hart_state_in original hart)
+  -- the other hart states are unchanged
   pub rest : (hart : ℕ) → count ≤ hart → hart_state_in current hart ≡ hart_state_in original hart
 
 -- at the start of the loop, no hart state is reprogrammed

@@ -34,22 +34,22 @@ entry_saves_host view after (inr (inr leaves)) host_runs enclave_runs_after =
     absurd (both_ways _ enclave_runs_after (ap is_host leaves.world))
 
 -- the step with which the enclave exits restores the saved context of the host
-pub exit_restores_host : (before state : HartView) (after : HartViewStepped) → StaysOrSwitches state after
-    → state.hart_state.host_context ≡ Some (saved before.hart_state.hart (past_ecall before.hart_state.hart) S)
-    → is_host state.hart_state.world ≡ false → is_host after.state.hart_state.world ≡ true
-    → HostIsRestored before state after
+pub exit_restores_host : (before last : HartView) (after : HartViewStepped) → StaysOrSwitches last after
+    → last.hart_state.host_context ≡ Some (saved before.hart_state.hart (past_ecall before.hart_state.hart) S)
+    → is_host last.hart_state.world ≡ false → is_host after.state.hart_state.world ≡ true
+    → HostIsRestored before last after
 -- the hart runs an enclave before the step and the host after it, so the world does not continue
-exit_restores_host before state after (inl stays) host_is_saved enclave_runs host_runs_after =
+exit_restores_host before last after (inl stays) host_is_saved enclave_runs host_runs_after =
     absurd (both_ways _ enclave_runs (sym (ap is_host stays.world) ∙ host_runs_after))
 -- the hart runs an enclave before the step, so the step is not an entry
-exit_restores_host before state after (inr (inl enters)) host_is_saved enclave_runs host_runs_after =
+exit_restores_host before last after (inr (inl enters)) host_is_saved enclave_runs host_runs_after =
     absurd (both_ways _ enclave_runs (ap is_host enters.from_host))
 -- the step is an exit, which restores the context that the entry saved
-exit_restores_host before state after (inr (inr leaves)) host_is_saved enclave_runs host_runs_after =
+exit_restores_host before last after (inr (inr leaves)) host_is_saved enclave_runs host_runs_after =
     let some_contexts_equal = sym leaves.kept ∙ host_is_saved in
     let contexts_equal : leaves.host ≡ saved before.hart_state.hart (past_ecall before.hart_state.hart) S = cc in
-    let exit_reason = reason leaves.trap.cause state.hart_state.hart.regs in
-    let exit_value = value leaves.trap.cause state.hart_state.hart.regs in
+    let exit_reason = reason leaves.trap.cause last.hart_state.hart.regs in
+    let exit_value = value leaves.trap.cause last.hart_state.hart.regs in
     record {
       trap = leaves.trap;
       trapped = leaves.trapped;

@@ -159,8 +159,8 @@ module _ (other_worlds : List World) (hart_state : HartState) (shared : Shared)
     (shared_invariant : SharedInvariant shared (hart_state.world ∷ other_worlds))
     (hart_invariant : HartInvariant shared.table hart_state) where
   -- the view of the hart before the step
-  abbrev state : HartView
-  state = record { hart_state = hart_state; shared = shared }
+  abbrev view : HartView
+  view = record { hart_state = hart_state; shared = shared }
 
   -- the hart state at a trap satisfies `IsTrapped`
   trapped_hart_state : (trap : Trap) → IsTrapped other_worlds (hart_state_after hart_state trap) shared
@@ -180,7 +180,7 @@ module _ (other_worlds : List World) (hart_state : HartState) (shared : Shared)
       }
 
   -- a step without a trap satisfies `InvariantBeside`
-  kept_without_trap : (after : Stepped) → IsConfined (bare_machine state) after
+  kept_without_trap : (after : Stepped) → IsConfined (bare_machine view) after
       → StaysBelow hart_state.hart after.state.hart
       → after.state.hart.csrs.mstatus.mprv ≡ false
       → InvariantBeside other_worlds (unhandled after.outcome (record hart_state { hart = after.state.hart })
@@ -190,7 +190,7 @@ module _ (other_worlds : List World) (hart_state : HartState) (shared : Shared)
       let same_machine_parts = same_parts hart.csrs hart_state.hart.csrs stays_below.0 in
       let layout = hart_invariant.layout in (
         -- the memory keeps its size
-        sound_by_size shared (hart_state.world ∷ other_worlds) after.state.memory shared_invariant (step_size (bare_machine state) after confined),
+        sound_by_size shared (hart_state.world ∷ other_worlds) after.state.memory shared_invariant (step_size (bare_machine view) after confined),
         -- the hart keeps its PMP entries, mie and the fixed bits of mstatus
         invariant_with_hart shared.table hart_state hart hart_invariant.host (record {
           entries = same_machine_parts.0 ∙ layout.entries;
@@ -227,18 +227,18 @@ module _ (other_worlds : List World) (hart_state : HartState) (shared : Shared)
       )
 
   -- a step of a view satisfies `InvariantBeside`
-  pub step_invariant : InvariantBeside other_worlds (monitored_step state)
+  pub step_invariant : InvariantBeside other_worlds (monitored_step view)
   step_invariant =
-      let after = step (bare_machine state) in
+      let after = step (bare_machine view) in
       let layout = hart_invariant.layout in
-      step_cases state (InvariantBeside other_worlds)
+      step_cases view (InvariantBeside other_worlds)
       -- without a trap, the bare step keeps the PMP entries, mie and the mode below M
       (λ no_trap.
       let parts_and_mode_kept =
       without_trap after.outcome.trap (StaysBelow hart_state.hart after.state.hart) no_trap
-      (keeps_machine_parts (bare_machine state) layout.mode layout.mprv) in
-      kept_without_trap after (confined (bare_machine state)) parts_and_mode_kept
-      (keeps_mprv_clear (bare_machine state) (λ some_bit. layout.mprv) parts_and_mode_kept.1))
+      (keeps_machine_parts (bare_machine view) layout.mode layout.mprv) in
+      kept_without_trap after (confined (bare_machine view)) parts_and_mode_kept
+      (keeps_mprv_clear (bare_machine view) (λ some_bit. layout.mprv) parts_and_mode_kept.1))
       -- with a trap, the trap handler gives the invariant again
       (λ trap traps.
       let hart_state_at_trap = hart_state_after hart_state trap in

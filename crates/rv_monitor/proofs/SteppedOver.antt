@@ -120,6 +120,7 @@ pub record SharedOver (memory other_memory : List ℕ) (one other : Shared) : Ty
   pub table : one.table ≡ other.table
   pub contexts : one.contexts ≡ other.contexts
   pub size : length one.memory ≡ length other.memory
+  -- each byte is unchanged from both original memories, or equal in both shared states
   pub changes : ChangeAlike memory other_memory one.memory other.memory
 
 -- Two results of the trap handler are equal except for their memories. These result from `memory` and `other_memory` by the same changes.

@@ -22,8 +22,10 @@ pub record StaysIn (hart_state : HartState) (result : Handled) : Type 0 where
 -- the trap handler enters an enclave from the host, and saves the context of the host
 pub record EntersFrom (hart_state : HartState) (result : Handled) : Type 0 where
   pub slot : ℕ
+  -- the host runs before the trap, and the enclave runs after the trap handler
   pub from_host : hart_state.world ≡ Host
   pub world : result.hart_state.world ≡ Enclave slot
+  -- the hart saves the context of the host, which will continue in S after its ecall
   pub host : result.hart_state.host_context ≡ Some (saved hart_state.hart (past_call hart_state) S)
   pub entered : result.next.entered ≡ Some slot
 
@@ -32,8 +34,10 @@ pub record LeavesFor (hart_state : HartState) (trap : Trap) (result : Handled) :
   pub world : result.hart_state.world ≡ Host
   pub regs : result.hart_state.hart.regs
       ≡ with_return_values (saved_host hart_state).regs (reason trap.cause hart_state.hart.regs) (value trap.cause hart_state.hart.regs)
+  -- the hart continues at the pc and in the mode of the saved context
   pub pc : result.next.pc ≡ (saved_host hart_state).pc
   pub mode : result.next.mode ≡ (saved_host hart_state).mode
+  -- the S-mode registers are those of the saved context
   pub supervisor : s_context result.hart_state.hart.csrs ≡ s_context (with_s_context hart_state.hart.csrs (saved_host hart_state).supervisor)
   pub forgotten : result.hart_state.host_context ≡ None
   pub entered : result.next.entered ≡ None

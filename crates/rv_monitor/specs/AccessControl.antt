@@ -8,7 +8,7 @@ use Rattle.rv_monitor.specs.MonitoredMachine.{HartView, HartViewInvariant}
 -- in every state that satisfies the invariant, the PMP entries of a hart permit S and U exactly the accesses to accessible bytes in RAM
 abbrev pub AccessControlLaw : Type 0
 AccessControlLaw =
-    (state : HartView) (mode : Mode) (access : Access) (address : ℕ) (width : Width)
-    → HartViewInvariant state → mode ≢ M → is_inside state.shared.memory address (bytes_in width) ≡ true
-    → permits (verdict state.hart_state.hart.csrs.pmp mode access (bytes_from address (bytes_in width)))
-    ≡ is_accessible state.shared.memory state.shared.table state.hart_state.world access (bytes_from address (bytes_in width))
+    (view : HartView) (mode : Mode) (access : Access) (address : ℕ) (width : Width)
+    → HartViewInvariant view → mode ≢ M → is_inside view.shared.memory address (bytes_in width) ≡ true
+    → permits (verdict view.hart_state.hart.csrs.pmp mode access (bytes_from address (bytes_in width)))
+    ≡ is_accessible view.shared.memory view.shared.table view.hart_state.world access (bytes_from address (bytes_in width))

@@ -17,10 +17,14 @@ use Rattle.rv_monitor.specs.Step.{MonitoredStepped}
 -- The enclave in slot k is in the state after create. It is Fresh, and its saved context is the first one. Its measurement is that of its record
 -- and of the bytes in its region.
 pub record IsAsCreated (k : ℕ) (shared : Shared) : Type 0 where
+  -- the record of slot k
   pub info : SlotInfo
   pub is : slot_at shared.table k ≡ Some info
+  -- the enclave has not run yet
   pub fresh : info.state ≡ Fresh
+  -- the saved context of the slot is the one with which the enclave begins
   pub context : context_at shared.contexts k ≡ Some (first_context info)
+  -- the measurement in the record is the measurement of the present bytes of the region
   pub measurement : info.measurement ≡ measurement_of shared.memory (args_of info)
 
 -- Each enclave that the step creates is in the state after create. Each enclave in the state after create stays so, unless the step enters or
@@ -61,6 +65,7 @@ ReentryLaw =
 pub record SameIdentity (slot other_slot : ℕ) (one other : Shared) : Type 0 where
   pub first : IsAsCreated slot one
   pub second : IsAsCreated other_slot other
+  -- the bytes that the two measurements cover are equal
   pub input : measured_bytes one.memory (args_of first.info) ≡ measured_bytes other.memory (args_of second.info)
 
 -- Let two machines have an enclave of the same identity, with equal bytes in its window and the same timer line, and let both enter it. The slots

@@ -42,12 +42,16 @@ may_differ table enclave byte = has (region table enclave) byte || (runs table e
 -- Two machines are equivalent except `enclave` in the guest view, and except for the window of `enclave` while `enclave` runs. The saved contexts
 -- of the host on the hart of `enclave` are equal.
 pub record AreRelated (enclave : ℕ) (one other : MonitoredMachine) : Type 0 where
+  -- both machines have the same number of harts
   pub harts : count_of one ≡ count_of other
+  -- the states of each hart are equivalent except `enclave`, in the guest view
   pub hart_states : (hart : ℕ) → HartStatesEquivExcept enclave (guest_state (hart_state_of hart one)) (guest_state (hart_state_of hart other))
   -- the saved host context of the hart on which `enclave` runs is equal in both machines
   pub hosts : (hart : ℕ) → runs_on enclave hart one ≡ true → SameHostOn hart one other
   pub table : one.shared.table ≡ other.shared.table
+  -- the memories are equal outside the region of `enclave`, and outside the window while `enclave` runs
   pub memory : EqualOutside (may_differ one.shared.table enclave) one.shared.memory other.shared.memory
+  -- the saved contexts of all other slots are equal
   pub contexts : SameContexts enclave one.shared.contexts other.shared.contexts
   -- if `enclave` is not live, then the shared states are equal
   pub gone : is_live one.shared.table enclave ≡ false → one.shared ≡ other.shared
@@ -72,8 +76,10 @@ SameHandoverBy (causes.Exception exception) one other = SameHandover one other
 -- `enclave` exits from both machines by the same trap, and hands over the same
 pub record ExitsAlike (enclave hart : ℕ) (one other : MonitoredMachine) : Type 0 where
   pub runs : runs_on enclave hart one ≡ true
+  -- the bytes in the window of `enclave` are equal in both machines
   pub window : SameWindow enclave one other
   pub trap : Trap
+  -- the registers that the trap hands over to the host are equal
   pub handover : SameHandoverBy trap.cause (hart_state_of hart one).hart (hart_state_of hart other).hart
   -- the step traps alike in both machines
   pub first : (step_of hart one).outcome.step.trap ≡ Some trap
@@ -92,12 +98,14 @@ pub data Move : Type 0 where
 
 -- the step is a step of the enclave that does not exit
 pub record IsInside (enclave hart : ℕ) (machine : MonitoredMachine) : Type 0 where
+  -- `enclave` runs on the hart before and after the step
   pub before : runs_on enclave hart machine ≡ true
   pub after : runs_on enclave hart (step_of hart machine).state ≡ true
 
 -- The step is a low step. If the enclave runs on another hart, then the bytes of its window that the step reads are equal in both machines.
 pub record IsLowStep (enclave hart : ℕ) (one other : MonitoredMachine) : Type 0 where
   pub low : runs_on enclave hart one ≡ false
+  -- while `enclave` runs, the step reads equal bytes of its window in both machines
   pub window : runs one.shared.table enclave ≡ true → SameWindowRead enclave hart one other
 
 -- In one machine only the enclave takes steps. In both there are low steps, exits of the enclave that hand over the same, and changes of any timer
@@ -160,14 +168,17 @@ DeclassificationLaw =
     (enclave : ℕ) (moves : List Move) (one other : MonitoredMachine) → Invariant one → Invariant other → AreRelated enclave one other
     → AreMoves enclave moves one other → MovedAlike enclave moves one other
 
--- Machines that are equivalent except for an enclave are so in the guest view. Machines that are so in the guest view are related, if the enclave
--- runs on no hart. Related machines are equivalent in the guest view, if the enclave does not run.
+-- Two machines that are equivalent except for an enclave are equivalent except for this enclave in the guest view. Machines that are equivalent in
+-- the guest view are related, if the enclave runs on no hart. Related machines are equivalent in the guest view, if the enclave does not run.
 pub record RelationLaw : Type 0 where
+  -- machines that are equivalent except `enclave` are equivalent except `enclave` in the guest view
   pub guests : (enclave : ℕ) (one other : MonitoredMachine) → EquivExcept enclave one other
       → EquivToGuests enclave one other
+  -- machines that are equivalent except `enclave` in the guest view are related, if `enclave` runs on no hart
   pub begins : (enclave : ℕ) (one other : MonitoredMachine) → EquivToGuests enclave one other
       → ((hart : ℕ) → runs_on enclave hart one ≡ false)
       → AreRelated enclave one other
+  -- related machines are equivalent except `enclave` in the guest view, if `enclave` does not run
   pub ends : (enclave : ℕ) (one other : MonitoredMachine) → AreRelated enclave one other
       → runs one.shared.table enclave ≡ false
       → EquivToGuests enclave one other

@@ -35,6 +35,7 @@ pub record SameEnclave (place other_place : Place) (one other : MonitoredMachine
   pub second : runs_at other_place other ≡ true
   -- both harts are equal, as modes S and U see them
   pub hart : below_m_hart (hart_state_of place.hart one).hart ≡ below_m_hart (hart_state_of other_place.hart other).hart
+  -- the records of both enclaves are equal
   pub slot : slot_at one.shared.table place.slot ≡ slot_at other.shared.table other_place.slot
   -- the bytes of the region and of the window are equal
   pub memory : EqualOutside (is_beyond one.shared.table place.slot) one.shared.memory other.shared.memory
@@ -43,10 +44,13 @@ pub record SameEnclave (place other_place : Place) (one other : MonitoredMachine
 
 -- two enclaves that do not run have equal records, equal saved contexts, and equal bytes in the region and the window
 pub record SameSaved (i j : ℕ) (one other : Shared) : Type 0 where
+  -- the saved context of both enclaves
   pub context : Context
   pub first : context_at one.contexts i ≡ Some context
   pub second : context_at other.contexts j ≡ Some context
+  -- the records of both enclaves are equal
   pub slot : slot_at one.table i ≡ slot_at other.table j
+  -- the bytes of the region and of the window are equal
   pub memory : EqualOutside (is_beyond one.table i) one.memory other.memory
 
 -- the hart runs the host, which received a reason and a value in a0 and a1
@@ -54,14 +58,17 @@ pub record HasReturned (reason value hart : ℕ) (machine : MonitoredMachine) : 
   pub world : (hart_state_of hart machine).world ≡ Host
   -- the registers of the host before it receives the reason and the value
   pub host : List ℕ
+  -- a0 has the reason, a1 has the value, and the host keeps its other registers
   pub regs : (hart_state_of hart machine).hart.regs ≡ with_return_values host reason value
 
 -- both enclaves exited: the hosts received equal values, and the saved states of the enclaves are equal
 pub record SameExit (place other_place : Place) (one other : MonitoredMachine) : Type 0 where
+  -- the reason and the value that both hosts received in a0 and a1
   pub reason : ℕ
   pub value : ℕ
   pub first : HasReturned reason value place.hart one
   pub second : HasReturned reason value other_place.hart other
+  -- the saved states of both enclaves are equal
   pub saved : SameSaved place.slot other_place.slot one.shared other.shared
 
 -- ---- one step
@@ -97,7 +104,9 @@ AreHighSteps place (suc count) machine =
 
 -- `count` steps of each hart have equal outcomes, and leave the enclaves in the same state or both exited
 pub record SameEnclaveRun (place other_place : Place) (count : ℕ) (one other : MonitoredMachine) : Type 0 where
+  -- the outcomes of all steps are equal
   pub outcomes : (sched (replicate count place.hart) one).outcomes ≡ (sched (replicate count other_place.hart) other).outcomes
+  -- after the last step the enclaves have the same state, or both exited
   pub state : SameAfter place other_place (sched (replicate count place.hart) one).state (sched (replicate count other_place.hart) other).state
 
 -- if two enclaves have the same state, then many steps of one enclave are the same as many steps of the other

@@ -12,6 +12,7 @@ runs_on enclave hart machine = is_world_of enclave (hart_state_of hart machine).
 -- two hart states with the same world; they are equal unless that world is `enclave`
 pub record HartStatesEquivExcept (enclave : ℕ) (one other : HartState) : Type 0 where
   pub world : one.world ≡ other.world
+  -- a hart that does not run `enclave` has equal states in both machines
   pub same : is_world_of enclave one.world ≡ false → one ≡ other
 
 -- the number of harts is the same, their states are equivalent, and so is the shared state

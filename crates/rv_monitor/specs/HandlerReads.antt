@@ -27,8 +27,10 @@ is_entering _ = false
 
 -- two shared states have the same table and memories of the same size, and are equal in everything else that the trap handler reads
 pub record SameRead (hart_state : HartState) (cause : Cause) (one other : Shared) : Type 0 where
+  -- the tables of slots are equal
   pub table : one.table ≡ other.table
   pub size : length one.memory ≡ length other.memory
+  -- both states have the same number of saved contexts
   pub slots : length one.contexts ≡ length other.contexts
   -- the bytes of the region that a requested create would measure are equal
   pub measured : requested_by cause hart_state ≡ Some Create
@@ -41,14 +43,17 @@ pub record SameRead (hart_state : HartState) (cause : Cause) (one other : Shared
 -- the tables are equal after the trap, and each byte and each context that is equal before is equal after
 pub record SameWhereSame (one other one_after other_after : Shared) : Type 0 where
   pub table : one_after.table ≡ other_after.table
+  -- each byte that is equal before the trap is equal after the trap
   pub bytes : (index : ℕ) → slice_index one.memory index ≡ slice_index other.memory index
       → slice_index one_after.memory index ≡ slice_index other_after.memory index
+  -- each saved context that is equal before the trap is equal after the trap
   pub contexts : (slot : ℕ) → context_at one.contexts slot ≡ context_at other.contexts slot
       → context_at one_after.contexts slot ≡ context_at other_after.contexts slot
 
 -- two results of the trap handler have equal harts, and each byte and each context that is equal before is equal after
 pub record SameHandling (one other : Shared) (one_left other_left : Handled) : Type 0 where
   pub hart_state : one_left.hart_state ≡ other_left.hart_state
+  -- both harts continue at the same pc in the same mode
   pub next : one_left.next ≡ other_left.next
   pub shared : SameWhereSame one other one_left.shared other_left.shared
 

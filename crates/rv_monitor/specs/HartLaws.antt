@@ -65,6 +65,7 @@ LowStepsLaw =
 pub record SchedAlike (enclave : ℕ) (harts : List ℕ) (one other : MonitoredMachine) : Type 0 where
   pub outcomes : (sched harts one).outcomes ≡ (sched harts other).outcomes
   pub state : EquivExcept enclave (sched harts one).state (sched harts other).state
+  -- the steps are low steps in the other machine too
   pub low_steps : AreLowSteps enclave harts other
 
 -- if two machines are equivalent except for `enclave`, low steps in any order have the same outcomes on both and leave them equivalent except for

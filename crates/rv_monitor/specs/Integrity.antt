@@ -15,6 +15,7 @@ enters slot (Some entered) = entered == slot
 -- the record of the slot, the bytes of its region and its saved context are unchanged
 pub record IsPreserved (slot_number : ℕ) (before after : Shared) : Type 0 where
   pub slot : slot_at after.table slot_number ≡ slot_at before.table slot_number
+  -- each byte of the region is unchanged
   pub bytes : (byte : ℕ) → has (region before.table slot_number) byte ≡ true
       → byte_at after.memory byte ≡ byte_at before.memory byte
   pub context : context_at after.contexts slot_number ≡ context_at before.contexts slot_number
@@ -22,6 +23,7 @@ pub record IsPreserved (slot_number : ℕ) (before after : Shared) : Type 0 wher
 -- the enclave is preserved; if it runs, its hart keeps everything except the PMP entries and mie, which are those of the table and its world
 pub record IsUntouched (slot : ℕ) (before after : MonitoredMachine) : Type 0 where
   pub preserved : IsPreserved slot before.shared after.shared
+  -- the hart that runs the enclave keeps its state, except for the PMP entries and mie
   pub hart_state : (hart : ℕ) → runs_on slot hart before ≡ true
       → hart_state_of hart after ≡ reprogrammed after.shared.table (hart_state_of hart before)
 

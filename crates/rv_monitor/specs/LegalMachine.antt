@@ -13,11 +13,12 @@ pub record IsLegalHartState (hart_state : HartState) : Type 0 where
 -- the pc and S-mode registers of each hart, and those of each saved context of an enclave, have legal values
 pub record IsLegalMachine (machine : MonitoredMachine) : Type 0 where
   pub harts : (hart : ℕ) → IsLegalHartState (hart_state_of hart machine)
+  -- the S-mode registers of each saved context have values that a hart can store
   pub contexts : (slot : ℕ) → IfSome (context_at machine.shared.contexts slot) (λ context. IsLegal context.supervisor)
 
 -- the machine at reset is legal, and every event of a legal machine leaves it legal
 pub record LegalLaw : Type 0 where
-  pub start : (memory : List ℕ) (entry harts : ℕ) → aligned_to_4 entry ≡ entry
-      → IsLegalMachine (at_start memory entry harts)
+  pub start : (memory : List ℕ) (entry hart_count : ℕ) → aligned_to_4 entry ≡ entry
+      → IsLegalMachine (at_start memory entry hart_count)
   pub keeps : (event : Event) (machine : MonitoredMachine) → Invariant machine → IsLegalMachine machine
       → IsLegalMachine (event_of event machine).state

@@ -28,13 +28,16 @@ pub record ContinuesWith (slot : ℕ) (context : Context) (machine : MonitoredMa
 -- Two enclaves continue with the same context. They have the same region, window, entry and measurement, and the same bytes in the region. Whether
 -- they run, on which harts, and the bytes of their windows may differ.
 pub record AreAtOnePoint (slot other_slot : ℕ) (one other : MonitoredMachine) : Type 0 where
+  -- the context with which both enclaves continue
   pub context : Context
   -- both enclaves continue with this context
   pub first : ContinuesWith slot context one
   pub second : ContinuesWith other_slot context other
   -- the first enclave is live, and so is the second one, because the identities are equal
   pub live : is_live one.shared.table slot ≡ true
+  -- the region, the window, the entry and the measurement are equal
   pub identity : identity_at one.shared.table slot ≡ identity_at other.shared.table other_slot
+  -- the bytes of the region are equal
   pub memory : EqualOutside (λ byte. not (has (region one.shared.table slot) byte)) one.shared.memory other.shared.memory
 
 -- ---- events that are foreign to the enclave
@@ -52,16 +55,19 @@ IsForeign k (LineOf hart raised) machine = Unit {0}
 -- The step is an own step of the enclave. The enclave runs in both machines, and no timer line is set on its harts. The bytes of its window that the
 -- step reads are equal.
 pub record IsOwnStep (place other_place : Place) (one other : MonitoredMachine) : Type 0 where
+  -- both enclaves run
   pub first : runs_at place one ≡ true
   pub second : runs_at other_place other ≡ true
   -- the timer line of the first enclave's hart is clear
   pub line : (hart_state_of place.hart one).hart.csrs.timer ≡ false
   -- the timer line of the second enclave's hart is clear
   pub line_too : (hart_state_of other_place.hart other).hart.csrs.timer ≡ false
+  -- the bytes of the window that the step reads are equal
   pub window : SameWindowRead place.slot place.hart one other
 
 -- both hosts received the same reason and value
 pub record BothReturned (place other_place : Place) (one other : MonitoredMachine) : Type 0 where
+  -- the reason and the value that both hosts received in a0 and a1
   pub reason : ℕ
   pub value : ℕ
   pub first : HasReturned reason value place.hart one
@@ -71,8 +77,10 @@ pub record BothReturned (place other_place : Place) (one other : MonitoredMachin
 -- the enclave exits, then both hosts receive the same.
 pub record SameOwnStep (place other_place : Place) (one other : MonitoredMachine) : Type 0 where
   pub outcome : (step_at place one).outcome ≡ (step_at other_place other).outcome
+  -- each byte is unchanged in both machines, or equal in both after the step
   pub changes : ChangeAlike one.shared.memory other.shared.memory (step_at place one).state.shared.memory
       (step_at other_place other).state.shared.memory
+  -- if the enclave exits, then both hosts received the same reason and the same value
   pub exits : runs_at place (step_at place one).state ≡ false
       → BothReturned place other_place (step_at place one).state (step_at other_place other).state
 

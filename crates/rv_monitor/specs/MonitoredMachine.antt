@@ -44,9 +44,9 @@ numbered_hart_state_at_start entry hart =
     let hart_state = hart_state_at_start entry in
     record hart_state { hart = record hart_state.hart { regs = with_register hart_state.hart.regs 10 hart } }
 
--- the states of `harts` harts at reset, each with its number in x10
+-- the states of `hart_count` harts at reset, each with its number in x10
 abbrev pub hart_states_at_start : ℕ → ℕ → List HartState
-hart_states_at_start harts entry = map (numbered_hart_state_at_start entry) (range_with_len 0 harts)
+hart_states_at_start hart_count entry = map (numbered_hart_state_at_start entry) (range_with_len 0 hart_count)
 
 -- the monitored machine at reset: its harts at the entry, its memory, and no enclave
 unfoldable pub at_start : List ℕ → ℕ → ℕ → MonitoredMachine
@@ -83,9 +83,12 @@ with_hart_state hart hart_state machine = record machine { hart_states = slice_s
 
 -- the PMP entries and mie are those of the table and the world; the mode is S or U, and MIE, MPRV, TVM, TW, TSR are 0
 pub record HasPmpLayout (table : Slots) (hart_state : HartState) : Type 0 where
+  -- the PMP entries are those that the table gives to the world
   pub entries : hart_state.hart.csrs.pmp ≡ layout table hart_state.world
   pub mie : hart_state.hart.csrs.mie ≡ mie_of hart_state.world
+  -- the mode is S or U
   pub mode : is_machine hart_state.hart.mode ≡ false
+  -- the bits MIE, MPRV, TVM, TW and TSR of mstatus are 0
   pub mstatus_mie : hart_state.hart.csrs.mstatus.mie ≡ false
   pub mprv : hart_state.hart.csrs.mstatus.mprv ≡ false
   pub tvm : hart_state.hart.csrs.mstatus.tvm ≡ false
@@ -113,9 +116,9 @@ pub record HartInvariant (table : Slots) (hart_state : HartState) : Type 0 where
   pub layout : HasPmpLayout table hart_state
 
 -- the invariant of the view of one hart, whatever runs on the others
-pub record HartViewInvariant (state : HartView) : Type 0 where
-  pub valid : IsValid state.shared.memory state.shared.table
-  pub hart : HartInvariant state.shared.table state.hart_state
+pub record HartViewInvariant (view : HartView) : Type 0 where
+  pub valid : IsValid view.shared.memory view.shared.table
+  pub hart : HartInvariant view.shared.table view.hart_state
 
 -- The invariant of the machine, which holds at reset and after each step: the shared state and every hart have their invariants.
 pub record Invariant (machine : MonitoredMachine) : Type 0 where

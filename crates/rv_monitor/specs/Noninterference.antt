@@ -45,9 +45,9 @@ pub record StepAlike (hidden : ℕ → Bool) (one other : Stepped) : Type 0 wher
 -- a bare step depends on no byte in the region of an enclave other than the running world
 abbrev pub BareLaw : Type 0
 BareLaw =
-    (enclave : ℕ) (state : HartView) (memory : List ℕ) → HartViewInvariant state → is_world_of enclave state.hart_state.world ≡ false
-    → EqualOutside (is_private state.shared.table enclave) state.shared.memory memory
-    → StepAlike (is_private state.shared.table enclave) (step (bare_machine state)) (step (record (bare_machine state) { memory = memory }))
+    (enclave : ℕ) (view : HartView) (memory : List ℕ) → HartViewInvariant view → is_world_of enclave view.hart_state.world ≡ false
+    → EqualOutside (is_private view.shared.table enclave) view.shared.memory memory
+    → StepAlike (is_private view.shared.table enclave) (step (bare_machine view)) (step (record (bare_machine view) { memory = memory }))
 
 -- ---- the monitored step
 

@@ -129,8 +129,10 @@ entered_by_call own before k trap context =
 
 -- the step enters the slot: the hart continues with the saved context of the enclave
 pub record EntersByCall (hart : ℕ) (before : MonitoredMachine) (after : MonitoredStepped) (trap : Trap) (slot : ℕ) : Type 0 where
+  -- the saved context of the slot
   pub context : Context
   pub kept : slice_index_or before.shared.contexts slot None ≡ Some context
+  -- the machine after the step is the machine after the entry
   pub state : after.state ≡ entered_by_call hart before slot trap context
   pub entered : after.outcome.entered ≡ Some slot
 

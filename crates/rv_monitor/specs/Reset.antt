@@ -52,11 +52,11 @@ hart_at_reset entry a0 = record {
 
 -- each hart has its number in a0
 abbrev pub harts_at_reset : ℕ → ℕ → List HartState
-harts_at_reset harts entry = map (hart_at_reset entry) (range_with_len 0 harts)
+harts_at_reset hart_count entry = map (hart_at_reset entry) (range_with_len 0 hart_count)
 
 -- the machine at reset has no enclave in any of its slots
 abbrev pub machine_at_reset : List ℕ → ℕ → ℕ → MonitoredMachine
-machine_at_reset memory entry harts = record {
-  hart_states = harts_at_reset harts entry;
+machine_at_reset memory entry hart_count = record {
+  hart_states = harts_at_reset hart_count entry;
   shared = record { memory = memory; table = replicate 13 None; contexts = replicate 13 None };
 }

@@ -17,8 +17,10 @@ pub record Stays (before : HartView) (after : HartViewStepped) : Type 0 where
 -- the host enters an enclave: the saved context of the host has the registers of the hart, mode S, and the address after the ecall
 pub record Enters (before : HartView) (after : HartViewStepped) : Type 0 where
   pub slot : ℕ
+  -- the host runs before the step, and the enclave runs after the step
   pub from_host : before.hart_state.world ≡ Host
   pub world : after.state.hart_state.world ≡ Enclave slot
+  -- the hart saves the context of the host, which will continue in S after its ecall
   pub host : after.state.hart_state.host_context ≡ Some (saved before.hart_state.hart (past_ecall before.hart_state.hart) S)
   pub entered : after.outcome.entered ≡ Some slot
 
@@ -39,11 +41,14 @@ continuation hart = saved hart hart.pc hart.mode
 -- an enclave exits: the monitor restores the host, except for a0 and a1
 pub record Leaves (before : HartView) (after : HartViewStepped) : Type 0 where
   pub slot : ℕ
+  -- the saved context of the host before the step
   pub host : Context
   pub trap : Trap
+  -- an enclave runs before the step
   pub from_enclave : before.hart_state.world ≡ Enclave slot
   pub kept : before.hart_state.host_context ≡ Some host
   pub trapped : after.outcome.step.trap ≡ Some trap
+  -- the host runs after the step
   pub world : after.state.hart_state.world ≡ Host
   -- the hart continues with the saved context of the host, except for the reason in a0 and the value in a1
   pub again : continuation after.state.hart_state.hart

@@ -24,9 +24,9 @@ executes (Some trap) = is_of_instruction trap.cause
 
 -- the bytes of a span, if there is one, are accessible to the world that runs
 abbrev pub SpanIsAccessible : HartView → Access → Option Span → Type 0
-SpanIsAccessible state access None = Unit {0}
-SpanIsAccessible state access (Some span) =
-    is_accessible state.shared.memory state.shared.table state.hart_state.world access (bytes_from span.addr (bytes_in span.len)) ≡ true
+SpanIsAccessible view access None = Unit {0}
+SpanIsAccessible view access (Some span) =
+    is_accessible view.shared.memory view.shared.table view.hart_state.world access (bytes_from span.addr (bytes_in span.len)) ≡ true
 
 -- the word at pc is fetched, or no instruction was executed; and every accessed byte is accessible
 pub record IsTouchedAccessible (before : HartView) (outcome : StepOutcome) : Type 0 where
