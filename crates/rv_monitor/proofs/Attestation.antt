@@ -274,9 +274,9 @@ module _ (place : Place) (machine : MonitoredMachine) (context : Context) (invar
   -- the machine after the step is the machine after the entry by a call
   machine_after_entry : (step_at place machine).state ≡ entered_by_call place.hart machine place.slot entry.trap context
   machine_after_entry =
-      let equal : Some entry.call.context ≡ Some context = sym entry.call.kept ∙ has_context in
-      let same : entry.call.context ≡ context = cc in
-      entry.call.state ∙ ap (entered_by_call place.hart machine place.slot entry.trap) same
+      let some_contexts_equal : Some entry.call.context ≡ Some context = sym entry.call.kept ∙ has_context in
+      let contexts_equal : entry.call.context ≡ context = cc in
+      entry.call.state ∙ ap (entered_by_call place.hart machine place.slot entry.trap) contexts_equal
 
   -- the enclave runs on the hart after the step
   runs_after_entry : runs_at place (step_at place machine).state ≡ true
@@ -331,7 +331,7 @@ same_entry place other_place one other invariant_one invariant_other saved both_
       second = runs_after_entry other_place other saved.context invariant_other saved.second both_enter.second;
       -- both harts after the entry follow from the same saved context and equal timer lines
       hart = hart_after_step_is_entered place one saved.context invariant_one saved.first both_enter.first
-          ∙ ap (λ (b : Bool). hart_after_entry (reset_csrs_with_timer b) [] 0 saved.context) both_enter.timer
+          ∙ ap (λ (timer : Bool). hart_after_entry (reset_csrs_with_timer timer) [] 0 saved.context) both_enter.timer
           ∙ sym (hart_after_step_is_entered other_place other saved.context invariant_other saved.second both_enter.second);
       slot = slot_is_running place one saved.context invariant_one saved.first both_enter.first
           ∙ ap (λ (maybe_info : Option SlotInfo). option_case maybe_info None (λ info. Some (record info { state = Running }))) saved.slot

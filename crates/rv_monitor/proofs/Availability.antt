@@ -22,10 +22,10 @@ use Rattle.rv_enclaves.specs.SlotNumbers.{slot_count}
 -- ---- the timer interrupt
 
 -- if the timer interrupt is pending, then the next step takes this interrupt
-pending_timer_traps : (state : Machine) → pending state.hart.csrs state.hart.mode ≡ Some MachineTimer
-    → (step state).outcome.trap ≡ Some timer_trap
+pending_timer_traps : (bare : Machine) → pending bare.hart.csrs bare.hart.mode ≡ Some MachineTimer
+    → (step bare).outcome.trap ≡ Some timer_trap
 unfolding step
-pending_timer_traps state pending_is = rw pending_is refl
+pending_timer_traps bare pending_is = rw pending_is refl
 
 -- a world that passes the test `is_host` is the host
 pub world_is_host : (world : World) → is_host world ≡ true → world ≡ Host

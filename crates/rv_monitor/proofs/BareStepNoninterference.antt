@@ -88,6 +88,6 @@ module _ (enclave : ℕ) (view : HartView) (view_invariant : HartViewInvariant v
 
 -- proves the bare law: a bare step depends on no byte in the region of another enclave
 pub bare_law : BareLaw
-bare_law enclave state memory view_invariant runs_other_world equal_outside =
-    bare_step_alike (is_private state.shared.table enclave) state view_invariant
-    (accesses_no_private_byte enclave state view_invariant runs_other_world) memory equal_outside
+bare_law enclave view memory view_invariant runs_other_world equal_outside =
+    bare_step_alike (is_private view.shared.table enclave) view view_invariant
+    (accesses_no_private_byte enclave view view_invariant runs_other_world) memory equal_outside

@@ -95,14 +95,14 @@ module _ (hart_state : HartState) (shared : Shared) (valid : IsValid shared.memo
     unfolding measure_refusals
     not_refused = rw (live, may_store_bytes) refl
 
-    -- the world of the hart may store to each of the 32 bytes from a1 on
+    -- each of the 32 bytes from a1 on is a byte that the measure may write
     is_measured : a1 hart_state ≤ byte → byte < a1 hart_state + 32
         → IsMeasured hart_state.world hart_state.hart.regs shared byte
     unfolding may_store_all
     is_measured from_start before_end =
         let may_store_byte =
         each_from_all (may_store shared.memory entries) (a1 hart_state) 32 may_store_bytes byte from_start before_end in
-        let parts =
+        let inside_and_permitted =
         and_parts (is_inside shared.memory byte 1) (permits (verdict entries S Write (bytes_from byte 1))) may_store_byte in
         record {
           asked = asked;
@@ -110,7 +110,8 @@ module _ (hart_state : HartState) (shared : Shared) (valid : IsValid shared.memo
           low = from_start;
           high = before_end;
           accessible =
-              sym (reach_law shared.memory shared.table hart_state.world S Write byte Byte valid (below_M S refl) parts.0) ∙ parts.1;
+              sym (reach_law shared.memory shared.table hart_state.world S Write byte Byte valid (below_M S refl) inside_and_permitted.0)
+              ∙ inside_and_permitted.1;
         }
 
     -- a measure changes only the 32 bytes from a1 on

@@ -129,28 +129,28 @@ pub record KeepsExtent (slot : ℕ) (before after : Slots) : Type 0 where
   pub window : window after slot ≡ window before slot
 
 -- a new state of `slot` changes neither the region nor the window of `slot`
-pub new_state_keeps_extent : (same_context_count : Slots) (slot : ℕ) (maybe_info : Option SlotInfo) (state : EnclaveState)
-    → length same_context_count ≡ slot_count
-    → slot_at same_context_count slot ≡ maybe_info
-    → KeepsExtent slot same_context_count (option_case maybe_info same_context_count
-    (λ info. with_slot same_context_count slot (Some (record info { state = state }))))
-new_state_keeps_extent same_context_count slot None state table_length slot_is = record { region = refl; window = refl }
-new_state_keeps_extent same_context_count slot (Some info) state table_length slot_is =
-    let slot_in_range = live_in_range same_context_count slot info table_length slot_is in
+pub new_state_keeps_extent : (table : Slots) (slot : ℕ) (maybe_info : Option SlotInfo) (state : EnclaveState)
+    → length table ≡ slot_count
+    → slot_at table slot ≡ maybe_info
+    → KeepsExtent slot table (option_case maybe_info table
+    (λ info. with_slot table slot (Some (record info { state = state }))))
+new_state_keeps_extent table slot None state table_length slot_is = record { region = refl; window = refl }
+new_state_keeps_extent table slot (Some info) state table_length slot_is =
+    let slot_in_range = live_in_range table slot info table_length slot_is in
     let written_record =
-    at_written_slot same_context_count slot (Some (record info { state = state })) (omega (arith, table_length, slot_in_range)) in
+    at_written_slot table slot (Some (record info { state = state })) (omega (arith, table_length, slot_in_range)) in
     record { region = ap region_of written_record ∙ sym (ap region_of slot_is); window = ap window_of written_record ∙ sym (ap window_of slot_is) }
 
 -- a new state of `slot` changes only the state in the record of `slot`
-pub slot_with_new_state : (same_context_count : Slots) (slot : ℕ) (maybe_info : Option SlotInfo) (state : EnclaveState)
-    → length same_context_count ≡ slot_count
-    → slot_at same_context_count slot ≡ maybe_info
-    → slot_at (option_case maybe_info same_context_count (λ info. with_slot same_context_count slot (Some (record info { state = state })))) slot
+pub slot_with_new_state : (table : Slots) (slot : ℕ) (maybe_info : Option SlotInfo) (state : EnclaveState)
+    → length table ≡ slot_count
+    → slot_at table slot ≡ maybe_info
+    → slot_at (option_case maybe_info table (λ info. with_slot table slot (Some (record info { state = state })))) slot
     ≡ option_case maybe_info None (λ info. Some (record info { state = state }))
-slot_with_new_state same_context_count slot None state table_length slot_is = slot_is
-slot_with_new_state same_context_count slot (Some info) state table_length slot_is =
-    let slot_in_range = live_in_range same_context_count slot info table_length slot_is in
-    at_written_slot same_context_count slot (Some (record info { state = state })) (omega (arith, table_length, slot_in_range))
+slot_with_new_state table slot None state table_length slot_is = slot_is
+slot_with_new_state table slot (Some info) state table_length slot_is =
+    let slot_in_range = live_in_range table slot info table_length slot_is in
+    at_written_slot table slot (Some (record info { state = state })) (omega (arith, table_length, slot_in_range))
 
 -- a write, successful or not, keeps the size of the memory
 pub write_keeps_size : (memory : List ℕ) (address : ℕ) (bytes : List ℕ) (maybe_bytes : Option (List ℕ))

@@ -215,7 +215,7 @@ module _ (first_slot second_slot : ℕ) (first_state second_state : HartState) (
   same_may_store byte = elim (cases_Bool (is_inside first_shared.memory byte 1)) [
     | inl inside ↦
         let permits_byte = same_permissions S Write byte Byte refl inside in
-        ap (λ (second_view : Bool). is_inside first_shared.memory byte 1 && second_view) permits_byte
+        ap (λ (is_permitted : Bool). is_inside first_shared.memory byte 1 && is_permitted) permits_byte
     | inr outside ↦ rw outside refl
   ]
 
@@ -306,7 +306,7 @@ module _ (first_slot second_slot : ℕ) (hart : Hart) (m_csrs : CsrState) (pc : 
   same_measure_refusals : call_refusals second_at_trap second_shared Measure ≡ call_refusals first_at_trap first_shared Measure
   unfolding measure_refusals
   same_measure_refusals =
-      ap₂ (λ (maybe_info : Option SlotInfo) (b : Bool). (not (is_some maybe_info), NoEnclave) ∷ (not b, BadAddress) ∷ []) (sym records_equal)
+      ap₂ (λ (maybe_info : Option SlotInfo) (stores : Bool). (not (is_some maybe_info), NoEnclave) ∷ (not stores, BadAddress) ∷ []) (sym records_equal)
       (sym same_may_store)
 
   -- a call, refused or not, is alike for both enclaves, if its effect is alike
@@ -436,10 +436,10 @@ module _ (first_slot second_slot : ℕ) (first_state second_state : HartState) (
       let state_with : Option Context → Hart → World → HartState =
       λ host hart world. record { hart = hart; host_context = host; world = world } in
       -- the first hart at the trap
-      let first : hart_state_after first_state trap ≡ running first_slot first_state.host_context (hart_after first_state.hart trap) =
+      let first_state_is : hart_state_after first_state trap ≡ running first_slot first_state.host_context (hart_after first_state.hart trap) =
       ap (state_with first_state.host_context (hart_after first_state.hart trap)) alike.first in
       -- the second hart at the trap is the first one with other M-mode parts
-      let second : hart_state_after second_state trap
+      let second_state_is : hart_state_after second_state trap
       ≡ running second_slot second_state.host_context (with_m_parts (hart_after second_state.hart trap).csrs (hart_after second_state.hart trap).pc
       (hart_after first_state.hart trap)) =
       ap₂ (state_with second_state.host_context) (second_hart_after_trap trap) alike.second in
@@ -449,9 +449,9 @@ module _ (first_slot second_slot : ℕ) (first_state second_state : HartState) (
       (returned outcome (handled other_state second_shared trap)) in
       -- the trap handler gives results that are alike, for these harts and the equal bare outcomes
       subst (λ (outcome : StepOutcome). StepAlikeFor outcome (hart_state_after first_state trap) (hart_state_after second_state trap)) bare.outcome
-      (subst (λ (hart_state : HartState). StepAlikeFor bare_outcome hart_state (hart_state_after second_state trap)) (sym first)
+      (subst (λ (hart_state : HartState). StepAlikeFor bare_outcome hart_state (hart_state_after second_state trap)) (sym first_state_is)
       (subst (λ (hart_state : HartState). StepAlikeFor bare_outcome
-      (running first_slot first_state.host_context (hart_after first_state.hart trap)) hart_state) (sym second)
+      (running first_slot first_state.host_context (hart_after first_state.hart trap)) hart_state) (sym second_state_is)
       (handler_alike first_slot second_slot (hart_after first_state.hart trap) (hart_after second_state.hart trap).csrs
       (hart_after second_state.hart trap).pc first_state.host_context second_state.host_context first_shared second_shared bare_outcome
       first_view_invariant.hart.layout.mprv alike.slot alike.memory

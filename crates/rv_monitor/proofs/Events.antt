@@ -77,9 +77,9 @@ module _ (enclave hart : ℕ) (raised : Bool) (one other : MonitoredMachine) whe
       changed_related enclave hart (timer_line_set raised) (timer_line_set raised) one other related (record {
         world = refl;
         state =
-            λ parts. record { world = parts.world; same = λ not_running. ap (timer_line_set raised) (parts.same not_running) };
+            λ equiv_states. record { world = equiv_states.world; same = λ not_running. ap (timer_line_set raised) (equiv_states.same not_running) };
         host =
-            λ parts. record { host = parts.host; rest = ap (λ (csrs : CsrState). record csrs { timer = raised }) parts.rest };
+            λ equiv_states. record { host = equiv_states.host; rest = ap (λ (csrs : CsrState). record csrs { timer = raised }) equiv_states.rest };
       })
 
 -- proves the noninterference law for events, by induction on the list

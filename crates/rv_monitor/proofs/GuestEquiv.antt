@@ -184,10 +184,10 @@ module _ (enclave : ℕ) (hart_state : HartState) (one other : Shared) (view_inv
       (λ trap trapped. step_cases (view_of hart_state other) (λ after. SameHostAfter (view_after_trap (view_of hart_state one) trap) after)
       (λ no_trap. let contradiction : Some trap ≡ None = sym trapped ∙ sym traps ∙ no_trap in cc)
       (λ second_trap second_trapped.
-      let equal : Some trap ≡ Some second_trap = sym trapped ∙ sym traps ∙ second_trapped in
-      let same : trap ≡ second_trap = cc in
-      subst (λ (trap_value : Trap). SameHostAfter (view_after_trap (view_of hart_state one) trap)
-      (view_after_trap (view_of hart_state other) trap_value)) same
+      let some_traps_equal : Some trap ≡ Some second_trap = sym trapped ∙ sym traps ∙ second_trapped in
+      let traps_equal : trap ≡ second_trap = cc in
+      subst (λ (some_trap : Trap). SameHostAfter (view_after_trap (view_of hart_state one) trap)
+      (view_after_trap (view_of hart_state other) some_trap)) traps_equal
       (trapped_host trap)))
 
 -- ---- a low step

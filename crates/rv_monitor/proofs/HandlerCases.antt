@@ -23,8 +23,8 @@ find-passes test [] value found = cc
 find-passes {X} test (first ∷ rest) value found = elim (cases_Bool (test first)) [
   | inl holds ↦
       let found_in_rest : Some first ≡ Some value = sym (cond-true (test first) _ _ holds) ∙ found in
-      let same : first ≡ value = cc in
-      subst (λ (z : X). test z ≡ true) same holds
+      let values_equal : first ≡ value = cc in
+      subst (λ (some_value : X). test some_value ≡ true) values_equal holds
   | inr fails ↦
       let found_in_rest : find test rest ≡ Some value = sym (cond-false (test first) _ _ fails) ∙ found in
       find-passes test rest value found_in_rest

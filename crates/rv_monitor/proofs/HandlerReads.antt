@@ -61,7 +61,7 @@ module _ (table : Slots) (memory other_memory : List ℕ) (contexts other_contex
 
   -- bytes and contexts that are equal stay equal if nothing changes
   same_if_unchanged : StaySame first_shared second_shared
-  same_if_unchanged = record { table = refl; bytes = λ index same. same; contexts = λ slot same. same }
+  same_if_unchanged = record { table = refl; bytes = λ index byte_equal. byte_equal; contexts = λ slot context_equal. context_equal }
 
   -- equal bytes and contexts stay equal after the same write to both memories
   same_after_write : (after : Slots) (address : ℕ) (bytes : List ℕ)
@@ -69,8 +69,8 @@ module _ (table : Slots) (memory other_memory : List ℕ) (contexts other_contex
       (shared_of after (or_unchanged other_memory (write other_memory address bytes)) other_contexts)
   same_after_write after address bytes = record {
     table = refl;
-    bytes = λ index same. same_byte memory other_memory address bytes index same_length same;
-    contexts = λ slot same. same;
+    bytes = λ index byte_equal. same_byte memory other_memory address bytes index same_length byte_equal;
+    contexts = λ slot context_equal. context_equal;
   }
 
   -- equal bytes and contexts stay equal after the same new context in both lists
@@ -79,9 +79,9 @@ module _ (table : Slots) (memory other_memory : List ℕ) (contexts other_contex
       (shared_of after other_memory (with_context other_contexts slot maybe_context))
   same_after_new_context after slot maybe_context = record {
     table = refl;
-    bytes = λ index same. same;
+    bytes = λ index byte_equal. byte_equal;
     contexts =
-        λ other_slot same. same_after_set contexts other_contexts slot other_slot maybe_context None contexts_length same;
+        λ other_slot context_equal. same_after_set contexts other_contexts slot other_slot maybe_context None contexts_length context_equal;
   }
 
   -- a create makes the same record from both memories, if the bytes of the region are equal

@@ -236,14 +236,14 @@ none_legal slot =
     subst (λ (maybe_context : Option Context). IfSome maybe_context (λ context. IsLegal context.supervisor)) (sym (no_context slot)) tt
 
 -- the machine at reset is legal, if the entry point is a multiple of 4
-start_is_legal : (memory : List ℕ) (entry harts : ℕ) → aligned_to_4 entry ≡ entry
-    → IsLegalMachine (at_start memory entry harts)
+start_is_legal : (memory : List ℕ) (entry hart_count : ℕ) → aligned_to_4 entry ≡ entry
+    → IsLegalMachine (at_start memory entry hart_count)
 unfolding at_start
-start_is_legal memory entry harts aligned =
+start_is_legal memory entry hart_count aligned =
     let reset_state = reset_is_legal entry aligned in
     record {
       harts = λ hart.
-          start_state_cases harts entry hart IsLegalHartState (λ some_hart. record { pc = reset_state.pc; supervisor = reset_state.supervisor })
+          start_state_cases hart_count entry hart IsLegalHartState (λ some_hart. record { pc = reset_state.pc; supervisor = reset_state.supervisor })
           (reset_is_legal 0 refl);
       contexts = none_legal;
     }

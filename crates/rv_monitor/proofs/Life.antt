@@ -285,9 +285,9 @@ handled_entry_from_host : (slot : ℕ) (hart_state : HartState) (trap : Trap) (r
 handled_entry_from_host slot hart_state trap result (inl stays) enters_slot =
     let contradiction : None ≡ Some slot = sym stays.entered ∙ enters_slot in cc
 handled_entry_from_host slot hart_state trap result (inr (inl enters)) enters_slot =
-    let equal : Some enters.slot ≡ Some slot = sym enters.entered ∙ enters_slot in
-    let same : enters.slot ≡ slot = cc in
-    (enters.from_host, enters.world ∙ ap Enclave same)
+    let some_slots_equal : Some enters.slot ≡ Some slot = sym enters.entered ∙ enters_slot in
+    let slots_equal : enters.slot ≡ slot = cc in
+    (enters.from_host, enters.world ∙ ap Enclave slots_equal)
 handled_entry_from_host slot hart_state trap result (inr (inr leaves)) enters_slot =
     let contradiction : None ≡ Some slot = sym leaves.entered ∙ enters_slot in cc
 
@@ -433,12 +433,12 @@ module _ (slot hart : ℕ) (machine : MonitoredMachine) (context : Context) (inv
       let has_exited =
       exited (at slot hart) machine timer_trap invariant runs_on_hart exit.trapped exit.world (hart_state_of hart machine).host_context refl in
       -- the saved pc is the pc of the hart, because this pc is a multiple of 4
-      let pc : saved_after timer_trap.cause (hart_state_of hart machine).hart ≡ continuation (hart_state_of hart machine).hart =
+      let saved_context_is : saved_after timer_trap.cause (hart_state_of hart machine).hart ≡ continuation (hart_state_of hart machine).hart =
       ap (λ (pc : ℕ). record (continuation (hart_state_of hart machine).hart) { pc = pc }) (legal_machine.harts hart).pc in
       let some : Context → Option Context = λ some_context. Some some_context in
       record {
         continues = saved_continues slot (step_of hart machine).state context invariant_after
-            (has_exited.context ∙ ap some (pc ∙ continues.running hart runs_on_hart));
+            (has_exited.context ∙ ap some (saved_context_is ∙ continues.running hart runs_on_hart));
         live = live_after;
         identity = record_law hart machine invariant slot live live_after;
         size = same_size hart machine;
@@ -523,11 +523,11 @@ accessible_span_is_own : (slot : ℕ) (machine : MonitoredMachine) (hart : ℕ) 
     → is_beyond machine.shared.table slot byte ≡ false
 accessible_span_is_own slot machine hart access None world is_accessible_span byte byte_in_span = cc
 accessible_span_is_own slot machine hart access (Some span) world is_accessible_span byte byte_in_span =
-    let parts = and_parts _ _ byte_in_span in
+    let bounds = and_parts _ _ byte_in_span in
     accessible_bytes_are_own machine.shared.memory machine.shared.table slot access span.addr (bytes_in span.len)
     (subst (λ (world : World). is_accessible machine.shared.memory machine.shared.table world access
     (bytes_from span.addr (bytes_in span.len)) ≡ true) world is_accessible_span)
-    byte (leb-true _ _ parts.0) (ltb-true _ _ parts.1)
+    byte (leb-true _ _ bounds.0) (ltb-true _ _ bounds.1)
 
 -- an own step reads only bytes of the enclave's region and window
 reads_only_own_bytes : (place : Place) (machine : MonitoredMachine) → Invariant machine

@@ -40,8 +40,8 @@ pub same_does_not_differ : (memory other_memory : List ℕ) (index : ℕ)
     → slice_index memory index ≡ slice_index other_memory index
     → differs memory other_memory (ram_base + index) ≡ false
 same_does_not_differ memory other_memory index same_element =
-    let hart_is : ram_base + index - ram_base ≡ index = omega arith in
-    rw hart_is (ap not (eq-eqb (slice_index memory index) (slice_index other_memory index) same_element))
+    let index_is : ram_base + index - ram_base ≡ index = omega arith in
+    rw index_is (ap not (eq-eqb (slice_index memory index) (slice_index other_memory index) same_element))
 
 -- two memories of the same size are equal outside the addresses at which they differ
 pub equal_outside_differing : (memory other_memory : List ℕ) → length memory ≡ length other_memory
@@ -49,9 +49,9 @@ pub equal_outside_differing : (memory other_memory : List ℕ) → length memory
 equal_outside_differing memory other_memory same_length = record {
   size = same_length;
   bytes = λ index not_differing.
-      let hart_is : ram_base + index - ram_base ≡ index = omega arith in
+      let index_is : ram_base + index - ram_base ≡ index = omega arith in
       let bytes_equal : (slice_index memory index == slice_index other_memory index) ≡ true =
-      not-false _ (rw hart_is at not_differing) in
+      not-false _ (rw index_is at not_differing) in
       eqb-true (slice_index memory index) (slice_index other_memory index) bytes_equal;
 }
 
@@ -69,7 +69,7 @@ hart_in_list : (enclave : ℕ) (hart_states : List HartState)
 hart_in_list enclave [] some_runs = cc
 hart_in_list enclave (hart_state ∷ hart_states) some_runs = elim (cases_Bool (is_world_of enclave hart_state.world)) [
   | inl runs_enclave ↦ (zero, runs_enclave)
-  | inr other_runs ↦ let rest = hart_in_list enclave hart_states (rw other_runs at some_runs) in (suc rest.0, rest.1)
+  | inr other_runs ↦ let found_in_rest = hart_in_list enclave hart_states (rw other_runs at some_runs) in (suc found_in_rest.0, found_in_rest.1)
 ]
 
 -- an enclave with the state Running runs on some hart
@@ -77,8 +77,8 @@ pub runs_somewhere : (enclave : ℕ) (machine : MonitoredMachine) → Invariant 
     → runs machine.shared.table enclave ≡ true
     → RunsSomewhere enclave machine
 runs_somewhere enclave machine invariant running =
-    let hart_is = hart_in_list enclave machine.hart_states (sym (invariant.shared.running enclave) ∙ running) in
-    record { hart = hart_is.0; runs = hart_is.1 }
+    let found_hart = hart_in_list enclave machine.hart_states (sym (invariant.shared.running enclave) ∙ running) in
+    record { hart = found_hart.0; runs = found_hart.1 }
 
 -- ---- the bytes that a step reads
 
@@ -90,9 +90,9 @@ span_apart : (enclave : ℕ) (machine : MonitoredMachine) (hart : ℕ) (access :
     → has (region machine.shared.table enclave) byte ≡ false
 span_apart enclave machine hart access None invariant in_range not_running is_accessible_span byte byte_in_span = cc
 span_apart enclave machine hart access (Some span) invariant in_range not_running is_accessible_span byte byte_in_span =
-    let parts = and_parts _ _ byte_in_span in
+    let bounds = and_parts _ _ byte_in_span in
     accessible_apart machine.shared.memory machine.shared.table (hart_state_of hart machine).world access span.addr (bytes_in span.len) enclave
-    invariant.shared.valid not_running is_accessible_span byte (leb-true _ _ parts.0) (ltb-true _ _ parts.1)
+    invariant.shared.valid not_running is_accessible_span byte (leb-true _ _ bounds.0) (ltb-true _ _ bounds.1)
 
 -- a low step reads no byte in the region of the enclave
 pub reads_apart : (enclave hart : ℕ) (machine : MonitoredMachine) → Invariant machine

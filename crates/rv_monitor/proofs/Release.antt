@@ -94,7 +94,7 @@ module _ (enclave hart : ℕ) (one other : MonitoredMachine) (trap : Trap) (host
       (λ (table : Slots) (csrs : CsrState). returned_hart table csrs (reason trap.cause first_hart.regs)
       (value trap.cause first_hart.regs)) same_table same_host.rest in
       tables_replaced
-      ∙ ap₂ (λ (reason_value value_value : ℕ). returned_hart second_table (unswitched second_hart.csrs) reason_value value_value)
+      ∙ ap₂ (λ (some_reason some_value : ℕ). returned_hart second_table (unswitched second_hart.csrs) some_reason some_value)
       (same_reason trap.cause first_hart second_hart same_handover)
       (same_value trap.cause first_hart second_hart same_handover)
 

@@ -36,23 +36,23 @@ scramble_equiv machine slot invariant may_scramble =
 abbrev with_shared : MonitoredMachine → Shared → MonitoredMachine
 with_shared machine shared = record machine { shared = shared }
 
--- the shared state, scrambled if `done` holds
+-- the shared state, scrambled if `is_scrambled` holds
 abbrev pub scrambled_if : Bool → MonitoredMachine → ℕ → Shared
-scrambled_if done machine slot = if done then scrambled_shared machine.shared slot else machine.shared
+scrambled_if is_scrambled machine slot = if is_scrambled then scrambled_shared machine.shared slot else machine.shared
 
 -- a machine keeps the invariant if the monitor scrambles `slot` only when `slot` may be scrambled
-pub scrambled_if_invariant : (done : Bool) (machine : MonitoredMachine) (slot : ℕ)
-    → done ≡ can_scramble machine.shared.table slot → Invariant machine
-    → Invariant (with_shared machine (scrambled_if done machine slot))
-scrambled_if_invariant true machine slot done_is invariant = scramble_invariant machine slot invariant (sym done_is)
-scrambled_if_invariant false machine slot done_is invariant = invariant
+pub scrambled_if_invariant : (is_scrambled : Bool) (machine : MonitoredMachine) (slot : ℕ)
+    → is_scrambled ≡ can_scramble machine.shared.table slot → Invariant machine
+    → Invariant (with_shared machine (scrambled_if is_scrambled machine slot))
+scrambled_if_invariant true machine slot scrambled_if_permitted invariant = scramble_invariant machine slot invariant (sym scrambled_if_permitted)
+scrambled_if_invariant false machine slot scrambled_if_permitted invariant = invariant
 
 -- the machine after a call of scramble, which may have had no effect, is equivalent except `slot` to the machine before the call
-pub scrambled_if_equiv : (done : Bool) (machine : MonitoredMachine) (slot : ℕ)
-    → done ≡ can_scramble machine.shared.table slot → Invariant machine
-    → EquivExcept slot machine (with_shared machine (scrambled_if done machine slot))
-scrambled_if_equiv true machine slot done_is invariant = scramble_equiv machine slot invariant (sym done_is)
-scrambled_if_equiv false machine slot done_is invariant = equiv_itself slot machine (itself slot machine.shared)
+pub scrambled_if_equiv : (is_scrambled : Bool) (machine : MonitoredMachine) (slot : ℕ)
+    → is_scrambled ≡ can_scramble machine.shared.table slot → Invariant machine
+    → EquivExcept slot machine (with_shared machine (scrambled_if is_scrambled machine slot))
+scrambled_if_equiv true machine slot scrambled_if_permitted invariant = scramble_equiv machine slot invariant (sym scrambled_if_permitted)
+scrambled_if_equiv false machine slot scrambled_if_permitted invariant = equiv_itself slot machine (itself slot machine.shared)
 
 -- proves that two scrambles restore the machine
 pub scramble_law : ScrambleLaw

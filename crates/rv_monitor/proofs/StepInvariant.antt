@@ -61,10 +61,10 @@ unlocked_after hart_state shared after trap trapped hart_invariant keeps =
 -- ---- the bare step
 
 -- a store does not change the size of the memory
-stored_size : (bytes before after : List ℕ) (span : Option Span) → Stores bytes before after span
-    → length before ≡ length after
-stored_size bytes before after None stores = sym (ap length stores)
-stored_size bytes before after (Some span) stores = sym (length-write before span.addr bytes after stores.1)
+stored_size : (bytes memory memory_after : List ℕ) (span : Option Span) → Stores bytes memory memory_after span
+    → length memory ≡ length memory_after
+stored_size bytes memory memory_after None stores = sym (ap length stores)
+stored_size bytes memory memory_after (Some span) stores = sym (length-write memory span.addr bytes memory_after stores.1)
 
 -- a memory has the same bytes as itself in each span
 same_in_span : (memory : List ℕ) (span : Option Span) → SameIn memory memory span

@@ -25,15 +25,17 @@ FetchesAtPc pc after =
     (after.outcome.touched.fetched ≡ span pc Word) ⊎ ((after.outcome.touched.fetched ≡ None) × (executes after.outcome.trap ≡ false))
 
 -- each step fetches the word at pc, or executes no instruction
-fetches_at_pc : (state : Machine) → FetchesAtPc state.hart.pc (step state)
-fetches_at_pc state = step_ways state (FetchesAtPc state.hart.pc) (record {
+fetches_at_pc : (bare : Machine) → FetchesAtPc bare.hart.pc (step bare)
+fetches_at_pc bare = step_ways bare (FetchesAtPc bare.hart.pc) (record {
+  -- after an interrupt or a refused fetch, no instruction is executed
   interrupt = λ interrupt pending_is. inr (refl, refl);
   fetch_refused = λ fault fetched_word. inr (refl, refl);
+  -- in every other case, the step fetched the word at pc
   illegal = λ word fetched_word. inl refl;
-  no_access = λ word instr fetched_word. inl (fetched_still state.hart _ _ _ _ refl);
-  load = λ word instr address width number fetched_word done. inl (fetched_still state.hart _ _ _ _ refl);
+  no_access = λ word instr fetched_word. inl (fetched_still bare.hart _ _ _ _ refl);
+  load = λ word instr address width number fetched_word is_done. inl (fetched_still bare.hart _ _ _ _ refl);
   load_refused = λ word instr address width fault fetched_word not_loaded. inl refl;
-  store = λ word instr address width value memory fetched_word done. inl (fetched_still state.hart _ _ _ _ refl);
+  store = λ word instr address width value memory fetched_word is_done. inl (fetched_still bare.hart _ _ _ _ refl);
   store_refused = λ word instr address width value fault fetched_word not_stored. inl refl;
 })
 
