@@ -306,7 +306,8 @@ module _ (first_slot second_slot : ℕ) (hart : Hart) (m_csrs : CsrState) (pc : 
   same_measure_refusals : call_refusals second_at_trap second_shared Measure ≡ call_refusals first_at_trap first_shared Measure
   unfolding measure_refusals
   same_measure_refusals =
-      ap₂ (λ (maybe_info : Option SlotInfo) (stores : Bool). (not (is_some maybe_info), NoEnclave) ∷ (not stores, BadAddress) ∷ []) (sym records_equal)
+      ap₂ (λ (maybe_info : Option SlotInfo) (stores : Bool).
+      (not (is_some maybe_info), NoEnclave) ∷ (not stores, BadAddress) ∷ []) (sym records_equal)
       (sym same_may_store)
 
   -- a call, refused or not, is alike for both enclaves, if its effect is alike

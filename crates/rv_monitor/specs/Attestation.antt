@@ -14,8 +14,8 @@ use Rattle.rv_monitor.specs.Step.{MonitoredStepped}
 
 -- ---- an enclave between create and its first entry
 
--- The enclave in slot k is in the state after create. It is Fresh, and its saved context is the first one. Its measurement is that of its record
--- and of the bytes in its region.
+-- The enclave in slot k is in the state after create. The state in its record is Fresh, and its saved context is its first context. Its measurement
+-- is the measurement of its record and of the bytes in its region.
 pub record IsAsCreated (k : ℕ) (shared : Shared) : Type 0 where
   -- the record of slot k
   pub info : SlotInfo

@@ -1,6 +1,6 @@
--- Noninterference with declassification: what an enclave has and does has no influence on the others, except for what it hands over. The law
--- is stated over a list of moves of two machines. The enclave may take any number of steps in either, between steps of the other harts. (Laws about
--- the monitor's definitions, not rules of a standard; declassification: Sabelfeld and Sands, JCS 2009.)
+-- Noninterference with declassification: the content and the steps of an enclave influence no other world, except by what the enclave hands over.
+-- The law is stated over a list of moves of two machines. The enclave may take any number of steps in either machine, between steps of the other
+-- harts. (Laws about the monitor's definitions, not rules of a standard; declassification: Sabelfeld and Sands, JCS 2009.)
 use Rattle.std.specs.Prelude.{◌≡◌, ◌⊎◌, ℕ, Bool, true, false, not, ◌&&◌, ◌||◌, List, [], ◌∷◌, Some}
 use Rattle.rv_enclaves.specs.Contexts.{no_supervisor}
 use Rattle.rv_enclaves.specs.SharedEquivExcept.{SameContexts}
@@ -68,12 +68,12 @@ pub record SameHandover (one other : Hart) : Type 0 where
   pub a0 : register one.regs 10 ≡ register other.regs 10
   pub a6 : register one.regs 16 ≡ register other.regs 16
 
--- Two harts hand over the same by this cause. An interrupt hands over no register.
+-- Two harts hand over equal registers by this cause. An interrupt hands over no register.
 abbrev pub SameHandoverBy : Cause → Hart → Hart → Type 0
 SameHandoverBy (causes.Interrupt interrupt) one other = Unit {0}
 SameHandoverBy (causes.Exception exception) one other = SameHandover one other
 
--- `enclave` exits from both machines by the same trap, and hands over the same
+-- `enclave` exits from both machines by the same trap, and hands over equal registers and an equal window
 pub record ExitsAlike (enclave hart : ℕ) (one other : MonitoredMachine) : Type 0 where
   pub runs : runs_on enclave hart one ≡ true
   -- the bytes in the window of `enclave` are equal in both machines
@@ -108,8 +108,8 @@ pub record IsLowStep (enclave hart : ℕ) (one other : MonitoredMachine) : Type 
   -- while `enclave` runs, the step reads equal bytes of its window in both machines
   pub window : runs one.shared.table enclave ≡ true → SameWindowRead enclave hart one other
 
--- In one machine only the enclave takes steps. In both there are low steps, exits of the enclave that hand over the same, and changes of any timer
--- line.
+-- A move of one machine alone is a step of the enclave that does not exit. A move of both machines is a low step, an exit of the enclave that hands
+-- over equal registers, or a change of any timer line.
 abbrev pub IsMove : ℕ → Move → MonitoredMachine → MonitoredMachine → Type 0
 IsMove enclave (First hart) one other = IsInside enclave hart one
 IsMove enclave (Second hart) one other = IsInside enclave hart other

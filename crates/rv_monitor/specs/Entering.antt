@@ -10,7 +10,7 @@ use Rattle.rv_monitor.specs.Step.{MonitoredStepped}
 pub record HasEntered (hart slot : ℕ) (before : MonitoredMachine) (after : MonitoredStepped) : Type 0 where
   pub trap : Trap
   pub trapped : after.outcome.step.trap ≡ Some trap
-  -- the machine after the step is the one that a call leaves which enters `slot`
+  -- the step leaves the machine in which the hart continues with the saved context of `slot`
   pub call : EntersByCall hart before after trap slot
 
 -- each step of the hart that runs the host before the step and enclave `slot` after the step enters `slot` with its saved context

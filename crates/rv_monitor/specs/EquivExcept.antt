@@ -15,7 +15,7 @@ pub record HartStatesEquivExcept (enclave : ℕ) (one other : HartState) : Type 
   -- a hart that does not run `enclave` has equal states in both machines
   pub same : is_world_of enclave one.world ≡ false → one ≡ other
 
--- the number of harts is the same, their states are equivalent, and so is the shared state
+-- two machines have the same number of harts, and the states of each hart and the shared states are equivalent except for `enclave`
 pub record EquivExcept (enclave : ℕ) (one other : MonitoredMachine) : Type 0 where
   pub harts : count_of one ≡ count_of other
   pub hart_states : (hart : ℕ) → HartStatesEquivExcept enclave (hart_state_of hart one) (hart_state_of hart other)

@@ -71,8 +71,8 @@ pub record SameStep (one other : MonitoredMachine) (one_after other_after : Moni
   pub entered : one_after.outcome.entered ≡ other_after.outcome.entered
   pub shared : SameWhereSame one.shared other.shared one_after.state.shared other_after.state.shared
 
--- The step has the same effect on every machine that traps in the same way, if two conditions hold. The hart states are the same, and so is
--- everything that the trap handler reads.
+-- The step has the same effect on every machine that traps in the same way, if two conditions hold. The hart states are the same. Everything that
+-- the trap handler reads is the same.
 abbrev pub ReadsOnly : ℕ → MonitoredMachine → MonitoredStepped → Type 0
 ReadsOnly hart before after =
     (other : MonitoredMachine) (trap : Trap) → before.hart_states ≡ other.hart_states → after.outcome.step.trap ≡ Some trap

@@ -1,6 +1,6 @@
--- Integrity of a step: it preserves a live enclave that is not the world of its hart, unless it enters or ends it. Its record, the bytes of its
--- region and its saved context are unchanged. The hart on which it runs, if it runs, keeps everything except the PMP entries and mie. (A law
--- about the monitor's definitions, not a rule of a standard.)
+-- Integrity of a step: a step preserves every live enclave that the stepping hart does not run, unless the step enters or ends the enclave. The
+-- record of the enclave, the bytes of its region and its saved context are unchanged. If the enclave runs on another hart, then this hart keeps
+-- everything except the PMP entries and mie. (A law about the monitor's definitions, not a rule of a standard.)
 use Rattle.std.specs.Prelude.{ℕ, ◌≡◌, ◌==◌, Bool, true, false, Option, Some, None}
 use Rattle.rv_monitor.specs.Prelude.{Shared, byte_at, context_at, has, is_live, region, slot_at}
 use Rattle.rv_monitor.specs.EquivExcept.{runs_on}
@@ -20,7 +20,8 @@ pub record IsPreserved (slot_number : ℕ) (before after : Shared) : Type 0 wher
       → byte_at after.memory byte ≡ byte_at before.memory byte
   pub context : context_at after.contexts slot_number ≡ context_at before.contexts slot_number
 
--- the enclave is preserved; if it runs, its hart keeps everything except the PMP entries and mie, which are those of the table and its world
+-- The enclave is preserved. If the enclave runs on a hart, then this hart keeps everything except the PMP entries and mie, which are those of the
+-- table and its world.
 pub record IsUntouched (slot : ℕ) (before after : MonitoredMachine) : Type 0 where
   pub preserved : IsPreserved slot before.shared after.shared
   -- the hart that runs the enclave keeps its state, except for the PMP entries and mie

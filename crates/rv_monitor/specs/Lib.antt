@@ -68,5 +68,5 @@ pub mod Declassification
 pub mod Attestation
 -- Machines whose pc and S-mode registers have legal values
 pub mod LegalMachine
--- Integrity over the whole life of an enclave: how others can influence it
+-- Integrity over the whole life of an enclave: how other worlds can influence the enclave
 pub mod Life

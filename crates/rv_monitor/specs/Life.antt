@@ -1,7 +1,7 @@
--- Integrity over the whole life of an enclave: how others can influence it. Two machines with unlike hosts, tables, memories and schedules have an
--- enclave at the same point of its life. Its own steps are then the same in both, as long as the bytes of its window that they read are equal. In
--- each machine the others may step in any order, enter it, and let the timer interrupt it between any two of its steps. (Laws about the monitor's
--- definitions, not rules of a standard.)
+-- Integrity over the whole life of an enclave: how other worlds can influence the enclave. Two machines with unlike hosts, tables, memories and
+-- schedules have an enclave at the same point of its life. Its own steps are then the same in both, as long as the bytes of its window that they read
+-- are equal. In each machine the other worlds may step in any order, enter the enclave, and let the timer interrupt the enclave between any two of
+-- its steps. (Laws about the monitor's definitions, not rules of a standard.)
 use Rattle.std.specs.Prelude.{◌≡◌, ◌⊎◌, ℕ, true, false, not, List, [], ◌∷◌, length, Some}
 use Rattle.rv_enclaves.specs.Table.{runs}
 use Rattle.rv_monitor.specs.Prelude.{Context, EqualOutside, context_at, has, is_live, region}

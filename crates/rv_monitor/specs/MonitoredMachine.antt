@@ -95,7 +95,7 @@ pub record HasPmpLayout (table : Slots) (hart_state : HartState) : Type 0 where
   pub tw : hart_state.hart.csrs.mstatus.tw ≡ false
   pub tsr : hart_state.hart.csrs.mstatus.tsr ≡ false
 
--- the host has a saved context if and only if an enclave runs, and a hart can continue with it
+-- the hart saves a context of the host if and only if the hart runs an enclave, and the hart can continue with this context
 pub record HostContextInvariant (hart_state : HartState) : Type 0 where
   -- the context is saved if and only if an enclave runs on the hart
   pub kept : is_some hart_state.host_context ≡ not (is_host hart_state.world)

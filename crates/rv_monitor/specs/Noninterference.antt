@@ -56,8 +56,8 @@ pub record SteppedAlike (enclave : ℕ) (one other : MonitoredStepped) : Type 0 
   pub outcome : one.outcome ≡ other.outcome
   pub state : EquivExcept enclave one.state other.state
 
--- The outcome and the new state of a step depend on no enclave that is not its world. On every machine that is equivalent except for that
--- enclave, the step has the same effect. The step may be the one that enters the enclave.
+-- The outcome and the new state of a step depend on no enclave other than the world of the stepping hart. On every machine that is equivalent except
+-- for such an enclave, the step has the same effect. The step may be the one that enters the enclave.
 abbrev pub StepNoninterference : ℕ → MonitoredMachine → MonitoredStepped → Type 0
 StepNoninterference hart before after =
     (enclave : ℕ) (other : MonitoredMachine) → Invariant other → EquivExcept enclave before other → runs_on enclave hart before ≡ false

@@ -1,6 +1,7 @@
--- Steps that are no call of the monitor. An instruction that does not trap is that of its hart alone. For the host no interrupt is taken, whether
--- or not the timer line is set, and every exception goes to its own mode S. (A law about the monitor's definitions; Keystone, EuroSys 2020, in this
--- project's profile; trap entry to mode S: RISC-V Privileged Architecture 20211203, sections 3.1.6.1 and 4.1.7 to 4.1.9.)
+-- Steps that are no call of the monitor. An instruction that does not trap has the effect that it has on the hart without the monitor. For the host
+-- no interrupt is taken, whether or not the timer line is set, and every exception goes to its own mode S. (A law about the monitor's definitions;
+-- Keystone, EuroSys 2020, in this project's profile; trap entry to mode S: RISC-V Privileged Architecture 20211203, sections 3.1.6.1 and 4.1.7 to
+-- 4.1.9.)
 use Rattle.std.specs.Prelude.{◌≡◌, ◌≢◌, ◌<◌, ℕ, true, slice_set, Some, None}
 use Rattle.rv_state.specs.declared.cause.Cause.TheVariants as causes
 use Rattle.rv_state.specs.declared.cause.Interrupt.{Interrupt}
@@ -24,7 +25,7 @@ plainly_stepped hart before =
       shared = record before.shared { memory = after.state.memory };
     }
 
--- The trap and the accesses of the step are those of the plain step. Without a trap, so is the rest of the result.
+-- The trap and the accesses of the step are those of the plain step. Without a trap, the machine after the step is also that of the plain step.
 pub record IsPlain (hart : ℕ) (before : MonitoredMachine) (after : MonitoredStepped) : Type 0 where
   -- the trap and the accesses are those of the plain step
   pub outcome : after.outcome.step ≡ (plain_step hart before).outcome
@@ -32,7 +33,7 @@ pub record IsPlain (hart : ℕ) (before : MonitoredMachine) (after : MonitoredSt
   pub quiet : after.outcome.step.trap ≡ None
       → (after.state ≡ plainly_stepped hart before) × (after.outcome.entered ≡ None)
 
--- a step of a hart of the machine is that of the same hart without the monitor, except for the trap handler's part
+-- a step of a hart of the machine is the step of the same hart without the monitor; only a trap adds the effect of the trap handler
 abbrev pub StepsPlainly : ℕ → MonitoredMachine → MonitoredStepped → Type 0
 StepsPlainly hart before after = hart < count_of before → IsPlain hart before after
 

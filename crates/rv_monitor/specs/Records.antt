@@ -1,5 +1,5 @@
--- The record of a live enclave keeps its region, window, entry and measurement: no step changes them, not even a step of the enclave or the one
--- that enters it. (A law about the monitor's definitions, not a rule of a standard.)
+-- The record of a live enclave keeps its region, window, entry and measurement. No step changes these parts, neither a step of the enclave nor a step
+-- that enters the enclave. (A law about the monitor's definitions, not a rule of a standard.)
 use Rattle.std.specs.Prelude.{◌≡◌, ℕ, true, Option}
 use Rattle.std.specs.Option.{option_map}
 use Rattle.rv_enclaves.specs.declared.slot_info.SlotInfo.{SlotInfo}

@@ -1,4 +1,4 @@
--- The return to the host. Take the step with which the host of a hart enters an enclave and the one with which the enclave exits, with any steps
+-- The return to the host. Take the step with which the host of a hart enters an enclave and the step with which the enclave exits, with any steps
 -- of the harts in between. The host then continues after its ecall as it was before the first step, except for a0 and a1. (A law about the
 -- monitor's definitions; Keystone, EuroSys 2020, in this project's profile.)
 use Rattle.std.specs.Prelude.{◌≡◌, ℕ, true, false, List, [], ◌∷◌, Some}
@@ -26,7 +26,7 @@ pub record HostIsRestored (before last : HartView) (after : HartViewStepped) : T
         with_return_values before.hart_state.hart.regs (reason trap.cause last.hart_state.hart.regs) (value trap.cause last.hart_state.hart.regs);
   }
 
--- The host runs on a hart whose step enters an enclave. An enclave runs there through steps of the harts in any order. After the next step of
+-- The host runs on a hart whose step enters an enclave. An enclave runs on this hart through steps of the harts in any order. After the next step of
 -- the hart the host runs. The S-mode registers of the context that the first step saved are as a hart stores them.
 abbrev pub ReturnLaw : Type 0
 ReturnLaw =

@@ -1,5 +1,5 @@
--- The machine with every byte and register that is private to an enclave complemented. The state is equivalent to the one before except for that
--- enclave. (Not a rule of a standard; the second bench of a twin run is built with it.)
+-- The machine with every byte and register that is private to an enclave complemented. The scrambled machine is equivalent to the original machine
+-- except for that enclave. (Not a rule of a standard; the second bench of a twin run is built with it.)
 use Rattle.std.specs.Prelude.{◌≡◌, ℕ, ◌<◌, ◌^◌, slice_index, IfSome}
 use Rattle.rv_enclaves.specs.Scramble.{scrambled_shared}
 use Rattle.rv_monitor.specs.Prelude.{context_at}
