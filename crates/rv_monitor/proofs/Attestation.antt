@@ -225,7 +225,7 @@ module _ (slot : ℕ) (machine : MonitoredMachine) (invariant : Invariant machin
             ∙ same_measurement machine.shared.memory (step_of hart machine).state.shared.memory (args_of as_created.info) bytes;
       }
 
--- proves that each enclave that a step creates is in the state after create, and stays so until it is entered or destroyed
+-- proves that each enclave that a step creates is in the state after create, and stays in this state until a step enters or destroys the enclave
 pub as_created_law : (hart : ℕ) (machine : MonitoredMachine) → Invariant machine
     → KeepsAsCreated machine (step_of hart machine)
 as_created_law hart machine invariant = record {

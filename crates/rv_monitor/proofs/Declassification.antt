@@ -176,7 +176,7 @@ module _ (enclave hart : ℕ) (one other : MonitoredMachine) (invariant_one : In
   abbrev Related : Type 0
   Related = AreRelated enclave (step_of hart one).state (step_of hart other).state
 
-  -- a low step has equal outcomes in both machines, and leaves them related
+  -- a low step has equal outcomes in both machines, and leaves the machines related
   low_step : IsLowStep enclave hart one other → Outcomes × Related
   low_step low_both_steps = elim (cases_Bool (runs one.shared.table enclave)) [
     | inl running ↦
@@ -192,7 +192,7 @@ module _ (enclave hart : ℕ) (one other : MonitoredMachine) (invariant_one : In
         )
   ]
 
-  -- if the step of a machine exits to the host, then so does the step of its guest view
+  -- if the step of a machine exits to the host, then the step of its guest view exits to the host
   guest_step_exits : (machine : MonitoredMachine) → Invariant machine
       → (hart_state_of hart (step_of hart machine).state).world ≡ Host
       → (hart_state_of hart (step_of hart (guest_view machine)).state).world ≡ Host
@@ -259,7 +259,7 @@ module _ (enclave hart : ℕ) (one other : MonitoredMachine) (invariant_one : In
         ]),
   )
 
-  -- a step of both machines, either a low step or an exit that hands over the same, leaves them related
+  -- a step of both machines leaves the machines related, because the step is a low step or an exit that hands over equal registers
   step_of_both_keeps_relation : IsLowStep enclave hart one other ⊎ ExitsAlike enclave hart one other → Outcomes × Related
   step_of_both_keeps_relation (inl alike_step) = low_step alike_step
   step_of_both_keeps_relation (inr alike_step) = exit_keeps_relation alike_step

@@ -703,7 +703,7 @@ module _ (place other_place : Place) (one other : MonitoredMachine) (invariant_o
             absurd (both_ways _ not_running runs)
       ]
 
-  -- if the hart of the first enclave runs the host after the step, then so does the hart of the second enclave
+  -- if the hart of the first enclave runs the host after the step, then the hart of the second enclave runs the host too
   second_runs_host : (hart_state_of place.hart (step_at place one).state).world ≡ Host
       → (hart_state_of other_place.hart (step_at other_place other).state).world ≡ Host
   second_runs_host host_runs_after =

@@ -1,5 +1,5 @@
--- A step of the host either continues with the host, or enters an enclave. If it enters an enclave, then the machine after the step is the machine
--- that the definition `entered_by_call` gives.
+-- A step of the host either continues with the host, or enters an enclave. If the step enters an enclave, then it leaves the machine that the
+-- definition `entered_by_call` gives.
 use Rattle.std.proofs.Common.{◌≡◌, ◌<◌, ℕ, ◌⊎◌, true, false, Option, Some, None, IfSome, refl, sym, ◌∙◌, ap, subst, inl, inr}
 use Rattle.std.specs.Prelude.{is_some, not, slice_set}
 use Rattle.std.proofs.Math.Bool.{or-false}

@@ -27,7 +27,7 @@ pub shared_equiv : (enclave : ℕ) (one other : MonitoredMachine) (one_shared ot
 shared_equiv enclave one other one_shared other_shared equiv shared =
     record { harts = equiv.harts; hart_states = equiv.hart_states; shared = shared }
 
--- a machine is equivalent except `enclave` to itself, if its shared state is
+-- a machine is equivalent except `enclave` to itself, if its shared state is equivalent except `enclave` to itself
 pub equiv_itself : (enclave : ℕ) (machine : MonitoredMachine) → SharedEquivExcept enclave machine.shared machine.shared
     → EquivExcept enclave machine machine
 equiv_itself enclave machine shared =

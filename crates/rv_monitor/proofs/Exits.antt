@@ -168,7 +168,8 @@ module _ (slot : ℕ) (view : HartView) (runs_enclave : view.hart_state.world �
 abbrev pub timer_or_none : Bool → Option Interrupt
 timer_or_none timer_set = if timer_set then Some MachineTimer else None
 
--- Let only the timer interrupt be enabled. The highest pending interrupt is the timer interrupt if its bit in mip is set. Otherwise there is none.
+-- Let only the timer interrupt be enabled. The highest pending interrupt is the timer interrupt if its bit in mip is set.
+-- Otherwise no enabled interrupt is pending.
 find_timer : (is_external is_software is_timer is_s_external is_s_software is_s_timer : Bool)
     → (if is_external && false then Some MachineExternal else
     (if is_software && false then Some MachineSoftware else

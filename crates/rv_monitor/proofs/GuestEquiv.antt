@@ -1,6 +1,5 @@
 -- Low steps of two machines whose guest views are equivalent except `enclave` have equal outcomes, and leave machines whose guest views are
--- equivalent except
--- `enclave`.
+-- equivalent except `enclave`.
 use Rattle.std.proofs.Common.{◌≡◌, ◌≢◌, ◌<◌, ℕ, true, false, List, length, Some, None, refl, sym, ◌∙◌, ap}
 use Rattle.std.proofs.Common.{subst, inl, inr, arith}
 use Rattle.std.proofs.lemmas.Simd.{map-map}

@@ -147,7 +147,7 @@ module _ (table : Slots) (memory other_memory : List ℕ) (contexts other_contex
         rw (← saved_contexts_equal)
         (record { hart_state = refl; next = refl; shared = same_after_new_context (with_state table (a0 hart_state) Running) (a0 hart_state) None })
 
-    -- if a requested call enters an enclave, then so does the call that the definition `requested_by` gives
+    -- if a requested call enters an enclave, then the call that the definition `requested_by` gives enters an enclave
     entering_call : (call : Call) → is_entering (Some call) ≡ true → Requests hart_state trap.cause call
         → is_entering (requested_by trap.cause hart_state) ≡ true
     entering_call call is_entry_call requests = let call_is = requested_call_is call requests in rw call_is is_entry_call

@@ -54,7 +54,7 @@ hart_cases hart_states hart hart_state Claim in_range claim_for_hart claims_for_
 
 -- ---- the hart states after the trap handler, before that of the stepping hart is replaced
 
--- the state of a hart after the step of another hart: it is reprogrammed if the step traps, and unchanged otherwise
+-- the state of a hart after the step of another hart: reprogrammed if the step traps, and unchanged otherwise
 abbrev pub hart_state_reprogrammed : Option Trap → Slots → HartState → HartState
 hart_state_reprogrammed None table hart_state = hart_state
 hart_state_reprogrammed (Some trap) table hart_state = reprogrammed table hart_state

@@ -175,7 +175,7 @@ integrity_in view view_invariant slot not_running live not_entered live_after =
       context = kept_slot.context;
     }
 
--- proves integrity: a step leaves each other live enclave untouched that it neither enters nor destroys
+-- proves integrity: a step leaves each other live enclave untouched, unless the step enters or destroys this enclave
 pub integrity : (hart : ℕ) (machine : MonitoredMachine) → Invariant machine
     → PreservesOthers hart machine (step_of hart machine)
 integrity hart machine invariant slot not_running live not_entered live_after = record {

@@ -1,4 +1,4 @@
--- After a trap of an enclave, either the enclave continues, or it exits and leaves the machine that the definition `left_machine` gives.
+-- After a trap of an enclave, either the enclave continues, or the enclave exits and the step leaves the machine that `left_machine` gives.
 use Rattle.std.proofs.Common.{◌≡◌, ℕ, ◌⊎◌, true, Option, Some, None, IfSome, refl, sym, ◌∙◌, ap, subst, inl, inr, ◌<◌, arith}
 use Rattle.std.proofs.Math.Bool.{or-false}
 use Rattle.rv_state.specs.declared.cause.Cause.TheVariants as causes

@@ -55,8 +55,7 @@ pub mod FastSteps
 pub mod LeftMachine
 -- After a trap of an enclave, either the enclave continues, or it exits and leaves the machine that the definition `left_machine` gives
 pub mod Leaving
--- Integrity: a step preserves the private state of each live enclave that is not the running world, unless the step enters or destroys this
--- enclave
+-- Integrity: a step preserves the private state of each live enclave that is not the running world, unless the step enters or destroys this enclave
 pub mod Integrity
 -- A step changes only three kinds of bytes: the bytes that its instruction stores, the region that a destroy zeroes, and the bytes that a measure
 -- writes

@@ -1,6 +1,6 @@
--- The whole life of an enclave: two enclaves at one point of life take the same own steps. Steps of others, timer interrupts and changes of timer
--- lines leave an enclave at its point of life. The point consists of the registers of the enclave, its record without the state, and the bytes of its
--- region.
+-- The whole life of an enclave: two enclaves at one point of life take the same own steps. Steps of other worlds, timer interrupts and changes of
+-- timer lines leave an enclave at its point of life. The point consists of the registers of the enclave, its record without the state, and the bytes
+-- of its region.
 use Rattle.std.proofs.Common.{◌≡◌, ◌<◌, ℕ, zero, suc, ◌+◌, Bool, true, false, List, [], ◌∷◌, length, Option, Some, None, IfSome, refl, sym, ◌∙◌, ap, ap₂, subst}
 use Rattle.std.proofs.Common.{inl, inr, arith}
 use Rattle.std.proofs.lemmas.List.Folds.{list_any_at}

@@ -97,8 +97,7 @@ module _ (hart_state : HartState) (shared : Shared) where
       (refused hart_state shared) ≡ returned_to_caller hart_state shared (first_status rows) 0) (refusals_are_rows call)
       (refused_by_status hart_state shared (performed hart_state shared call) (call_refusals hart_state shared call)) status_is_not_0
 
-  -- If the status of an ecall is not 0, then the monitor refuses the ecall with this status. The status is 0xFFFFFFFF if the ecall requests no
-  -- call.
+  -- If the status of an ecall is not 0, then the monitor refuses the ecall with this status. The status is 0xFFFFFFFF if the ecall requests no call.
   ecall_refused : (maybe_call : Option Call) → option_case maybe_call 0xFFFFFFFF (λ call. first_status (rows_of call)) ≢ 0
       → option_case maybe_call (refused hart_state shared NotSupported) (called hart_state shared)
       ≡ returned_to_caller hart_state shared (option_case maybe_call 0xFFFFFFFF (λ call. first_status (rows_of call))) 0
@@ -112,7 +111,7 @@ module _ (hart_state : HartState) (shared : Shared) where
   handled_refused trap cause by_ecall status_is_not_0 =
       let requested = numbers.call hart_state.world in rw (by_ecall, requested) (ecall_refused numbered status_is_not_0)
 
-  -- if the status of an ecall is 0, then so is the status of the table of the requested call
+  -- if the status of an ecall is 0, then the table of the requested call gives the status 0
   status_of_call : (call : Call) (maybe_call : Option Call) → maybe_call ≡ Some call
       → option_case maybe_call 0xFFFFFFFF (λ some_call. first_status (rows_of some_call)) ≡ 0
       → first_status (rows_of call) ≡ 0

@@ -1,4 +1,4 @@
--- A step without a trap is the step of its hart alone, and the host takes no interrupt.
+-- A step without a trap is the step of its hart without the monitor. The host takes no interrupt.
 use Rattle.std.proofs.Common.{◌≡◌, ℕ, Bool, false, slice_set, Option, Some, None, refl, sym, ◌∙◌, ap}
 use Rattle.std.proofs.Math.Bool.{and-false}
 use Rattle.std.specs.Prelude.{◌&&◌, if◌then◌else◌}

@@ -1,6 +1,5 @@
 -- Two machines that are related are equivalent except `enclave` in the guest view, if the window of a running enclave has equal bytes in both. Two
--- machines
--- that are equivalent except `enclave` in the guest view are related, if each hart that runs `enclave` has the same saved host in both.
+-- machines that are equivalent except `enclave` in the guest view are related, if each hart that runs `enclave` has the same saved host in both.
 use Rattle.std.proofs.Common.{◌≡◌, ℕ, ◌+◌, true, false, refl, sym, ◌∙◌, ap, inl, inr}
 use Rattle.std.proofs.lemmas.Bool.{cases_Bool, or_parts}
 use Rattle.std.specs.Prelude.{not, slice_index}

@@ -1,5 +1,5 @@
--- Two machines that are equivalent except `enclave` stay equivalent except `enclave` after `enclave` exits from both, if `enclave` hands over the
--- same in both.
+-- Two machines that are equivalent except `enclave` stay equivalent except `enclave` after `enclave` exits from both, if `enclave` hands over equal
+-- registers in both.
 use Rattle.std.proofs.Common.{◌≡◌, ◌<◌, ℕ, ◌+◌, true, false, length, Option, Some, None, refl, sym, ◌∙◌, ap, ap₂, subst, inl, inr, arith}
 use Rattle.std.specs.Prelude.{is_some, map, not}
 use Rattle.rv_state.specs.declared.cause.Cause.TheVariants as causes

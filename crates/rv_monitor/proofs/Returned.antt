@@ -1,5 +1,6 @@
 -- The host gets its own context back when an enclave exits. The step that enters the enclave saves the context of the host. No step changes this
--- saved context while an enclave runs on the hart. The step with which the enclave exits restores it. The harts may take any steps in between.
+-- saved context while an enclave runs on the hart. The step with which the enclave exits restores this context. The harts may take any steps in
+-- between.
 use Rattle.std.proofs.Common.{◌≡◌, ◌<◌, ℕ, true, false, List, [], ◌∷◌, Option, Some, None, refl, sym, ap, ◌∙◌, subst, inl, inr}
 use Rattle.std.specs.Prelude.{not, is_some}
 use Rattle.rv_monitor.specs.Prelude.{Context, S, HartState, is_host, with_return_values}

@@ -118,7 +118,7 @@ step_changes hart machine byte invariant = elim (cases_lt hart (count_of machine
       (changes (hart_view hart machine) (hart_view_invariant hart machine invariant in_range) byte)
 ]
 
--- proves that steps in any order change only bytes that one of them may change
+-- proves that steps in any order change only bytes that one of the steps may change
 pub sched_changes : SchedChangeLaw
 sched_changes [] machine byte invariant = inl refl
 sched_changes (hart ∷ harts) machine byte invariant = elim (step_changes hart machine byte invariant) [

@@ -80,7 +80,7 @@ alike_twice memory other_memory middle other_middle after other_after first_chan
   ]
 ]
 
--- two memories that are equal outside the hidden bytes are so after two changes that are alike
+-- two memories that are equal outside the hidden bytes are still equal outside these bytes after two changes that are alike
 pub equal_after : (hidden : ℕ → Bool) (memory other_memory after other_after : List ℕ)
     → EqualOutside hidden memory other_memory
     → ChangeAlike memory other_memory after other_after → length after ≡ length other_after

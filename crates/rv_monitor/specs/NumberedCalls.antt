@@ -1,6 +1,5 @@
--- The answers of the monitor in numbers. The key is in a7, and the number of the call in a6. The statuses, their order, and the machine after
--- each call and after a timer interrupt are written out. (A law about the monitor's definitions; Keystone, EuroSys 2020, in this project's
--- profile.)
+-- The answers of the monitor in numbers. The key is in a7, and the number of the call in a6. The statuses, their order, and the machine after each
+-- call and after a timer interrupt are written out. (A law about the monitor's definitions; Keystone, EuroSys 2020, in this project's profile.)
 use Rattle.std.specs.Prelude.{◌≡◌, ◌≢◌, ℕ, Bool, false, List, map, replicate, slice_index_or, slice_set, Option, Some, None}
 use Rattle.rv_state.specs.declared.cause.Cause.TheVariants as causes
 use Rattle.rv_state.specs.declared.cause.Interrupt.{Interrupt}
