@@ -119,13 +119,15 @@ module _ (slot : ℕ) (shared : Shared) (valid : IsValid shared.memory shared.ta
       → IsAsCreated slot (destroyed shared other_slot)
   unfolding destroyed
   destroy_makes_no_slot_live other_slot slot_accepted live_after = elim (cases_eq slot other_slot) [
-    | inl equal ↦
+    -- a destroy of the free slot is refused
+    | inl slots_equal ↦
         let was_live : is_live shared.table other_slot ≡ true =
         ap (λ (maybe_info : Option SlotInfo). is_some maybe_info) slot_accepted.is in
-        absurd (both_ways _ slot_is_free (rw equal was_live))
-    | inr distinct ↦
+        absurd (both_ways _ slot_is_free (rw slots_equal was_live))
+    -- a destroy of another slot leaves the slot free
+    | inr slots_differ ↦
         slot_still_free (destroyed shared other_slot)
-        (ap (λ (maybe_info : Option SlotInfo). is_some maybe_info) (at_other_slot shared.table other_slot slot None distinct)) live_after
+        (ap (λ (maybe_info : Option SlotInfo). is_some maybe_info) (at_other_slot shared.table other_slot slot None slots_differ)) live_after
   ]
 
   -- no slot becomes live by a change of the state of some slot

@@ -15,6 +15,7 @@ pub running_hart_in_range : (slot hart : ℕ) (machine : MonitoredMachine)
     → runs_on slot hart machine ≡ true → hart < count_of machine
 running_hart_in_range slot hart machine runs_on_hart = elim (cases_lt hart (count_of machine)) [
   | inl in_range ↦ in_range
+  -- no hart of the machine has this number
   | inr past_last ↦
       let contradiction : false ≡ true =
       sym (ap (λ (hart_state : HartState). is_world_of slot hart_state.world) (past_hart_state machine.hart_states hart past_last)) ∙ runs_on_hart in

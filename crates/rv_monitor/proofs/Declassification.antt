@@ -108,7 +108,7 @@ module _ (enclave hart : ℕ) (one other : MonitoredMachine) (invariant_one : In
         harts = sym unchanged.harts ∙ related.harts;
         -- the hart of the enclave runs `enclave` before and after the step, and the other harts keep their states
         hart_states = λ other_hart. elim (cases_eq other_hart hart) [
-          | inl equal ↦ rw equal (record {
+          | inl is_stepping_hart ↦ rw is_stepping_hart (record {
             -- the hart runs `enclave` before and after the step
             world =
                 world_is_enclave enclave (hart_state_of hart after).world inside.after
@@ -117,25 +117,28 @@ module _ (enclave hart : ℕ) (one other : MonitoredMachine) (invariant_one : In
             same = λ not_running. absurd (both_ways _ not_running inside.after);
           })
           -- another hart keeps its state
-          | inr distinct ↦
+          | inr is_other_hart ↦
               hart_states_equiv enclave (guest_state (hart_state_of other_hart after)) (guest_state (hart_state_of other_hart one))
               (guest_state (hart_state_of other_hart other))
-              (guest_state (hart_state_of other_hart other)) (ap guest_state (sym (unchanged.others other_hart distinct))) refl
+              (guest_state (hart_state_of other_hart other)) (ap guest_state (sym (unchanged.others other_hart is_other_hart))) refl
               (related.hart_states other_hart)
         ];
-        -- the saved host of the stepping hart is unchanged, and so are the hosts of the other harts
+        -- the saved hosts of all harts are unchanged
         hosts = λ other_hart runs_on_other. elim (cases_eq other_hart hart) [
-          | inl equal ↦
+          -- the stepping hart keeps the saved host
+          | inl is_stepping_hart ↦
               let same_hosts = related.hosts hart inside.before in
-              rw equal (record { host = sym unchanged.behind.host ∙ same_hosts.host; rest = sym unchanged.behind.rest ∙ same_hosts.rest })
-          | inr distinct ↦
+              rw is_stepping_hart (record { host = sym unchanged.behind.host ∙ same_hosts.host; rest = sym unchanged.behind.rest ∙ same_hosts.rest })
+          -- every other hart keeps its state
+          | inr is_other_hart ↦
               let same_hosts =
-              related.hosts other_hart (ap (λ (hart_state : HartState). is_world_of enclave hart_state.world) (unchanged.others other_hart distinct)
+              related.hosts other_hart
+              (ap (λ (hart_state : HartState). is_world_of enclave hart_state.world) (unchanged.others other_hart is_other_hart)
               ∙ runs_on_other) in
               record {
                 host =
-                    ap (λ (hart_state : HartState). hart_state.host_context) (sym (unchanged.others other_hart distinct)) ∙ same_hosts.host;
-                rest = ap rest_of (sym (unchanged.others other_hart distinct)) ∙ same_hosts.rest;
+                    ap (λ (hart_state : HartState). hart_state.host_context) (sym (unchanged.others other_hart is_other_hart)) ∙ same_hosts.host;
+                rest = ap rest_of (sym (unchanged.others other_hart is_other_hart)) ∙ same_hosts.rest;
               }
         ];
         table = sym unchanged.table ∙ related.table;

@@ -196,6 +196,7 @@ enclave_step_unchanged enclave hart machine invariant runs_on_hart runs_after =
             sym (step_programmed hart other_hart machine invariant distinct in_range
             ∙ ap (λ (table : Slots). reprogrammed table (hart_state_of other_hart machine)) (sym table_unchanged)
             ∙ reprogramming_changes_nothing machine.shared.table (hart_state_of other_hart machine) (invariant.hart_states other_hart in_range))
+        -- no hart of the machine has this number
         | inr past_last ↦
             let count = step_count hart machine in
             past_hart_state machine.hart_states other_hart past_last

@@ -188,6 +188,7 @@ module _ (hart slot : ℕ) (machine : MonitoredMachine) (invariant : Invariant m
   -- if a step without a trap ended in `slot`, then the host would be an enclave
   no_trap_contradicts : (step_of hart machine).outcome.step.trap ≡ None → Host ≡ Enclave slot
   no_trap_contradicts no_trap = elim (cases_lt hart (count_of machine)) [
+    -- no hart of the machine has this number
     | inr past_last ↦
         sym (ap (λ (after : MonitoredStepped). (hart_state_of hart after.state).world) (outside hart machine past_last) ∙ from_host)
         ∙ enclave_runs_after

@@ -64,6 +64,7 @@ pub changed_equiv : (enclave hart : ℕ) (change : HartState → HartState) (one
     → EquivExcept enclave one other → EquivExcept enclave (changed hart change one) (changed hart change other)
 changed_equiv enclave hart change one other keeps_world equiv = elim (cases_lt hart (count_of one)) [
   | inl in_range ↦ changed_in_range enclave hart change one other keeps_world in_range equiv
+  -- no hart of the machine has this number
   | inr past_last ↦
       let same_harts = equiv.harts in
       let first_unchanged = no_hart_unchanged hart (change (hart_state_of hart one)) one past_last in

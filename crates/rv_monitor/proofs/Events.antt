@@ -62,6 +62,7 @@ module _ (enclave hart : ℕ) (raised : Bool) (one other : MonitoredMachine) whe
               (λ some_hart distinct. equiv.hart_states some_hart);
           shared = equiv.shared;
         }
+        -- no hart of the machine has this number
         | inr past_last ↦
             rw (
               no_hart_unchanged hart first_changed one past_last,

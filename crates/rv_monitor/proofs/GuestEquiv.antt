@@ -272,9 +272,12 @@ module _ (enclave hart : ℕ) (one other : MonitoredMachine) (invariant_one : In
       let in_range = running_hart_in_range enclave other_hart (step_of hart one).state runs_after in
       let count = step_count hart one in
       elim (cases_eq other_hart hart) [
-        | inl equal ↦ rw equal (stepped_hart_keeps_host (omega (arith, in_range, count, equal)))
-        | inr distinct ↦
+        -- the stepping hart keeps the saved host
+        | inl is_stepping_hart ↦ rw is_stepping_hart (stepped_hart_keeps_host (omega (arith, in_range, count, is_stepping_hart)))
+        -- every other hart keeps its saved host
+        | inr is_other_hart ↦
             same_host_chain other_hart (step_of hart one).state one other (step_of hart other).state
-            (other_harts_keep_host hart other_hart one distinct)
-            (hosts other_hart (ran_before enclave hart other_hart one distinct runs_after)) (other_harts_keep_host hart other_hart other distinct)
+            (other_harts_keep_host hart other_hart one is_other_hart)
+            (hosts other_hart (ran_before enclave hart other_hart one is_other_hart runs_after))
+            (other_harts_keep_host hart other_hart other is_other_hart)
       ]

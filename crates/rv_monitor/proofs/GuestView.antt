@@ -159,6 +159,7 @@ pub guest_hart_state : (hart : ℕ) (machine : MonitoredMachine)
 guest_hart_state hart machine = elim (cases_lt hart (count_of machine)) [
   | inl in_range ↦
       get_or-map guest_state machine.hart_states hart (hart_state_at_start 0) (hart_state_at_start 0) in_range
+  -- no hart of the machine has this number
   | inr past_last ↦
       let same_length = length-map machine.hart_states guest_state in
       past_hart_state (guest_view machine).hart_states hart (omega (arith, same_length, past_last))

@@ -128,6 +128,7 @@ pub by_hart : (hart : ℕ) (machine : MonitoredMachine) (Claim : MonitoredSteppe
     → Claim (step_of hart machine)
 by_hart hart machine Claim no_hart with_hart = elim (cases_lt hart (count_of machine)) [
   | inl in_range ↦ subst Claim (sym (machine_step_is hart machine in_range)) (with_hart in_range)
+  -- no hart of the machine has this number
   | inr past_last ↦ subst Claim (sym (outside hart machine past_last)) no_hart
 ]
 

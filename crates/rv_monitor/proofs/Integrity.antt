@@ -138,10 +138,10 @@ region_byte_unchanged view slot byte view_invariant not_running live_after in_re
         | inr call ↦ elim call.change [
           -- a destroy zeroes the region of the destroyed enclave, which is not live after the step, or is another enclave with another region
           | inl destroyed ↦ elim (cases_eq slot (register view.hart_state.hart.regs 10)) [
-            | inl equal ↦ absurd (both_ways _ (rw (← equal) at destroyed.gone) live_after)
-            | inr distinct ↦
+            | inl slots_equal ↦ absurd (both_ways _ (rw (← slots_equal) at destroyed.gone) live_after)
+            | inr slots_differ ↦
                 absurd (both_ways _ (apart_at (region shared.table slot) (region shared.table (register view.hart_state.hart.regs 10)) byte
-                (valid.regions_apart slot (register view.hart_state.hart.regs 10) distinct) in_region) destroyed.own)
+                (valid.regions_apart slot (register view.hart_state.hart.regs 10) slots_differ) in_region) destroyed.own)
           ]
           -- a measure writes only bytes that are accessible to the running world
           | inr measured ↦

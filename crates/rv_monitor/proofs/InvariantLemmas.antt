@@ -93,11 +93,11 @@ invariant_after_step hart machine invariant in_range =
       hart_states = λ other_hart other_in_new_range.
           let other_in_range : other_hart < count_of machine = omega (arith, same_length, other_in_new_range) in
           elim (cases_eq other_hart hart) [
-            | inl equal ↦
-                subst (HartInvariant table) (sym (stepping_hart_state hart machine after other_hart equal in_range)) view_invariant_after.1
-            | inr distinct ↦
+            | inl is_stepping_hart ↦
+                subst (HartInvariant table) (sym (stepping_hart_state hart machine after other_hart is_stepping_hart in_range)) view_invariant_after.1
+            | inr is_other_hart ↦
                 subst (HartInvariant table)
-                (sym (other_hart_state hart machine after other_hart distinct other_in_range
+                (sym (other_hart_state hart machine after other_hart is_other_hart other_in_range
                 ∙ other_hart_is_programmed hart other_hart machine invariant other_in_range))
                 (reprogrammed_invariant machine.shared.table table (hart_state_of other_hart machine)
                 (invariant.hart_states other_hart other_in_range))
@@ -165,6 +165,7 @@ pub written_invariant : (hart : ℕ) (regs : List ℕ) (raised : Bool) (machine 
     → Invariant (with_hart_state hart (written regs raised (hart_state_of hart machine)) machine)
 written_invariant hart regs raised machine invariant = elim (cases_lt hart (count_of machine)) [
   | inl in_range ↦ written_invariant_of_hart hart regs raised machine invariant in_range
+  -- no hart of the machine has this number
   | inr past_last ↦
       subst Invariant (sym (no_hart_unchanged hart (written regs raised (hart_state_of hart machine)) machine past_last)) invariant
 ]
@@ -185,6 +186,7 @@ pub change_preserves : {X : Type 0} (property : HartState → X) (change : HartS
     → (hart other_hart : ℕ) (machine : MonitoredMachine)
     → property (hart_state_of other_hart (changed hart change machine)) ≡ property (hart_state_of other_hart machine)
 change_preserves property change preserved hart other_hart machine = elim (cases_lt hart (count_of machine)) [
+  -- no hart of the machine has this number
   | inr past_last ↦
       ap (λ (machine : MonitoredMachine). property (hart_state_of other_hart machine))
       (no_hart_unchanged hart (change (hart_state_of hart machine)) machine past_last)

@@ -78,7 +78,7 @@ pub mod Exits
 pub mod Availability
 -- The monitor answers each call with the result, the status and the effect that the call's table in numbers gives (specs/NumberedCalls)
 pub mod NumberedCalls
--- A step without a trap is the step of its hart alone, and the host takes no interrupt
+-- A step without a trap is the step of its hart without the monitor; the host takes no interrupt
 pub mod PlainSteps
 -- The laws of a step determine the step: two results of one step that both obey the laws are equal
 pub mod Determined

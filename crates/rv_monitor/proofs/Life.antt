@@ -307,6 +307,7 @@ entry_from_host slot view = step_cases view (EntersFromHost slot view) (λ no_tr
 worlds_around_entry : (slot hart : ℕ) (machine : MonitoredMachine) → (step_of hart machine).outcome.entered ≡ Some slot
     → ((hart_state_of hart machine).world ≡ Host) × ((hart_state_of hart (step_of hart machine).state).world ≡ Enclave slot)
 worlds_around_entry slot hart machine enters_slot = elim (cases_lt hart (count_of machine)) [
+  -- no hart of the machine has this number
   | inr past_last ↦
       let contradiction : None ≡ Some slot =
       sym (ap (λ (stepped : MonitoredStepped). stepped.outcome.entered) (outside hart machine past_last)) ∙ enters_slot in

@@ -36,9 +36,11 @@ new_state_keeps_identity table slot (Some info) state table_length slot_is =
 pub new_state_keeps_identities : (table : Slots) (slot other_slot : ℕ) (state : EnclaveState) → length table ≡ slot_count
     → identity_at (with_state table other_slot state) slot ≡ identity_at table slot
 new_state_keeps_identities table slot other_slot state table_length = elim (cases_eq slot other_slot) [
-  | inl equal ↦ rw (← equal) (new_state_keeps_identity table slot (slot_at table slot) state table_length refl)
-  | inr distinct ↦
-      ap (option_map identity_of) (new_state_keeps_other_slot table slot other_slot (slot_at table other_slot) state distinct)
+  -- a new state keeps the identity of its own slot
+  | inl slots_equal ↦ rw (← slots_equal) (new_state_keeps_identity table slot (slot_at table slot) state table_length refl)
+  -- a write to another slot leaves the record unchanged
+  | inr slots_differ ↦
+      ap (option_map identity_of) (new_state_keeps_other_slot table slot other_slot (slot_at table other_slot) state slots_differ)
 ]
 
 -- enclave `slot` is live before the trap handler
@@ -60,12 +62,14 @@ module _ (slot : ℕ) (hart_state : HartState) (shared : Shared) (valid : IsVali
       → identity_at (destroyed shared other_slot).table slot ≡ identity_at shared.table slot
   unfolding destroyed
   destroyed_keeps other_slot slot_accepted live_after = elim (cases_eq slot other_slot) [
-    | inl equal ↦
+    -- the destroyed slot is not live after the destroy
+    | inl slots_equal ↦
         let slot_in_range = live_in_range shared.table other_slot slot_accepted.info valid.count slot_accepted.is in
         let slot_is_free : slot_at (with_slot shared.table other_slot None) other_slot ≡ None =
         at_written_slot shared.table other_slot None (omega (arith, valid.count)) in
-        absurd (both_ways _ (ap (λ (maybe_info : Option SlotInfo). is_some maybe_info) slot_is_free) (rw equal at live_after))
-    | inr distinct ↦ ap (option_map identity_of) (at_other_slot shared.table other_slot slot None distinct)
+        absurd (both_ways _ (ap (λ (maybe_info : Option SlotInfo). is_some maybe_info) slot_is_free) (rw slots_equal at live_after))
+    -- a destroy of another slot leaves the record unchanged
+    | inr slots_differ ↦ ap (option_map identity_of) (at_other_slot shared.table other_slot slot None slots_differ)
   ]
 
   -- if `slot` is live after the trap handler, then its identity is unchanged

@@ -51,6 +51,7 @@ module _ (enclave hart : ℕ) (change other_change : HartState → HartState) (o
   pub changed_related : AreRelated enclave (changed hart change one) (changed hart other_change other)
   changed_related = elim (cases_lt hart (count_of one)) [
     | inl in_range ↦ changed_in_range in_range
+    -- no hart of the machine has this number
     | inr past_last ↦
         let same_harts = related.harts in
         let first_unchanged = no_hart_unchanged hart (change (hart_state_of hart one)) one past_last in

@@ -68,6 +68,7 @@ pub enclave_hart_in_range : (hart : ℕ) (machine : MonitoredMachine)
     → is_host (hart_state_of hart machine).world ≡ false → hart < count_of machine
 enclave_hart_in_range hart machine enclave_runs = elim (cases_lt hart (count_of machine)) [
   | inl in_range ↦ in_range
+  -- no hart of the machine has this number
   | inr past_last ↦
       let contradiction : true ≡ false =
       sym (ap (λ (hart_state : HartState). is_host hart_state.world) (past_hart_state machine.hart_states hart past_last)) ∙ enclave_runs in
@@ -91,13 +92,15 @@ step_keeps : (hart stepping_hart : ℕ) (machine : MonitoredMachine) → is_host
     → is_host (hart_state_of hart (step_of stepping_hart machine).state).world ≡ false
     → host_on hart (step_of stepping_hart machine).state ≡ host_on hart machine
 step_keeps hart stepping_hart machine enclave_runs enclave_runs_after = elim (cases_eq hart stepping_hart) [
-  | inl equal ↦
+  -- the stepping hart keeps its saved host context
+  | inl is_stepping_hart ↦
       subst
       (λ (stepping_hart : ℕ). is_host (hart_state_of hart (step_of stepping_hart machine).state).world ≡ false → host_on hart
       (step_of stepping_hart machine).state ≡ host_on hart machine)
-      equal (own_step_keeps_context hart machine enclave_runs) enclave_runs_after
-  | inr distinct ↦
-      other_harts_keep (λ (hart_state : HartState). hart_state.host_context) (λ table hart_state. refl) stepping_hart hart machine distinct
+      is_stepping_hart (own_step_keeps_context hart machine enclave_runs) enclave_runs_after
+  -- every other hart keeps its saved host context
+  | inr is_other_hart ↦
+      other_harts_keep (λ (hart_state : HartState). hart_state.host_context) (λ table hart_state. refl) stepping_hart hart machine is_other_hart
 ]
 
 -- ---- steps of the harts in order

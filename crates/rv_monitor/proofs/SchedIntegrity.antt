@@ -110,6 +110,7 @@ step_changes : (hart : ℕ) (machine : MonitoredMachine) (byte : ℕ) → Invari
     → byte_at (step_of hart machine).state.shared.memory byte ≡ byte_at machine.shared.memory byte
     ⊎ IsChanged (hart_view hart machine) (hart_view_after hart (step_of hart machine)) byte
 step_changes hart machine byte invariant = elim (cases_lt hart (count_of machine)) [
+  -- no hart of the machine has this number
   | inr past_last ↦
       inl (ap (λ (after : MonitoredStepped). byte_at after.state.shared.memory byte) (outside hart machine past_last))
   | inl in_range ↦

@@ -62,8 +62,8 @@ pub entered_by : (slot : ℕ) (maybe_entered : Option ℕ) → (maybe_entered �
     → enters slot maybe_entered ≡ false
 entered_by slot None not_entry = refl
 entered_by slot (Some entered) not_entry = elim (cases_Bool (entered == slot)) [
-  | inl equal ↦ absurd (not_entry (ap Some (eqb-true entered slot equal)))
-  | inr distinct ↦ distinct
+  | inl slots_equal ↦ absurd (not_entry (ap Some (eqb-true entered slot slots_equal)))
+  | inr slots_differ ↦ slots_differ
 ]
 
 -- an outcome that passes the test `enters` names an entry of the slot
@@ -99,6 +99,7 @@ hart_still_not_running : (enclave hart : ℕ) (machine : MonitoredMachine) → r
     → enters enclave (step_of hart machine).outcome.entered ≡ false
     → runs_on enclave hart (step_of hart machine).state ≡ false
 hart_still_not_running enclave hart machine not_running not_entered = elim (cases_lt hart (count_of machine)) [
+  -- no hart of the machine has this number
   | inr past_last ↦
       ap (λ (after : MonitoredStepped). runs_on enclave hart after.state) (outside hart machine past_last) ∙ not_running
   | inl in_range ↦
@@ -111,12 +112,15 @@ hart_still_not_running enclave hart machine not_running not_entered = elim (case
 -- proves that a hart runs the enclave after a step only if the hart ran the enclave before, or the step entered the enclave
 pub entry_law : EntryLaw
 entry_law enclave hart other_hart machine not_running not_entered = elim (cases_eq other_hart hart) [
-  | inl equal ↦
+  -- the stepping hart runs the enclave only if the step enters the enclave
+  | inl is_stepping_hart ↦
       subst (λ (some_hart : ℕ). enters enclave (step_of some_hart machine).outcome.entered ≡ false
-      → runs_on enclave other_hart (step_of some_hart machine).state ≡ false) equal
+      → runs_on enclave other_hart (step_of some_hart machine).state ≡ false) is_stepping_hart
       (hart_still_not_running enclave other_hart machine not_running) not_entered
-  | inr distinct ↦
-      other_harts_keep (λ (hart_state : HartState). is_world_of enclave hart_state.world) (λ table hart_state. refl) hart other_hart machine distinct
+  -- every other hart keeps its world
+  | inr is_other_hart ↦
+      other_harts_keep (λ (hart_state : HartState). is_world_of enclave hart_state.world) (λ table hart_state. refl) hart other_hart
+      machine is_other_hart
       ∙ not_running
 ]
 
