@@ -193,6 +193,7 @@ module _ (slot : ℕ) (machine : MonitoredMachine) (invariant : Invariant machin
   pub runs_nowhere : (hart : ℕ) → runs_on slot hart machine ≡ false
   runs_nowhere hart = elim (cases_Bool (runs_on slot hart machine)) [
     | inr not_running ↦ not_running
+    -- a hart can run only an enclave with the state Running
     | inl runs_on_hart ↦
         let running : runs machine.shared.table slot ≡ true =
         invariant.shared.running slot ∙ runs_among slot hart machine runs_on_hart in

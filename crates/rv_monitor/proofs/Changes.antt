@@ -35,6 +35,7 @@ outside : (block : Block) (byte : ℕ) → has block byte ≡ false → byte < b
 outside block byte not_in_block = elim (cases_lt byte block.base) [
   | inl before_start ↦ inl before_start
   | inr from_start ↦ elim (cases_lt byte (block.base + block.size)) [
+    -- a byte from the base to the end of the block is in the block
     | inl before_end ↦
         absurd (both_ways _ not_in_block (and_from _ _ (le-leb block.base byte from_start) (lt-ltb byte (block.base + block.size) before_end)))
     | inr after_end ↦ inr after_end
@@ -234,10 +235,12 @@ changes view view_invariant byte =
     (λ no_trap. elim (bare_changes view view_invariant byte (step (bare_machine view)) (confined (bare_machine view))
     (touches_permitted (bare_machine view))) [
       | inl unchanged ↦ inl unchanged
+      -- without a trap, only the instruction changes bytes
       | inr stored ↦ inr (inl stored)
     ])
     (λ trap trapped. elim (handled_changes
     (hart_state_after view.hart_state trap) view.shared view_invariant.valid view_invariant.hart.layout.entries byte trap) [
       | inl unchanged ↦ inl unchanged
+      -- with a trap, only the trap handler changes bytes
       | inr changed ↦ inr (inr (record { trap = trap; trapped = trapped; is = changed.0; change = changed.1 }))
     ])

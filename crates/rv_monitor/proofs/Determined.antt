@@ -182,6 +182,7 @@ module _ (hart : ℕ) (machine : MonitoredMachine) (invariant : Invariant machin
       same_by_status : SameResult
       same_by_status = elim (cases_eq (status_at hart machine) 0) [
         | inl status_is_0 ↦ same_by_call (call_at hart machine) refl status_is_0
+        -- a call whose status is not 0 is refused
         | inr refused ↦ same_if_given (first_answers.refuses refused) (second_answers.refuses refused)
       ]
 

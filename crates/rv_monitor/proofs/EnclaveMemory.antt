@@ -44,11 +44,13 @@ accessible_in_region_or_window memory table slot Fetch bytes accessible =
     elim (or_cases _ _ accessible) [ inl all_in_region ↦ inl all_in_region | inr contradiction ↦ cc ]
 accessible_in_region_or_window memory table slot Read bytes accessible = elim (or_cases _ _ accessible) [
   | inl all_in_region ↦ inl all_in_region
+  -- if the bytes are not all in the region, then they are all in the window
   | inr not_in_region ↦
       elim (or_cases _ _ not_in_region) [ inl all_in_window ↦ inr all_in_window | inr contradiction ↦ cc ]
 ]
 accessible_in_region_or_window memory table slot Write bytes accessible = elim (or_cases _ _ accessible) [
   | inl all_in_region ↦ inl all_in_region
+  -- if the bytes are not all in the region, then they are all in the window
   | inr not_in_region ↦
       elim (or_cases _ _ not_in_region) [ inl all_in_window ↦ inr all_in_window | inr contradiction ↦ cc ]
 ]

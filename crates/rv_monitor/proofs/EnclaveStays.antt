@@ -140,9 +140,11 @@ module _ (slot : ℕ) (view : HartView) (view_invariant : HartViewInvariant view
       not_within_and_beyond byte
       (writes_within stored.span.addr (bytes_in stored.span.len) byte stored.accessible stored.low stored.high) byte_beyond _
   unchanged_beyond byte byte_beyond (inr (inr call)) = elim call.change [
+    -- no destroy is offered to an enclave
     | inl destroyed ↦
         destroy_not_offered _ slot view.hart_state.world runs_enclave
         (requested-is_offered view.hart_state.world view.hart_state.hart.regs _ destroyed.asked).1
+    -- a measure writes only bytes in the region and the window
     | inr measured ↦
         not_within_and_beyond byte (writes_within byte 1 byte measured.accessible (omega arith) (omega arith)) byte_beyond _
   ]

@@ -81,6 +81,7 @@ read_is_inside : (memory : List ℕ) (address count : ℕ) → is_some (read mem
     → is_inside memory address count ≡ true
 read_is_inside memory address count returns_bytes = elim (cases_Bool (is_inside memory address count)) [
   | inl inside ↦ inside
+  -- a read outside memory returns no bytes
   | inr outside ↦
       let contradiction : false ≡ true =
       ap (λ (maybe_bytes : Option (List ℕ)). is_some maybe_bytes) (sym (read-none memory address count outside)) ∙ returns_bytes in
@@ -92,6 +93,7 @@ write_is_inside : (memory : List ℕ) (address : ℕ) (bytes : List ℕ) → is_
     → is_inside memory address (length bytes) ≡ true
 write_is_inside memory address bytes succeeds = elim (cases_Bool (is_inside memory address (length bytes))) [
   | inl inside ↦ inside
+  -- a write outside memory fails
   | inr outside ↦
       let contradiction : false ≡ true =
       ap (λ (maybe_bytes : Option (List ℕ)). is_some maybe_bytes) (sym (write-none memory address bytes outside)) ∙ succeeds in
@@ -695,6 +697,7 @@ module _ (place other_place : Place) (one other : MonitoredMachine) (invariant_o
       elim (cases_Bool (is_host (monitored_step (hart_view place.hart one)).state.hart_state.world)) [
         | inl host_runs_after ↦
             world_is_host _ (ap (λ (hart_state : HartState). is_host hart_state.world) first_state_of_view ∙ host_runs_after)
+        -- an enclave that still runs on the hart contradicts the premise
         | inr enclave_runs_after ↦
             let runs =
             ap (λ (hart_state : HartState). is_world_of place.slot hart_state.world) first_state_of_view

@@ -31,6 +31,7 @@ same_byte memory other_memory address bytes index same_length same_element =
     let equal_at_index : EqualOutside not_at_index memory other_memory = record {
       size = same_length;
       bytes = λ other_index not_hidden. elim (cases_eq other_index index) [
+        -- the byte at the index is equal in both memories
         | inl indices_equal ↦ rw indices_equal same_element
         -- every other byte counts as hidden, so nothing is to show
         | inr indices_differ ↦

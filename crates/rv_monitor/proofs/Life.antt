@@ -450,8 +450,10 @@ module _ (slot hart : ℕ) (machine : MonitoredMachine) (context : Context) (inv
   step_stays : (runs_on slot hart machine ≡ false) ⊎ ((hart_state_of hart machine).hart.csrs.timer ≡ true)
       → StaysAtPoint slot context machine (step_of hart machine).state
   step_stays foreign = elim (cases_Bool (runs_on slot hart machine)) [
+    -- if the hart runs the enclave, then the timer interrupt takes the enclave off the hart
     | inl runs_on_hart ↦
         elim foreign [ inl not_running ↦ absurd (both_ways _ not_running runs_on_hart) | inr line ↦ interrupted_stays runs_on_hart line ]
+    -- a step of another world enters the enclave, or leaves the enclave undisturbed
     | inr not_running ↦ elim (cases_Bool (enters slot (step_of hart machine).outcome.entered)) [
       | inl entered ↦ entered_stays entered
       | inr not_entered ↦ undisturbed_stays not_running not_entered
@@ -548,6 +550,7 @@ reads_only_own_bytes place machine invariant runs byte byte_read =
     elim (cases_Bool (in_span touched.fetched byte)) [
       | inl is_fetched ↦
           accessible_span_is_own place.slot machine place.hart Fetch touched.fetched world accessed.fetched byte is_fetched
+      -- a byte that is read but not fetched is loaded
       | inr not_fetched ↦
           accessible_span_is_own place.slot machine place.hart Read touched.loaded world accessed.loaded byte
           (right_if_not_left _ _ byte_read not_fetched)
@@ -631,7 +634,9 @@ module _ (place other_place : Place) (one other : MonitoredMachine) (invariant_o
   read_bytes_equal : (index : ℕ) → reads_byte (step_at place one).outcome.step.touched (ram_base + index) ≡ true
       → slice_index one.shared.memory index ≡ slice_index other.shared.memory index
   read_bytes_equal index byte_read = elim (cases_Bool (has (window one.shared.table first_slot) (ram_base + index))) [
+    -- the bytes of the window that the step reads are equal
     | inl in_window ↦ own_step_premises.window.bytes index (nand_fails _ _ in_window byte_read)
+    -- an own step reads outside the window only bytes of the region, which are equal
     | inr outside_window ↦
         point.memory.bytes index (left_if_nor_fails _ _ (reads_only_own_bytes place one invariant_one own_step_premises.first
         (ram_base + index) byte_read) outside_window)
@@ -714,7 +719,9 @@ module _ (place other_place : Place) (one other : MonitoredMachine) (invariant_o
         own_bytes_equal index (same_beyond after_one.shared.table one.shared.table first_slot first_slot (ram_base + index) identity_kept
         ∙ byte_within) in
         elim (same_over_memory.shared.changes index) [
+          -- the step leaves the byte unchanged in both machines
           | inl unchanged ↦ inl (bytes_equal ∙ unchanged.0, unchanged.1)
+          -- the step changes the byte to the same value in both machines
           | inr changed_alike ↦ inr (bytes_equal ∙ changed_alike)
         ]
   ]
@@ -787,7 +794,9 @@ module _ (place other_place : Place) (one other : MonitoredMachine) (invariant_o
               let was_outside =
               ap (λ (block : Block). not (has block (ram_base + index))) (sym region_unchanged) ∙ outside_region in
               elim (changes index) [
+                -- an unchanged byte was equal before the step
                 | inl unchanged ↦ unchanged.0 ∙ point.memory.bytes index was_outside ∙ sym unchanged.1
+                -- a changed byte has the same new value in both machines
                 | inr changed_alike ↦ changed_alike
               ];
         };

@@ -116,6 +116,7 @@ reads_apart enclave hart machine invariant not_running byte byte_read = elim (ca
       elim (cases_Bool (in_span touched.fetched byte)) [
         | inl is_fetched ↦
             span_apart enclave machine hart Fetch touched.fetched invariant in_range not_running accessed.fetched byte is_fetched
+        -- a byte that is read but not fetched is loaded
         | inr not_fetched ↦
             span_apart enclave machine hart Read touched.loaded invariant in_range not_running accessed.loaded byte
             (right_if_not_left _ _ byte_read not_fetched)
@@ -173,7 +174,9 @@ module _ (enclave hart : ℕ) (one other : MonitoredMachine) (invariant_one : In
   read_bytes_equal : (index : ℕ) → reads_byte (step_of hart one).outcome.step.touched (ram_base + index) ≡ true
       → slice_index one.shared.memory index ≡ slice_index other.shared.memory index
   read_bytes_equal index byte_read = elim (cases_Bool (has (window one.shared.table enclave) (ram_base + index))) [
+    -- the bytes of the window that the step reads are equal
     | inl in_window ↦ (low_step.window running).bytes index (nand_fails _ _ in_window byte_read)
+    -- a low step reads no byte of the region, and all bytes outside the region and the window are equal
     | inr outside_window ↦
         related.memory.bytes index
         (may_not_differ _ _ _ (reads_apart enclave hart one invariant_one low_step.low (ram_base + index) byte_read) (λ enclave_runs. outside_window))

@@ -220,6 +220,7 @@ gone_equal enclave one other invariant_one equiv not_live =
     not_running : (hart : ℕ) → runs_on enclave hart one ≡ false
     not_running hart =
         elim (cases_Bool (runs_on enclave hart one)) [
+          -- an enclave that runs is live
           | inl runs ↦ absurd (both_ways _ not_live (running_is_live enclave hart one invariant_one runs))
           | inr runs_other ↦ runs_other
         ]

@@ -39,6 +39,7 @@ apart_in_front (first ∷ rest) (suc index) world in_range worlds_apart =
     → (is_world_of slot world ≡ false) × (list_any (is_world_of slot) (without rest index) ≡ false) =
     λ slot first_runs. or_parts _ _ (sym (any_with_world_in_front (is_world_of slot) rest index world in_tail) ∙ worlds_apart.0 slot first_runs) in (
       λ slot first_runs. elim (cases_Bool (is_world_of slot first)) [
+        -- two worlds that are apart do not run the same enclave
         | inl runs_enclave ↦ absurd (both_ways _ (prefix_facts slot runs_enclave).0 first_runs)
         | inr world_runs_other ↦ or_from (is_world_of slot first) _ world_runs_other (rest_apart.0 slot first_runs)
       ],
@@ -55,6 +56,7 @@ apart_moved_back (first ∷ rest) (suc index) world in_range worlds_apart =
     let in_tail : index < length rest = omega (arith, in_range) in (
       λ slot first_runs. any_with_world_in_front (is_world_of slot) rest index world in_tail
           ∙ elim (cases_Bool (is_world_of slot world)) [
+            -- two worlds that are apart do not run the same enclave
             | inl runs_enclave ↦ absurd (both_ways _ (or_parts _ _ (worlds_apart.0 slot runs_enclave)).0 first_runs)
             | inr world_runs_other ↦ or_from (is_world_of slot world) _ world_runs_other (worlds_apart.1.0 slot first_runs)
           ],

@@ -32,7 +32,9 @@ module _ (enclave : ℕ) (one other : MonitoredMachine) where
     bytes : (index : ℕ) → has (region one.shared.table enclave) (ram_base + index) ≡ false
         → slice_index one.shared.memory index ≡ slice_index other.shared.memory index
     bytes index outside_region = elim (cases_Bool (runs one.shared.table enclave)) [
+      -- while the enclave does not run, only bytes of the region may differ
       | inr idle ↦ related.memory.bytes index (rw (outside_region, idle) refl)
+      -- while the enclave runs, the bytes of the window are equal by the premise
       | inl running ↦ elim (cases_Bool (has (window one.shared.table enclave) (ram_base + index))) [
         | inl in_window ↦ (same_window running).bytes index (ap not in_window)
         | inr outside_window ↦ related.memory.bytes index (rw (outside_region, running, outside_window) refl)

@@ -123,9 +123,11 @@ step_changes hart machine byte invariant = elim (cases_lt hart (count_of machine
 pub sched_changes : SchedChangeLaw
 sched_changes [] machine byte invariant = inl refl
 sched_changes (hart ∷ harts) machine byte invariant = elim (step_changes hart machine byte invariant) [
+  -- the first step leaves the byte unchanged, so only a later step can change the byte
   | inl unchanged ↦ elim (sched_changes harts (step_of hart machine).state byte (invariant_law hart machine invariant)) [
     | inl unchanged_later ↦ inl (unchanged_later ∙ unchanged)
     | inr changed ↦ inr (inr changed)
   ]
+  -- the first step changes the byte
   | inr changed ↦ inr (inl changed)
 ]

@@ -73,7 +73,9 @@ alike_twice : (memory other_memory middle other_middle after other_after : List 
     → ChangeAlike middle other_middle after other_after
     → ChangeAlike memory other_memory after other_after
 alike_twice memory other_memory middle other_middle after other_after first_change second_change index = elim (second_change index) [
+  -- the second change gives the byte the same value in both memories
   | inr bytes_equal ↦ inr bytes_equal
+  -- the second change leaves the byte unchanged in both memories
   | inl unchanged_later ↦ elim (first_change index) [
     | inl unchanged_first ↦ inl (unchanged_later.0 ∙ unchanged_first.0, unchanged_later.1 ∙ unchanged_first.1)
     | inr bytes_equal ↦ inr (unchanged_later.0 ∙ bytes_equal ∙ sym unchanged_later.1)
@@ -88,6 +90,7 @@ pub equal_after : (hidden : ℕ → Bool) (memory other_memory after other_after
 equal_after hidden memory other_memory after other_after equal_outside changes same_length = record {
   size = same_length;
   bytes = λ index not_hidden. elim (changes index) [
+    -- an unchanged byte was equal before the changes
     | inl unchanged_both ↦ unchanged_both.0 ∙ equal_outside.bytes index not_hidden ∙ sym unchanged_both.1
     | inr bytes_equal ↦ bytes_equal
   ];
