@@ -22,7 +22,8 @@ use std::array::from_fn;
 use std::fmt;
 use std::marker::Model;
 
-/// Establishes that the S-mode CSRs of a hart are as a hart stores them, and that a context saved from them is too. Has no effect.
+/// Establishes that the S-mode CSRs of a hart have values that a hart can store, and that a context saved from these CSRs has such values. Has no
+/// effect.
 #[inline(always)]
 const fn keeps_own(csrs: &Csrs)
     ensures { KeepsOwn csrs.now }
@@ -222,7 +223,9 @@ pub struct MonitoredMachine {
     by_hart: [HartState; HARTS],
     /// The number of harts.
     harts: u8,
+    /// The state that the harts share: the memory, the table of slots, and the saved contexts of the enclaves.
     shared: Shared,
+    /// The cache of decoded instructions that the fast path uses. The model of the machine does not include this cache.
     decode_cache: BoxedCache,
 }
 
