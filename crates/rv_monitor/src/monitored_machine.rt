@@ -307,8 +307,8 @@ impl MonitoredMachine {
     /// - `touches`: the instruction, if there is one, is fetched at pc. All bytes that it fetches, loads or stores are accessible to its world.
     /// - `changes`: a byte of memory changes only if the instruction stored it, a destroy cleared it, or a measure wrote it. A stored byte is
     ///   accessible to the world, and a byte that a measure wrote to the caller. A cleared byte is in the region of the destroyed enclave.
-    /// - `integrity`: the step changes neither record, region nor saved context of a live enclave that is not the world of its hart, unless it
-    ///   enters or destroys it. If the enclave runs on another hart, that hart keeps everything except the PMP entries and mie.
+    /// - `integrity`: the step changes neither record, region nor saved context of a live enclave that is not the world of its hart, unless the
+    ///   step enters or destroys the enclave. If the enclave runs on another hart, that hart keeps everything except the PMP entries and mie.
     /// - `keeps_others_running`: an enclave that runs on another hart is not entered, and stays live.
     /// - `noninterference`: take an enclave that is not the world of this hart, wherever it runs. Neither the outcome nor the new state depends
     ///   on its region, its saved context or its hart. If the step enters the enclave, the exception is the hart on which it then runs.
@@ -316,23 +316,23 @@ impl MonitoredMachine {
     ///   continue after its ecall. Or an enclave exits, and the host is restored except for a0 and a1.
     /// - `reads`: a step that traps depends, in memory, only on the region that create measures. The only saved context that it depends on is
     ///   the one that is entered.
-    /// - `enters`: if an enclave is entered, the hart has exactly its saved context, and the host's is saved. Everything else is as before,
-    ///   except the state in its record, the PMP entries and mie, and what every trap and return change.
+    /// - `enters`: if the step enters an enclave, the hart has exactly the saved context of the enclave, and the context of the host is saved.
+    ///   Everything else is as before, except the state in the record, the PMP entries and mie, and what every trap and return change.
     /// - `records`: region, window, entry and measurement of a live enclave do not change.
-    /// - `exits`: an enclave exits only by its own stop or exit, or by the timer interrupt. Every other exception of it is redirected to its own
-    ///   mode S, and changes nothing else.
+    /// - `exits`: an enclave exits only by its own stop or exit, or by the timer interrupt. Every other exception of an enclave is redirected
+    ///   to its own mode S, and changes nothing else.
     /// - `enclave_step`: a step of an enclave depends only on its record, its region and window, its registers and its timer line.
     /// - `timer`: if the timer line of an enclave's hart is set, the step exits to the host, and a destroy of the enclave is not refused then.
     /// - `guest_view`: the step reads no counter, and none of mepc, mcause, mtval, MPIE and MPP.
-    /// - `as_created`: a new enclave is Fresh, with its first context and the measurement of its record and region. It stays so until it is
-    ///   entered or destroyed.
+    /// - `as_created`: a new enclave is Fresh, with its first context and the measurement of its record and region. It stays in this
+    ///   state until a step enters or destroys it.
     /// - `answers`: each ecall from S has the effect and the status that its numbers name, with the key in a7 and the call in a6. The statuses and
     ///   their order, the states that each call accepts, the record of a new enclave and its measurement are written out there.
     /// - `succeeds`: a call with good arguments succeeds. A create needs a free slot and returns the lowest one. A destroy needs an enclave that does
     ///   not run, a run a Fresh one, and a resume a Stopped one.
     /// - `interrupts`: a timer interrupt stops the enclave where it is, hands over 2 and 0, and clears the line.
-    /// - `plain`: a step without a trap is that of its hart alone.
-    /// - `host`: the host takes no interrupt, even if its timer line is set. An exception of it that is no call goes to its own mode S.
+    /// - `plain`: a step without a trap is the step of the hart without the monitor.
+    /// - `host`: the host takes no interrupt, even if its timer line is set. An exception of the host that is no call goes to its own mode S.
     pub fn step(&mut self, hart: u8) -> Outcome
         requires { hart < count_of self.old }
         ensures meaning { step_of hart self.old ≡ record { state = self.new; outcome = result } }
@@ -356,8 +356,8 @@ impl MonitoredMachine {
         step_in::<Site>(&mut self.by_hart, self.harts, &mut self.shared, hart)
     }
 
-    /// Executes at most `count` steps of a hart, and returns how many it executed. Each ends in no trap and accesses nothing outside the limits.
-    /// It may stop before any step; `step` executes the rest.
+    /// Executes at most `count` steps of a hart, and returns the number of executed steps. Each step ends in no trap and accesses nothing outside
+    /// the limits. The call may stop before any step; `step` executes the rest.
     pub fn run_fast(&mut self, hart: u8, limits: &Limits, count: u32) -> u32
         requires { hart < count_of self.old }
         ensures count { result ≤ count }
