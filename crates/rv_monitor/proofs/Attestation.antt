@@ -393,10 +393,12 @@ attestation_law place other_place count one other invariant_one invariant_other 
       memory = record {
         size = equal.size;
         bytes = λ index not_hidden. elim (cases_Bool (has (region one.shared.table slot) (ram_base + index))) [
+          -- the measured bytes contain the bytes of the region
           | inl in_region ↦
               let in_region_of_record : has first_enclave.info.region (ram_base + index) ≡ true =
               ap (λ (maybe_info : Option SlotInfo). has (region_of maybe_info) (ram_base + index)) (sym first_enclave.is) ∙ in_region in
               measured.bytes.bytes index (ap not in_region_of_record)
+          -- the bytes of the window are equal by the premise
           | inr outside_region ↦ equal.bytes index (rw outside_region at not_hidden)
         ];
       };

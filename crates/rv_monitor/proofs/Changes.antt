@@ -103,6 +103,7 @@ module _ (hart_state : HartState) (shared : Shared) (valid : IsValid shared.memo
     is_measured from_start before_end =
         let may_store_byte =
         each_from_all (may_store shared.memory entries) (a1 hart_state) 32 may_store_bytes byte from_start before_end in
+        -- the condition of the measure gives that the byte is in memory, and that the PMP permits the store
         let inside_and_permitted =
         and_parts (is_inside shared.memory byte 1) (permits (verdict entries S Write (bytes_from byte 1))) may_store_byte in
         record {

@@ -137,6 +137,7 @@ module _ (first_slot second_slot : ℕ) (first_state second_state : HartState) (
       let bytes = bytes_from address (bytes_in width) in
       let inside_second : is_inside second_shared.memory address (bytes_in width) ≡ true =
       ap (λ (memory : List ℕ). is_inside memory address (bytes_in width)) (sym alike.memory) ∙ inside in
+      -- on each hart the PMP permits exactly the accessible bytes, and both enclaves have the same accessible bytes
       access_control_law (view_of first_state first_shared) mode access address width first_view_invariant (below_M mode mode_below_m) inside
       ∙ ap (λ (world : World). is_accessible first_shared.memory first_shared.table world access bytes) alike.first
       ∙ same_accessibility first_shared.memory first_shared.table second_shared.table first_slot second_slot access bytes alike.slot
@@ -722,6 +723,7 @@ module _ (place other_place : Place) (one other : MonitoredMachine) (invariant_o
       not_host _ place.slot _ ((exits_law place.hart one invariant_one place.slot first_world).quiet no_trap) host_runs_after
   exits_alike (Some trap) trapped host_runs_after =
       let second_traps = sym (ap (λ (outcome : Outcome). outcome.step.trap) same_outcome) ∙ trapped in
+      -- each step is an exit, whose effect the cause and the hart determine
       let first_exit =
       exited place one trap invariant_one same_enclave.first trapped host_runs_after (hart_state_of place.hart one).host_context refl in
       let second_exit =

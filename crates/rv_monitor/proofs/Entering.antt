@@ -171,9 +171,11 @@ enters_from hart machine invariant slot context trap from_host has_context trapp
     let CanGoOnIfSome : Option Context → Type 0 =
     λ maybe_context. IfSome maybe_context (λ some_context. can_go_on some_context ≡ true) in
     let can_continue : can_go_on context ≡ true = subst CanGoOnIfSome has_context (invariant.shared.contexts.held slot) in
+    -- the step of the view enters the slot, because the hart is in the slot after the step
     let view_enters =
     step_is_entry (hart_view hart machine) slot context from_host has_context trap
     (hart_view_invariant hart machine invariant trapping.has) can_continue trapping.trapped view_ends_in_slot in
+    -- the step of the machine is the step of the view, after which all harts are reprogrammed for the new table
     (trapping.state ∙ ap (programmed_by hart machine) view_enters.0, ap (λ (outcome : Outcome). outcome.entered) trapping.outcome ∙ view_enters.1)
 
 -- the hart runs the host before its step, and enclave `slot` after it

@@ -31,6 +31,7 @@ guest_hart_invariant : (table : Slots) (hart_state : HartState) → HartInvarian
     → HartInvariant table (guest_state hart_state)
 guest_hart_invariant table hart_state hart_invariant = record {
   host = record { kept = hart_invariant.host.kept; held = hart_invariant.host.held };
+  -- the guest state keeps the PMP entries, mie, the mode and these bits of mstatus
   layout = record {
     entries = hart_invariant.layout.entries;
     mie = hart_invariant.layout.mie;

@@ -157,6 +157,7 @@ module _ (hart_state : HartState) (trap : Trap) (table : Slots) (memory other_me
     by-accepted Create requests no_refusal =
         cases.creates requests (may_create first_shared (create_args_of hart_state.hart.regs) no_refusal)
     by-accepted Destroy requests no_refusal = cases.destroys requests (may_take table Destroy (a0 hart_state) no_refusal)
+    -- run and resume are offered only to the host
     by-accepted Run requests no_refusal =
         let is_offered_call = requested-is_offered hart_state.world hart_state.hart.regs Run requests.asked in
         cases.enters Run requests refl (entered-by-host hart_state.world Run refl is_offered_call.1) (may_take table Run (a0 hart_state) no_refusal)

@@ -101,17 +101,20 @@ module _ (hart_state : HartState) (shared : Shared) (trap : Trap) (legal : Legal
       handler_cases hart_state trap shared LegalAfterHandler (record {
         answers =
             λ status result. record { supervisor = record { stvec = legal.stvec; sepc = legal.sepc }; contexts = all_legal };
+        -- a create saves the first context, whose S-mode registers are 0
         creates = λ requests no_refusal. record {
           supervisor = record { stvec = legal.stvec; sepc = legal.sepc };
           contexts = legal_after_write shared.contexts _ _ all_legal
               (zero_context_legal (first_context (recorded shared.memory (create_args_of hart_state.hart.regs))) refl refl);
         };
+        -- a destroy clears the saved context of the slot
         destroys = λ requests slot_accepted. record {
           supervisor = record { stvec = legal.stvec; sepc = legal.sepc };
           contexts = legal_after_write shared.contexts _ None all_legal tt;
         };
         measures =
             λ requests no_refusal. record { supervisor = record { stvec = legal.stvec; sepc = legal.sepc }; contexts = all_legal };
+        -- an entry loads the S-mode registers of the saved context, and clears this saved context
         enters = λ call requests is_entry_call from_host slot_accepted.
             let restored =
             restored_legal hart_state.hart.csrs (saved_context shared.contexts (a0 hart_state)).supervisor in
@@ -119,12 +122,14 @@ module _ (hart_state : HartState) (shared : Shared) (trap : Trap) (legal : Legal
               supervisor = record { stvec = restored.stvec; sepc = restored.sepc };
               contexts = legal_after_write shared.contexts _ None all_legal tt;
             };
+        -- an exit loads the S-mode registers of the host, and saves the context of the enclave
         leaves =
             let restored = restored_legal hart_state.hart.csrs (saved_host hart_state).supervisor in
             record {
               supervisor = record { stvec = restored.stvec; sepc = restored.sepc };
               contexts = legal_after_write shared.contexts _ _ all_legal (saved_legal trap.cause hart_state legal);
             };
+        -- a redirection moves mepc, which is a multiple of 4, to sepc
         redirects = record { supervisor = record { stvec = legal.stvec; sepc = mepc }; contexts = all_legal };
       })
 
@@ -200,6 +205,7 @@ step_keeps_legal hart machine invariant legal = elim (cases_lt hart (count_of ma
 pub event_stored : (event : Event) (machine : MonitoredMachine) → Invariant machine → IsLegalMachine machine
     → IsLegalMachine (event_of event machine).state
 event_stored (StepOf hart) machine invariant legal = step_keeps_legal hart machine invariant legal
+-- a change of a timer line changes neither pc, nor an S-mode register, nor a saved context
 event_stored (LineOf hart raised) machine invariant legal = record {
   harts = λ other_hart.
       let pc_unchanged =

@@ -29,11 +29,13 @@ module _ (table : Slots) (original current : List HartState) (hart : ℕ) (so_fa
       let programmed = reprogrammed table (hart_state_in current hart) in
       record {
         size = length-set current hart programmed ∙ so_far.size;
+        -- the harts below `hart` are still programmed, and now `hart` is programmed too
         done = below_more _ _
             (λ other_hart below. get_or-set_other current hart other_hart programmed (hart_state_at_start 0)
             (λ harts_equal. omega (arith, harts_equal, below)) ∙ so_far.done other_hart below)
             (get_or-set_at current hart hart programmed (hart_state_at_start 0) refl in_array
             ∙ ap (reprogrammed table) (so_far.rest hart (omega arith)));
+        -- the harts above `hart` are still unchanged
         rest = λ other_hart above.
             get_or-set_other current hart other_hart programmed (hart_state_at_start 0) (λ harts_equal. omega (arith, harts_equal, above))
             ∙ so_far.rest other_hart (omega (arith, above));

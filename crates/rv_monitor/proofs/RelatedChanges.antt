@@ -73,6 +73,7 @@ memory_related enclave one other memory other_memory related equal_outside same_
   table = related.table;
   memory = equal_outside;
   contexts = related.contexts;
+  -- without a live enclave, the machines and both memories are equal
   gone =
       λ not_live. ap₂ (λ (shared : Shared) (memory : List ℕ). record shared { memory = memory }) (related.gone not_live) (same_once_dead not_live);
 }

@@ -73,7 +73,9 @@ sched_integrity slot (hart ∷ harts) machine invariant undisturbed =
 pub others_keep_running_law : (hart : ℕ) (machine : MonitoredMachine) → Invariant machine
     → KeepsOthersRunning hart machine (step_of hart machine)
 others_keep_running_law hart machine invariant slot slot_hart runs not_running = by_hart hart machine (KeepsRunning slot)
+    -- a step with the number of no hart changes nothing
     (record { passes = refl; live = running_is_live slot slot_hart machine invariant runs })
+    -- the worlds of two harts stay apart, so the step cannot enter an enclave that another hart runs
     (λ in_range.
     let after = monitored_step (hart_view hart machine) in
     let sound = (invariant_of_others hart machine invariant in_range).0 in
@@ -92,6 +94,7 @@ running_law slot slot_hart [] machine invariant runs runs_on_none = running_is_l
 running_law slot slot_hart (hart ∷ harts) machine invariant runs runs_on_none =
     let after = (step_of hart machine).state in
     let live = running_is_live slot slot_hart machine invariant runs in
+    -- the first step neither enters nor destroys the enclave, so the hart still runs the enclave
     let continues = others_keep_running_law hart machine invariant slot slot_hart runs runs_on_none.0 in
     let preserved = integrity hart machine invariant slot runs_on_none.0 live continues.passes continues.live in
     let runs_after : runs_on slot slot_hart after ≡ true =

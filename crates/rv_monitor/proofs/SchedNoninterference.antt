@@ -17,7 +17,9 @@ pub sched_law : SchedLaw
 sched_law enclave [] one other invariant_one invariant_other equiv low_steps =
     record { outcomes = refl; state = equiv; low_steps = tt }
 sched_law enclave (hart ∷ harts) one other invariant_one invariant_other equiv low_steps =
+    -- the first step has equal outcomes, and leaves equivalent machines
     let first_step = noninterference hart one invariant_one enclave other invariant_other equiv low_steps.0 in
+    -- by induction, the remaining steps have equal outcomes, and leave equivalent machines
     let remaining =
     sched_law enclave harts (step_of hart one).state (step_of hart other).state (invariant_law hart one invariant_one)
     (invariant_law hart other invariant_other)
