@@ -6,17 +6,17 @@ use Rattle.rv_monitor.proofs.Prelude.{Entries, HartViewInvariant, HartView, reac
 
 -- proves the access control law for every world, mode and access
 pub access_control_law : AccessControlLaw
-access_control_law state mode access address width kept below inside =
+access_control_law view mode access address width view_invariant mode_is_not_m inside =
     subst (λ (entries : Entries). permits (verdict entries mode access (bytes_from address (bytes_in width)))
-    ≡ is_accessible state.shared.memory state.shared.table state.hart_state.world access (bytes_from address (bytes_in width)))
-    (sym kept.hart.layout.entries)
-    (reach_law state.shared.memory state.shared.table state.hart_state.world mode access address width kept.valid below inside)
+    ≡ is_accessible view.shared.memory view.shared.table view.hart_state.world access (bytes_from address (bytes_in width)))
+    (sym view_invariant.hart.layout.entries)
+    (reach_law view.shared.memory view.shared.table view.hart_state.world mode access address width view_invariant.valid mode_is_not_m inside)
 
 -- a mode that passes the test `is_machine` with false is not M
 pub below_M : (mode : Mode) → is_machine mode ≡ false → mode ≢ M
-below_M mode mode_below_m same =
-    let machine : is_machine mode ≡ true =
-    rw same refl in let contradiction : true ≡ false = sym machine ∙ mode_below_m in
+below_M mode mode_below_m mode_is_m =
+    let mode_is_machine : is_machine mode ≡ true =
+    rw mode_is_m refl in let contradiction : true ≡ false = sym mode_is_machine ∙ mode_below_m in
     cc
 
 -- if MPRV is 0, then loads and stores use the mode of the hart

@@ -86,7 +86,7 @@ module _ (slot : ℕ) (shared : Shared) (valid : IsValid shared.memory shared.ta
   -- If the trap handler does not change whether the slot is live, then the slot stays free. A claim about the slot as live then has a false premise.
   slot_still_free : (after : Shared) → is_live after.table slot ≡ is_live shared.table slot
       → is_live after.table slot ≡ true → IsAsCreated slot after
-  slot_still_free after same live_after = absurd (both_ways _ slot_is_free (sym same ∙ live_after))
+  slot_still_free after same_liveness live_after = absurd (both_ways _ slot_is_free (sym same_liveness ∙ live_after))
 
   -- if the slot is live after a create, then it has the new enclave, which is in the state after create
   create_gives_as_created : (new : CreateArgs) → MayCreate shared new → is_live (created shared new).table slot ≡ true
@@ -172,13 +172,13 @@ equal_block_bytes : (memory other_memory : List ℕ) (block : Block) → length 
     → is_inside memory block.base block.size ≡ true
     → ((byte : ℕ) → has block byte ≡ true → byte_at other_memory byte ≡ byte_at memory byte)
     → bytes_of_block memory block ≡ bytes_of_block other_memory block
-equal_block_bytes memory other_memory block same_length inside same =
+equal_block_bytes memory other_memory block same_length inside bytes_equal =
     ap (λ (maybe_bytes : Option (List ℕ)). option_case maybe_bytes [] (λ bytes. bytes))
     (same_read (λ byte. not (has block byte)) memory other_memory block.base block.size (record {
       size = sym same_length;
       bytes =
           λ index not_hidden. equal_bytes_at_index memory other_memory index (sym same_length)
-          (same (ram_base + index) (not-false (has block (ram_base + index)) not_hidden));
+          (bytes_equal (ram_base + index) (not-false (has block (ram_base + index)) not_hidden));
     }) inside (λ byte from_base are_high_steps. not_outside_block block byte from_base are_high_steps))
 
 -- the enclave in the slot is in the state after create
@@ -256,10 +256,10 @@ hart_after_entry csrs table slot context =
     below_m_hart (switched_hart (record { regs = []; csrs = csrs; pc = 0; mode = context.mode }) trap context table (Enclave slot))
 
 -- the hart after an entry depends on the hart before the entry only by its timer line
-entry_depends_on_timer_line : (hart_state : HartState) (old table : Slots) (slot : ℕ) (context : Context)
-    → HartInvariant old hart_state
+entry_depends_on_timer_line : (hart_state : HartState) (table_before table : Slots) (slot : ℕ) (context : Context)
+    → HartInvariant table_before hart_state
     → hart_after_entry hart_state.hart.csrs table slot context ≡ hart_after_entry (reset_csrs_with_timer hart_state.hart.csrs.timer) [] 0 context
-entry_depends_on_timer_line hart_state old table slot context hart_invariant =
+entry_depends_on_timer_line hart_state table_before table slot context hart_invariant =
     let mie = hart_invariant.layout.mstatus_mie in
     let mprv = hart_invariant.layout.mprv in
     let tvm = hart_invariant.layout.tvm in
@@ -368,17 +368,18 @@ equal_fresh_records one other args same_digests fresh other_fresh =
 
 -- proves the attestation law: two enclaves with equal measured bytes take the same steps in their first run
 pub attestation_law : AttestationLaw
-attestation_law place other_place count one other invariant_one invariant_other same equal both_enter are_high_steps =
+attestation_law place other_place count one other invariant_one invariant_other same_identity same_window both_enter are_high_steps =
     let slot = place.slot in
-    let first_enclave = same.first in
-    let second_enclave = same.second in
+    let first_enclave = same_identity.first in
+    let second_enclave = same_identity.second in
     let memory = one.shared.memory in
     let other_memory = other.shared.memory in
     let measured =
-    measurement_law memory other_memory first_enclave.info second_enclave.info invariant_one.shared.valid.ram equal.size
-    (record_is_valid slot one invariant_one first_enclave) (record_is_valid other_place.slot other invariant_other second_enclave) same.input in
+    measurement_law memory other_memory first_enclave.info second_enclave.info invariant_one.shared.valid.ram same_window.size
+    (record_is_valid slot one invariant_one first_enclave) (record_is_valid other_place.slot other invariant_other second_enclave)
+    same_identity.input in
     let same_digests : first_enclave.info.measurement ≡ second_enclave.info.measurement =
-    first_enclave.measurement ∙ same_digest memory other_memory (args_of first_enclave.info) (args_of second_enclave.info) same.input
+    first_enclave.measurement ∙ same_digest memory other_memory (args_of first_enclave.info) (args_of second_enclave.info) same_identity.input
     ∙ sym second_enclave.measurement in
     -- equal measured bytes give equal create arguments and equal measurements, so both records are equal
     let info =
@@ -391,7 +392,7 @@ attestation_law place other_place count one other invariant_one invariant_other 
       second = second_enclave.context ∙ ap some_first_context (sym info);
       slot = first_enclave.is ∙ ap some_info info ∙ sym second_enclave.is;
       memory = record {
-        size = equal.size;
+        size = same_window.size;
         bytes = λ index not_hidden. elim (cases_Bool (has (region one.shared.table slot) (ram_base + index))) [
           -- the measured bytes contain the bytes of the region
           | inl in_region ↦
@@ -399,7 +400,7 @@ attestation_law place other_place count one other invariant_one invariant_other 
               ap (λ (maybe_info : Option SlotInfo). has (region_of maybe_info) (ram_base + index)) (sym first_enclave.is) ∙ in_region in
               measured.bytes.bytes index (ap not in_region_of_record)
           -- the bytes of the window are equal by the premise
-          | inr outside_region ↦ equal.bytes index (rw outside_region at not_hidden)
+          | inr outside_region ↦ same_window.bytes index (rw outside_region at not_hidden)
         ];
       };
     }) both_enter are_high_steps

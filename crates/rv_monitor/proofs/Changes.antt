@@ -26,9 +26,9 @@ unchanged_outside_write : (memory : List ℕ) (address : ℕ) (bytes : List ℕ)
     → write memory address bytes ≡ maybe_bytes
     → byte < address ⊎ address + length bytes ≤ byte
     → byte_at (option_case maybe_bytes memory (λ after. after)) byte ≡ byte_at memory byte
-unchanged_outside_write memory address bytes byte None written byte_outside = refl
-unchanged_outside_write memory address bytes byte (Some after) written byte_outside =
-    byte_at-write memory address bytes after byte written byte_outside
+unchanged_outside_write memory address bytes byte None write_is byte_outside = refl
+unchanged_outside_write memory address bytes byte (Some after) write_is byte_outside =
+    byte_at-write memory address bytes after byte write_is byte_outside
 
 -- an address that is not in a block is before the base of the block, or is not before its end
 outside : (block : Block) (byte : ℕ) → has block byte ≡ false → byte < block.base ⊎ block.base + block.size ≤ byte

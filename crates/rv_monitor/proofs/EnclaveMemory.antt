@@ -158,8 +158,8 @@ slot_with_new_state table slot (Some info) state table_length slot_is =
 pub write_keeps_size : (memory : List ℕ) (address : ℕ) (bytes : List ℕ) (maybe_bytes : Option (List ℕ))
     → write memory address bytes ≡ maybe_bytes
     → length (option_case maybe_bytes memory (λ after. after)) ≡ length memory
-write_keeps_size memory address bytes None written = refl
-write_keeps_size memory address bytes (Some after) written = length-write memory address bytes after written
+write_keeps_size memory address bytes None write_is = refl
+write_keeps_size memory address bytes (Some after) write_is = length-write memory address bytes after write_is
 
 -- the hart runs enclave `slot`, and its step has this trap
 module _ (slot : ℕ) (hart_state : HartState) (runs_enclave : hart_state.world ≡ Enclave slot) (trap : Trap) where

@@ -540,12 +540,12 @@ exited place machine trap invariant runs trapped host_runs_after (Some host) hos
     let after = enclave_state_after trap.cause hart.regs in
     let count = invariant.shared.valid.count in
     let contexts = invariant.shared.contexts.count in
-    let left =
+    let left_machine_is =
     (leave_law place.hart machine invariant place.slot host trap world host_context_is trapped host_runs_after).0 in
     let hart_state_is = left_hart_state place.hart machine place.slot trap host in_range in
     let live = running_is_live place.slot place.hart machine invariant runs in
     let slot_in_range = live_slot_in_range table place.slot slot count refl live in
-    rw left (record {
+    rw left_machine_is (record {
       -- the host received the reason and the value, and the record and the saved context have their new values
       returned = record {
         world = ap (λ (hart_state : HartState). hart_state.world) hart_state_is;

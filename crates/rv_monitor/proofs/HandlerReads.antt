@@ -130,12 +130,12 @@ module _ (table : Slots) (memory other_memory : List ℕ) (contexts other_contex
     caller_same : (one other : Shared) (status result : ℕ) → StaySame one other
         → HandlerCases (with_reprogrammed_hart (returned_to_caller hart_state one status result))
         (with_reprogrammed_hart (returned_to_caller hart_state other status result))
-    caller_same one other status result same =
+    caller_same one other status result stay_same =
         record {
           hart_state =
-              ap (λ (table : Slots). reprogrammed table (returned_to_caller hart_state one status result).hart_state) same.table;
+              ap (λ (table : Slots). reprogrammed table (returned_to_caller hart_state one status result).hart_state) stay_same.table;
           next = refl;
-          shared = same;
+          shared = stay_same;
         }
 
     -- an entry gives equal results, if both saved contexts of the slot are equal

@@ -293,8 +293,8 @@ handled_entry_from_host slot hart_state trap result (inr (inr leaves)) enters_sl
 
 -- if the step of a view enters the slot, then the host ran before the step, and the enclave of the slot runs after the step
 abbrev EntersFromHost : ℕ → HartView → HartViewStepped → Type 0
-EntersFromHost slot state after =
-    after.outcome.entered ≡ Some slot → (state.hart_state.world ≡ Host) × (after.state.hart_state.world ≡ Enclave slot)
+EntersFromHost slot view after =
+    after.outcome.entered ≡ Some slot → (view.hart_state.world ≡ Host) × (after.state.hart_state.world ≡ Enclave slot)
 
 -- each step of a view satisfies `EntersHere`
 entry_from_host : (slot : ℕ) (view : HartView) → EntersFromHost slot view (monitored_step view)
@@ -341,14 +341,14 @@ module _ (slot hart : ℕ) (machine : MonitoredMachine) (context : Context) (inv
       let same_length = same_size hart machine in
       record {
         continues = record {
-          running = λ other_hart in_region. elim (cases_Bool (runs_on slot other_hart machine)) [
+          running = λ other_hart runs_after. elim (cases_Bool (runs_on slot other_hart machine)) [
             -- an enclave that ran before the step keeps its hart state
             | inl ran_before ↦
                 ap (λ (hart_state : HartState). continuation hart_state.hart) (preserved.hart_state other_hart ran_before)
                 ∙ continues.running other_hart ran_before
             -- an enclave that did not run before the step does not run after it, because the step does not enter the enclave
             | inr idle_before ↦
-                absurd (both_ways _ (entry_law slot hart other_hart machine idle_before not_entered) in_region)
+                absurd (both_ways _ (entry_law slot hart other_hart machine idle_before not_entered) runs_after)
           ];
           resting = λ not_running_now.
               preserved.preserved.context
@@ -644,10 +644,10 @@ module _ (place other_place : Place) (one other : MonitoredMachine) (invariant_o
 
   -- the step reads no byte in which the memories of both machines differ
   reads : ReadsSeen (differs one.shared.memory other.shared.memory) (step_at other_place mixed).outcome.step.touched
-  reads index read =
+  reads index byte_is_read =
       let touched =
       ap (λ (outcome : Outcome). reads_byte outcome.step.touched (ram_base + index)) same_own_step.outcome in
-      same_does_not_differ one.shared.memory other.shared.memory index (read_bytes_equal index (touched ∙ read))
+      same_does_not_differ one.shared.memory other.shared.memory index (read_bytes_equal index (touched ∙ byte_is_read))
 
   -- the step measures no byte in which the memories of both machines differ, because no enclave may create
   measures_seen : MeasuresSeen (differs one.shared.memory other.shared.memory)
@@ -862,14 +862,14 @@ life_law slot other_slot (Own hart other_hart ∷ moves) one other invariant_one
 
 -- proves that two enclaves with equal measured bytes begin at the same point
 pub life_begins : LifeBeginsLaw
-life_begins slot other_slot one other invariant_one invariant_other same_identity size =
+life_begins slot other_slot one other invariant_one invariant_other same_identity same_length =
     let first_enclave = same_identity.first in
     let second_enclave = same_identity.second in
     let memory = one.shared.memory in
     let other_memory = other.shared.memory in
     -- equal measured bytes give equal create arguments and equal bytes in the region
     let measured =
-    measurement_law memory other_memory first_enclave.info second_enclave.info invariant_one.shared.valid.ram size
+    measurement_law memory other_memory first_enclave.info second_enclave.info invariant_one.shared.valid.ram same_length
     (record_is_valid slot one invariant_one first_enclave)
     (record_is_valid other_slot other invariant_other second_enclave) same_identity.input in
     -- equal measured bytes give equal digests
@@ -890,7 +890,7 @@ life_begins slot other_slot one other invariant_one invariant_other same_identit
       live = ap (λ (maybe_info : Option SlotInfo). is_some maybe_info) first_enclave.is;
       identity = ap (option_map identity_of) (first_enclave.is ∙ ap some_info same_info_record ∙ sym second_enclave.is);
       memory = record {
-        size = size;
+        size = same_length;
         -- a byte in the region was measured, so both machines have the same byte there
         bytes = λ index outside_region.
             measured.bytes.bytes index (ap (λ (maybe_info : Option SlotInfo). not (has (region_of maybe_info) (ram_base + index)))

@@ -183,8 +183,8 @@ module _ (hart_state : HartState) (shared : Shared) where
 
 -- the view after a return to the caller
 abbrev answered_view : HartView → Trap → Shared → ℕ → ℕ → HartView
-answered_view state trap shared a0_value a1_value =
-    let machine : MonitoredMachine = record { hart_states = state.hart_state ∷ []; shared = state.shared } in
+answered_view view trap shared a0_value a1_value =
+    let machine : MonitoredMachine = record { hart_states = view.hart_state ∷ []; shared = view.shared } in
     record { hart_state = hart_state_of 0 (answered_machine 0 machine trap shared a0_value a1_value); shared = shared }
 
 -- the trap handler returns to the caller with values in a0 and a1, and leaves this shared state

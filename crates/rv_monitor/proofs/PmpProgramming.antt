@@ -21,12 +21,12 @@ reprogramming_changes_nothing table hart_state hart_invariant =
 pub programmed_harts_unchanged : (table : Slots) (hart_states : List HartState)
     → ((hart : ℕ) → hart < length hart_states → HartInvariant table (slice_index_or hart_states hart (hart_state_at_start 0)))
     → map (reprogrammed table) hart_states ≡ hart_states
-programmed_harts_unchanged table [] each = refl
-programmed_harts_unchanged table (hart_state ∷ hart_states) each =
+programmed_harts_unchanged table [] each_invariant = refl
+programmed_harts_unchanged table (hart_state ∷ hart_states) each_invariant =
     let rest_unchanged =
-    programmed_harts_unchanged table hart_states (λ hart in_range. each (suc hart) (omega (arith, in_range))) in
+    programmed_harts_unchanged table hart_states (λ hart in_range. each_invariant (suc hart) (omega (arith, in_range))) in
     ap (λ (hart_state : HartState). hart_state ∷ map (reprogrammed table) hart_states)
-    (reprogramming_changes_nothing table hart_state (each 0 (omega arith))) ∙ ap
+    (reprogramming_changes_nothing table hart_state (each_invariant 0 (omega arith))) ∙ ap
     (λ (hart_states : List HartState). hart_state ∷ hart_states) rest_unchanged
 
 -- after a redirected trap, reprogramming does not change a hart that was programmed before the trap

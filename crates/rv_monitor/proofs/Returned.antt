@@ -166,11 +166,11 @@ comes_back hart before machine invariant legal host_on_is runs host =
 
 -- proves that the host gets its own context back when the enclave exits
 pub return_law : ReturnLaw
-return_law hart harts machine invariant context_is_legal host_runs runs_through exits =
+return_law hart harts machine invariant context_is_legal host_runs runs_through host_runs_after =
     let after_entry = (step_of hart machine).state in
     let before_exit = (sched harts after_entry).state in
     let context_kept = steps_keep hart harts after_entry runs_through in
     comes_back hart (hart_view hart machine) before_exit (sched_invariant harts after_entry (invariant_law hart machine invariant))
     (subst KeptStored (sym context_kept) context_is_legal)
     (context_kept ∙ entered_is hart machine invariant host_runs (first_runs hart harts after_entry runs_through))
-    (last_runs hart harts after_entry runs_through) exits
+    (last_runs hart harts after_entry runs_through) host_runs_after

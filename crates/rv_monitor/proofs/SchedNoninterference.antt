@@ -40,10 +40,10 @@ runs_after_entry : (enclave : ℕ) (hart_state : HartState) (trap : Trap) (resul
     → result.next.entered ≡ Some enclave → is_world_of enclave result.hart_state.world ≡ true
 runs_after_entry enclave hart_state trap result (inl stays) enters_slot =
     let contradiction : None ≡ Some enclave = sym stays.entered ∙ enters_slot in cc
-runs_after_entry enclave hart_state trap result (inr (inl enter)) enters_slot =
-    let some_slots_equal : Some enter.slot ≡ Some enclave = sym enter.entered ∙ enters_slot in
-    let slots_equal : enter.slot ≡ enclave = cc in
-    ap (is_world_of enclave) enter.world ∙ eq-eqb enter.slot enclave slots_equal
+runs_after_entry enclave hart_state trap result (inr (inl entry)) enters_slot =
+    let some_slots_equal : Some entry.slot ≡ Some enclave = sym entry.entered ∙ enters_slot in
+    let slots_equal : entry.slot ≡ enclave = cc in
+    ap (is_world_of enclave) entry.world ∙ eq-eqb entry.slot enclave slots_equal
 runs_after_entry enclave hart_state trap result (inr (inr leaves)) enters_slot =
     let contradiction : None ≡ Some enclave = sym leaves.entered
     ∙ enters_slot in cc
@@ -80,8 +80,8 @@ still_not_running : (enclave : ℕ) (hart_state : HartState) (trap : Trap) (resu
     → is_world_of enclave result.hart_state.world ≡ false
 still_not_running enclave hart_state trap result (inl stays) not_running not_entered =
     ap (is_world_of enclave) stays.world ∙ not_running
-still_not_running enclave hart_state trap result (inr (inl enter)) not_running not_entered =
-    ap (is_world_of enclave) enter.world ∙ sym (ap (enters enclave) enter.entered) ∙ not_entered
+still_not_running enclave hart_state trap result (inr (inl entry)) not_running not_entered =
+    ap (is_world_of enclave) entry.world ∙ sym (ap (enters enclave) entry.entered) ∙ not_entered
 still_not_running enclave hart_state trap result (inr (inr leaves)) not_running not_entered = ap (is_world_of enclave) leaves.world
 
 -- the view of a hart that does not run `enclave` before a step that does not enter `enclave` does not run `enclave` after the step

@@ -79,9 +79,9 @@ equal_to_itself memory touched =
 -- a step whose stores are confined keeps the size of the memory
 pub step_size : (before : Machine) (after : Stepped) → IsConfined before after
     → length before.memory ≡ length after.state.memory
-step_size before after confined =
+step_size before after is_confined =
     let same_memory = equal_to_itself before.memory after.outcome.touched in
-    stored_size confined.bytes before.memory after.state.memory after.outcome.touched.stored (confined.alike before.memory same_memory).here
+    stored_size is_confined.bytes before.memory after.state.memory after.outcome.touched.stored (is_confined.alike before.memory same_memory).here
 
 -- CSRs with equal machine's parts have equal PMP entries, mie and bits of mstatus
 same_parts : (csrs other_csrs : CsrState) → machine_parts csrs ≡ machine_parts other_csrs
@@ -185,12 +185,12 @@ module _ (other_worlds : List World) (hart_state : HartState) (shared : Shared)
       → after.state.hart.csrs.mstatus.mprv ≡ false
       → InvariantBeside other_worlds (unhandled after.outcome (record hart_state { hart = after.state.hart })
       (record shared { memory = after.state.memory }))
-  kept_without_trap after confined stays_below mprv =
+  kept_without_trap after is_confined stays_below mprv =
       let hart = after.state.hart in
       let same_machine_parts = same_parts hart.csrs hart_state.hart.csrs stays_below.0 in
       let layout = hart_invariant.layout in (
         -- the memory keeps its size
-        sound_by_size shared (hart_state.world ∷ other_worlds) after.state.memory shared_invariant (step_size (bare_machine view) after confined),
+        sound_by_size shared (hart_state.world ∷ other_worlds) after.state.memory shared_invariant (step_size (bare_machine view) after is_confined),
         -- the hart keeps its PMP entries, mie and the fixed bits of mstatus
         invariant_with_hart shared.table hart_state hart hart_invariant.host (record {
           entries = same_machine_parts.0 ∙ layout.entries;

@@ -17,14 +17,14 @@ hart_state_after hart_state trap = record hart_state { hart = hart_after hart_st
 
 -- the view after a step without a trap
 abbrev pub view_without_trap : HartView → HartViewStepped
-view_without_trap state =
-    let after = step (bare_machine state) in
-    unhandled after.outcome (record state.hart_state { hart = after.state.hart }) (record state.shared { memory = after.state.memory })
+view_without_trap view =
+    let after = step (bare_machine view) in
+    unhandled after.outcome (record view.hart_state { hart = after.state.hart }) (record view.shared { memory = after.state.memory })
 
 -- the view after a step with a trap, which the trap handler handles
 abbrev pub view_after_trap : HartView → Trap → HartViewStepped
-view_after_trap state trap =
-    returned (step (bare_machine state)).outcome (handled (hart_state_after state.hart_state trap) state.shared trap)
+view_after_trap view trap =
+    returned (step (bare_machine view)).outcome (handled (hart_state_after view.hart_state trap) view.shared trap)
 
 -- the claim holds for the end of a step, with a trap or without
 by-end : (view : HartView) (Claim : HartViewStepped → Type 0) (maybe_trap : Option Trap) (outcome : StepOutcome) (hart : Hart) (memory : List ℕ)
