@@ -35,7 +35,8 @@ use Rattle.rv_monitor.specs.Step.{call_handled, called, handled, monitored_step,
 use Rattle.rv_monitor.specs.Switches.{entered_slot, left}
 use Rattle.rv_monitor.proofs.InvariantLemmas.{change_preserves, invariant_by_size, invariant_law, written, written_invariant}
 use Rattle.rv_monitor.proofs.LegalMachine.{event_stored, legal_law}
-use Rattle.rv_monitor.proofs.Life.{life_law, saved_continues}
+use Rattle.rv_monitor.proofs.Life.{life_law}
+use Rattle.rv_monitor.proofs.LifePoints.{saved_continues}
 use Rattle.rv_monitor.proofs.Start.{start_invariant}
 use Rattle.rv_debug.proofs.SecretRun.{and_then, host_code, other_byte}
 use Rattle.rv_debug.proofs.Prelude.{both_ways, cases_eq}

@@ -87,6 +87,8 @@ pub mod GuestView
 -- A step of an enclave over two shared states with equal tables, whose memories have equal bytes in the region and the window of the enclave, has
 -- the same result
 pub mod EnclaveMemory
+-- Two harts of two enclaves with the same state make the same accesses
+mod EnclaveAccesses
 -- A step of an enclave depends only on the state of the enclave
 pub mod EnclaveSteps
 -- Two machines that are equivalent except one enclave stay so after this enclave exits from both, if the enclave hands over the same in both
@@ -114,5 +116,7 @@ pub mod Attestation
 pub mod EntryRefusals
 -- Every event leaves a machine legal: pc, stvec and sepc of each hart and of each saved context have values that the hart can store
 pub mod LegalMachine
+-- The point of life of an enclave: where it runs or its saved context, its identity, and what S and U see of its hart
+pub mod LifePoints
 -- The whole life of an enclave: two enclaves at one point of life take the same own steps
 pub mod Life
