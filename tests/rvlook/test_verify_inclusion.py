@@ -25,7 +25,7 @@ from rvlook.symbolic.history import part_of
 from rvlook.symbolic.means import Means
 from rvlook.symbolic.nodes import Node
 from rvlook.symbolic.options import VerifyOptions
-from rvlook.symbolic.paths import Paths
+from rvlook.symbolic.paths import ForkingState
 from rvlook.symbolic.search import Search
 from rvlook.symbolic.words import word
 from rvlook.symbolic.world import World
@@ -140,10 +140,10 @@ def one_round(self, here, model, other):
     self.branch_counts[key] = 2
 
 
-LEAVE = Paths.leave_other_side
+LEAVE = ForkingState.leave_other_side
 PLANTED = {
     "no question has an answer": (solver.Solver, "decide", lambda self, relevant, question, mask, model: (False, None)),
-    "a branch divides a path only once": (Paths, "leave_other_side", one_round),
+    "a branch divides a path only once": (ForkingState, "leave_other_side", one_round),
     "no guess holds, and z3 finds nothing": (solver.Solver, "solve", lambda self, asts, names: (False, None)),
     "a join keeps one path": (joins.Joins, "join_pair", lambda self, one, two: one),
     "a join loses conditions": (joins, "rest_of", lambda c, a, b: [c])}
@@ -186,7 +186,8 @@ def outside(search):
             found += [] if is_instance(search, state, at, x, cell) else [at]
         for at in merge.changed_bytes(bytes(state.region_bytes), it.region_bytes, search.world.region[0]):
             cell = it.cells.get(at, it.region_bytes[at - search.world.region[0]])
-            found += [] if at in state.symbolic_bytes or is_instance(search, state, at, state.region_bytes[at - search.world.region[0]], cell) else [at]
+            number = state.region_bytes[at - search.world.region[0]]
+            found += [] if at in state.symbolic_bytes or is_instance(search, state, at, number, cell) else [at]
     return found
 
 

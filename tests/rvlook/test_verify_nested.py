@@ -9,7 +9,7 @@ from rvlook.symbolic.facts import form_of
 from rvlook.symbolic.flow import Flows
 from rvlook.symbolic.heads import Hints
 from rvlook.symbolic.means import Means
-from rvlook.symbolic.memory import Memory
+from rvlook.symbolic.memory import MemoryState
 from rvlook.symbolic.ranks import Edge, circular
 
 pytestmark = pytest.mark.usefixtures("processor_clock")
@@ -74,8 +74,8 @@ def test_bytes_that_differed_are_unknown_in_the_next_head_at_the_place(merged):
 def test_store_to_an_array_in_a_record_changes_no_other_member(merged, monkeypatch):
     """A search of records ends after a store at an expression to each of its arrays."""
     stored = {}
-    write = Memory.write_anywhere
-    monkeypatch.setattr(Memory, "write_anywhere", lambda self, x, width, value, extent: (
+    write = MemoryState.write_anywhere
+    monkeypatch.setattr(MemoryState, "write_anywhere", lambda self, x, width, value, extent: (
         stored.setdefault(extent.name, extent.high - extent.low), write(self, x, width, value, extent)))
     merged(parser="TLV", is_enough=lambda search: {"record.items", "record.name"} <= set(stored) or "record" in stored)
     assert {it: stored.get(it) for it in ("record.items", "record.name", "record")} == {"record.items": 4, "record.name": 8, "record": None}

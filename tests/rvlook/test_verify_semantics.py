@@ -95,7 +95,7 @@ def signless(b0, b1, width):
 
 
 OTHER_ERRORS = {
-    "sret keeps the mode": by_name(calls.Traps, "sret", sret_keeps_the_mode), "a load has no sign": by_name(memory, "extended", signless),
+    "sret keeps the mode": by_name(calls.CallState, "sret", sret_keeps_the_mode), "a load has no sign": by_name(memory, "extended", signless),
     "SPP is another bit": by_name(calls, "SPP", 0x80), "SPIE is another bit": by_name(calls, "SPIE", 0x40),
     "SIE is another bit": by_name(calls, "SIE", 0x8), "a break has another cause": by_name(calls, "ILLEGAL", 3)}
 ERRORS = {

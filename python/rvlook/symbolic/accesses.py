@@ -14,7 +14,7 @@ from rvlook.symbolic.fields import FINDING, Ended
 from rvlook.symbolic.members import Place, ask_member, member_leaves
 from rvlook.symbolic.nodes import INPUT, M32, SECRET, Condition, Node, Word
 from rvlook.symbolic.origins import MIXED, How, Origin, Tag
-from rvlook.symbolic.paths import MOST_VALUES, Paths
+from rvlook.symbolic.paths import MOST_VALUES, ForkingState
 from rvlook.symbolic.words import not_
 
 LOOK_BACK = 6  # the last instructions, in which a constant is searched that was added to a register
@@ -30,7 +30,7 @@ class Candidate(NamedTuple):
     extent: Extent
 
 
-class Accesses(Paths):
+class AccessState(ForkingState):
     """A state that checks the objects of its accesses."""
     __slots__ = ()
 

@@ -3,7 +3,7 @@ from __future__ import annotations
 
 from rvlook.symbolic.decode import Decoded
 from rvlook.symbolic.fields import CSRS, EXITED, FINDING, SCAUSE, SEPC, SSCRATCH, SSTATUS, STOPPED, STVAL, STVEC, Answer, Area, Ended, OpenCall
-from rvlook.symbolic.memory import Memory
+from rvlook.symbolic.memory import MemoryState
 from rvlook.symbolic.nodes import M32, Node, Word
 from rvlook.symbolic.origins import Tag
 from rvlook.symbolic.words import add, is_number_choice, operation
@@ -29,7 +29,7 @@ A6 = 16
 A7 = 17
 
 
-class Traps(Memory):
+class CallState(MemoryState):
     """A state that calls, returns and traps."""
     __slots__ = ()
 

@@ -107,7 +107,7 @@ MAPPINGS = ("symbolic_bytes", "csr", "branch_counts", "calm_window", "last_objec
             "branch_states")
 
 
-class Fields:
+class PathState:
     """The data of a path: the machine, the conditions, and the actions of the path so far."""
     __slots__ = (*SHARED, *LISTS, *MAPPINGS, "region_bytes", "window_memory", "memo", "is_base", "start_head", "resumed_at", "value_followed",
                  "pcs", "pc")

@@ -13,7 +13,7 @@ from rvlook.symbolic.words import may_of, not_, operation
 
 if TYPE_CHECKING:
     from rvlook.image.variables import Member
-    from rvlook.symbolic.accesses import Accesses
+    from rvlook.symbolic.accesses import AccessState
     from rvlook.symbolic.extents import Extent
 
 ROW = "an index into an array of arrays"
@@ -56,7 +56,7 @@ def terms_of(word: Word) -> Tuple[Terms, int]:
     return {node: factor & M32 for node, factor in factors.items() if factor & M32}, constant & M32
 
 
-def stride_of(state: Accesses, member: Member) -> int:
+def stride_of(state: AccessState, member: Member) -> int:
     """Returns the size in bytes of the elements of the array of structures to which a member belongs: the distance between two members of its name.
     Returns 0 if there is no such array."""
     if "[]" not in member.name:
@@ -66,7 +66,7 @@ def stride_of(state: Accesses, member: Member) -> int:
     return min((following - start for start, following in zip(starts, starts[1:])), default=0)
 
 
-def member_of(state: Accesses, place: Place) -> Optional[Member]:
+def member_of(state: AccessState, place: Place) -> Optional[Member]:
     """Returns the member in which an access begins. Returns None for a local variable, and without types."""
     search = state.search
     if place.tag.how not in (How.SYMBOL, How.UPPER, How.MEMORY):
@@ -74,7 +74,7 @@ def member_of(state: Accesses, place: Place) -> Optional[Member]:
     return search.extents.member_at(place.base) if search.world.region[0] <= place.base < search.world.objects.stack else None
 
 
-def is_shifted(state: Accesses, address: Word, width: int, place: Place, kind: str) -> bool:
+def is_shifted(state: AccessState, address: Word, width: int, place: Place, kind: str) -> bool:
     """Returns whether the offset of the instruction leads out of the variable of an access, as in `-4(v + 4 * i)` for `v[i - 1]`. The offset then
     belongs to the index, and the access stays in the variable. If the variable is not one array, the access must also stay in a member that the run
     itself reaches by the instruction; else it is not decided. `kind` is "load" or "store"."""
@@ -89,7 +89,7 @@ def is_shifted(state: Accesses, address: Word, width: int, place: Place, kind: s
     return True
 
 
-def stays_usual(state: Accesses, address: Word, width: int) -> bool:
+def stays_usual(state: AccessState, address: Word, width: int) -> bool:
     """Returns whether an access always stays in one member, which the run itself reaches by the instruction."""
     search = state.search
     member = search.extents.member_at(state.value(address))
@@ -111,7 +111,7 @@ def is_one_array(member: Member, whole: Extent) -> bool:
     return is_whole and is_array and "[]" not in member.name
 
 
-def member_leaves(state: Accesses, at: int, width: int, place: Place, kind: str) -> None:
+def member_leaves(state: AccessState, at: int, width: int, place: Place, kind: str) -> None:
     """Checks an access at a number inside its variable. If the access has moved out of the member in which it begins, it is not decided: a pointer to
     a structure may be one to its first member. The run itself is allowed to do so, and other paths at the same instruction too."""
     search = state.search
@@ -138,7 +138,7 @@ def member_leaves(state: Accesses, at: int, width: int, place: Place, kind: str)
         search.doubt_access(kind, state, UNION if member.is_union else MEMBER)
 
 
-def reach_of(state: Accesses, member: Member) -> int:
+def reach_of(state: AccessState, member: Member) -> int:
     """Returns the size of the largest object that begins with a member. A pointer to a number may be one to the variable, the structure or the
     element that begins with this number."""
     sizes = state.search.extents.reaches
@@ -147,7 +147,7 @@ def reach_of(state: Accesses, member: Member) -> int:
     return sizes[member]
 
 
-def size_begun(state: Accesses, member: Member) -> int:
+def size_begun(state: AccessState, member: Member) -> int:
     """Returns the size of the largest structure or element that begins with a number, or the size of the number itself."""
     whole = state.search.extents.variable_at(member.at)
     members = [other for other in state.search.extents.static_members if whole.low <= other.at < whole.high]  # the members of the same variable
@@ -168,7 +168,7 @@ def size_begun(state: Accesses, member: Member) -> int:
     return member.size
 
 
-def ask_member(state: Accesses, address: Node, width: int, place: Place, kind: str) -> Extent:
+def ask_member(state: AccessState, address: Node, width: int, place: Place, kind: str) -> Extent:
     """Asks whether an access at an expression, which stays in its variable, can leave the member or the row of an array in which it begins. Returns
     the array in which it stays for sure, or the variable."""
     search = state.search
@@ -219,7 +219,7 @@ def rest_of(terms: Terms, constant: int, stride: int) -> Word:
     return rest
 
 
-def can_wrap(state: Accesses, terms: Terms, stride: int, variable: Extent) -> bool:
+def can_wrap(state: AccessState, terms: Terms, stride: int, variable: Extent) -> bool:
     """Returns whether a term that is a multiple of a stride may be larger than a variable, so that it may wrap around and be no multiple any more.
     Multiples of a power of two, and of 0, always stay multiples."""
     is_power_of_two = not stride & stride - 1
@@ -230,7 +230,7 @@ def can_wrap(state: Accesses, terms: Terms, stride: int, variable: Extent) -> bo
     return any(state.search.solver.satisfiable(state.conditions, ult(limit, node), state.model)[0] is not False for node, limit in limits)
 
 
-def ask_flat(state: Accesses, address: Node, width: int, member: Member, kind: str) -> None:
+def ask_flat(state: AccessState, address: Node, width: int, member: Member, kind: str) -> None:
     """Asks about an access at an expression to an array of arrays, if no part of the expression chooses the row. The access is decided only if it
     always stays in the first row."""
     inside = within(address, member.at, member.at + member.row - width)
@@ -239,7 +239,7 @@ def ask_flat(state: Accesses, address: Node, width: int, member: Member, kind: s
         state.search.doubt_access(kind, state, ROW)
 
 
-def sizes_of(state: Accesses, member: Member, terms: Terms) -> List[Tuple[int, int]]:
+def sizes_of(state: AccessState, member: Member, terms: Terms) -> List[Tuple[int, int]]:
     """Returns the sizes of the arrays in which an access must stay, each with the stride of the structure or array around it, or 0. `terms` are those
     of the address."""
     sizes = []

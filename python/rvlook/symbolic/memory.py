@@ -4,7 +4,7 @@ from __future__ import annotations
 from typing import List, Optional, Tuple
 
 from rvlook.errors import RvlookError
-from rvlook.symbolic.accesses import Accesses
+from rvlook.symbolic.accesses import AccessState
 from rvlook.symbolic.conditions import choice8, element, eq, ult
 from rvlook.symbolic.extents import Extent
 from rvlook.symbolic.fields import Ended, Load, Store
@@ -26,7 +26,7 @@ def assemble(parts: List[Byte], width: int, is_signed: bool) -> Word:
     return word(parts[0], parts[1] if width == 2 else 0, 0, 0)
 
 
-class Memory(Accesses):
+class MemoryState(AccessState):
     """A state that loads and stores."""
     __slots__ = ()
 

@@ -4,7 +4,7 @@ from __future__ import annotations
 from rvlook.symbolic.conditions import differ, eq
 from rvlook.symbolic.endless import TRIED_AT
 from rvlook.symbolic.evaluation import evaluate
-from rvlook.symbolic.fields import FINDING, IMPOSSIBLE, MERGED, MERGED_LOOP, Ended, Fields
+from rvlook.symbolic.fields import FINDING, IMPOSSIBLE, MERGED, MERGED_LOOP, Ended, PathState
 from rvlook.symbolic.nodes import SECRET, Condition, Node, Word
 from rvlook.symbolic.words import not_
 
@@ -12,7 +12,7 @@ MOST_VALUES = 48  # the most values of a word that is followed value by value
 NESTED = 16  # a loop is followed for so many times the rounds of --bound in all rounds of the loops around it together
 
 
-class Paths(Fields):
+class ForkingState(PathState):
     """A state that can divide into several paths."""
     __slots__ = ()
 

@@ -117,7 +117,7 @@ def count_round(flows: Flows, state: State, head: int) -> None:
             del state.rounds[call, other]
     contexts = state.search.world.contexts
     for key in list(state.branch_counts):
-        pc = abs(key[0])  # negative if only one side was possible (`Fields.branch_counts`)
+        pc = abs(key[0])  # negative if only one side was possible (`PathState.branch_counts`)
         context = key[1]
         if context == state.context:
             heads = flow.heads.get(pc, ())

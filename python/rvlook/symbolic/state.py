@@ -3,7 +3,7 @@ from __future__ import annotations
 
 from typing import Optional
 
-from rvlook.symbolic.calls import FETCH, Traps
+from rvlook.symbolic.calls import FETCH, CallState
 from rvlook.symbolic.decode import Decoded, decode
 from rvlook.symbolic.fields import CODE, LATE, MERGED, STVEC, Ended
 from rvlook.symbolic.instructions import Step, compiled
@@ -14,12 +14,12 @@ from rvlook.symbolic.words import operation
 SLICE = 32  # steps between two checks of the time; z3 may need seconds for each step
 
 
-def fetch_fault(state: Traps, pc: int) -> int:
+def fetch_fault(state: CallState, pc: int) -> int:
     """Executes a step outside the region, which traps. Returns the next pc."""
     return state.trap(FETCH, pc)
 
 
-class State(Traps):
+class State(CallState):
     """The state of a path, which can execute steps."""
     __slots__ = ()
 
