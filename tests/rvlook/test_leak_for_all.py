@@ -6,7 +6,7 @@ pytest.importorskip("z3", reason="python3-z3 is not installed")
 from conftest import EXAMPLES
 from rvlook.__main__ import main
 from rvlook.finders.leak_text import FOR_ALL
-from rvlook.symbolic.one_path import OwnState
+from rvlook.symbolic.one_path import BaseRunState
 
 KEY = ("--at", "key:16", "--tries", "2", "--strict")
 SHOWN = {1: (), 2: (), 3: (), 4: (), 5: (), 6: ("--public", "window_base+8:4"), 7: (), 8: ()}  # tasks that show the key for one value
@@ -67,7 +67,7 @@ def test_loaded_public_word_must_be_followed(bench, monkeypatch, capsys, words):
     monkeypatch.setenv("RVBENCH", bench)
     arguments = [str(it) for it in words(6, *KEY, *SHOWN[6])]
     assert main(arguments) == 0 and FOR_ALL not in capsys.readouterr().out
-    monkeypatch.setattr(OwnState, "load_window", received)
+    monkeypatch.setattr(BaseRunState, "load_window", received)
     assert main(arguments) == 0 and FOR_ALL in capsys.readouterr().out
 
 

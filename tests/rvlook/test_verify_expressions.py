@@ -133,7 +133,7 @@ def test_values_of_a_byte_are_those_of_z3():
 
 def test_lost_value_of_a_byte_is_noticed(monkeypatch):
     """With a planted error: values from 128 on are not tried."""
-    monkeypatch.setattr(domains, "VALUES", 128)
+    monkeypatch.setattr(domains, "BYTE_VALUES", 128)
     nodes.forget()
     assert wrong_answers(range(SETS))[0]
 
@@ -141,7 +141,7 @@ def test_lost_value_of_a_byte_is_noticed(monkeypatch):
 def test_run_after_one_with_many_expressions_begins_with_an_empty_context(monkeypatch):
     """Each question takes longer if there are many, so a run could not find what it finds alone."""
     one = the_z3()
-    monkeypatch.setattr(translate, "MANY", one.count)
+    monkeypatch.setattr(translate, "MAX_KEPT_EXPRESSIONS", one.count)
     translate.leave_out_old()
     assert the_z3() is one
     Translator()(word(variable("one_more", INPUT), 1, 2, 3))

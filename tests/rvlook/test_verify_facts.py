@@ -7,9 +7,9 @@ import pytest
 pytest.importorskip("z3", reason="python3-z3 is not installed")
 
 from rvlook.symbolic import facts
-from rvlook.symbolic.bounds import LONGEST_BOUND, Bounds
+from rvlook.symbolic.bounds import MAX_BOUND_OPERATIONS, Bounds
 from rvlook.symbolic.conditions import element, ult
-from rvlook.symbolic.facts import BELOW, DIFFERENCE, LEAST, MOST, NOT_ABOVE, SUM, Fact, Limits, condition_of
+from rvlook.symbolic.facts import BELOW, CONSTANT_DIFFERENCE, LOWER_BOUND, UPPER_BOUND, NOT_ABOVE, SUM_BOUND, Fact, Limits, condition_of
 from rvlook.symbolic.nodes import INPUT, M32, variable
 from rvlook.symbolic.opaque import FEW_BYTES
 from rvlook.symbolic.ranks import Edge, Measure, Passage, circular, outer_ways
@@ -64,9 +64,9 @@ def test_rough_session_asks_nothing_once_the_time_is_over():
 
 
 NUMBERS = (0, 1, 2, 5, 6, M32 - 1, M32)
-BOUNDS = [Fact(MOST, it, 0, offset, bound) for it in "xy" for offset in (0, 1, M32) for bound in (1, 5)]
-BOUNDS += [Fact(LEAST, it, bound=bound) for it in "xy" for bound in (1, 6)]
-PAIRS = [Fact(NOT_ABOVE, "x", "y"), Fact(BELOW, "x", "y"), Fact(SUM, "x", "y", 0, 6), Fact(SUM, "x", "y", 0, 11)]
+BOUNDS = [Fact(UPPER_BOUND, it, 0, offset, bound) for it in "xy" for offset in (0, 1, M32) for bound in (1, 5)]
+BOUNDS += [Fact(LOWER_BOUND, it, bound=bound) for it in "xy" for bound in (1, 6)]
+PAIRS = [Fact(NOT_ABOVE, "x", "y"), Fact(BELOW, "x", "y"), Fact(SUM_BOUND, "x", "y", 0, 6), Fact(SUM_BOUND, "x", "y", 0, 11)]
 
 
 def wrongly_left_out():
@@ -81,13 +81,14 @@ def wrongly_left_out():
 
 def test_facts_that_are_left_out_follow_from_the_others():
     assert wrongly_left_out() == []
-    assert facts.active([Fact(MOST, "x", 0, 0, 5), Fact(LEAST, "y", bound=6), *PAIRS[:2]]) == [Fact(MOST, "x", 0, 0, 5), Fact(LEAST, "y", bound=6)]
+    bounds = [Fact(UPPER_BOUND, "x", 0, 0, 5), Fact(LOWER_BOUND, "y", bound=6)]
+    assert facts.active([*bounds, *PAIRS[:2]]) == bounds
     assert facts.active(PAIRS[:2]) == PAIRS[1:2]
 
 
 def ranges_that_wrap(found):
     """Returns ranges of words with a planted error: a range that wraps is taken for one that does not."""
-    return {it.x: (-it.offset & M32, (it.bound - it.offset) & M32) for it in found if it.kind == MOST}
+    return {it.x: (-it.offset & M32, (it.bound - it.offset) & M32) for it in found if it.kind == UPPER_BOUND}
 
 
 FACT_ERRORS = {"equal words are below each other": ("follows", lambda fact, ranges: fact.kind == BELOW and ranges.get(fact.x, (0, M32))[1] <= 5),
@@ -150,7 +151,7 @@ def test_way_from_a_head_that_ends_is_left_out():
     assert outer_ways({"outer": [Passage("gone", {"gone": way("gone", "outer")})]}, {"outer": {"gone"}}, set()) == []
 
 
-@pytest.mark.parametrize("rounds, has_bound", [(1, True), (LONGEST_BOUND, False)])
+@pytest.mark.parametrize("rounds, has_bound", [(1, True), (MAX_BOUND_OPERATIONS, False)])
 def test_long_bounds_are_no_facts(rounds, has_bound):
     """The difference of two words that were computed in many steps, as in a hash, bounds nothing."""
     x, y = (word(*(byte_of("%s%d" % (it, n)) for n in range(4))) for it in "xy")
@@ -159,4 +160,4 @@ def test_long_bounds_are_no_facts(rounds, has_bound):
     bounds = Bounds.__new__(Bounds)
     bounds.limits = Limits((), (), lambda *_: True, lambda *_: False)
     found = bounds.candidates(["x5", "x6"], ["x5", "x6"], {"x5": x, "x6": y}.get, {}, 0)
-    assert [it.bound for it in found if it.kind == DIFFERENCE] == ([operation("sub", x, y)] if has_bound else [])
+    assert [it.bound for it in found if it.kind == CONSTANT_DIFFERENCE] == ([operation("sub", x, y)] if has_bound else [])

@@ -19,7 +19,7 @@ from rvlook.symbolic import bounds, joins, merge, solver
 from rvlook.symbolic.bounds import word_reader
 from rvlook.symbolic.conditions import all_of, differ
 from rvlook.symbolic.evaluation import evaluate
-from rvlook.symbolic.fields import Ended
+from rvlook.symbolic.fields import PathEnded
 from rvlook.symbolic.facts import active, condition_of
 from rvlook.symbolic.history import part_of
 from rvlook.symbolic.means import Means
@@ -154,7 +154,7 @@ def is_lost(bench, monkeypatch, task):
     world = world_of(bench, monkeypatch, task, 1)
     try:
         return missing(world, explored(world, bound=100), 30) > 0
-    except (AssertionError, Ended, KeyError):
+    except (AssertionError, PathEnded, KeyError):
         return True
 
 

@@ -8,7 +8,7 @@ pytest.importorskip("z3", reason="python3-z3 is not installed")
 from rvlook.symbolic import facts, linear
 from rvlook.symbolic.conditions import eq
 from rvlook.symbolic.evaluation import evaluate
-from rvlook.symbolic.facts import ADDED, Fact, condition_of, holding, sum_of
+from rvlook.symbolic.facts import SUM_OF_WORDS, Fact, condition_of, holding, sum_of
 from rvlook.symbolic.nodes import INPUT, M32, variable
 from rvlook.symbolic.relations import relations_of
 from rvlook.symbolic.solver import Solver
@@ -81,7 +81,7 @@ def test_pointer_is_found_as_end_less_what_is_left():
     ({"end": operation("add", X, Y), "at": X, "left": Y}, (), ()),
     ({"end": operation("add", X, 5), "at": X, "left": 5}, ("end", "at", "left"), ()),
     ({"end": operation("add", X, Y), "at": X, "left": Y}, ("end", "at", "left"),
-     (Fact(ADDED, "end", (("p", 1), ("q", 1))), Fact(ADDED, "at", (("left", 1), ("q", 1)))))],
+     (Fact(SUM_OF_WORDS, "end", (("p", 1), ("q", 1))), Fact(SUM_OF_WORDS, "at", (("left", 1), ("q", 1)))))],
     ids=["no sum", "nothing is new", "a number", "each is in another one"])
 def test_no_relation_is_found(words, new, known):
     assert found_in(words, new, known) == []
@@ -98,7 +98,7 @@ def test_each_relation_is_solved_for_a_word_that_no_earlier_one_has():
 
 def kept():
     """Returns which of three paths are said to keep `end = at + left`: one that computes it, one whose conditions say it, and one that adds 1."""
-    fact = Fact(ADDED, "end", (("at", 1), ("left", 1)))
+    fact = Fact(SUM_OF_WORDS, "end", (("at", 1), ("left", 1)))
     total = operation("add", Y, Z)
     paths = [({"end": total, "at": Y, "left": Z}, []), ({"end": X, "at": Y, "left": Z}, [eq(X, total)]),
              ({"end": operation("add", total, 1), "at": Y, "left": Z}, []), ({"end": X, "at": Y, "left": Z}, [])]

@@ -5,7 +5,7 @@ import random
 from rvlook.symbolic import nodes
 from rvlook.symbolic.conditions import eq, lt, ult
 from rvlook.symbolic.evaluation import evaluate
-from rvlook.symbolic.fields import Ended
+from rvlook.symbolic.fields import PathEnded
 from rvlook.symbolic.nodes import INPUT, Node, variable
 from rvlook.symbolic.options import VerifyOptions
 from rvlook.symbolic.search import Search
@@ -175,7 +175,7 @@ def compared(program, with_z3=True):
             return n, wrong and "step %d: %s" % (n, wrong)
         try:
             state.step()
-        except Ended as end:
+        except PathEnded as end:
             return n, "" if str(end) in IGNORED else "step %d ends: %s" % (n, end)
         wrong = differs_after(state, block)
         if wrong:

@@ -9,7 +9,7 @@ from rvlook.finders.secrets import place_and_size
 if TYPE_CHECKING:
     from rvlook.protocol.symbols import Symbols
 
-WORD = 4  # bytes of an instruction, and of a place without a size
+WORD_BYTES = 4  # bytes of an instruction, and of a place without a size
 
 
 class Allowed:
@@ -33,10 +33,10 @@ def instructions_of(text: str, symbols: Symbols, region: Tuple[int, int]) -> Fro
     there."""
     low, high = region
     if is_line(text, symbols):
-        pcs = frozenset(pc for pc in range(low, high, WORD) if has_line(symbols, pc, text))
+        pcs = frozenset(pc for pc in range(low, high, WORD_BYTES) if has_line(symbols, pc, text))
     else:
         at, count = place_and_size(text, symbols)
-        pcs = frozenset(pc for pc in range(at & -WORD, at + (count or WORD), WORD) if low <= pc < high)
+        pcs = frozenset(pc for pc in range(at & -WORD_BYTES, at + (count or WORD_BYTES), WORD_BYTES) if low <= pc < high)
     if not pcs:
         raise RvlookError("--allow names no instruction of the enclave with '%s'; use PLACE[:BYTES] or FILE:LINE" % text)
     return pcs

@@ -14,13 +14,13 @@ if TYPE_CHECKING:
     from rvlook.symbolic.fields import AnyState as State
     from rvlook.symbolic.search import Search
 
-MOST_PLACES = 40  # words of one kind about which facts are proposed
-LONGEST_ROW = 16  # elements of an array of bytes or half-words about which facts are proposed
-NEAR = 16  # bytes between two words in memory about whose sum and order facts are proposed
-LONGEST_BOUND = 1000  # operations of a bound that is an expression
-LARGEST_SIZE = 4096  # bytes or elements of an object whose size may be a bound
-LARGEST_NUMBER = 2048  # the end of the positive immediates of an instruction
-WORD = 4  # bytes
+MAX_WORDS = 40  # words of one kind about which facts are proposed
+MAX_ARRAY_ELEMENTS = 16  # elements of an array of bytes or half-words about which facts are proposed
+MAX_WORD_DISTANCE = 16  # bytes between two words in memory about whose sum and order facts are proposed
+MAX_BOUND_OPERATIONS = 1000  # operations of a bound that is an expression
+MAX_SIZE_BOUND = 4096  # bytes or elements of an object whose size may be a bound
+IMMEDIATE_END = 2048  # the end of the positive immediates of an instruction
+WORD_BYTES = 4  # bytes
 Assumed = Tuple[List[Node], Dict[str, int]]  # conditions, and values for which they hold
 
 
@@ -34,7 +34,7 @@ class Bounds:
         self.limits = Limits(thresholds_of(numbers_of(search), sizes), sorted(sizes), self.are_comparable, self.is_near)
 
     def places(self, unknown: Sequence[Any]) -> List[WordPlace]:
-        """Returns the words to which unknown bytes belong: all registers, and at most 2 * MOST_PLACES words of memory and bytes of small variables.
+        """Returns the words to which unknown bytes belong: all registers, and at most 2 * MAX_WORDS words of memory and bytes of small variables.
         `unknown` has the places of the bytes."""
         registers: Dict[WordPlace, None] = {}
         words: Dict[WordPlace, None] = {}
@@ -45,18 +45,18 @@ class Bounds:
                     registers[at.split("_")[0]] = None
                 continue
             member = self.extents.member_at(at) if at < stack else None
-            size = (member.element or member.size) if member else WORD
-            if member and size < WORD and member.size <= LONGEST_ROW * size:
+            size = (member.element or member.size) if member else WORD_BYTES
+            if member and size < WORD_BYTES and member.size <= MAX_ARRAY_ELEMENTS * size:
                 words["b%x" % at] = None
-            elif size >= WORD:
+            elif size >= WORD_BYTES:
                 words[at & -4] = None
-        return [*registers, *list(words)[:2 * MOST_PLACES]]
+        return [*registers, *list(words)[:2 * MAX_WORDS]]
 
     def is_near(self, x: WordPlace, y: WordPlace) -> bool:
         """Returns whether two words are close to each other in one variable."""
         if not isinstance(x, int) or not isinstance(y, int):
             return False
-        if abs(x - y) > NEAR or max(x, y) >= self.search.world.objects.stack:
+        if abs(x - y) > MAX_WORD_DISTANCE or max(x, y) >= self.search.world.objects.stack:
             return False
         return self.extents.variable_at(x).bounds == self.extents.variable_at(y).bounds
 
@@ -70,7 +70,7 @@ class Bounds:
         if not isinstance(x, int) or x >= self.search.world.objects.stack:
             return False
         extent = self.extents.variable_at(x)
-        return extent.high - extent.low <= WORD
+        return extent.high - extent.low <= WORD_BYTES
 
     def candidates(self, new: Sequence[WordPlace], others: Sequence[WordPlace], word_at: WordAt, tags: Dict[Any, Any],
                    loop_mask: Optional[int]) -> List[Fact]:
@@ -78,10 +78,10 @@ class Bounds:
         which they may be related. `word_at` gives the values of words, and `tags` has their origins. `loop_mask` is the mask of the unknowns of a
         loop, on which no bound may depend; None at a stop."""
         bases = {at: tag.base for at, tag in tags.items() if tag is not None and tag.how in (How.SYMBOL, How.FRAME, How.MEMORY, How.UPPER)}
-        facts = candidates(new[:MOST_PLACES], others[:MOST_PLACES], word_at, bases, self.limits, loop_mask is not None)
+        facts = candidates(new[:MAX_WORDS], others[:MAX_WORDS], word_at, bases, self.limits, loop_mask is not None)
 
         def is_usable(bound: Any) -> bool:
-            return type(bound) is not Node or (bound.weight <= LONGEST_BOUND and not mask_of(bound) & (loop_mask or 0))
+            return type(bound) is not Node or (bound.weight <= MAX_BOUND_OPERATIONS and not mask_of(bound) & (loop_mask or 0))
         return [fact for fact in facts if is_usable(fact.bound)]
 
     def holding(self, assumed: Assumed, facts: Sequence[Fact], word_at: WordAt) -> List[Fact]:
@@ -100,7 +100,7 @@ def word_reader(state: State) -> WordAt:
     """Returns the function that returns the word at a place in a state."""
     def word_at(at: WordPlace) -> Word:
         if isinstance(at, int):
-            return state.load(at, WORD, is_signed=False)
+            return state.load(at, WORD_BYTES, is_signed=False)
         if at.startswith("x"):
             return state.regs[int(at[1:])]
         return state.load(int(at[1:], 16), 1, is_signed=False)
@@ -111,9 +111,9 @@ def word_reader_of_bytes(byte_at: Callable[[Any], Any]) -> WordAt:
     """Returns the function that returns the word at a place in a merged state. `byte_at` returns a byte at a place."""
     def word_at(at: WordPlace) -> Word:
         if isinstance(at, int):
-            return word(*(byte_at(at + n) for n in range(WORD)))
+            return word(*(byte_at(at + n) for n in range(WORD_BYTES)))
         if at.startswith("x"):
-            return word(*(byte_at("%s_%d" % (at, n)) for n in range(WORD)))
+            return word(*(byte_at("%s_%d" % (at, n)) for n in range(WORD_BYTES)))
         return word(byte_at(int(at[1:], 16)), 0, 0, 0)
     return word_at
 
@@ -124,7 +124,7 @@ def numbers_of(search: Search) -> Set[int]:
     numbers = set()
     for offset in range(0, len(memory) - 3, 4):
         instruction = decode(int.from_bytes(memory[offset:offset + 4], "little"))
-        if instruction.kind != "imm" or not 0 < instruction.imm < LARGEST_NUMBER:
+        if instruction.kind != "imm" or not 0 < instruction.imm < IMMEDIATE_END:
             continue
         is_load = instruction.op == "add" and instruction.rs1 == 0  # `li`
         if is_load or instruction.op in ("sltu", "slt", "and"):
@@ -142,4 +142,4 @@ def sizes_of(extents: Extents) -> Set[int]:
         sizes.add(member.size)
         if member.element:
             sizes.add(member.size // member.element)
-    return {size for size in sizes if size <= LARGEST_SIZE}
+    return {size for size in sizes if size <= MAX_SIZE_BOUND}

@@ -25,13 +25,13 @@ if TYPE_CHECKING:
     from rvlook.finders.inputs.trace import Trace
     from rvlook.symbolic.fields import AnyState, Load
 
-MOST_STEPS = 30000  # the most steps of a path
-MOST_ROUNDS = 4  # the most rounds of a loop in which a path proposes models
-MOST_MODELS = 24  # the most models of a trace that become new traces
-MOST_TRACES = 16  # the most traces that are executed with expressions
-TIMEOUT = 2000  # milliseconds of a query
-SECONDS = 60.0  # the seconds of a path
-NEAR = 8  # bytes; two changed bytes that are closer to each other are changed at once, with the bytes between them
+MAX_PATH_STEPS = 30000  # the most steps of a path
+MAX_LOOP_ROUNDS = 4  # the most rounds of a loop in which a path proposes models
+MAX_MODELS_PER_TRACE = 24  # the most models of a trace that become new traces
+MAX_TRACES = 16  # the most traces that are executed with expressions
+QUERY_TIMEOUT_MS = 2000  # milliseconds of a query
+PATH_SECONDS = 60.0  # the seconds of a path
+JOINED_GAP = 8  # bytes; two changed bytes that are closer to each other are changed at once, with the bytes between them
 Pair = Tuple[int, int]  # a branch, and the pc after it
 
 
@@ -90,7 +90,7 @@ class BranchModels:
     """Proposes inputs for the traces of a search of `inputs`. There are no proposals if z3 is missing."""
 
     def __init__(self) -> None:
-        self.left = MOST_TRACES  # traces that may still be executed
+        self.left = MAX_TRACES  # traces that may still be executed
 
     def __call__(self, search: InputSearch, trace: Trace) -> Iterator[Child]:
         """Yields the trace with inputs that turn a branch which no trace has turned, and with inputs for the borders of objects."""
@@ -108,7 +108,7 @@ class BranchModels:
             if model.pair is not None and (model.pair in search.judge.seen.pairs or compares_memory(search, trace, model.index)):
                 continue
             child = child_of(search, trace, path.world, model)
-            if child is not None and count < MOST_MODELS:
+            if child is not None and count < MAX_MODELS_PER_TRACE:
                 count += 1
                 yield child
 
@@ -123,8 +123,8 @@ def path_of(search: InputSearch, trace: Trace) -> Optional[TracePath]:
     run = search.run
     for change in trace.changes:
         run = run.with_lines(change.step, change.lines())
-    options = VerifyOptions(search.tracer.slot, calm=True, merges=False, replay=0, bound=MOST_ROUNDS, path_steps=MOST_STEPS, timeout=TIMEOUT,
-                            seconds=SECONDS)
+    options = VerifyOptions(search.tracer.slot, calm=True, merges=False, replay=0, bound=MAX_LOOP_ROUNDS, path_steps=MAX_PATH_STEPS,
+                            timeout=QUERY_TIMEOUT_MS, seconds=PATH_SECONDS)
     try:
         path = TracePath(World(run, search.symbols, search.variables, options), options)
     except RvlookError:
@@ -162,11 +162,11 @@ def values_of(world: World, model: Model) -> Dict[int, Dict[int, int]]:
 
 
 def ranges_of(values: Mapping[int, int], world: World, number: int) -> List[Tuple[int, bytes]]:
-    """Returns bytes of the window as ranges: the first address and the bytes. `values` has the bytes by address. Ranges that are closer than NEAR are
-    one range, with the bytes between them in the run itself. `number` is that of the activation."""
+    """Returns bytes of the window as ranges: the first address and the bytes. `values` has the bytes by address. Two bytes whose addresses differ by
+    less than JOINED_GAP are in one range, with the bytes that the run itself has between them. `number` is that of the activation."""
     ranges: List[List[int]] = []  # the first and the last address of each range
     for at in sorted(values):
-        if ranges and at - ranges[-1][1] < NEAR:
+        if ranges and at - ranges[-1][1] < JOINED_GAP:
             ranges[-1][1] = at
         else:
             ranges.append([at, at])

@@ -7,7 +7,7 @@ from __future__ import annotations
 
 from typing import Any, Dict, FrozenSet, Iterable, Iterator, List, Optional, Set, Tuple, TYPE_CHECKING
 
-from rvlook.symbolic.facts import ADDED
+from rvlook.symbolic.facts import SUM_OF_WORDS
 from rvlook.symbolic.nodes import INPUT, SECRET, Byte, Node
 from rvlook.symbolic.tags import Place
 from rvlook.symbolic.words import byte, plain
@@ -16,8 +16,8 @@ if TYPE_CHECKING:
     from rvlook.symbolic.facts import Fact
     from rvlook.symbolic.state import State
 
-MOST_VALUES = 16  # the most values of an unknown; one with more values may have any value
-BLOCK = 64  # bytes of two memories that are compared at once
+MAX_UNKNOWN_VALUES = 16  # the most values of an unknown; one with more values may have any value
+COMPARED_BLOCK_BYTES = 64  # bytes of two memories that are compared at once
 Cell = Any  # an int, a Node, or an unknown (int, Optional[FrozenSet[int]])
 
 
@@ -43,7 +43,7 @@ def is_unknown_word(cells: Dict[Place, Cell], at: Place) -> bool:
 
 def sums_among(facts: Iterable[Fact], cells: Dict[Place, Cell]) -> Dict[Place, Fact]:
     """Returns the facts that unknown words are sums of other words, by the place of the sum."""
-    return {fact.x: fact for fact in facts if fact.kind == ADDED and is_unknown_word(cells, fact.x)}
+    return {fact.x: fact for fact in facts if fact.kind == SUM_OF_WORDS and is_unknown_word(cells, fact.x)}
 
 
 def byte_at(content: bytes, base: int, at: Place) -> int:
@@ -69,18 +69,19 @@ def changed_bytes(one: bytes, two: bytes, base: int) -> List[int]:
     if one == two:
         return []
     found: List[int] = []
-    for start in range(0, len(one), BLOCK):
-        end = start + BLOCK
+    for start in range(0, len(one), COMPARED_BLOCK_BYTES):
+        end = start + COMPARED_BLOCK_BYTES
         if one[start:end] != two[start:end]:
             found += [base + n for n in range(start, end) if one[n] != two[n]]
     return found
 
 
 def values_of(node: Byte) -> Optional[FrozenSet[int]]:
-    """Returns the numbers among which a byte is chosen by conditions, if they are at most MOST_VALUES; None for any other byte."""
+    """Returns the numbers among which conditions choose a byte. Returns None if there are more than MAX_UNKNOWN_VALUES, or if the byte may also be an
+    expression."""
     found: Set[int] = set()
     stack: List[Byte] = [node]
-    while stack and len(found) <= MOST_VALUES:
+    while stack and len(found) <= MAX_UNKNOWN_VALUES:
         top = stack.pop()
         if type(top) is int:
             found.add(top)
@@ -91,7 +92,7 @@ def values_of(node: Byte) -> Optional[FrozenSet[int]]:
             stack += [byte(word, n) for word in choice.args[1:]]
         else:
             return None
-    return frozenset(found) if len(found) <= MOST_VALUES else None
+    return frozenset(found) if len(found) <= MAX_UNKNOWN_VALUES else None
 
 
 def taint_of(state: State, node: Node) -> int:

@@ -15,8 +15,8 @@ if TYPE_CHECKING:
     from rvlook.symbolic.record import Counterexample
     from rvlook.symbolic.search import Search
 
-MOST_INPUTS = 24  # rows of the table of inputs that are printed
-WORD = 4  # bytes of a row that is put together from single bytes, at most
+MAX_INPUT_ROWS = 24  # rows of the table of inputs that are printed
+MAX_ROW_BYTES = 4  # bytes of a row that is put together from single bytes, at most
 HINT = "To run a finding, give --scripts DIR. It writes DIR/finding_N, which ./rvlook page and ./rvlook gdb show."
 
 
@@ -79,7 +79,7 @@ def is_continued(search: Search, last: InputRow, row: InputRow) -> bool:
     """Returns whether a row is a single byte that belongs to the same word and field as the row before it."""
     fields = search.world.fields
     size = len(last.values)
-    if len(row.values) != 1 or size >= WORD or last.at % WORD + size >= WORD or last.at % 2:
+    if len(row.values) != 1 or size >= MAX_ROW_BYTES or last.at % MAX_ROW_BYTES + size >= MAX_ROW_BYTES or last.at % 2:
         return False
     is_next = (row.activation, row.at) == (last.activation, last.at + size)
     return is_next and fields.member(row.at) == fields.member(last.at)
@@ -90,8 +90,8 @@ def input_lines(search: Search, example: Counterexample) -> List[str]:
     lines = [line_of(search, row) for row in table(search, example) if row.values != row.old]
     if not lines:
         return ["  input  none: the run itself"]
-    if len(lines) > MOST_INPUTS:
-        return [*lines[:MOST_INPUTS], "  input  ... and %d more" % (len(lines) - MOST_INPUTS)]
+    if len(lines) > MAX_INPUT_ROWS:
+        return [*lines[:MAX_INPUT_ROWS], "  input  ... and %d more" % (len(lines) - MAX_INPUT_ROWS)]
     return lines
 
 

@@ -6,8 +6,8 @@ from typing import Any, Dict, List, Optional, Sequence, Tuple
 from rvlook.symbolic.evaluation import value_of
 from rvlook.symbolic.nodes import M32, Node, mask_of, operands
 
-VALUES = 256  # the number of values of a byte
-LONGEST = 400  # operations of a condition that is tried, apart from those that were tried before
+BYTE_VALUES = 256  # the number of values of a byte
+MAX_NEW_OPERATIONS = 400  # operations of a condition that is tried, apart from those that were tried before
 
 
 class Domains:
@@ -35,11 +35,11 @@ class Domains:
         """Returns whether few operations of a condition have no values yet. An operation counts once, however often its result is used."""
         new = {condition}  # the operations without values
         stack = [condition]
-        while stack and len(new) <= LONGEST:
+        while stack and len(new) <= MAX_NEW_OPERATIONS:
             more = [operand for operand in operands(stack.pop()) if operand not in self.value_lists and operand not in new]
             new.update(more)
             stack += more
-        return len(new) <= LONGEST
+        return len(new) <= MAX_NEW_OPERATIONS
 
     def values(self, node: Node) -> List[Any]:
         """Returns the values of a node that depends on one byte, for each value of it."""
@@ -49,7 +49,7 @@ class Domains:
             top = stack[-1]
             missing = [operand for operand in operands(top) if operand not in lists]
             if top.op == "var":
-                lists[top] = list(range(VALUES))
+                lists[top] = list(range(BYTE_VALUES))
             elif missing:
                 stack += missing
                 continue
@@ -60,14 +60,14 @@ class Domains:
 
     def compute(self, node: Node) -> List[Any]:
         """Returns the values of an operation whose operands have values."""
-        rows = [self.value_lists[operand] if type(operand) is Node else [operand] * VALUES for operand in node.args]
+        rows = [self.value_lists[operand] if type(operand) is Node else [operand] * BYTE_VALUES for operand in node.args]
         return [value_of(node.op, row) for row in zip(*rows)]
 
     def look_up(self, node: Node) -> List[int]:
         """Returns the values of a byte of a table; 0 outside."""
         at, low, table = node.args
         values = []
-        for n, place in enumerate(self.value_lists[at] if type(at) is Node else [at] * VALUES):
+        for n, place in enumerate(self.value_lists[at] if type(at) is Node else [at] * BYTE_VALUES):
             index = place - low & M32
             content_byte = table.content[index] if index < len(table.content) else 0
             values.append(self.value_lists[content_byte][n] if type(content_byte) is Node else content_byte)

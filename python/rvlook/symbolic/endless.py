@@ -6,7 +6,7 @@ from __future__ import annotations
 from hashlib import blake2b
 from typing import Any, Dict, List, NamedTuple, Set, Tuple, TYPE_CHECKING
 
-from rvlook.symbolic.fields import FINDING, Ended
+from rvlook.symbolic.fields import FINDING_REPORTED, PathEnded
 from rvlook.symbolic.words import plain
 
 if TYPE_CHECKING:
@@ -15,8 +15,8 @@ if TYPE_CHECKING:
 
 TRIALS = 8  # the number of trials of a loop with the values of one model, to see whether it ends
 TRIAL_STEPS = 20000  # the number of steps of each trial
-TRIED_AT = (8, 16, 32)  # rounds after which the first trials are made; the last one is made at the bound
-LONGEST = 2000  # steps of an endless loop that is noticed at the end of a long path
+TRIAL_ROUNDS = (8, 16, 32)  # rounds after which the first trials are made; the last one is made at the bound
+FINAL_STEPS = 2000  # steps of an endless loop that is noticed at the end of a long path
 
 
 class Mark(NamedTuple):
@@ -55,7 +55,7 @@ class Endless:
     def report_endless(self, state: AnyState) -> None:
         """Reports a path whose state repeats, and ends it."""
         self.search.report("stuck", state, "never returns", state.model)
-        raise Ended(FINDING)
+        raise PathEnded(FINDING_REPORTED)
 
     def at_end(self, state: AnyState) -> None:
         """Follows a long path for some steps. If its state repeats, reports and ends the path."""
@@ -63,7 +63,7 @@ class Endless:
         first = state.pc
         loads = len(state.loads)
         answers = len(state.answers)
-        for _ in range(LONGEST):
+        for _ in range(FINAL_STEPS):
             if state.pc == first:
                 key = tuple(state.regs), rest_of(state)
                 if key in seen and len(state.loads) == loads and len(state.answers) == answers:
@@ -86,7 +86,7 @@ class Endless:
         search.is_trial = True
         try:
             is_endless = self.repeats(trial)
-        except Ended:
+        except PathEnded:
             return
         finally:
             search.is_trial = False

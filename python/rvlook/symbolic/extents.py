@@ -13,7 +13,7 @@ if TYPE_CHECKING:
     from rvlook.symbolic.world import World
 
 SP = 2  # the number of the register
-LARGEST_MEMBER = 65536  # bytes; a member that begins further before an address is not searched
+MAX_MEMBER_BYTES = 65536  # bytes; a member that begins further before an address is not searched
 Bounds = Tuple[int, int]  # the first address, and the end
 
 
@@ -91,7 +91,7 @@ class Extents:
         """Returns the member of a variable at an address below the stacks, or None without DWARF."""
         members = self.static_members
         index = bisect_right(self.objects.starts, address) - 1  # the index of the last member that begins at or before the address
-        while index >= 0 and members[index].at > address - LARGEST_MEMBER:
+        while index >= 0 and members[index].at > address - MAX_MEMBER_BYTES:
             if address < members[index].at + members[index].size:
                 return members[index]
             index -= 1

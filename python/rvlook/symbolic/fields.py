@@ -15,31 +15,45 @@ if TYPE_CHECKING:
     from rvlook.symbolic.history import Join
     from rvlook.symbolic.search import Search
 
-SSTATUS = 0x100  # the numbers of the control and status registers of S-mode (Privileged ISA)
+# Numbers of the control and status registers of S-mode (Privileged ISA).
+SSTATUS = 0x100
 STVEC = 0x105
 SSCRATCH = 0x140
 SEPC = 0x141
 SCAUSE = 0x142
 STVAL = 0x143
-CSRS = {SSTATUS: 0x00080122, 0x104: 0, STVEC: 0xFFFFFFFD, 0x106: 0, 0x10A: 0, SSCRATCH: 0xFFFFFFFF, SEPC: 0xFFFFFFFC, SCAUSE: 0xFFFFFFFF,
-        STVAL: 0xFFFFFFFF, 0x144: 0, 0x180: 0}  # the registers of S-mode by number, each with the mask of the bits that can be written (docs/ISA.md)
+READ_ONLY = 0  # the mask of a register without bits that can be written
+CSRS = {  # the registers of S-mode by number, each with the mask of the bits that can be written (docs/ISA.md)
+    SSTATUS: 0x00080122,  # SIE, SPIE, SPP and MXR
+    0x104: READ_ONLY,  # sie
+    STVEC: 0xFFFFFFFD,
+    0x106: READ_ONLY,  # scounteren
+    0x10A: READ_ONLY,  # senvcfg
+    SSCRATCH: 0xFFFFFFFF,
+    SEPC: 0xFFFFFFFC,
+    SCAUSE: 0xFFFFFFFF,
+    STVAL: 0xFFFFFFFF,
+    0x144: READ_ONLY,  # sip
+    0x180: READ_ONLY}  # satp
 
-ENTRY = 0  # values of `start_kind`: the path begins at the first entry of the enclave,
-MERGED_STOPS = -1  # in a state that was merged from stops,
-MERGED_LOOP = -2  # or in a state that was merged at the head of a loop
+# Values of `PathState.start_kind`: the place at which a path begins. A merged state has a negative number (`PathState.is_merged`).
+START_AT_ENTRY = 0  # at the first entry of the enclave
+START_MERGED_STOPS = -1  # in a state that was merged from stops
+START_MERGED_LOOP = -2  # in a state that was merged at the head of a loop
 
-LATE = "late"  # why `State.go` returns: the time is over, and the path may be continued
-FINDING = "finding"  # the path ends since a finding was reported
+# Why `State.go` returns. Further reasons are short texts at the places that raise PathEnded.
+TIME_OVER = "late"  # the time is over, and the path may be continued
+FINDING_REPORTED = "finding"  # a finding was reported, after which the path is not followed
 EXITED = "exit"  # the enclave exits
 STOPPED = "stop"  # the enclave stops, and the path is not followed into the next activation
-CODE = "code"  # the path executes or changes code that was written
-MERGED = "merged"  # a merged state includes the rest of the path
+CODE_CHANGED = "code"  # the path executes or changes code that was written
+INCLUDED_IN_MERGED = "merged"  # a merged state includes the rest of the path
 IMPOSSIBLE = "impossible"  # no values of the variables fulfil the conditions of the path
-AnyState = Any  # a State; the classes from which State inherits call functions that take one
+AnyState = Any  # stands for the class State, which this module cannot import: State inherits from PathState
 
 
 class Load(NamedTuple):
-    """A load of input bytes, which the host chooses."""
+    """A load of input bytes, which the host chooses. Steps are numbered from the last join of paths, or from the beginning of the path."""
     step: int  # the number of the step that loads
     at: Word  # the address of the first byte
     names: Tuple[Tuple[int, str], ...]  # for each input byte, its offset from the address and the name of its variable
@@ -87,30 +101,31 @@ class OpenCall(NamedTuple):
     entry: int  # the address of the first instruction of the caller
 
 
-class Ended(Exception):
+class PathEnded(Exception):
     """The end of a path. The text of the exception is the reason."""
 
 
-class TimeIsOver(Ended):
+class TimeIsOver(PathEnded):
     """The end of the time of a whole run of `verify`, in the middle of a step."""
 
     def __init__(self) -> None:
-        super().__init__(LATE)
+        super().__init__(TIME_OVER)
 
 
-# How `fork` copies the fields of a state: values that are never changed in place, lists, and dictionaries or sets. `fork` sets all others one by one.
-SHARED = ("search", "mode", "model", "context", "calls", "call", "activation", "earlier_pcs", "steps_before", "start_kind", "values_followed",
-          "areas", "stack_bottom", "pending_outputs", "is_released", "source_head", "join", "joined_steps", "input_count", "entry", "start_number",
-          "is_covered")
-LISTS = ("loads", "stores", "answers", "conditions", "regs", "tags", "symbolic_fetches")
-MAPPINGS = ("symbolic_bytes", "csr", "branch_counts", "calm_window", "last_objects", "fetched", "mem_tags", "csr_tags", "public", "rounds",
-            "branch_states")
+# How `PathState.fork` copies the fields of a state. It sets all other fields one by one.
+SHARED_FIELDS = (  # values that are never changed in place, so both states have the same object
+    "search", "mode", "model", "context", "calls", "call", "activation", "earlier_pcs", "steps_before", "start_kind", "values_followed", "areas",
+    "stack_bottom", "pending_outputs", "is_released", "source_head", "join", "joined_steps", "input_count", "entry", "start_number", "is_covered")
+LIST_FIELDS = ("loads", "stores", "answers", "conditions", "regs", "tags", "symbolic_fetches")
+MAPPING_FIELDS = (  # dictionaries and sets
+    "symbolic_bytes", "csr", "branch_counts", "calm_window", "last_objects", "fetched", "mem_tags", "csr_tags", "public", "rounds", "branch_states")
 
 
 class PathState:
-    """The data of a path: the machine, the conditions, and the actions of the path so far."""
-    __slots__ = (*SHARED, *LISTS, *MAPPINGS, "region_bytes", "window_memory", "memo", "is_base", "start_head", "resumed_at", "value_followed",
-                 "pcs", "pc")
+    """The data of a path: the machine, the conditions, and the actions of the path so far. The classes that inherit from it (ForkingState,
+    AccessState, MemoryState, CallState, State) add the functions that execute steps."""
+    __slots__ = (*SHARED_FIELDS, *LIST_FIELDS, *MAPPING_FIELDS, "region_bytes", "window_memory", "memo", "is_base", "start_head", "resumed_at",
+                 "value_followed", "pcs", "pc")
     search: Search  # the search to which the path belongs
 
     # ---- the machine
@@ -141,14 +156,15 @@ class PathState:
     conditions: List[Node]  # the conditions of the path, in the order of its steps
     model: Dict[str, int]  # values of the variables, by name, for which all conditions hold
     memo: Dict[Node, Any]  # the values of nodes in `model`, as far as they were computed
-    public: Set[Node]  # nodes that have come out: they are taken to be equal for two secrets
+    public: Set[Node]  # nodes that an output has shown to the host: they are taken to be equal for two secrets
     is_base: bool  # whether the path is that of the run itself
-    branch_counts: Dict[Tuple[int, int], int]  # how often the path has divided at a branch. (pc, context): in the present rounds of the loops around
-    # the branch; (pc, ~context): since the path began. (-pc, context): how often only one side of the branch was possible
+    # Counts for each branch. The key (pc, context) counts how often the path has divided there in the present rounds of the loops around the branch.
+    # The key (pc, ~context) counts this since the path began. The key (-pc, context) counts how often only one side of the branch was possible.
+    branch_counts: Dict[Tuple[int, int], int]
     branch_states: Dict[Tuple[int, int], Mark]  # the last state at each branch on an expression, by pc and context
 
     # ---- the beginning of the path
-    start_kind: int  # ENTRY, MERGED_STOPS or MERGED_LOOP
+    start_kind: int  # START_AT_ENTRY, START_MERGED_STOPS or START_MERGED_LOOP
     start_number: int  # the number of the merged state in which the path begins, 0 for the first entry
     source_head: Optional[str]  # the prefix of the head of a merged loop in which the path begins
     start_head: Optional[int]  # the pc of a merged head at which the path goes on: it passes this head once, and is not merged there
@@ -170,16 +186,17 @@ class PathState:
     fetched: Dict[int, Tuple[int, int]]  # the bytes of the window that were loaded in this activation: the pc and the context, by address
     symbolic_fetches: List[SymbolicFetch]  # the loads of the window at expressions in this activation
     pending_outputs: Tuple[Tuple[int, Word, int], ...]  # outputs that are public only with some answer: the answer, the word, and the pc of its store
-    is_released: bool  # whether the secret has come out in this activation
+    is_released: bool  # with --must-know: whether an output of this activation was found to depend on the secret
 
     # ---- the order in which paths are continued
     rounds: Dict[Tuple[int, int], int]  # the rounds of loops, by the number of the call and the pc of the head
-    resumed_at: Optional[int]  # the pc at which the path has waited for others
+    resumed_at: Optional[int]  # the pc at which the path has waited for other paths
     values_followed: Optional[Tuple[int, int]]  # if a word or an object is followed value by value: the step, and how many values other paths have
     value_followed: int  # the value that the word or the object has on this path, in the step at which the path begins
 
     def begin_path(self, start_kind: int, activation: int, start_number: int) -> None:
-        """Makes this state the beginning of a path: clears what an earlier path has done. The machine and the conditions stay."""
+        """Makes this state the beginning of a path: clears the actions of an earlier path. The machine and the conditions stay. The arguments are the
+        values of the fields with these names."""
         self.start_kind = start_kind
         self.start_number = start_number
         self.activation = activation
@@ -208,17 +225,18 @@ class PathState:
         self.is_covered = False
 
     def fork(self, pc: int, is_again: bool = False) -> Any:
-        """Returns a copy of the state that goes on at a pc. With `is_again`, the copy executes the present step again; else the copy has made it."""
-        if self.pcs:
+        """Returns a copy of the state that goes on at a pc. With `is_again`, the copy executes the present step again. Else the list of its steps
+        includes the present step."""
+        if self.pcs:  # both states share the steps so far, as an immutable chain of lists
             self.earlier_pcs = self.earlier_pcs, self.pcs
             self.steps_before += len(self.pcs)
             self.pcs = []
         copy = type(self).__new__(type(self))
-        for name in SHARED:
+        for name in SHARED_FIELDS:
             setattr(copy, name, getattr(self, name))
-        for name in LISTS:
+        for name in LIST_FIELDS:
             setattr(copy, name, getattr(self, name)[:])
-        for name in MAPPINGS:
+        for name in MAPPING_FIELDS:
             setattr(copy, name, getattr(self, name).copy())
         copy.region_bytes = bytearray(self.region_bytes)
         copy.window_memory = bytearray(self.window_memory)
@@ -232,11 +250,11 @@ class PathState:
         return copy
 
     def values_tried(self) -> int:
-        """Returns how many values of a word or an object other paths have in this very step."""
+        """Returns how many values of a word or an object other paths have already taken in the present step."""
         if self.values_followed is None:
             return 0
-        step, count = self.values_followed
-        return count if step == self.steps else 0
+        step, value_count = self.values_followed
+        return value_count if step == self.steps else 0
 
     def open_calls(self) -> Iterator[OpenCall]:
         """Yields the calls that have not returned, the innermost first."""
@@ -252,7 +270,7 @@ class PathState:
     @property
     def is_merged(self) -> bool:
         """Returns whether the path begins in a merged state."""
-        return self.start_kind < ENTRY
+        return self.start_kind < START_AT_ENTRY
 
     @property
     def steps(self) -> int:
@@ -261,15 +279,15 @@ class PathState:
 
     def all_pcs(self) -> List[int]:
         """Returns the pcs of all steps since the last join."""
-        parts = [self.pcs]
+        lists = [self.pcs]  # the last list first
         earlier = self.earlier_pcs
         while earlier:
-            earlier, part = earlier
-            parts.append(part)
-        return [pc for part in reversed(parts) for pc in part]
+            earlier, pcs = earlier
+            lists.append(pcs)
+        return [pc for pcs in reversed(lists) for pc in pcs]
 
     def value(self, word: Word) -> int:
-        """Returns the value of a word in the model of this path."""
+        """Returns the value of a word in the model of this path: a number stays as it is."""
         return word if type(word) is int else evaluate(word, self.model, self.memo)
 
     def holds(self, condition: Condition) -> bool:
@@ -277,6 +295,6 @@ class PathState:
         return bool(evaluate(condition, self.model, self.memo))
 
     def assume(self, condition: Condition) -> None:
-        """Adds a condition to the path. The caller makes sure that it holds in the model."""
+        """Adds a condition to the path, unless the condition is True. The caller makes sure that the condition holds in the model."""
         if type(condition) is Node:
             self.conditions.append(condition)

@@ -11,8 +11,8 @@ from rvlook.finders.inputs.code import LINKS
 from rvlook.symbolic.decode import decode
 from rvlook.symbolic.nodes import M32
 
-MOST_INSTRUCTIONS = 6000  # the most instructions of a function; the control flow of a longer one is not known
-SHORTEST_TABLE = 3  # words of a jump table
+MAX_INSTRUCTIONS = 6000  # the most instructions of a function; the control flow of a longer one is not known
+MIN_TABLE_WORDS = 3  # words of a jump table
 BackEdge = Tuple[int, int]  # a jump back: its pc, and the pc of the head of the loop
 
 
@@ -59,7 +59,7 @@ class Flows:
         return entry if pc < entry + self.functions[entry] else None
 
     def jump_tables(self) -> Dict[Optional[int], List[int]]:
-        """Returns the targets in the jump tables of each function, by its entry. A table is a row of at least SHORTEST_TABLE words, one after
+        """Returns the targets in the jump tables of each function, by its entry. A table is a row of at least MIN_TABLE_WORDS words, one after
         another, that are addresses of instructions of one function, but not its entry."""
         targets_by_entry: Dict[Optional[int], Set[int]] = {}
         content = bytes(self.memory)
@@ -69,7 +69,7 @@ class Flows:
             word = int.from_bytes(content[offset:offset + 4], "little")
             entry = self.function_at(word) if not word & 3 and word not in self.functions else None
             if entry != last:
-                if last is not None and len(row) >= SHORTEST_TABLE:
+                if last is not None and len(row) >= MIN_TABLE_WORDS:
                     targets_by_entry.setdefault(last, set()).update(row)
                 row = []
             if entry:
@@ -112,7 +112,7 @@ class Flows:
             pc, taken = stack.pop()
             if taken == 0:
                 following_and_call = self.next_of(pc)
-                if following_and_call is None or len(following) >= MOST_INSTRUCTIONS:
+                if following_and_call is None or len(following) >= MAX_INSTRUCTIONS:
                     return None
                 following[pc], is_call = following_and_call
                 active.add(pc)

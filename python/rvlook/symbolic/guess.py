@@ -9,9 +9,9 @@ from rvlook.symbolic.words import may_of, not_
 
 Part = Dict[str, int]  # values of some variables
 COMPARISONS = ("eq", "eq8", "ult", "lt")
-OTHER_BITS = 0x55555555  # bits that are inverted for a value that differs much
-LEAP = 8  # steps to a value that leads further, such as that of a longer message
-MOST_INVERTED = 60  # operations that are inverted one after another
+FLIPPED_BITS = 0x55555555  # bits that are inverted for a value that differs much
+FAR_STEPS = 8  # steps to a value that leads further, such as that of a longer message
+MAX_INVERTED = 60  # operations that are inverted one after another
 
 
 def solutions(question: Node, model: Model, memo: Dict[Node, Any], is_far: bool = False) -> Iterator[Part]:
@@ -33,8 +33,8 @@ def solutions(question: Node, model: Model, memo: Dict[Node, Any], is_far: bool 
                 continue
             value = evaluate(two, model, memo)
             step = may_of(one) & -may_of(one)  # the lowest bit that may be set: the least distance between two values
-            further = (value + LEAP * step,) if is_far else ()
-            for target in (value, *further, value + step, value - step, value ^ OTHER_BITS & may_of(one)):
+            further = (value + FAR_STEPS * step,) if is_far else ()
+            for target in (value, *further, value + step, value - step, value ^ FLIPPED_BITS & may_of(one)):
                 part = invert(one, target & M32, model, memo)
                 if part:
                     yield part
@@ -79,7 +79,7 @@ def invert_zero_or(x: Node, model: Model, memo: Dict[Node, Any]) -> Part:
 def invert(node: Word, value: int, model: Model, memo: Dict[Node, Any]) -> Optional[Part]:
     """Returns values of variables for which a node has a value, or None if they are not that simple to find, as for the result of a hash. A choice
     keeps to its side, and an index keeps its value. `model` and `memo` are those of `solutions`."""
-    for _ in range(MOST_INVERTED):
+    for _ in range(MAX_INVERTED):
         if type(node) is int:
             return {} if node == value else None
         if node.op == "var":

@@ -24,11 +24,11 @@ Origin = Tuple[int, ...]  # the pcs of the heads through which a path has come, 
 
 
 class Hints(NamedTuple):
-    """The results for a head that was dropped, for the next head at its place. The loop around it has more states by then, so the same bytes
-    differ again, and the same facts do not hold again."""
+    """The results of a head that was dropped, for the next head at the same place. The loop around the head has more states by then, so the same
+    bytes are unknown again, and the same facts do not hold again."""
     unknown: FrozenSet[Place] = frozenset()  # the unknown bytes
     lost: FrozenSet[Fact] = frozenset()  # facts that did not hold, without bounds that are expressions
-    drops: Counts[Any] = Counter()  # those of the dropped head (`Merged.drops`)
+    drops: Counts[Any] = Counter()  # how often the dropped head has dropped each fact (`Merged.drops`)
 
 
 class Head(Merged):
@@ -54,8 +54,8 @@ class Head(Merged):
         # ---- how it was explored last
         self.explored: Dict[Place, Cell] = {}  # the cells
         self.facts_explored: List[Fact] = []
-        self.range_explored: List[SymbolicFetch] = []  # the range of its loads, as a load
-        # ---- its place among the other heads
+        self.range_explored: List[SymbolicFetch] = []  # the range of its loads (`Sweep.entry`)
+        # ---- where the loop is in the program
         self.sources: Set[str] = set()  # the prefixes of the heads from which paths came, and "" for paths that come from no head
         self.turn: Position = ()  # the place of the loop in the program
         self.origin: Origin = ()  # the heads from which paths enter the loop, if the merged state is divided by them
@@ -64,7 +64,7 @@ class Head(Merged):
         self.passages: List[Passage] = []  # paths from heads, with the words that change since the heads that a path has passed
 
     def hints_for_next(self) -> Hints:
-        """Returns what the next head at this place begins with."""
+        """Returns the hints with which the next head at this place begins."""
         unknown = frozenset(at for at, cell in self.cells.items() if type(cell) is tuple)
         lost = self.lost | {*map(form_of, self.tried)} - {*map(form_of, self.facts)}
         return Hints(unknown, lost, self.drops)

@@ -16,10 +16,10 @@ if TYPE_CHECKING:
     from rvlook.symbolic.flow import Flow, Flows
 
 WORD_SHIFT = 2  # bits by which an index of words is shifted to an offset
-MOST_TO_LOAD = 8  # instructions after the shift within which the word is loaded
-MOST_TO_JUMP = 4  # instructions after the load within which a jump to the word makes it a target
-MOST_INDEX = 8  # the end of the values of an index that have a part of their own
-MOST_PARTS = 8  # the most parts of one head
+MAX_STEPS_TO_LOAD = 8  # instructions after the shift within which the word is loaded
+MAX_STEPS_TO_JUMP = 4  # instructions after the load within which a jump to the word makes it a target
+INDEX_END = 8  # the end of the values of an index that have a part of their own
+MAX_PARTS = 8  # the most parts of one head
 Part = Tuple[int, ...]  # the values of the index registers of a path; -1 for a value that has no part of its own
 
 
@@ -33,11 +33,11 @@ class Indices:
         self.parts: Dict[Tuple[object, ...], Dict[Part, None]] = {}  # the parts of each head, by the key of the head
 
     def part(self, key: Tuple[object, ...], state: State) -> Part:
-        """Returns the part to which a path at a head belongs. `key` names the head. If the head has MOST_PARTS parts, a path with other values
+        """Returns the part to which a path at a head belongs. `key` names the head. If the head has MAX_PARTS parts already, a path with other values
         belongs to the part of all other values."""
         values = self.values(state)
         parts = self.parts.setdefault(key, {})
-        if values not in parts and len(parts) >= MOST_PARTS:
+        if values not in parts and len(parts) >= MAX_PARTS:
             return tuple(-1 for _ in values)
         parts[values] = None
         return values
@@ -45,7 +45,7 @@ class Indices:
     def values(self, state: State) -> Part:
         """Returns the values of the registers of a path that are indices."""
         values = (state.regs[n] for n in self.of(state.entry, state.pc))
-        return tuple(value if type(value) is int and value < MOST_INDEX else -1 for value in values)
+        return tuple(value if type(value) is int and value < INDEX_END else -1 for value in values)
 
     def live(self, pc: int) -> FrozenSet[int]:
         """Returns the registers that may be read from a pc on before they are written."""
@@ -88,11 +88,11 @@ class Indices:
         """Returns whether a word is loaded soon after a pc at an address that was computed from the offset in a register. A word that is the target
         of a jump does not count."""
         derived = {register}  # the registers that have the offset, or a sum with it
-        for at in range(pc, pc + 4 * MOST_TO_LOAD, 4):
+        for at in range(pc, pc + 4 * MAX_STEPS_TO_LOAD, 4):
             instruction = self.at(at)
             kind, rd, rs1 = instruction.kind, instruction.rd, instruction.rs1
             if kind == "load" and rs1 in derived:
-                following = map(self.at, range(at + 4, at + 4 * MOST_TO_JUMP, 4))
+                following = map(self.at, range(at + 4, at + 4 * MAX_STEPS_TO_JUMP, 4))
                 is_target = any(later.kind == "jalr" and later.rs1 == rd for later in following)
                 return instruction.width == 4 and not is_target
             has_derived = (kind in ("op", "imm") and rs1 in derived) or (kind == "op" and instruction.rs2 in derived)

@@ -19,8 +19,8 @@ if TYPE_CHECKING:
     from rvlook.symbolic.fields import AnyState as State
     from rvlook.symbolic.search import Search
 
-MOST_CONDITIONS = 400  # conditions of two paths since they divided; paths with more are not joined
-TIMEOUT = 500  # milliseconds of a question whether two paths exclude each other
+MAX_CONDITIONS = 400  # conditions of two paths since they divided; paths with more are not joined
+QUERY_TIMEOUT_MS = 500  # milliseconds of a question whether two paths exclude each other
 EQUAL_FIELDS = (  # the fields of a state that joined paths must have in common
     "pc", "mode", "context", "call", "stack_bottom", "areas", "activation", "start_kind", "start_number", "is_released", "source_head",
     "pending_outputs", "start_head", "entry", "is_covered")
@@ -62,7 +62,7 @@ class Joins:
         count = common_count(one.conditions, two.conditions)
         conditions_one = one.conditions[count:]
         conditions_two = two.conditions[count:]
-        if not conditions_one or not conditions_two or len(conditions_one) + len(conditions_two) > MOST_CONDITIONS:
+        if not conditions_one or not conditions_two or len(conditions_one) + len(conditions_two) > MAX_CONDITIONS:
             return None
         if one.public != two.public or one.calm_window.keys() != two.calm_window.keys():
             return None
@@ -89,7 +89,7 @@ class Joins:
             condition = all_of(*conditions_one)
             negation_is_known = any(other is not_(condition) for other in conditions_two)
             if not negation_is_known:
-                answer, _ = self.search.solver.within(TIMEOUT).satisfiable(conditions_one, all_of(*conditions_two), one.model)
+                answer, _ = self.search.solver.within(QUERY_TIMEOUT_MS).satisfiable(conditions_one, all_of(*conditions_two), one.model)
                 if answer is not False:
                     return None
         if type(condition) is not Node or condition.taint & (SECRET | CHECK):

@@ -6,7 +6,7 @@ from typing import Dict, List, NamedTuple, Sequence, Set, Tuple, TYPE_CHECKING
 from rvlook.protocol.names import MARKS
 from rvlook.symbolic.conditions import all_of, any_of, differ, eq, overlap, within
 from rvlook.symbolic.evaluation import evaluate
-from rvlook.symbolic.fields import CODE, FINDING, Ended, SymbolicFetch
+from rvlook.symbolic.fields import CODE_CHANGED, FINDING_REPORTED, PathEnded, SymbolicFetch
 from rvlook.symbolic.nodes import M32, Condition, Node, Word
 from rvlook.symbolic.origins import How
 from rvlook.symbolic.leaving import Leaving
@@ -24,8 +24,8 @@ ILLEGAL = 2  # causes of traps: an illegal instruction,
 ECALL = 8  # or an ecall in U-mode
 ASSUMPTION = MARKS["4153000b"]  # the mark of an `assume` in the enclave that does not hold
 CONSOLE_STATE = 16  # bytes before the text of a console (examples/shared/console.h)
-WAITS = "one instruction loads a byte again, as a loop that waits does"
-MEETS = "an index of the host may lead to a byte that was loaded before"
+MAY_BE_POLLING = "one instruction loads a byte again, as a loop that waits does"
+INDEX_MAY_MEET = "an index of the host may lead to a byte that was loaded before"
 
 
 class EarlierLoad(NamedTuple):
@@ -84,7 +84,7 @@ class Judge(Leaving):
                 self.stored_words.add(place)
             if place in self.code and not self.is_trial:
                 self.changed_code.add(state.pc)
-                raise Ended(CODE)
+                raise PathEnded(CODE_CHANGED)
 
     def note_loaded(self, low: int, high: int) -> None:
         """Notes a load of the region from `low` up to before `high`. If a merged state has no facts about one of its words, the next search has to
@@ -135,7 +135,7 @@ class Judge(Leaving):
                 return
             self.rereads_seen.add((first, here))
         if first == here:
-            self.doubt("reread", state, WAITS)
+            self.doubt("reread", state, MAY_BE_POLLING)
         else:
             self.report("reread", state, "loads %08x again, which %s has loaded" % (at, self.world.place(first[0])), model)
 
@@ -167,7 +167,7 @@ class Judge(Leaving):
             first = next((hit for hit in hits if hit != here), hits[0])
             self.fetched_again(state, first, evaluate(place, model, memo), model)
         elif state.has_origin():
-            self.doubt("reread", state, MEETS)
+            self.doubt("reread", state, INDEX_MAY_MEET)
 
     # ---- traps and jumps
 
@@ -179,7 +179,7 @@ class Judge(Leaving):
             self.assumptions.add(state.pc)
             if state.is_base:
                 self.not_assumed.add(state.pc)
-            raise Ended("assumed")
+            raise PathEnded("assumed")
         if mark:
             self.report("assertion", state, "the check fails", state.model)
         elif cause != ECALL:
@@ -200,7 +200,7 @@ class Judge(Leaving):
             if not answer:
                 return state.concretize(target)
         if not state.is_base:
-            raise Ended(FINDING)
+            raise PathEnded(FINDING_REPORTED)
         self.assumed_inside[state.pc] += 1
         state.assume(eq(target, state.value(target)))
         return state.value(target)

@@ -12,7 +12,7 @@ from rvlook.symbolic.nodes import INPUT, SECRET, Byte, Condition, Node, Word, by
 from rvlook.symbolic.outputs import Outputs
 from rvlook.symbolic.words import byte, plain, word
 
-FIRST_ASKED = 2  # earlier activations from which on there may be an old state
+MIN_EARLIER_ACTIVATIONS = 2  # earlier activations from which on there may be an old state
 AT_INDEX = "an index of the host may lead to what an earlier activation has stored"
 
 
@@ -31,7 +31,7 @@ class Leaving(Outputs):
             for condition in state.conditions:
                 self.output_variables |= mask_of(condition)
         has_one_history = state.is_base or not self.options.merges
-        if self.means.is_whole and has_one_history and state.activation >= FIRST_ASKED and ("older", state.pc) not in self.findings:
+        if self.means.is_whole and has_one_history and state.activation >= MIN_EARLIER_ACTIVATIONS and ("older", state.pc) not in self.findings:
             self.check_older_states(state)
         if self.world.secret and self.options.wiped:
             self.check_remains(state)

@@ -7,8 +7,8 @@ from rvlook.symbolic.conditions import eq
 from rvlook.symbolic.nodes import M32, Condition, Node, Word
 from rvlook.symbolic.words import may_of
 
-MOST_ATOMS = 8  # terms of a linear form
-DEEPEST = 5  # nested sums that become one linear form
+MAX_TERMS = 8  # terms of a linear form
+MAX_DEPTH = 5  # nested sums that become one linear form
 
 
 class Linear(NamedTuple):
@@ -17,7 +17,7 @@ class Linear(NamedTuple):
     atoms: FrozenSet[Tuple[Node, int]]  # the terms: words that are no sums, each with its factor
 
 
-def linear(word: Word, depth: int = DEEPEST) -> Linear:
+def linear(word: Word, depth: int = MAX_DEPTH) -> Linear:
     """Returns the linear form of a word. A word with too many terms becomes one term. `depth` limits the nested sums."""
     if type(word) is int:
         return Linear(word, frozenset())
@@ -27,7 +27,7 @@ def linear(word: Word, depth: int = DEEPEST) -> Linear:
     if depth and is_sum:
         one, two = (linear(operand, depth - 1) for operand in word.args)
         form = plus(one, two, -1 if word.op == "sub" else 1)
-    return form if form and len(form.atoms) <= MOST_ATOMS else Linear(0, frozenset([(word, 1)]))
+    return form if form and len(form.atoms) <= MAX_TERMS else Linear(0, frozenset([(word, 1)]))
 
 
 def plus(one: Linear, two: Linear, factor: int) -> Linear:

@@ -11,7 +11,7 @@ from rvlook.symbolic.nodes import M32
 if TYPE_CHECKING:
     from rvlook.symbolic.flow import Flows
 
-MOST_INSTRUCTIONS = 400  # instructions that are examined, before a register counts as read
+MAX_EXAMINED = 400  # instructions that are examined, before a register counts as read
 ARGUMENTS = range(10, 18)  # a0 to a7 of the calling convention; a0 and a1 have the results of a call
 TEMPORARIES = (1, 5, 6, 7, 28, 29, 30, 31)  # ra and t0 to t6, which a call may change
 TWO_REGISTERS = ("op", "store", "branch")  # kinds of instructions that read two registers
@@ -40,7 +40,7 @@ def is_read(flows: Flows, pc: int, register: int, is_saved: bool = True) -> bool
             continue
         seen.add((at, depth))
         following_and_call = flows.next_of(at)
-        if following_and_call is None or len(seen) > MOST_INSTRUCTIONS:
+        if following_and_call is None or len(seen) > MAX_EXAMINED:
             return True
         following, is_call = following_and_call
         offset = at - flows.low

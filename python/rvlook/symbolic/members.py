@@ -16,9 +16,9 @@ if TYPE_CHECKING:
     from rvlook.symbolic.accesses import AccessState
     from rvlook.symbolic.extents import Extent
 
-ROW = "an index into an array of arrays"
-UNION = "a member of a union"
-MEMBER = "a member that is moved from by numbers"
+INDEX_INTO_ROWS = "an index into an array of arrays"
+UNION_MEMBER = "a member of a union"
+MOVED_FROM_MEMBER = "a member that is moved from by numbers"
 Terms = Dict[Node, int]  # the terms of a sum: nodes with their coefficients
 
 
@@ -85,7 +85,7 @@ def is_shifted(state: AccessState, address: Word, width: int, place: Place, kind
         return False
     member = search.extents.member_at(start) if search.world.region[0] <= start < search.world.objects.stack else None
     if member is not None and not is_one_array(member, whole) and not stays_usual(state, address, width):
-        search.doubt_access(kind, state, UNION if member.is_union else MEMBER)
+        search.doubt_access(kind, state, UNION_MEMBER if member.is_union else MOVED_FROM_MEMBER)
     return True
 
 
@@ -135,7 +135,7 @@ def member_leaves(state: AccessState, at: int, width: int, place: Place, kind: s
     elif state.is_base:
         search.usual_moves.add((state.context, state.pc))
     elif (state.context, state.pc) not in search.usual_moves:
-        search.doubt_access(kind, state, UNION if member.is_union else MEMBER)
+        search.doubt_access(kind, state, UNION_MEMBER if member.is_union else MOVED_FROM_MEMBER)
 
 
 def reach_of(state: AccessState, member: Member) -> int:
@@ -176,7 +176,7 @@ def ask_member(state: AccessState, address: Node, width: int, place: Place, kind
     if member is None or (kind, state.pc) in search.findings or (state.context, state.pc) in search.usual_moves:
         return place.whole
     if member.is_union:
-        search.doubt_access(kind, state, UNION)
+        search.doubt_access(kind, state, UNION_MEMBER)
         return place.whole
     variable = search.extents.variable_at(member.at)
     is_variable = member.at == variable.low and reach_of(state, member) == variable.high - variable.low
@@ -200,7 +200,7 @@ def ask_member(state: AccessState, address: Node, width: int, place: Place, kind
             search.undecided[kind, state.pc] += 1
         elif answer:
             if start >= size if member.element else not stride:
-                search.doubt_access(kind, state, MEMBER)  # the constant may be a part of the address of another member
+                search.doubt_access(kind, state, MOVED_FROM_MEMBER)  # the constant may be a part of the address of another member
             else:
                 search.report(kind, state, "the host can move it out of %s" % member.name, model)
                 search.assumed_inside[state.pc] += 1
@@ -236,7 +236,7 @@ def ask_flat(state: AccessState, address: Node, width: int, member: Member, kind
     inside = within(address, member.at, member.at + member.row - width)
     answer, _ = state.search.solver.satisfiable(state.conditions, not_(inside), state.model)
     if answer is not False:
-        state.search.doubt_access(kind, state, ROW)
+        state.search.doubt_access(kind, state, INDEX_INTO_ROWS)
 
 
 def sizes_of(state: AccessState, member: Member, terms: Terms) -> List[Tuple[int, int]]:

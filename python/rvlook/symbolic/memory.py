@@ -7,60 +7,62 @@ from rvlook.errors import RvlookError
 from rvlook.symbolic.accesses import AccessState
 from rvlook.symbolic.conditions import choice8, element, eq, ult
 from rvlook.symbolic.extents import Extent
-from rvlook.symbolic.fields import Ended, Load, Store
+from rvlook.symbolic.fields import PathEnded, Load, Store
 from rvlook.symbolic.nodes import CHECK, INPUT, M32, SECRET, Byte, Node, Word, signed, variable
 from rvlook.symbolic.origins import NO_ORIGIN, How, Origin, Tag, register_tag
 from rvlook.symbolic.words import byte, extended, not_, parts_of, plain, word
 
-MOST_TABLE = 4096  # bytes of an object from which a load at an index is one expression over all bytes
-MOST_STORED = 1024  # bytes of an object in which a store at an index changes all bytes to choices
+MAX_TABLE_BYTES = 4096  # the size of the largest object from which a load at an index becomes one expression over all bytes of the object
+MAX_CHOICE_BYTES = 1024  # the size of the largest object in which a store at an index makes each byte a choice between its old and new value
 A0 = 10  # the number of the register with the first argument of `any_bytes`
 
 
-def assemble(parts: List[Byte], width: int, is_signed: bool) -> Word:
-    """Returns the word that a load of `width` bytes makes of its bytes, the lowest first."""
+def assemble(loaded_bytes: List[Byte], width: int, is_signed: bool) -> Word:
+    """Returns the word that a load puts into its register. `loaded_bytes` has the `width` bytes in memory, the lowest first."""
     if width == 4:
-        return word(*parts)
+        return word(*loaded_bytes)
     if is_signed:
-        return extended(parts[0], parts[-1], width)
-    return word(parts[0], parts[1] if width == 2 else 0, 0, 0)
+        return extended(loaded_bytes[0], loaded_bytes[-1], width)
+    return word(loaded_bytes[0], loaded_bytes[1] if width == 2 else 0, 0, 0)
 
 
 class MemoryState(AccessState):
-    """A state that loads and stores."""
+    """The state of a path, with loads and stores of the region and the window."""
     __slots__ = ()
 
     # ---- the region, at numbers
 
     def load(self, at: int, width: int, is_signed: bool) -> Word:
-        """Loads `width` bytes of the region or the window at a number. Returns the word."""
+        """Loads `width` bytes of the region or the window at an address that is a number. Returns the word for the register."""
         low, high = self.search.world.region
         if not (low <= at and at + width <= high):
             return assemble(self.load_window(at, width, at), width, is_signed)
         symbolic_bytes, region_bytes = self.symbolic_bytes, self.region_bytes
-        parts = [symbolic_bytes.get(at + n) for n in range(width)] if symbolic_bytes else []
-        at -= low
-        if not any(parts):
-            value = int.from_bytes(region_bytes[at:at + width], "little")
+        expressions = [symbolic_bytes.get(at + n) for n in range(width)] if symbolic_bytes else []  # None for a byte that is a number
+        offset = at - low
+        if not any(expressions):
+            value = int.from_bytes(region_bytes[offset:offset + width], "little")
             return signed(value, 8 * width) & M32 if is_signed else value
-        first = parts[0]
-        if width == 4 and type(first) is tuple and first[0].parts == tuple(parts):
-            return first[0]
-        return assemble([region_bytes[at + n] if part is None else plain(part) for n, part in enumerate(parts)], width, is_signed)
+        first = expressions[0]
+        if width == 4 and type(first) is tuple and first[0].parts == tuple(expressions):
+            return first[0]  # the word that was stored as a whole
+        loaded_bytes = [region_bytes[offset + n] if content is None else plain(content) for n, content in enumerate(expressions)]
+        return assemble(loaded_bytes, width, is_signed)
 
     def store(self, at: int, width: int, value: Word, tag: Tag = None) -> None:
-        """Stores the lower `width` bytes of a word to the region or the window at a number. `tag` is the origin of the word."""
+        """Stores the lower `width` bytes of a word to the region or the window, at an address that is a number. `tag` is the origin of the word."""
         low, high = self.search.world.region
         if not (low <= at and at + width <= high):
             self.store_window(at, width, value, at)
             return
-        self.search.note_written(self, at, width, width == 4)
+        self.search.note_written(self, at, width, is_word=width == 4)
         if type(value) is int:
-            self.region_bytes[at - low:at - low + width] = (value & (1 << 8 * width) - 1).to_bytes(width, "little")
+            lower_bytes = value & (1 << 8 * width) - 1
+            self.region_bytes[at - low:at - low + width] = lower_bytes.to_bytes(width, "little")
             if self.symbolic_bytes:
                 for n in range(width):
                     self.symbolic_bytes.pop(at + n, None)
-        elif width == 4 and value.op != "word":
+        elif width == 4 and value.op != "word":  # a word that is loaded again as a whole needs no nodes for its bytes (`words.parts_of`)
             self.symbolic_bytes[at], self.symbolic_bytes[at + 1], self.symbolic_bytes[at + 2], self.symbolic_bytes[at + 3] = parts_of(value)
         else:
             for n in range(width):
@@ -68,7 +70,7 @@ class MemoryState(AccessState):
         self.note_origin(at, width, value, tag)
 
     def put(self, at: int, value: Byte) -> None:
-        """Sets a byte of the region."""
+        """Sets the byte of the region at an address to a number or an expression."""
         if type(value) is int:
             self.region_bytes[at - self.search.world.region[0]] = value
             self.symbolic_bytes.pop(at, None)
@@ -78,7 +80,8 @@ class MemoryState(AccessState):
     # ---- origins of words in memory
 
     def note_origin(self, at: int, width: int, value: Word, tag: Tag) -> None:
-        """Notes the origin of a stored word. A part of a word has no origin, nor has a word that looks like a pointer and has no tag."""
+        """Records the origin of a stored word (`tag`) for the word of memory at `at`. A word of memory gets NO_ORIGIN if only a part of it is stored,
+        or if it looks like a pointer and has no origin."""
         tags = self.mem_tags
         if width == 4 and not at & 3:
             if tag is not None:
@@ -88,18 +91,20 @@ class MemoryState(AccessState):
             else:
                 tags[at] = NO_ORIGIN
             return
-        for place in {at & -4, at + width - 1 & -4}:
+        first_word, last_word = at & -4, at + width - 1 & -4
+        for place in {first_word, last_word}:
             if place in tags or self.looks_like_pointer(place):
                 tags[place] = NO_ORIGIN
 
     def looks_like_pointer(self, at: int) -> bool:
-        """Returns whether the bytes of a word of the region that are numbers look like an address of the region or the window."""
+        """Returns whether the number at an address of the region is an address of the region or the window. A byte that is an expression counts with
+        the last number that was stored there."""
         world = self.search.world
         low, high = world.region
         return at + 4 <= high and world.is_pointer(int.from_bytes(self.region_bytes[at - low:at - low + 4], "little"))
 
     def origin_at(self, at: int, value: Word) -> Tag:
-        """Returns the origin of a word that was loaded at a number. A pointer in the data of the image is the origin of itself."""
+        """Returns the origin of the word `value` that was loaded at the address `at`. A pointer in the data of the image is its own origin."""
         if at & 3:
             return None
         if at in self.mem_tags:
@@ -110,9 +115,10 @@ class MemoryState(AccessState):
         return None
 
     def has_pointers(self, low: int, high: int) -> bool:
-        """Returns whether an object contains pointers, so that a word at an index may be one of several pointers."""
-        first = low + 3 & -4
-        for at in range(first, high - 3, 4):
+        """Returns whether the object from `low` up to before `high` contains a pointer. A word that is loaded at an index may then be one of several
+        pointers."""
+        first_aligned = low + 3 & -4
+        for at in range(first_aligned, high - 3, 4):
             tag = self.mem_tags.get(at)
             if tag is not NO_ORIGIN and (tag is not None or self.looks_like_pointer(at)):
                 return True
@@ -121,8 +127,8 @@ class MemoryState(AccessState):
     # ---- the window
 
     def load_window(self, number: int, width: int, address: Word) -> List[Byte]:
-        """Loads `width` bytes of the window. Returns new inputs, apart from bytes of --given, and from bytes that this activation has used before
-        with --calm. `address` may be an expression, and `number` is its value in the model."""
+        """Loads `width` bytes of the window. Each byte is a new input, unless --given names it. With --calm, a byte that this activation has loaded
+        or stored before keeps its value. `address` may be an expression, and `number` is its value in the model."""
         search = self.search
         base = search.world.window[0]
         is_number = type(address) is int
@@ -162,36 +168,37 @@ class MemoryState(AccessState):
         """Leaves out inputs for which a load of the window at a place of --length gives a number greater than the limit. `value` is the loaded
         number. Raises RvlookError if the number of the run itself is greater."""
         search = self.search
-        most = search.world.lengths[at]
-        if self.is_base and self.value(value) > most:
+        limit = search.world.lengths[at]
+        if self.is_base and self.value(value) > limit:
             name = search.world.symbols.name(at) or "%08x" % at
             raise RvlookError("--length leaves out the run itself, which has %d at %s" % (self.value(value), name))
         search.lengths_met.add(at)
-        self.move_to(not_(ult(most, value)))
+        self.move_to(not_(ult(limit, value)))
 
     def become_any(self, at: int, count: int) -> None:
-        """Makes `count` bytes of the region new inputs, with their present values in the model: `any_bytes` of enclave_check.h. Ends the path if the
-        bytes are not all in the region."""
+        """Executes `any_bytes` of enclave_check.h: makes `count` bytes of the region from `at` on new inputs, with their present values in the model.
+        Ends the path if the bytes are not all in the region."""
         low, high = self.search.world.region
         if not low <= at <= at + count <= high:
-            raise Ended("any_bytes")
+            raise PathEnded("any_bytes")
         self.access(at, count, self.tags[A0], 0, "store")
         names = [(n, "a%d_%d" % (self.input_count, n)) for n in range(count)]
         self.input_count += 1
-        values = {name: self.value(plain(self.symbolic_bytes.get(at + n, self.region_bytes[at + n - low]))) for n, name in names}
+        present_bytes = {name: plain(self.symbolic_bytes.get(at + n, self.region_bytes[at + n - low])) for n, name in names}
+        values = {name: self.value(content) for name, content in present_bytes.items()}
         self.model = {**self.model, **values}
         self.memo = {}
-        self.search.note_written(self, at, count, True)
+        self.search.note_written(self, at, count, is_word=True)
         for n, name in names:
             self.put(at + n, variable(name, INPUT))
             self.note_origin(at + n, 1, 0, None)
         self.loads.append(Load(self.steps, at, tuple(names)))
 
     def load_given(self, at: int, width: int) -> List[Byte]:
-        """Loads `width` bytes of --given, which the host gives as in the run itself. Returns them as numbers."""
+        """Loads `width` bytes of the window that --given names: the host gives the same bytes as in the run itself. Returns them as numbers."""
         offset = at - self.search.world.window[0]
         values = list(self.window_memory[offset:offset + width])
-        names = tuple((n, "g%02x" % value) for n, value in enumerate(values))
+        names = tuple((n, "g%02x" % value) for n, value in enumerate(values))  # a variable with this name always has this value
         self.model = {**self.model, **{name: value for (_, name), value in zip(names, values)}}
         self.loads.append(Load(self.steps, at, names))
         return values
@@ -202,20 +209,20 @@ class MemoryState(AccessState):
         search = self.search
         base = search.world.window[0]
         is_number = type(address) is int
-        parts = [byte(value, n) for n in range(width)]
-        first: Optional[int] = address if is_number else None  # the address for --public; for an expression, the beginning of a public range
+        stored_bytes = [byte(value, n) for n in range(width)]
+        public_address: Optional[int] = address if is_number else None  # compared with --public; for an expression, the beginning of a public range
         if not is_number and type(value) is Node and value.taint & (SECRET | CHECK):
-            first = search.public_place(self, address, width)
-        places: List[Optional[int]] = [None if first is None else first + n for n in range(width)]
-        search.check_output(self, parts, places, "window")
+            public_address = search.public_place(self, address, width)
+        places: List[Optional[int]] = [None if public_address is None else public_address + n for n in range(width)]
+        search.check_output(self, stored_bytes, places, "window")
         if type(value) is int or self.is_base:
-            stored = self.value(value)
+            stored_number = self.value(value)
             for n in range(width):
-                self.window_memory[number + n - base] = stored >> 8 * n & 255
+                self.window_memory[number + n - base] = stored_number >> 8 * n & 255
         if search.options.calm and is_number:
             for n in range(width):
-                self.calm_window[address + n] = parts[n]
-        elif search.options.calm:
+                self.calm_window[address + n] = stored_bytes[n]
+        elif search.options.calm:  # the store may have changed any byte
             self.calm_window.clear()
         if search.world.given and (not is_number or search.is_given(number, width)):
             search.stores_to_given.add(self.pc)
@@ -224,13 +231,14 @@ class MemoryState(AccessState):
     # ---- expressions as addresses
 
     def read(self, address: Node, width: int, is_signed: bool, tag: Tag, offset: int) -> Tuple[Optional[Word], int]:
-        """Loads at an address that is an expression. `tag` is the origin of the register with the address, and `offset` that of the instruction.
-        Returns the word, or None if the load traps, and the number that the address has on this path; 0 if the address stays an expression."""
+        """Loads at an address that is an expression. `tag` is the origin of the register with the address, and `offset` is the immediate of the
+        instruction. Returns the word, or None if the load traps. Also returns the number that the address has on this path, or 0 if the address
+        stays an expression."""
         extent = self.place_at(address, width, tag, offset, "load")
         world = self.search.world
         if extent is not None and extent.low == world.window[0]:
             return assemble(self.load_window(self.value(address), width, address), width, is_signed), 0
-        if extent is not None and extent.high - extent.low <= MOST_TABLE and not (width == 4 and self.has_pointers(extent.low, extent.high)):
+        if extent is not None and extent.high - extent.low <= MAX_TABLE_BYTES and not (width == 4 and self.has_pointers(extent.low, extent.high)):
             self.search.note_loaded(extent.low, extent.high)
             content = self.contents_of(extent)
             return assemble([element(address, extent.low - n, content) for n in range(width)], width, is_signed), 0
@@ -239,7 +247,7 @@ class MemoryState(AccessState):
         return (self.load(at, width, is_signed), at) if world.is_allowed(at, width) else (None, at)
 
     def contents_of(self, extent: Extent) -> Tuple[Byte, ...]:
-        """Returns the bytes of an object of the region."""
+        """Returns the bytes of an object of the region: numbers and expressions."""
         base = self.search.world.region[0]
         raw = self.region_bytes[extent.low - base:extent.high - base]
         if not self.symbolic_bytes:
@@ -247,15 +255,16 @@ class MemoryState(AccessState):
         return tuple(plain(self.symbolic_bytes.get(at, raw[at - extent.low])) for at in range(extent.low, extent.high))
 
     def write(self, address: Node, width: int, value: Word, tags: Tuple[Tag, Tag], offset: int) -> Optional[int]:
-        """Stores at an address that is an expression. `tags` are the origins of the register with the address and of the value, and `offset` that of
-        the instruction. Returns the address if the store traps, else None."""
+        """Stores at an address that is an expression. `tags` are the origins of the register with the address and of the stored value. `offset` is
+        the immediate of the instruction. Returns the address if the store traps, else None."""
         address_tag, tag = tags
         extent = self.place_at(address, width, address_tag, offset, "store")
         world = self.search.world
         if extent is not None and extent.low == world.window[0]:
             self.store_window(self.value(address), width, value, address)
             return None
-        if extent is not None and extent.high - extent.low <= MOST_STORED and tag is None and not self.has_pointers(extent.low & -4, extent.high):
+        is_small = extent is not None and extent.high - extent.low <= MAX_CHOICE_BYTES
+        if extent is not None and is_small and tag is None and not self.has_pointers(extent.low & -4, extent.high):
             self.write_anywhere(address, width, value, extent)
             return None
         at = self.concretize(address, "address")
@@ -265,25 +274,28 @@ class MemoryState(AccessState):
         return None
 
     def write_anywhere(self, address: Node, width: int, value: Word, extent: Extent) -> None:
-        """Stores at an expression that may be any address in an object: each byte of the object becomes a choice."""
-        self.search.note_written(self, extent.low, extent.high - extent.low, width == 4)
+        """Stores at an address that is an expression and may be anywhere in the object `extent`. Each byte of the object becomes a choice: the stored
+        byte if the address is there, else the old byte."""
+        self.search.note_written(self, extent.low, extent.high - extent.low, is_word=width == 4)
         step = width if is_aligned(address, width, extent.low) else 1
         low = self.search.world.region[0]
         for at in range(extent.low, extent.high - width + 1, step):
-            is_here = eq(address, at)
-            if is_here is False:
+            is_stored_here = eq(address, at)
+            if is_stored_here is False:
                 continue
             for n in range(width):
-                old = plain(self.symbolic_bytes.get(at + n, self.region_bytes[at + n - low]))
-                self.put(at + n, choice8(is_here, byte(value, n), old))
+                old_byte = plain(self.symbolic_bytes.get(at + n, self.region_bytes[at + n - low]))
+                self.put(at + n, choice8(is_stored_here, byte(value, n), old_byte))
         for at in range(extent.low & -4, extent.high, 4):
             if at in self.mem_tags or type(value) is not int:
                 self.mem_tags[at] = NO_ORIGIN
 
 
 def is_aligned(address: Node, width: int, low: int) -> bool:
-    """Returns whether an address is a multiple of `width` away from `low`: the sum of a constant and an index whose lower bits are 0."""
+    """Returns whether the distance of an address from `low` is certainly a multiple of `width`, which is a power of two. The address must be the sum
+    of an index and a constant."""
     if address.op != "add" or type(address.args[1]) is not int:
         return False
     index, constant = address.args
-    return not (index.may | constant - low) & width - 1
+    bits_of_distance = index.may | constant - low  # the bits that may be set in a summand of the distance
+    return not bits_of_distance & width - 1

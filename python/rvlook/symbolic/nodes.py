@@ -26,7 +26,7 @@ M32 = 0xFFFFFFFF  # the mask of a word
 INPUT = 1  # the bits of a taint: the value depends on inputs of the host,
 SECRET = 2  # on the secret,
 CHECK = 4  # or on the bytes that the host must know
-HEAVIEST = 1 << 24  # operations; heavier nodes are counted as this
+MAX_WEIGHT = 1 << 24  # operations; heavier nodes are counted as this
 HEAVY = 1 << 16  # operations; a heavier node is the result of a hash
 Word = Any  # an int of 32 bits, or a Node
 Byte = Any  # an int of 8 bits, or a Node
@@ -43,7 +43,7 @@ class Node:
         self.taint = taint  # the data on which the value depends: a sum of INPUT, SECRET and CHECK
         self.may = may  # the bits of the value that may be set
         self.number = number  # the age: a node is older than the nodes that contain it; a variable has a negative number
-        self.weight = 1  # the number of operations, with repetitions, at most HEAVIEST
+        self.weight = 1  # the number of operations; one that is used several times counts each time; at most MAX_WEIGHT
         self.parts: Optional[Tuple[Any, ...]] = None  # the bytes of a word as pairs, once they are needed (`words.parts_of`)
         self.mask: Optional[int] = None  # the variables, once `mask_of` has computed them
 
@@ -75,7 +75,7 @@ def make(op: str, args: Tuple[Any, ...], may: int = M32) -> Node:
                 taint |= operand.taint
                 weight += operand.weight
         node = by_operation[key] = Node(op, args, taint, may, len(by_operation))
-        node.weight = weight if weight < HEAVIEST else HEAVIEST
+        node.weight = weight if weight < MAX_WEIGHT else MAX_WEIGHT
     return node
 
 

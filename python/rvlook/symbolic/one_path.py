@@ -10,7 +10,7 @@ from rvlook.errors import RvlookError
 from rvlook.finders.secrets import IN_IMAGE
 from rvlook.image.variables import Variables
 from rvlook.output.progress import Progress
-from rvlook.symbolic.fields import EXITED, STOPPED, Ended
+from rvlook.symbolic.fields import EXITED, STOPPED, PathEnded
 from rvlook.symbolic.nodes import Byte, Word
 from rvlook.symbolic.options import VerifyOptions
 from rvlook.symbolic.search import Search
@@ -21,36 +21,36 @@ if TYPE_CHECKING:
     from rvlook.finders.leak_search import Leak
     from rvlook.protocol.run import Setup
 
-MOST_STEPS = 400000  # the most steps of the path
-SECONDS = 60.0  # the seconds of the decision, if the option --seconds does not limit it
-HARMLESS = ("fault", "assertion", "older")  # kinds of findings that do not depend on the secret
-OBJECTS = ("load", "store", "jump", "return")  # kinds of doubts about objects, after which the path goes on as the run does
-STEPS = ("step", "run", "sched")  # commands of a script that execute steps
-CHANGES = ("poke", "setreg", "timer")  # commands of a script that change the machine
-OPEN = "open"  # why the path ends: it loads or stores the window at an expression
+MAX_PATH_STEPS = 400000  # the most steps of the path
+DEFAULT_SECONDS = 60.0  # the seconds of the decision, if the option --seconds does not limit it
+SECRET_FREE_FINDINGS = ("fault", "assertion", "older")  # kinds of findings that do not depend on the secret
+OBJECT_DOUBTS = ("load", "store", "jump", "return")  # kinds of doubts about objects, after which the path goes on as the run does
+STEP_COMMANDS = ("step", "run", "sched")  # commands of a script that execute steps
+CHANGE_COMMANDS = ("poke", "setreg", "timer")  # commands of a script that change the machine
+SYMBOLIC_ADDRESS = "open"  # why the path ends: it loads or stores the window at an expression
 
 
-class OwnState(State):
+class BaseRunState(State):
     """A state that loads from the window what the host gives in the run, or what the enclave itself has stored there."""
     __slots__ = ()
 
     def load_window(self, number: int, width: int, address: Word) -> List[Byte]:
         """Returns `width` bytes of the window at the address `number`. Ends the path if `address` is an expression."""
         if type(address) is not int:
-            raise Ended(OPEN)
+            raise PathEnded(SYMBOLIC_ADDRESS)
         base = self.search.world.window[0]
         return [self.calm_window.get(number + n, self.window_memory[number + n - base]) for n in range(width)]
 
     def store_window(self, number: int, width: int, value: Word, address: Word) -> None:
         """Stores to the window, whose bytes may be loaded again. Ends the path if `address` is an expression."""
         if type(address) is not int:
-            raise Ended(OPEN)
+            raise PathEnded(SYMBOLIC_ADDRESS)
         super().store_window(number, width, value, address)
 
 
 class OwnPath(Search):
     """The search that follows the path of the run itself alone."""
-    state_type = OwnState
+    state_type = BaseRunState
 
     def __init__(self, world: World, options: VerifyOptions) -> None:
         super().__init__(world, options)
@@ -80,8 +80,8 @@ class OwnPath(Search):
 
     def harm(self) -> List[str]:
         """Returns the kinds of findings and of open questions after which the host may observe the secret."""
-        harmful = [what for what, _ in self.findings if what not in HARMLESS]
-        return harmful + [what for what, pc in self.undecided if what not in OBJECTS or (what, pc) not in self.reasons]
+        harmful = [what for what, _ in self.findings if what not in SECRET_FREE_FINDINGS]
+        return harmful + [what for what, pc in self.undecided if what not in OBJECT_DOUBTS or (what, pc) not in self.reasons]
 
     def explore(self, state: State) -> None:
         """Explores the path, and keeps its last state."""
@@ -104,8 +104,8 @@ class OwnPath(Search):
 def changes_later(setup: Setup) -> bool:
     """Returns whether a script changes a byte, a register or the timer line after a step. The path does not include such changes."""
     names = [line.text.split()[0] for line in setup.lines if line.text.split()]
-    first = next((n for n, name in enumerate(names) if name in STEPS), len(names))
-    return any(name in CHANGES for name in names[first:])
+    first = next((n for n, name in enumerate(names) if name in STEP_COMMANDS), len(names))
+    return any(name in CHANGE_COMMANDS for name in names[first:])
 
 
 def is_hidden(leak: Leak) -> bool:
@@ -119,8 +119,8 @@ def is_hidden(leak: Leak) -> bool:
     if secret.register:
         return False
     place = "%x:%d" % (secret.at, len(secret.bytes))
-    own_options = VerifyOptions(options.slot, [place], options.public, calm=True, merges=False, replay=0, seconds=options.seconds or SECONDS,
-                                path_steps=MOST_STEPS)
+    own_options = VerifyOptions(options.slot, [place], options.public, calm=True, merges=False, replay=0, seconds=options.seconds or DEFAULT_SECONDS,
+                                path_steps=MAX_PATH_STEPS)
     try:
         world = World(leak.run, leak.symbols, Variables(), own_options)
         search = OwnPath(world, own_options)

@@ -21,9 +21,9 @@ if TYPE_CHECKING:
     from rvlook.symbolic.world import World
 
 COMPARISONS = ("eq", "eq8", "and1")  # operations that compare words, bytes, or several of them
-BYTES = 256  # values of a byte
-OTHER_BITS = 0x55  # bits of a byte that are changed for another value
-CHANGES = "only known for a window that changes while the enclave runs"
+BYTE_VALUES = 256  # values of a byte
+FLIPPED_BITS = 0x55  # bits of a byte that are changed for another value
+NEEDS_CHANGING_WINDOW = "only known for a window that changes while the enclave runs"
 MIXED_OUTPUT = "an output is computed of the secret and of what the host must know"
 OTHER_OUTPUT = "an output depends on what the host must know by something else than one comparison of all its bytes"
 OTHER_PATH = "a path depends on what the host must know by something else than one comparison of all its bytes"
@@ -49,7 +49,7 @@ class Outputs(Record):
         """Adds a finding as `Record.report` does. With --calm, a violation is not decided if the window changes during an activation."""
         is_new = self.options.calm and not state.is_merged and (what, state.pc) not in self.findings
         if is_new and not is_calm(history_of(state, one), one):
-            self.doubt(what, state, CHANGES)
+            self.doubt(what, state, NEEDS_CHANGING_WINDOW)
         else:
             super().report(what, state, text, one, two)
 
@@ -152,7 +152,7 @@ class Outputs(Record):
         for name in names_of(mask):
             if not name.startswith("k_") or name in self.influencing_bytes:
                 continue
-            other = {**state.model, name: state.model.get(name, 0) ^ OTHER_BITS}
+            other = {**state.model, name: state.model.get(name, 0) ^ FLIPPED_BITS}
             memo: Dict[Node, object] = {}
             if not all(evaluate(condition, other, memo) for condition in state.conditions):
                 continue
@@ -215,7 +215,7 @@ def is_one_byte(output: Node, taint: int) -> bool:
     if output.taint & ~taint or not has_one_variable:
         return False
     name = names_of(mask)[0]
-    return len({evaluate(output, {name: value}) for value in range(BYTES)}) == BYTES
+    return len({evaluate(output, {name: value}) for value in range(BYTE_VALUES)}) == BYTE_VALUES
 
 
 def comparison_with(node: Node, taint: int) -> Optional[Node]:

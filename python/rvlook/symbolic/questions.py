@@ -4,8 +4,8 @@ from __future__ import annotations
 from dataclasses import dataclass, field
 from typing import Dict, List, Sequence, Tuple, TYPE_CHECKING
 
-from rvlook.symbolic.fields import CODE, FINDING
-from rvlook.symbolic.paths import MOST_VALUES
+from rvlook.symbolic.fields import CODE_CHANGED, FINDING_REPORTED
+from rvlook.symbolic.paths import MAX_FOLLOWED_VALUES
 
 if TYPE_CHECKING:
     from rvlook.symbolic.record import Counterexample
@@ -15,7 +15,7 @@ PROVED = "PROVED"  # verdicts (docs/VERIFY.md)
 FOUND = "FOUND"
 NOT_DECIDED = "NOT DECIDED"
 NONE_FOUND = "none found"
-LEAST_STATES = 3  # activations from which on the question `state` is asked
+MIN_STATE_ACTIVATIONS = 3  # activations from which on the question `state` is asked
 QUESTIONS: Dict[str, Tuple[str, Sequence[str]]] = {  # by name: the statement, and the kinds of findings and doubts that belong to it
     "memory": ("no access leaves its object, no jump has a target that the host chooses, no saved return address is overwritten",
                ("load", "store", "return", "jump", "value", "branch")),
@@ -29,11 +29,11 @@ QUESTIONS: Dict[str, Tuple[str, Sequence[str]]] = {  # by name: the statement, a
     "remains": ("nothing in the region or the registers depends on the secret at a stop", ("remains",)),
     "influence": ("what comes out depends on each byte of the secret that must matter", ("influence",)),
     "state": ("no older state is accepted as the latest", ("older",))}
-DIVIDING = ("branch", "value")  # kinds of doubts about which paths exist
+PATH_DOUBTS = ("branch", "value")  # kinds of doubts about which paths exist
 LIMITS = {"memory": "; what it cannot know about the accesses of --allow is taken to be right",
           "state": ", in the activations of the run itself; use --each for others"}  # what the statement does not cover, by question
 REASONS = {"any_bytes": "any_bytes names bytes outside the region",  # why a path is not complete, by the reason for which it ended
-           CODE: "a path reaches code that changes", "outside": "a path leaves the region", "steps": "a path is too long",
+           CODE_CHANGED: "a path reaches code that changes", "outside": "a path leaves the region", "steps": "a path is too long",
            "sp": "the stack pointer depends on the host"}
 
 
@@ -58,7 +58,7 @@ def questions_asked(search: Search) -> List[str]:
         "checks": bool(search.world.check),
         "remains": has_secret and options.wiped,
         "influence": bool(options.must_matter),
-        "state": search.activations >= LEAST_STATES}
+        "state": search.activations >= MIN_STATE_ACTIVATIONS}
     return [name for name in QUESTIONS if is_asked.get(name, True)]
 
 
@@ -79,14 +79,14 @@ def reasons_not_covered(search: Search) -> List[str]:
         reasons.append("the time is over before the ends of loops were examined")
     for pc in search.cut_loops:
         reasons.append("the loop at %s is followed for %d rounds" % (place(pc), search.options.bound))
-    for pc in sorted({pc for what, pc in search.undecided if what in DIVIDING}):
+    for pc in sorted({pc for what, pc in search.undecided if what in PATH_DOUBTS}):
         reasons.append("it is not known where paths go on at %s" % place(pc))
     for pc in search.not_assumed:
         reasons.append("the run itself does not fulfil the assumption at %s" % place(pc))
     for pc in search.left_after_leak:
         reasons.append("after the leak at %s other secrets are left out" % place(pc))
     for pc in search.words_with_many_values:
-        reasons.append("the word at %s has more than %d values" % (place(pc), MOST_VALUES))
+        reasons.append("the word at %s has more than %d values" % (place(pc), MAX_FOLLOWED_VALUES))
     for pc in search.assumed_inside:
         reasons.append("after the finding at %s the access stays inside" % place(pc))
     for pc in sorted(search.changed_code):
@@ -96,8 +96,8 @@ def reasons_not_covered(search: Search) -> List[str]:
     for why, text in REASONS.items():
         if search.end_counts[why]:
             reasons.append("%s (%d paths)" % (text, search.end_counts[why]))
-    if search.end_counts[FINDING]:
-        reasons.append("%d paths end at a finding" % search.end_counts[FINDING])
+    if search.end_counts[FINDING_REPORTED]:
+        reasons.append("%d paths end at a finding" % search.end_counts[FINDING_REPORTED])
     return reasons
 
 

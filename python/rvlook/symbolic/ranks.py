@@ -11,7 +11,7 @@ from rvlook.symbolic.conditions import all_of, any_of, ult
 from rvlook.symbolic.nodes import Condition, Node, Word, mask_of
 from rvlook.symbolic.words import not_
 
-MOST_COMPARED = 8  # numbers with which a word is compared
+MAX_COMPARED_NUMBERS = 8  # numbers with which a word is compared
 
 
 class Measure(NamedTuple):
@@ -75,7 +75,7 @@ def comparisons(conditions: Iterable[Node]) -> List[Node]:
 
 def numbers_compared(equations: Iterable[Node], word: Word) -> List[int]:
     """Returns numbers with which a word, or a part of it, is compared in equations, and the numbers before them: a round may compare the word after
-    it has grown. Returns at most MOST_COMPARED numbers."""
+    it has grown. Returns at most MAX_COMPARED_NUMBERS numbers."""
     numbers: Dict[int, None] = {}
     for equation in equations:
         compared, number = equation.args
@@ -83,7 +83,7 @@ def numbers_compared(equations: Iterable[Node], word: Word) -> List[int]:
             numbers[number] = None
             if number > 0:
                 numbers[number - 1] = None
-    return list(numbers)[:MOST_COMPARED]
+    return list(numbers)[:MAX_COMPARED_NUMBERS]
 
 
 def is_ranked(rounds: List[Edge]) -> bool:

@@ -7,7 +7,7 @@ from collections import Counter
 from dataclasses import dataclass, field, replace
 from typing import Any, Counter as Counts, Dict, List, Optional, Set, Tuple, TYPE_CHECKING, Union
 
-from rvlook.symbolic.fields import MERGED_LOOP
+from rvlook.symbolic.fields import START_MERGED_LOOP
 from rvlook.symbolic.history import history_of
 from rvlook.symbolic.nodes import mask_of, names_of
 
@@ -15,7 +15,7 @@ if TYPE_CHECKING:
     from rvlook.symbolic.fields import AnyState as State, Answer, Load, Store
     from rvlook.symbolic.nodes import Node
 
-LAST = 8  # the last conditions of a path, on which a finding without an address is taken to depend
+LAST_CONDITIONS = 8  # the last conditions of a path, on which a finding without an address is taken to depend
 IN_MERGED = "only in a merged state: no sequence of activations is known that reaches it"
 Key = Tuple[str, int]  # a kind and the pc of an instruction
 MergedPlace = Union[int, str]  # a place in a merged state: the address of a byte, or a register such as "x10"
@@ -113,7 +113,7 @@ class Record:
         address = state.access_address() if what in ("load", "store") else None
         mask = mask_of(address) if address is not None else 0
         if not mask:
-            for condition in state.conditions[-LAST:]:
+            for condition in state.conditions[-LAST_CONDITIONS:]:
                 mask |= mask_of(condition)
         for condition in [condition for condition in state.conditions if mask_of(condition) & mask]:
             mask |= mask_of(condition)
@@ -123,7 +123,7 @@ class Record:
         """Notes that a question of a kind is not decided at the pc of a state, and why."""
         if not self.is_trial:
             self.note((what, state.pc), reason)
-            if what == "reread" and state.start_kind == MERGED_LOOP:
+            if what == "reread" and state.start_kind == START_MERGED_LOOP:
                 self.rereads.append(state.pc)
 
     def forget_rereads(self) -> None:

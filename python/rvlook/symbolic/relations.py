@@ -5,7 +5,7 @@ from __future__ import annotations
 
 from typing import Dict, FrozenSet, Iterable, List, Optional, Sequence, Set, Tuple
 
-from rvlook.symbolic.facts import ADDED, Fact, WordAt, WordPlace, is_byte
+from rvlook.symbolic.facts import SUM_OF_WORDS, Fact, WordAt, WordPlace, is_byte
 from rvlook.symbolic.linear import Linear, linear, plus
 from rvlook.symbolic.nodes import M32, Node
 
@@ -21,7 +21,7 @@ def relations_of(new: Iterable[WordPlace], unknown: Iterable[WordPlace], others:
         by_atoms.setdefault(form.atoms, []).append((at, form))
     used: Set[WordPlace] = set()  # the words that are in a relation
     for fact in facts:
-        if fact.kind == ADDED:
+        if fact.kind == SUM_OF_WORDS:
             used |= {fact.x, *(place for place, _ in fact.y)}
     new_words = {*new}
     unknown_words = {*unknown}
@@ -43,8 +43,8 @@ def relations_of(new: Iterable[WordPlace], unknown: Iterable[WordPlace], others:
 def solve(x: WordPlace, y: WordPlace, z: WordPlace, number: int, free: Set[WordPlace]) -> Optional[Fact]:
     """Returns x = y + z + number as a relation for one of the words that are free, or None."""
     if x in free:
-        return Fact(ADDED, x, ((y, 1), (z, 1)), bound=number)
+        return Fact(SUM_OF_WORDS, x, ((y, 1), (z, 1)), bound=number)
     for one, other in ((y, z), (z, y)):
         if one in free:
-            return Fact(ADDED, one, ((x, 1), (other, -1)), bound=-number & M32)
+            return Fact(SUM_OF_WORDS, one, ((x, 1), (other, -1)), bound=-number & M32)
     return None

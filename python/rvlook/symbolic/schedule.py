@@ -15,7 +15,7 @@ from rvlook.symbolic.instructions import Step
 if TYPE_CHECKING:
     from rvlook.symbolic.fields import AnyState as State
 
-WAITS = "waits"  # why `State.go` returns: the path waits for others, and is continued afterwards
+WAITS_FOR_OTHERS = "waits"  # why `State.go` returns: the path waits for others, and is continued afterwards
 Position = Tuple[int, ...]  # the key by which waiting paths are sorted; a path whose key is less comes first
 
 

@@ -11,7 +11,7 @@ from typing import Any, Counter as Counts, List, Set, Tuple, TYPE_CHECKING
 from rvlook.symbolic.bounds import Bounds
 from rvlook.symbolic.endless import Endless
 from rvlook.symbolic.extents import Extents
-from rvlook.symbolic.fields import CSRS, ENTRY, EXITED, LATE, STOPPED, AnyState, TimeIsOver
+from rvlook.symbolic.fields import CSRS, START_AT_ENTRY, EXITED, TIME_OVER, STOPPED, AnyState, TimeIsOver
 from rvlook.symbolic.flow import Flows
 from rvlook.symbolic.history import history_of
 from rvlook.symbolic.indices import Indices
@@ -23,7 +23,7 @@ from rvlook.symbolic.merge import Merged, Merger
 from rvlook.symbolic.nodes import CHECK, SECRET, forget, variable
 from rvlook.symbolic.origins import How, Origin
 from rvlook.symbolic.replay import Replayer
-from rvlook.symbolic.schedule import WAITS, Schedule, waiting
+from rvlook.symbolic.schedule import WAITS_FOR_OTHERS, Schedule, waiting
 from rvlook.symbolic.solver import Solver
 from rvlook.symbolic.state import State
 
@@ -32,11 +32,11 @@ if TYPE_CHECKING:
     from rvlook.symbolic.options import VerifyOptions
     from rvlook.symbolic.world import World
 
-NEAR = 4096  # bytes around region and window to which lui and auipc may point
+POINTER_MARGIN = 4096  # bytes around region and window to which lui and auipc may point
 FIRST_REPLAYS = 10  # the first paths, which are all replayed; of the later ones, every Nth is replayed (--replay N)
-STATE_QUESTION = 3  # activations from which on the question `state` is asked, for which a path must have one history
-WINDOW_BASE = 12  # a2, which has the address of the window at the first entry
-LEAST_PATIENCE = 20000  # steps after which a path may be examined for an endless loop, beside twice the steps of the run itself
+STATE_QUESTION_ACTIVATIONS = 3  # activations from which on the question `state` is asked, for which a path must have one history
+WINDOW_REGISTER = 12  # a2, which has the address of the window at the first entry
+MIN_PATIENCE_STEPS = 20000  # steps after which a path may be examined for an endless loop, beside twice the steps of the run itself
 
 
 class Search(Judge):
@@ -75,9 +75,9 @@ class Search(Judge):
     def set_limits(self) -> None:
         """Sets the limits of paths: the addresses of pointers, the steps before a branch, and the activations."""
         world = self.world
-        self.low_pointer = min(world.region[0], world.window[0]) - NEAR  # the range of addresses to which lui and auipc may point
-        self.high_pointer = max(world.region[1], world.window[1]) + NEAR
-        self.patience = LEAST_PATIENCE + 2 * sum(len(activation.pcs) for activation in world.own_activations)  # steps of a path
+        self.low_pointer = min(world.region[0], world.window[0]) - POINTER_MARGIN  # the range of addresses to which lui and auipc may point
+        self.high_pointer = max(world.region[1], world.window[1]) + POINTER_MARGIN
+        self.patience = MIN_PATIENCE_STEPS + 2 * sum(len(activation.pcs) for activation in world.own_activations)  # steps of a path
         self.activations = self.options.activations or len(world.own_activations)  # how many activations a path has at most
 
     def set_counts(self) -> None:
@@ -100,7 +100,7 @@ class Search(Judge):
         states of several stops of one path."""
         if self.means.is_rare_first:
             return False
-        return self.options.merges or not self.means.is_whole or self.activations < STATE_QUESTION
+        return self.options.merges or not self.means.is_whole or self.activations < STATE_QUESTION_ACTIVATIONS
 
     def is_late(self) -> bool:
         """Returns whether this search is over: the time is over, or a new search has to begin with what this one knows."""
@@ -112,7 +112,7 @@ class Search(Judge):
         """Returns the state at the first entry of the enclave."""
         world = self.world
         state = self.state_type.__new__(self.state_type)
-        state.begin_path(ENTRY, activation=0, start_number=0)
+        state.begin_path(START_AT_ENTRY, activation=0, start_number=0)
         state.search = self
         state.is_base = True
         state.start_head = None
@@ -135,8 +135,8 @@ class Search(Judge):
         state.conditions = []
         state.public = set()
         low, high = world.window
-        if low < high and state.regs[WINDOW_BASE] == low:
-            state.tags[WINDOW_BASE] = Origin(How.SYMBOL, low)
+        if low < high and state.regs[WINDOW_REGISTER] == low:
+            state.tags[WINDOW_REGISTER] = Origin(How.SYMBOL, low)
         state.symbolic_bytes = {}
         state.model = {}
         for values, name, taint in ((world.secret, "k_%08x", SECRET), (world.check, "c_%08x", CHECK)):
@@ -226,7 +226,7 @@ class Search(Judge):
         steps_before = state.steps
         why = state.go()
         self.steps += state.steps - steps_before
-        if why in (LATE, WAITS):
+        if why in (TIME_OVER, WAITS_FOR_OTHERS):
             self.add_path(state)
             return
         self.end_counts[why] += 1

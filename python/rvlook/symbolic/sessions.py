@@ -15,7 +15,7 @@ from rvlook.symbolic.words import not_
 if TYPE_CHECKING:
     from rvlook.symbolic.solver import Answer, Solver
 
-ROUNDS = 40  # questions about all conditions at once, before each condition is asked about alone
+MAX_JOINT_QUESTIONS = 40  # questions about all conditions at once, before each condition is asked about alone
 
 
 class Session:
@@ -62,7 +62,7 @@ class Session:
         True. A condition that was shown for the same conditions needs no question: in the last pass, most paths arrive as they did before."""
         shown = [condition is True or condition in self.all or condition in self.shown for condition in wanted]
         may_hold = [shown[n] or (condition is not False and bool(self.value_of(condition))) for n, condition in enumerate(wanted)]
-        for _ in range(0 if is_late() else ROUNDS):
+        for _ in range(0 if is_late() else MAX_JOINT_QUESTIONS):
             open_numbers = [n for n in strongest([n for n, holds in enumerate(may_hold) if holds]) if not shown[n]]
             answer = self.satisfiable(not_(all_of(*(wanted[n] for n in open_numbers)))) if open_numbers else False
             if answer is None:

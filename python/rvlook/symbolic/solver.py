@@ -22,15 +22,15 @@ from rvlook.symbolic.opaque import Opaque, is_large_lookup, is_none
 from rvlook.symbolic.translate import Primed, Translator
 
 CORNERS = (0, 1, 255, 128, 127, 65, 4, 16)  # values of bytes that are tried as guesses
-FIRST_CORNERS = 3  # guesses in which all variables have the same corner
+UNIFORM_CORNERS = 3  # guesses in which all variables have the same corner
 RANDOM_GUESSES = 2  # guesses with random bytes; one more guess has random corners
-TRIES = 6  # other secrets that are tried
-MOST_SOLUTIONS = 8  # guesses by inversion of the question
-REPAIRS = 4  # conditions that are repaired in a guess
-MOST_NAMES = 64  # variables of a question for which corners are tried
-MOST_PARTS = 12  # the most parts of a conjunction that is guessed
-OPAQUE_TIMEOUT = 500  # milliseconds of a query without the contents of tables and choices
-LIGHT = 256  # operations of a public node that is computed for both of two secrets, so that it restricts them
+SECRET_TRIES = 6  # other secrets that are tried
+MAX_INVERSIONS = 8  # guesses by inversion of the question
+MAX_REPAIRS = 4  # conditions that are repaired in a guess
+MAX_GUESSED_VARIABLES = 64  # variables of a question for which corners are tried
+MAX_GUESSED_CONJUNCTS = 12  # the most parts of a conjunction that is guessed
+OPAQUE_TIMEOUT_MS = 500  # milliseconds of a query without the contents of tables and choices
+MAX_RECOMPUTED_OPERATIONS = 256  # operations of a public node that is computed for both of two secrets, so that it restricts them
 Answer = Optional[bool]  # whether values exist; None if it is not decided
 Pair = Tuple[Answer, Optional[Part], Optional[Part]]  # an answer, and the values of the variables with the first and with the second secret
 
@@ -147,7 +147,7 @@ class Solver:
         if asked is None:
             return False
         asts = [self.opaque(condition) for condition in asked]
-        answer, _ = self.ask_z3(asts, min(self.timeout, OPAQUE_TIMEOUT))
+        answer, _ = self.ask_z3(asts, min(self.timeout, OPAQUE_TIMEOUT_MS))
         if answer is False:
             self.note_proof(asts)
         return answer is False
@@ -156,11 +156,11 @@ class Solver:
         """Returns values of the variables of a question for which the question and the conditions hold, or None. `mask` has these variables."""
         names = names_of(mask)
         memo: Dict[Node, Any] = {}
-        if (len(names) > MOST_NAMES and question.weight > HEAVY) or is_long(question):
+        if (len(names) > MAX_GUESSED_VARIABLES and question.weight > HEAVY) or is_long(question):
             return None
-        parts = list(islice(solutions(question, model, memo, self.is_far), MOST_SOLUTIONS))
-        if len(names) <= MOST_NAMES:
-            parts += [dict.fromkeys(names, corner) for corner in CORNERS[:FIRST_CORNERS]]
+        parts = list(islice(solutions(question, model, memo, self.is_far), MAX_INVERSIONS))
+        if len(names) <= MAX_GUESSED_VARIABLES:
+            parts += [dict.fromkeys(names, corner) for corner in CORNERS[:UNIFORM_CORNERS]]
             parts += [{name: self.rng.randrange(256) for name in names} for _ in range(RANDOM_GUESSES)]
             parts.append({name: self.rng.choice(CORNERS) for name in names})
         for part in parts:
@@ -173,7 +173,7 @@ class Solver:
     def repair_guess(part: Part, conditions: Sequence[Node], question: Node, model: Part) -> Optional[Part]:
         """Returns the values of a guess for which a question and conditions hold, after repairs of conditions that do not hold; or None."""
         whole: Part = {**model, **part}
-        for _ in range(REPAIRS):
+        for _ in range(MAX_REPAIRS):
             memo: Dict[Node, Any] = {}
             if not evaluate(question, whole, memo):
                 return None
@@ -242,7 +242,7 @@ class Solver:
         if type(question) is not Node or not question.taint & SECRET or question in public:
             return False, None, None
         relevant, mask = self.relevant_conditions(conditions, mask_of(question))
-        computed = [node for node in public & self.declared if node.weight <= LIGHT and mask_of(node) & mask]
+        computed = [node for node in public & self.declared if node.weight <= MAX_RECOMPUTED_OPERATIONS and mask_of(node) & mask]
         computed.sort(key=lambda node: node.number)  # in the order in which they were made
         for node in computed:
             mask |= mask_of(node)
@@ -287,7 +287,7 @@ class Solver:
         value = evaluate(question, model, memo)
         wanted = {node: evaluate(node, model, memo) for node in equal.computed}
         forced = {name: evaluate(name, model, memo) for name in equal.public if name.taint & SECRET and mask_of(name) & mask and name not in wanted}
-        for number in range(TRIES):
+        for number in range(SECRET_TRIES):
             other = {**model, **self.other_secret(number, names, model)}
             values = dict(forced)
             if evaluate(question, other, values) == value or not all(evaluate(condition, other, values) for condition in conditions):
@@ -312,4 +312,4 @@ class Solver:
 def is_long(question: Node) -> bool:
     """Returns whether a question is about many conditions at once."""
     compared = question.args[0] if question.op == "not" else question
-    return compared.op == "and1" and len(compared.args) > MOST_PARTS
+    return compared.op == "and1" and len(compared.args) > MAX_GUESSED_CONJUNCTS

@@ -5,22 +5,22 @@ from typing import Optional
 
 from rvlook.symbolic.calls import FETCH, CallState
 from rvlook.symbolic.decode import Decoded, decode
-from rvlook.symbolic.fields import CODE, LATE, MERGED, STVEC, Ended
+from rvlook.symbolic.fields import CODE_CHANGED, TIME_OVER, INCLUDED_IN_MERGED, STVEC, PathEnded
 from rvlook.symbolic.instructions import Step, compiled
 from rvlook.symbolic.nodes import M32, Word
-from rvlook.symbolic.schedule import WAITS, count_round, waiting
+from rvlook.symbolic.schedule import WAITS_FOR_OTHERS, count_round, waiting
 from rvlook.symbolic.words import operation
 
-SLICE = 32  # steps between two checks of the time; z3 may need seconds for each step
+STEPS_PER_TIME_CHECK = 32  # steps between two checks of the time; z3 may need seconds for each step
 
 
 def fetch_fault(state: CallState, pc: int) -> int:
-    """Executes a step outside the region, which traps. Returns the next pc."""
+    """Executes the fetch of an instruction outside the region: it traps. Returns the next pc."""
     return state.trap(FETCH, pc)
 
 
 class State(CallState):
-    """The state of a path, which can execute steps."""
+    """The state of a path that executes steps."""
     __slots__ = ()
 
     def go(self) -> str:
@@ -30,7 +30,7 @@ class State(CallState):
         limit = search.options.path_steps
         try:
             while True:
-                for _ in range(SLICE):
+                for _ in range(STEPS_PER_TIME_CHECK):
                     pc = self.pc
                     step = code.get(pc)
                     if step is None:
@@ -38,19 +38,21 @@ class State(CallState):
                     self.pc = step(self, pc)
                     self.pcs.append(pc)
                 if search.is_late():
-                    raise Ended(LATE)
+                    raise PathEnded(TIME_OVER)
                 if self.joined_steps + self.steps > limit:
-                    raise Ended("steps")
+                    raise PathEnded("steps")
                 if self.joined_steps + self.steps > search.patience and not self.is_base:
                     search.endless.at_end(self)
-        except Ended as end:
-            if str(end) not in (WAITS, LATE):
+        except PathEnded as end:
+            reason = str(end)
+            if reason not in (WAITS_FOR_OTHERS, TIME_OVER):  # the path was ended in the middle of a step, which is its last one
                 self.pcs.append(self.pc)
-            return str(end)
+            return reason
 
     def merge_after_divisions(self, pc: int) -> None:
-        """Merges the path at the head of a loop if it has divided several times inside, and ends it. At a new head, the search ends instead: the next
-        search merges paths at this head from the first round on. A search that does not merge loops only notes the head."""
+        """Merges the path at the head of a loop, and ends the path, if a branch in the loop has divided it at least `loops_from` times. If the search
+        has not merged at this head before, the whole search ends instead. The next search then merges paths at this head from the first round on.
+        A search that does not merge loops only records the head."""
         search = self.search
         head = pc, self.context
         flow = search.flows.by_entry.get(self.entry)
@@ -61,6 +63,7 @@ class State(CallState):
                 search.merge_at_head(self)
                 self.is_covered = True
             return
+        # How often the path has divided at each branch whose innermost loop this is. The keys (pc, ~context) and (-pc, context) match no branch.
         divisions = [n for (branch, context), n in self.branch_counts.items() if context == self.context and flow.innermost_head(branch) == pc]
         if not search.loops_from:
             if divisions:
@@ -69,9 +72,9 @@ class State(CallState):
             if head not in search.heads:
                 search.heads.add(head)
                 search.is_outgrown = True
-                raise Ended(LATE)
+                raise PathEnded(TIME_OVER)
             search.merge_at_head(self)
-            raise Ended(MERGED)
+            raise PathEnded(INCLUDED_IN_MERGED)
 
     def step(self) -> None:
         """Executes one step of the path."""
@@ -80,33 +83,37 @@ class State(CallState):
         self.pcs.append(pc)
 
     def compile_at(self, pc: int) -> Step:
-        """Returns the function of the instruction at a pc, as the image has it. Ends the path if a path has changed the instruction."""
+        """Returns the function that executes the instruction at a pc, as the image has it. Ends the path if any path has changed the instruction, or
+        if the pc is outside the region and the enclave has no trap handler."""
         search = self.search
         low, high = search.world.region
-        if not (low <= pc and pc + 4 <= high):
+        is_in_region = low <= pc and pc + 4 <= high
+        if not is_in_region:
             if not self.csr[STVEC]:
-                raise Ended("outside")
+                raise PathEnded("outside")
             return fetch_fault
         if pc in search.written or any(pc + n in self.symbolic_bytes for n in range(4)):
             search.changed_code.add(pc)
-            raise Ended(CODE)
+            raise PathEnded(CODE_CHANGED)
         step = compiled(decode(search.world.word_at(pc)))
         search.code[pc] = waiting(step) if pc in search.meeting_points else step
         return search.code[pc]
 
     def wait_for_others(self, pc: int) -> None:
-        """Ends this part of the path at a pc where paths meet, unless no other path is left to wait for."""
+        """Makes the path wait at a pc where paths meet, until the search continues it. Does nothing if no other path is left, for the run itself, or
+        if the search does not join paths."""
         search = self.search
         if len(search.queue) and not self.is_base and not search.is_trial and search.joins:
             count_round(search.flows, self, pc)
-            raise Ended(WAITS)
+            raise PathEnded(WAITS_FOR_OTHERS)
 
     def present_instruction(self) -> Decoded:
         """Returns the instruction at the present pc, as the image has it."""
         return decode(self.search.world.word_at(self.pc))
 
     def has_origin(self) -> bool:
-        """Returns whether the instruction at the pc accesses an address that the enclave has computed, not a pointer of the host."""
+        """Returns whether the instruction at the pc is a load or store whose address has an origin. The enclave has then computed the address itself.
+        A pointer of the host has no origin."""
         instruction = self.present_instruction()
         return instruction.kind in ("load", "store") and self.tags[instruction.rs1] is not None
 

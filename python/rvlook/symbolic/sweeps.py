@@ -7,7 +7,7 @@ from typing import Callable, Dict, List, NamedTuple, Sequence, Tuple, TYPE_CHECK
 
 from rvlook.symbolic.bounds import word_reader
 from rvlook.symbolic.conditions import all_of, any_of, ult
-from rvlook.symbolic.facts import LEAST, Fact, WordAt, WordPlace
+from rvlook.symbolic.facts import LOWER_BOUND, Fact, WordAt, WordPlace
 from rvlook.symbolic.fields import SymbolicFetch
 from rvlook.symbolic.nodes import M32, Condition, Node, Word, mask_of
 from rvlook.symbolic.words import not_, operation
@@ -75,7 +75,7 @@ def least_values_of(facts: Sequence[Fact]) -> Dict[WordPlace, int]:
     """Returns the words that are at least a number by the facts, each with the greatest such number."""
     least: Dict[WordPlace, int] = {}
     for fact in facts:
-        if fact.kind == LEAST and type(fact.bound) is int:
+        if fact.kind == LOWER_BOUND and type(fact.bound) is int:
             least[fact.x] = max(fact.bound, least.get(fact.x, 0))
     return least
 

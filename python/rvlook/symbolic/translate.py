@@ -8,7 +8,7 @@ from typing import Any, Container, Dict, List, Optional, Sequence, Tuple
 from rvlook.errors import RvlookError, package_missing
 from rvlook.symbolic.nodes import M32, SECRET, Node, operands
 
-MANY = 10000  # expressions in a context, after which the next run begins with an empty one
+MAX_KEPT_EXPRESSIONS = 10000  # expressions in a context, after which the next run begins with an empty one
 BYTE_OPERANDS = ("word", "sx8", "sx16", "eq8", "ite8")  # operations whose operands are bytes
 
 
@@ -169,7 +169,7 @@ def the_z3() -> Z3:
 
 def leave_out_old() -> None:
     """Lets the next run of this process begin with an empty context, if the present one has many expressions. These are not freed."""
-    if the_z3().count > MANY:
+    if the_z3().count > MAX_KEPT_EXPRESSIONS:
         the_z3.cache_clear()
 
 

@@ -27,8 +27,8 @@ if TYPE_CHECKING:
     from rvlook.protocol.symbols import Symbols
     from rvlook.symbolic.options import VerifyOptions
 
-CHECK = bytes.fromhex("0b004843")  # the instruction of a failed check (examples/shared/enclave_check.h), in the order of memory
-ANSWER_IS = "@answer="  # in --public: what is before it is public only in activations that end with the answer after it
+FAILED_CHECK = bytes.fromhex("0b004843")  # the instruction of a failed check (examples/shared/enclave_check.h), in the order of memory
+ANSWER_CONDITION = "@answer="  # in --public: what is before it is public only in activations that end with the answer after it
 PC_OF_REPLY = slice(9, 17)  # the characters of the pc in the reply to a step, `ran 1 pc=80000000 ...`: the pc after the step
 
 
@@ -60,7 +60,7 @@ class World:
             raise Unfinished("no enclave in slot %d" % self.slot)
         self.enclave = self.read_entries()  # the record of the enclave in the enclave table
         self.contexts = Contexts()  # numbers the chains of callers
-        self.has_checks = any(self.memory[at:at + 4] == CHECK for at in range(0, len(self.memory), 4))  # whether the enclave calls `check`
+        self.has_checks = any(self.memory[at:at + 4] == FAILED_CHECK for at in range(0, len(self.memory), 4))  # whether the enclave calls `check`
         self.objects = Objects(self.enclave, symbols, variables, self.contexts)
         sizes = {symbol.address: symbol.size for symbol in self.objects.own if symbol.is_function}
         self.functions: Set[int] = set(sizes)  # the entries of the functions that symbols name
@@ -203,7 +203,7 @@ def conditional(texts: Sequence[str], symbols: Symbols) -> Tuple[List[str], List
     always: List[str] = []
     conditions: List[Tuple[Public, int]] = []
     for text in texts:
-        what, condition, value = text.partition(ANSWER_IS)
+        what, condition, value = text.partition(ANSWER_CONDITION)
         if not condition:
             always.append(text)
             continue
