@@ -14,12 +14,13 @@ if TYPE_CHECKING:
     from rvlook.symbolic.fields import AnyState as State
     from rvlook.symbolic.search import Search
 
-MAX_WORDS = 40  # words of one kind about which facts are proposed
-MAX_ARRAY_ELEMENTS = 16  # elements of an array of bytes or half-words about which facts are proposed
-MAX_WORD_DISTANCE = 16  # bytes between two words in memory about whose sum and order facts are proposed
-MAX_BOUND_OPERATIONS = 1000  # operations of a bound that is an expression
-MAX_SIZE_BOUND = 4096  # bytes or elements of an object whose size may be a bound
-IMMEDIATE_END = 2048  # the end of the positive immediates of an instruction
+# Limits of the facts that are proposed.
+MAX_WORDS = 40  # how many new words, and how many words to relate them to, may have facts at once
+MAX_ARRAY_ELEMENTS = 16  # the elements of a longer array of bytes or half-words have no facts
+MAX_WORD_DISTANCE = 16  # the sum and the order of two words in memory are bounded only up to this distance in bytes
+MAX_BOUND_OPERATIONS = 1000  # the most operations of a bound that is an expression
+MAX_SIZE_BOUND = 4096  # larger sizes of objects, in bytes or elements, are not tried as bounds
+IMMEDIATE_END = 2048  # the positive immediates of an instruction are less than this number
 WORD_BYTES = 4  # bytes
 Assumed = Tuple[List[Node], Dict[str, int]]  # conditions, and values for which they hold
 

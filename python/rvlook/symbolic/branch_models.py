@@ -29,14 +29,14 @@ MAX_PATH_STEPS = 30000  # the most steps of a path
 MAX_LOOP_ROUNDS = 4  # the most rounds of a loop in which a path proposes models
 MAX_MODELS_PER_TRACE = 24  # the most models of a trace that become new traces
 MAX_TRACES = 16  # the most traces that are executed with expressions
-QUERY_TIMEOUT_MS = 2000  # milliseconds of a query
-PATH_SECONDS = 60.0  # the seconds of a path
-JOINED_GAP = 8  # bytes; two changed bytes that are closer to each other are changed at once, with the bytes between them
-Pair = Tuple[int, int]  # a branch, and the pc after it
+QUERY_TIMEOUT_MS = 2000  # milliseconds of a query to z3
+PATH_SECONDS = 60.0  # the time limit for one path
+JOINED_GAP = 8  # two changed bytes less than this number of bytes apart become one change, with the bytes between them
+Pair = Tuple[int, int]  # the pc of a branch, and the pc of the step after it
 
 
 class Model:
-    """Values for the inputs of a path, by which it takes its branches."""
+    """Values for the inputs of a path that turn its last branch, or move its last access."""
 
     def __init__(self, state: AnyState, values: Mapping[str, int], pair: Optional[Pair] = None) -> None:
         self.loads: List[Load] = state.loads[:]
@@ -90,32 +90,35 @@ class BranchModels:
     """Proposes inputs for the traces of a search of `inputs`. There are no proposals if z3 is missing."""
 
     def __init__(self) -> None:
-        self.left = MAX_TRACES  # traces that may still be executed
+        self.remaining_traces = MAX_TRACES  # how many traces may still be executed with expressions
 
     def __call__(self, search: InputSearch, trace: Trace) -> Iterator[Child]:
-        """Yields the trace with inputs that turn a branch which no trace has turned, and with inputs for the borders of objects."""
-        if self.left <= 0:
+        """Yields new traces: `trace` with inputs that turn a branch as no trace has turned it, and with inputs that move an access to the border of
+        its object."""
+        if self.remaining_traces <= 0:
             return
-        self.left -= 1
+        self.remaining_traces -= 1
         path = path_of(search, trace)
         if path is None:  # z3 is missing
             return
         first_pcs = [activation.pcs[:1] for activation in path.world.own_activations]
-        if first_pcs != [trace.pcs[visit.first:visit.first + 1].tolist() for visit in trace.visits]:
-            return  # a timer interrupt, after which an activation begins elsewhere
-        count = 0
+        first_pcs_of_trace = [trace.pcs[visit.first:visit.first + 1].tolist() for visit in trace.visits]
+        if first_pcs != first_pcs_of_trace:
+            return  # after a timer interrupt, an activation begins elsewhere
+        child_count = 0
         for model in path.models:
             if model.pair is not None and (model.pair in search.judge.seen.pairs or compares_memory(search, trace, model.index)):
                 continue
             child = child_of(search, trace, path.world, model)
-            if child is not None and count < MAX_MODELS_PER_TRACE:
-                count += 1
+            if child is not None and child_count < MAX_MODELS_PER_TRACE:
+                child_count += 1
                 yield child
 
 
 def compares_memory(search: InputSearch, trace: Trace, index: int) -> bool:
-    """Returns whether the branch at a step compares an input with memory of the enclave, which the host does not know."""
-    return any(search.reader.is_private(trace, index, source) for source in search.tracer.code[trace.pcs[index]].sources)
+    """Returns whether the branch in the step `index` of a trace compares an input with memory of the enclave, which the host does not know."""
+    source_registers = search.tracer.code[trace.pcs[index]].sources
+    return any(search.reader.is_private(trace, index, source) for source in source_registers)
 
 
 def path_of(search: InputSearch, trace: Trace) -> Optional[TracePath]:
@@ -134,7 +137,8 @@ def path_of(search: InputSearch, trace: Trace) -> Optional[TracePath]:
 
 
 def child_of(search: InputSearch, trace: Trace, world: World, model: Model) -> Optional[Child]:
-    """Returns a trace with the values of a model at the entries of its activations. Returns None if the trace has these values already."""
+    """Returns a new trace in which the host writes the values of a model to the window at the entries of the activations. Returns None if the trace
+    has these values already."""
     changes = trace.changes
     first: Optional[int] = None  # the first step of the first activation whose values change
     for number, values in sorted(values_of(world, model).items()):
@@ -144,21 +148,23 @@ def child_of(search: InputSearch, trace: Trace, world: World, model: Model) -> O
         for at, data in ranges_of(values, world, number):
             offset = at - world.window[0]
             old = world.windows[number][offset:offset + len(data)]
-            changes = with_change(changes, Change(trace.steps[visit.first] - 1, at, data, 0, search.values.name(at), old.hex()))
+            step_before_entry = trace.steps[visit.first] - 1
+            changes = with_change(changes, Change(step_before_entry, at, data, name=search.values.name(at), old=old.hex()))
     return None if first is None else Child(changes, first)
 
 
 def values_of(world: World, model: Model) -> Dict[int, Dict[int, int]]:
-    """Returns the bytes of the loads of the window that differ from those of the run, by activation (counted from 0) and address."""
-    found: Dict[int, Dict[int, int]] = {}
+    """Returns the values in a model of the bytes that the path loads from the window, by activation (counted from 0) and address. Leaves out a load
+    whose bytes are all those of the run."""
+    values_by_activation: Dict[int, Dict[int, int]] = {}
     low, high = world.window
-    for step, at, names in model.loads:
-        number = sum(end < step for end in model.leaving_steps)
-        first = evaluate(at, model.values)
+    for step, load_address, names in model.loads:
+        number = sum(end < step for end in model.leaving_steps)  # of the activation: how often the enclave has left before the load
+        first = evaluate(load_address, model.values)
         data = {first + n: model.values[name] for n, name in names if low <= first + n < high}
         if number < len(world.windows) and any(world.windows[number][at - low] != value for at, value in data.items()):
-            found.setdefault(number, {}).update(data)
-    return found
+            values_by_activation.setdefault(number, {}).update(data)
+    return values_by_activation
 
 
 def ranges_of(values: Mapping[int, int], world: World, number: int) -> List[Tuple[int, bytes]]:

@@ -17,7 +17,7 @@ if TYPE_CHECKING:
     from rvlook.symbolic.state import State
 
 MAX_UNKNOWN_VALUES = 16  # the most values of an unknown; one with more values may have any value
-COMPARED_BLOCK_BYTES = 64  # bytes of two memories that are compared at once
+COMPARED_BLOCK_BYTES = 64  # two memories are compared in blocks of so many bytes
 Cell = Any  # an int, a Node, or an unknown (int, Optional[FrozenSet[int]])
 
 
@@ -42,7 +42,7 @@ def is_unknown_word(cells: Dict[Place, Cell], at: Place) -> bool:
 
 
 def sums_among(facts: Iterable[Fact], cells: Dict[Place, Cell]) -> Dict[Place, Fact]:
-    """Returns the facts that unknown words are sums of other words, by the place of the sum."""
+    """Returns the facts of the kind SUM_OF_WORDS about words that may have any value, by the place of the word that is the sum."""
     return {fact.x: fact for fact in facts if fact.kind == SUM_OF_WORDS and is_unknown_word(cells, fact.x)}
 
 
@@ -68,23 +68,23 @@ def changed_bytes(one: bytes, two: bytes, base: int) -> List[int]:
     """Returns the addresses at which two memories of equal size differ. Both begin at `base`."""
     if one == two:
         return []
-    found: List[int] = []
+    changed: List[int] = []
     for start in range(0, len(one), COMPARED_BLOCK_BYTES):
         end = start + COMPARED_BLOCK_BYTES
         if one[start:end] != two[start:end]:
-            found += [base + n for n in range(start, end) if one[n] != two[n]]
-    return found
+            changed += [base + n for n in range(start, end) if one[n] != two[n]]
+    return changed
 
 
 def values_of(node: Byte) -> Optional[FrozenSet[int]]:
     """Returns the numbers among which conditions choose a byte. Returns None if there are more than MAX_UNKNOWN_VALUES, or if the byte may also be an
     expression."""
-    found: Set[int] = set()
+    values: Set[int] = set()
     stack: List[Byte] = [node]
-    while stack and len(found) <= MAX_UNKNOWN_VALUES:
+    while stack and len(values) <= MAX_UNKNOWN_VALUES:
         top = stack.pop()
         if type(top) is int:
-            found.add(top)
+            values.add(top)
         elif top.op == "ite8":
             stack += top.args[1:]
         elif top.op == "byte" and top.args[0].op == "ite":
@@ -92,7 +92,7 @@ def values_of(node: Byte) -> Optional[FrozenSet[int]]:
             stack += [byte(word, n) for word in choice.args[1:]]
         else:
             return None
-    return frozenset(found) if len(found) <= MAX_UNKNOWN_VALUES else None
+    return frozenset(values) if len(values) <= MAX_UNKNOWN_VALUES else None
 
 
 def taint_of(state: State, node: Node) -> int:

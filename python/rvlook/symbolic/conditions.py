@@ -22,46 +22,51 @@ def eq(x: Word, y: Word) -> Condition:
 
 
 def equals_number(x: Node, y: int) -> Condition:
-    """Returns the condition that a node has a value."""
-    if y & ~x.may:
+    """Returns the condition that the node `x` has the value `y`."""
+    if y & ~x.may:  # a bit that x cannot have
         return False
     op, last = x.op, x.args[-1]
     if op == "bool":
         return x.args[0] if y else not_(x.args[0])
     if op == "ite":
-        known = divided(x.args[0], eq(x.args[1], y), eq(x.args[2], y))
-        return make("eq", (x, y), 1) if known is None else known
+        by_cases = divided(x.args[0], eq(x.args[1], y), eq(x.args[2], y))
+        return make("eq", (x, y), 1) if by_cases is None else by_cases
     if op in ("add", "xor") and type(last) is int:
         return eq(x.args[0], y - last & M32 if op == "add" else y ^ last)
     if y == 0 and op in ("xor", "sub"):
         return eq(*x.args)
-    if op == "mul" and type(last) is int and last & 1:
+    if op == "mul" and type(last) is int and last & 1:  # an odd factor has an inverse
         return eq(x.args[0], y * inverse_of(last) & M32)
     if is_shifted(x):
         return eq(x.args[0], unshifted(y, last.args[1]))
     return word_equals(x, y) if op == "word" else make("eq", (x, y), 1)
 
 
-def divided(condition: Node, one: Condition, two: Condition) -> Optional[Condition]:
-    """Returns the condition `one` if `condition` holds, else `two`. Returns None if both are nodes."""
-    if type(one) is bool and type(two) is bool:
-        if one == two:
-            return one
-        return condition if one else not_(condition)
-    if type(one) is bool:
-        return any_of(condition, two) if one else all_of(not_(condition), two)
-    if type(two) is bool:
-        return any_of(not_(condition), one) if two else all_of(condition, one)
+def divided(condition: Node, if_true: Condition, if_false: Condition) -> Optional[Condition]:
+    """Returns the condition that is `if_true` if `condition` holds, else `if_false`. Returns None if both are nodes, since nothing is simplified
+    then."""
+    if type(if_true) is bool and type(if_false) is bool:
+        if if_true == if_false:
+            return if_true
+        return condition if if_true else not_(condition)
+    if type(if_true) is bool:
+        return any_of(condition, if_false) if if_true else all_of(not_(condition), if_false)
+    if type(if_false) is bool:
+        return any_of(not_(condition), if_true) if if_false else all_of(condition, if_true)
     return None
 
 
 def word_equals(x: Node, y: int) -> Condition:
-    """Returns the condition that a word of bytes has a value. A constant byte that differs decides it."""
+    """Returns the condition that `x`, a node of four bytes, has the value `y`. It is False if a byte that is a number differs. If only one byte is a
+    node, it is a condition on this byte."""
     wanted = [y >> 8 * n & 255 for n in range(4)]
-    if any(type(part) is int and part != expected for part, expected in zip(x.args, wanted)):
+    if any(type(content) is int and content != expected for content, expected in zip(x.args, wanted)):
         return False
-    parts = [n for n in range(4) if type(x.args[n]) is Node]
-    return make("eq8", (x.args[parts[0]], wanted[parts[0]]), 1) if len(parts) == 1 else make("eq", (x, y), 1)
+    node_indices = [n for n in range(4) if type(x.args[n]) is Node]
+    if len(node_indices) == 1:
+        n = node_indices[0]
+        return make("eq8", (x.args[n], wanted[n]), 1)
+    return make("eq", (x, y), 1)
 
 
 def equals_node(x: Node, y: Node) -> Condition:
@@ -88,12 +93,12 @@ def inverse_of(odd: int) -> int:
 
 
 def is_shifted(x: Node) -> bool:
-    """Returns whether a word is the exclusive or of another one and of that shifted right, a bijection. The operands are in the order of their
-    numbers, so the shifted one, which is younger, is the second."""
+    """Returns whether a node is z ^ z >> n with a number n, which is a bijection of z. The operands of a node are in the order of their numbers.
+    Therefore z is the first operand, and the shifted word, which is younger, is the second."""
     if x.op != "xor":
         return False
-    two = x.args[1]
-    return type(two) is Node and two.op == "srl" and two.args[0] is x.args[0] and type(two.args[1]) is int
+    original, shifted = x.args
+    return type(shifted) is Node and shifted.op == "srl" and shifted.args[0] is original and type(shifted.args[1]) is int
 
 
 def unshifted(y: int, n: int) -> int:
@@ -127,8 +132,8 @@ def ult(x: Word, y: Word) -> Condition:
 
 
 def by_choice(compare: Callable[[Word, Word], Condition], x: Word, y: Word) -> Optional[Condition]:
-    """Returns a comparison of a choice with a number, if at least one of the two cases is known; else None. `compare` makes the comparison of two
-    words."""
+    """Returns the comparison of a choice with a number, if the comparison of at least one of the two cases is True or False. Else returns None.
+    `compare` is `ult` or `lt`."""
     if type(y) is int and x.op == "ite":
         return divided(x.args[0], compare(x.args[1], y), compare(x.args[2], y))
     if type(x) is int and y.op == "ite":
@@ -153,31 +158,31 @@ RULES.update({"slt": lambda x, y: bool_(lt(x, y)), "sltu": lambda x, y: bool_(ul
 
 def all_of(*conditions: Condition) -> Condition:
     """Returns the conjunction of conditions."""
-    left = [condition for condition in conditions if condition is not True]
-    if any(condition is False for condition in left):
+    terms = [condition for condition in conditions if condition is not True]
+    if any(condition is False for condition in terms):
         return False
-    if len(left) > 1:
-        left = distinct(left)
-    if not left:
+    if len(terms) > 1:
+        terms = distinct(terms)
+    if not terms:
         return True
-    return left[0] if len(left) == 1 else make("and1", tuple(left), 1)
+    return terms[0] if len(terms) == 1 else make("and1", tuple(terms), 1)
 
 
 def distinct(conditions: List[Node]) -> List[Node]:
-    """Returns the parts of conditions, each once. A looser bound of a word by a number is left out."""
-    distinct_conditions: Dict[Any, Node] = {}
+    """Returns the terms of a conjunction of conditions, each once. If several of them bound one word by numbers, returns only the strictest."""
+    distinct_terms: Dict[Any, Node] = {}
     for condition in conditions:
-        for part in condition.args if condition.op == "and1" else (condition,):
-            key, n = bound_of(part)
-            old = distinct_conditions.get(key)
-            if old is None or n > bound_of(old)[1]:
-                distinct_conditions[key] = part
-    return list(distinct_conditions.values())
+        for term in condition.args if condition.op == "and1" else (condition,):
+            key, strictness = bound_of(term)
+            old = distinct_terms.get(key)
+            if old is None or strictness > bound_of(old)[1]:
+                distinct_terms[key] = term
+    return list(distinct_terms.values())
 
 
 def bound_of(condition: Node) -> Tuple[Any, int]:
-    """Returns what a condition bounds, a word and whether from above, and a number that is the greater the stricter the bound is. Returns the
-    condition and 0 for another condition."""
+    """Returns a key and a strictness. The key of a bound by a number is the word and whether the bound is an upper one. The strictness is the greater
+    the stricter the bound is. Any other condition has itself as the key, and the strictness 0."""
     is_not = condition.op == "not"
     compared = condition.args[0] if is_not else condition
     if compared.op != "ult":
@@ -205,8 +210,9 @@ def within(x: Word, low: int, last: int) -> Condition:
     if last < low:
         return False
     if type(x) is Node and x.op == "add" and type(x.args[1]) is int:
-        most = x.args[1] + x.args[0].may
-        if low <= x.args[1] and most <= last and most <= M32:
+        node, constant = x.args
+        largest = constant + node.may
+        if low <= constant and largest <= last and largest <= M32:
             return True
     return all_of(not_(ult(x, low)), not_(ult(last, x)))
 
@@ -231,7 +237,8 @@ tables: Dict[Tuple[Byte, ...], Table] = {}  # all tables, by content
 
 
 def element(at: Word, low: int, content: Tuple[Byte, ...]) -> Byte:
-    """Returns the byte of an object at an address. The object begins at `low`; the caller makes sure that the address is inside."""
+    """Returns the byte at the address `at` of an object, whose first address is `low` and whose bytes are `content`. The caller makes sure that the
+    address is inside."""
     table = tables.get(content)
     if table is None:
         table = tables[content] = Table(content)

@@ -11,30 +11,30 @@ if TYPE_CHECKING:
     from rvlook.symbolic.replay import Replayed
     from rvlook.symbolic.search import Search
 
-PAIRS = ("pc", "address", "operand", "window", "answer")  # kinds of findings with two secrets
-CONFIRMED = "confirmed"  # the beginning of the answer if the replay shows the finding,
-DIFFERS = "NOT CONFIRMED: "  # or does not show it
+PAIRS = ("pc", "address", "operand", "window", "answer")  # kinds of findings with two secrets, each of which is replayed
+CONFIRMED = "confirmed"  # how the result of `confirm` begins if the replay shows the finding
+DIFFERS = "NOT CONFIRMED: "  # how it begins if the replay does not show the finding
 
 
 def confirm(search: Search, example: Counterexample) -> str:
-    """Replays a finding. Returns what the replay shows, or an empty text if the time is over before its end."""
-    one = search.replayer.go(example.pcs, example, example.one, is_whole=False, is_endless=example.what == "stuck")
-    example.log = one.log
-    if one.is_late:
+    """Replays a finding. Returns a text about what the replay shows, or an empty text if the time is over before the end of the replay."""
+    replayed = search.replayer.go(example.pcs, example, example.one, is_whole=False, is_endless=example.what == "stuck")
+    example.log = replayed.log
+    if replayed.is_late:
         return ""
-    if one.wrong:
-        return DIFFERS + one.wrong
+    if replayed.wrong:
+        return DIFFERS + replayed.wrong
     if example.what == "stuck":
-        return confirm_endless(one)
+        return confirm_endless(replayed)
     if example.what in PAIRS and example.two is not None:
-        return confirm_pair(search, example, one)
-    if example.what == "fault" and example.text.startswith("traps") and one.trap == "-":
+        return confirm_pair(search, example, replayed)
+    if example.what == "fault" and example.text.startswith("traps") and replayed.trap == "-":
         return DIFFERS + "the step does not trap"
     if example.address is not None:
-        reached = observed(search.world.word_at(example.pc), one.regs)[0]
-        predicted = evaluate(example.address, example.one)
-        if reached != predicted:
-            return DIFFERS + "the access is at %08x, predicted %08x" % (reached, predicted)
+        accessed_address = observed(search.world.word_at(example.pc), replayed.regs)[0]
+        predicted_address = evaluate(example.address, example.one)
+        if accessed_address != predicted_address:
+            return DIFFERS + "the access is at %08x, predicted %08x" % (accessed_address, predicted_address)
     return CONFIRMED
 
 

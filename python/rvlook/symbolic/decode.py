@@ -6,9 +6,9 @@ from typing import Callable, Dict, NamedTuple
 
 from rvlook.symbolic.nodes import M32, signed
 
-BRANCHES = {0: "beq", 1: "bne", 4: "blt", 5: "bge", 6: "bltu", 7: "bgeu"}
-LOADS = {0: (1, True), 1: (2, True), 2: (4, False), 4: (1, False), 5: (2, False)}  # by funct3: the bytes, and whether the sign is extended
-STORES = {0: 1, 1: 2, 2: 4}  # by funct3: the bytes
+BRANCHES = {0: "beq", 1: "bne", 4: "blt", 5: "bge", 6: "bltu", 7: "bgeu"}  # by funct3
+LOADS = {0: (1, True), 1: (2, True), 2: (4, False), 4: (1, False), 5: (2, False)}  # by funct3: how many bytes, and whether the sign is extended
+STORES = {0: 1, 1: 2, 2: 4}  # by funct3: how many bytes
 SHIFTS = {(1, 0): "sll", (5, 0): "srl", (5, 32): "sra"}  # by funct3 and funct7: shifts of a register by an immediate
 IMMEDIATE = {0: "add", 2: "slt", 3: "sltu", 4: "xor", 6: "or", 7: "and"}  # by funct3: other operations on an immediate
 REGISTER = {  # by funct3 and funct7: operations on two registers, but for multiplications and divisions
@@ -16,8 +16,8 @@ REGISTER = {  # by funct3 and funct7: operations on two registers, but for multi
     (7, 0): "and"}
 MULDIV = 1  # funct7 of multiplications and divisions
 MULDIVS = ("mul", "mulh", "mulhsu", "mulhu", "div", "divu", "rem", "remu")  # by funct3
-DIVISIONS = MULDIVS[4:]
-PRIVILEGED = {0x73: "ecall", 0x100073: "ebreak", 0x10200073: "sret", 0x10500073: "wfi"}
+DIVISIONS = MULDIVS[4:]  # div, divu, rem and remu
+PRIVILEGED = {0x73: "ecall", 0x100073: "ebreak", 0x10200073: "sret", 0x10500073: "wfi"}  # by instruction word
 SFENCE = 9  # funct7 of sfence.vma
 CSR_ACCESSES = {1: "w", 2: "s", 3: "c"}  # by the lower bits of funct3: write, set bits, clear bits
 

@@ -7,7 +7,7 @@ from rvlook.symbolic.evaluation import value_of
 from rvlook.symbolic.nodes import M32, Node, mask_of, operands
 
 BYTE_VALUES = 256  # the number of values of a byte
-MAX_NEW_OPERATIONS = 400  # operations of a condition that is tried, apart from those that were tried before
+MAX_NEW_OPERATIONS = 400  # a condition is not tried if it has more operations whose values are not known yet
 
 
 class Domains:
@@ -18,7 +18,8 @@ class Domains:
         self.sets: Dict[Node, int] = {}  # the values for which a condition holds
 
     def set_of(self, condition: Node) -> Optional[int]:
-        """Returns the values of its byte for which a condition holds; None if it has not one byte, or is too long to be tried."""
+        """Returns the set of the values of its byte for which a condition holds. Returns None if the condition is not about exactly one byte, or is
+        too long to be tried."""
         set_of_values = self.sets.get(condition)
         if set_of_values is None:
             mask = mask_of(condition)
@@ -42,7 +43,7 @@ class Domains:
         return len(new) <= MAX_NEW_OPERATIONS
 
     def values(self, node: Node) -> List[Any]:
-        """Returns the values of a node that depends on one byte, for each value of it."""
+        """Returns the values of a node that depends on one byte: a list with the value of the node for each value of the byte."""
         lists = self.value_lists
         stack = [node]  # nodes that need values, after their operands
         while stack:
@@ -59,12 +60,12 @@ class Domains:
         return lists[node]
 
     def compute(self, node: Node) -> List[Any]:
-        """Returns the values of an operation whose operands have values."""
+        """Returns the list of values of an operation, for whose operands `value_lists` has the values."""
         rows = [self.value_lists[operand] if type(operand) is Node else [operand] * BYTE_VALUES for operand in node.args]
         return [value_of(node.op, row) for row in zip(*rows)]
 
     def look_up(self, node: Node) -> List[int]:
-        """Returns the values of a byte of a table; 0 outside."""
+        """Returns the list of values of a table node: the byte at its address, 0 outside the table."""
         at, low, table = node.args
         values = []
         for n, place in enumerate(self.value_lists[at] if type(at) is Node else [at] * BYTE_VALUES):
@@ -84,15 +85,17 @@ class Domains:
                 is_whole = False
                 continue
             mask = mask_of(part)
-            left = sets[mask][1] & allowed if mask in sets else allowed
-            if not left:
+            if mask in sets:
+                _, allowed_before = sets[mask]
+                allowed &= allowed_before
+            if not allowed:
                 return False, {}
-            sets[mask] = part, left
+            sets[mask] = part, allowed
         return (True if is_whole else None), dict(sets.values())
 
 
 def parts_of(conditions: Sequence[Node]) -> List[Node]:
-    """Returns conditions, with the parts of each conjunction in its place."""
+    """Returns conditions with each conjunction replaced by its terms."""
     parts: List[Node] = []
     for condition in conditions:
         if condition.op == "and1":

@@ -13,17 +13,18 @@ if TYPE_CHECKING:
     from rvlook.symbolic.fields import AnyState
     from rvlook.symbolic.search import Search
 
-TRIALS = 8  # the number of trials of a loop with the values of one model, to see whether it ends
-TRIAL_STEPS = 20000  # the number of steps of each trial
-TRIAL_ROUNDS = (8, 16, 32)  # rounds after which the first trials are made; the last one is made at the bound
-FINAL_STEPS = 2000  # steps of an endless loop that is noticed at the end of a long path
+# A trial executes a loop with the values of one model, to see whether the loop ends.
+TRIALS = 8  # the most trials of one loop
+TRIAL_STEPS = 20000  # the most steps of a trial
+TRIAL_ROUNDS = (8, 16, 32)  # the rounds of a loop after which trials are made; another trial is made after --bound rounds
+FINAL_STEPS = 2000  # how many steps a long path is followed further, to see whether its state repeats
 
 
 class Mark(NamedTuple):
-    """The state of a path at a branch."""
+    """The state of a path at a branch, to compare it with the state at the same branch later."""
     regs: List[Any]  # x0 to x31
     counts: Tuple[int, int]  # the numbers of inputs and of activations so far
-    rest: Any  # the rest of the state (`rest_of`); None if the registers were other ones the time before
+    rest: Any  # the state without x0 to x31 (`rest_of`); None if the registers had other values the time before
 
 
 def rest_of(state: AnyState) -> Tuple[Any, ...]:
@@ -39,8 +40,8 @@ class Endless:
         self.search = search
 
     def at_branch(self, state: AnyState) -> None:
-        """Compares the state of a path at a branch on an expression with its state there the last time. If they are equal, reports and ends the path.
-        The memory is compared only if the registers are equal."""
+        """Compares the state of a path at a branch on an expression with its state there the last time. If both are equal, the path is in an endless
+        loop: reports and ends it. The memory is compared only if the registers are equal."""
         key = state.pc, state.context
         counts = state.input_count, state.activation
         old = state.branch_states.get(key)
@@ -58,7 +59,7 @@ class Endless:
         raise PathEnded(FINDING_REPORTED)
 
     def at_end(self, state: AnyState) -> None:
-        """Follows a long path for some steps. If its state repeats, reports and ends the path."""
+        """Follows a long path for FINAL_STEPS further steps. If its state repeats without an input or an answer, reports and ends the path."""
         seen: Set[Any] = set()  # the states at the first pc
         first = state.pc
         loads = len(state.loads)
@@ -72,8 +73,8 @@ class Endless:
             state.step()
 
     def try_numbers(self, state: AnyState, tries: Dict[int, int]) -> None:
-        """Follows a loop with the values of one model in a copy of a state. If the copy repeats without an input, reports the path. `tries` has the
-        number of trials of each loop, by pc."""
+        """Follows a loop in a copy of a state, in which the values of the model replace all expressions. If the state of the copy repeats without an
+        input, reports the path. `tries` counts the trials of each loop, by pc."""
         search = self.search
         if state.is_merged or search.is_trial or tries.get(state.pc, 0) >= TRIALS or ("stuck", state.pc) in search.findings:
             return
@@ -94,7 +95,7 @@ class Endless:
             search.report("stuck", state, "never returns", state.model)
 
     def repeats(self, trial: AnyState) -> bool:
-        """Returns whether a state of numbers repeats without an input."""
+        """Executes steps of `trial`, a state without expressions. Returns whether the state repeats without an input."""
         seen: Set[Any] = set()  # the states at the first pc
         loads = len(trial.loads)
         first = trial.pc

@@ -38,7 +38,7 @@ def evaluate(node: Word, model: Model, memo: Optional[Dict[Node, Any]] = None) -
 
 
 def step(node: Node, memo: Dict[Node, Any], stack: List[Node]) -> None:
-    """Adds the value of a node to `memo` if the values of its operands are known, else adds one of the operands to the stack."""
+    """Adds the value of a node to `memo` if `memo` has the values of its operands. Else adds one of the operands to the stack."""
     values = []
     for operand in node.args:
         if type(operand) is Node:
@@ -71,12 +71,12 @@ def table_value(node: Node, memo: Dict[Node, Any]) -> int:
 
 
 def value_of(op: str, values: Sequence[Any]) -> Any:
-    """Returns the value of an operation on values."""
+    """Returns the result of an operation on the values of its operands."""
     function = VALUES.get(op)
     return function(values) if function else concrete(op, values[0], values[1])
 
 
-VALUES: Dict[str, Any] = {  # the value of an operation on the values `v` of its operands; `nodes.NUMBERS` has the operations on two words
+VALUES: Dict[str, Any] = {  # by operation: returns the result for the values `v` of its operands; `nodes.NUMBERS` has the operations on two words
     "word": lambda v: v[0] | v[1] << 8 | v[2] << 16 | v[3] << 24,
     "byte": lambda v: v[0] >> 8 * v[1] & 255,
     "eq": lambda v: v[0] == v[1],
@@ -95,8 +95,8 @@ VALUES: Dict[str, Any] = {  # the value of an operation on the values `v` of its
 # ---- known values
 
 def rebuilt(node: Word, values: Mapping[Node, int], memo: Dict[Node, Any]) -> Any:
-    """Returns a node with values for some variables, simplified again. `memo` has the results that are known for these values; the function adds
-    more."""
+    """Returns a node in which some variables are replaced by their `values`, simplified again. `memo` caches the results for these values: the
+    function adds more."""
     if type(node) is not Node:
         return node
     stack = [node]
@@ -116,7 +116,7 @@ def rebuilt(node: Word, values: Mapping[Node, int], memo: Dict[Node, Any]) -> An
 
 
 def remade(node: Node, memo: Mapping[Node, Any]) -> Any:
-    """Returns a node whose operands are rebuilt: `memo` has the results for them."""
+    """Returns a node with its operands replaced by the results that `memo` has for them, simplified again."""
     if node.op == "table":
         at, low, table = node.args
         at = memo[at] if type(at) is Node else at
@@ -130,7 +130,7 @@ def remade(node: Node, memo: Mapping[Node, Any]) -> Any:
     return maker(values) if maker else operation(node.op, *values)
 
 
-MAKERS: Dict[str, Any] = {  # makes an operation of its operands `a`; `words.operation` makes the operations on two words
+MAKERS: Dict[str, Any] = {  # by operation: makes the node for the operands `a`; `words.operation` makes the operations on two words
     "word": lambda a: word(*a),
     "byte": lambda a: byte(*a),
     "eq": lambda a: eq(*a),

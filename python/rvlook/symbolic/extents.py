@@ -13,15 +13,15 @@ if TYPE_CHECKING:
     from rvlook.symbolic.world import World
 
 SP = 2  # the number of the register
-MAX_MEMBER_BYTES = 65536  # bytes; a member that begins further before an address is not searched
+MAX_MEMBER_BYTES = 65536  # a member that begins further before an address than this number of bytes is not found
 Bounds = Tuple[int, int]  # the first address, and the end
 
 
 class LocalVariable(NamedTuple):
-    """A local variable of a function."""
-    first: int  # the first instruction for which it is at this place
+    """A local variable of a function, in a range of instructions."""
+    first: int  # the pc of the first instruction for which the variable is at this place
     end: int  # the end of these instructions
-    is_sp: bool  # whether its offsets are from sp, and not from the end of the frame
+    is_sp: bool  # whether the offsets count from sp; else they count from the end of the frame
     low: int  # the offset of its first byte
     high: int  # the offset of its end
     name: str
@@ -40,7 +40,7 @@ class Extent(NamedTuple):
         return self.low, self.high
 
     def has(self, at: int, width: int) -> bool:
-        """Returns whether an access stays inside."""
+        """Returns whether an access of `width` bytes at an address stays in the object."""
         return self.low <= at and at + width <= self.high
 
 
@@ -53,7 +53,7 @@ class Frame(NamedTuple):
 
 
 class Extents:
-    """The objects of an enclave."""
+    """Finds the objects of an enclave by address."""
 
     def __init__(self, world: World) -> None:
         self.world = world
@@ -67,7 +67,8 @@ class Extents:
         self.reaches: Dict[Member, int] = {}  # the size of the largest object that begins with a member
 
     def stack_of(self, sp: int) -> Bounds:
-        """Returns the stack to which a stack pointer belongs; the part above all variables if the symbols do not say it."""
+        """Returns the bounds of the stack to which a stack pointer belongs. If no symbol names this stack, it is the part of the region above all
+        variables."""
         for stack in self.stacks:
             if stack.bottom < sp <= stack.top:
                 return stack.bottom, stack.top
@@ -83,9 +84,10 @@ class Extents:
             high = symbol.address + symbol.size if symbol.size else end
             is_start = address == symbol.address or address in self.member_starts
             return Extent(symbol.address, high, self.objects.fixed_at(address).name, is_start)
-        last = self.region_symbols[index - 1] if index else None
-        low = last.address + last.size if last else self.world.region[0]
-        return Extent(low, max(end, address + 1), "the data after %s" % last.name if last else "the data", is_start=False)
+        symbol_before = self.region_symbols[index - 1] if index else None
+        low = symbol_before.address + symbol_before.size if symbol_before else self.world.region[0]
+        name = "the data after %s" % symbol_before.name if symbol_before else "the data"
+        return Extent(low, max(end, address + 1), name, is_start=False)
 
     def member_at(self, address: int) -> Optional[Member]:
         """Returns the member of a variable at an address below the stacks, or None without DWARF."""
@@ -98,14 +100,14 @@ class Extents:
         return None
 
     def begins_other_member(self, target: int, base: int) -> bool:
-        """Returns whether a member begins at the address `target`, and the address `base` is outside it."""
+        """Returns whether a member begins at the address `target`, and the address `base` is outside this member."""
         member = self.member_at(target) if target < self.objects.stack else None
         return member is not None and member.at == target and not member.at <= base < member.at + member.size
 
     # ---- frames
 
     def frames(self, state: State) -> Iterator[Frame]:
-        """Yields the frames of a state, the innermost first."""
+        """Yields the stack frames of the open calls of a state, the innermost first."""
         call = state.call
         sp = state.regs[SP]
         pc = state.pc
@@ -122,8 +124,8 @@ class Extents:
         return caller_sp if sp <= caller_sp <= top else top
 
     def object_at(self, state: State, address: int, origin: Optional[Origin] = None) -> Optional[Extent]:
-        """Returns the object at an address; None outside region and window, and between two frames. Which local variable of a frame is there depends
-        on the pc: that of `origin` if the same call has computed it, else that at which the call is."""
+        """Returns the object at an address. Returns None outside region and window, and between two frames. The local variables of a frame depend on
+        a pc. If the call of this frame has computed `origin`, this is the pc of the origin, else the present pc of the call."""
         world = self.world
         if world.window[0] <= address < world.window[1]:
             return Extent(*world.window, name="the window", is_start=True)
@@ -143,24 +145,26 @@ class Extents:
         """Returns the local variable at an address in a frame, a saved register, or the bytes between these. `pc` is the instruction that has
         computed the address."""
         function = self.world.symbols.function(pc) or "%08x" % pc
-        parts = [(saved, saved + 4, "a saved register of " + function) for saved in state.search.saved.get(frame.call, ())]
+        # The objects in the frame: the first address, the end, and the name of each.
+        objects = [(saved, saved + 4, "a saved register of " + function) for saved in state.search.saved.get(frame.call, ())]
         for variable in self.locals:
             if variable.first <= pc < variable.end:
                 base = frame.sp if variable.is_sp else frame.top
-                parts.append((base + variable.low, base + variable.high, "%s in %s" % (variable.name, function)))
-        parts += [(area.low, area.high, "the variable-length array in " + function) for area in state.areas if area.call == frame.call]
-        for start, stop, name in parts:
-            if start <= address < stop:
-                return Extent(start, stop, name, is_start=address == start)
-        low = max([frame.sp, *(stop for _, stop, _ in parts if stop <= address)])
-        high = min([frame.top, *(start for start, _, _ in parts if start > address)])
+                objects.append((base + variable.low, base + variable.high, "%s in %s" % (variable.name, function)))
+        objects += [(area.low, area.high, "the variable-length array in " + function) for area in state.areas if area.call == frame.call]
+        for start, end, name in objects:
+            if start <= address < end:
+                return Extent(start, end, name, is_start=address == start)
+        low = max([frame.sp, *(end for _, end, _ in objects if end <= address)])
+        high = min([frame.top, *(start for start, _, _ in objects if start > address)])
         return Extent(low, high, "the frame of " + function, is_start=False)
 
 
 def variables_of(members: Sequence[Local]) -> List[LocalVariable]:
-    """Returns the local variables as a whole: members of one variable are joined. A variable with the same name as the one before is another variable
-    if it has no members, or if its offset is less than that of the member before."""
-    found: Dict[Tuple[int, int, bool, str, int], Bounds] = {}  # the offsets of each variable, by its instructions, its base, its name and a number
+    """Returns the local variables as a whole: joins the members of one variable. An entry with the same name as an earlier one is another variable if
+    it has no members, or if its offset is less than that of the member before."""
+    # The offsets of each variable, by its range of instructions, its base, its name, and a number that distinguishes variables of one name.
+    found: Dict[Tuple[int, int, bool, str, int], Bounds] = {}
     last: Dict[Tuple[int, int, bool, str], Tuple[int, int]] = {}  # the number of the last variable of a name, and the end of its last member
     for member in members:
         full_name = member.member.name

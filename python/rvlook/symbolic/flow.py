@@ -11,8 +11,8 @@ from rvlook.finders.inputs.code import LINKS
 from rvlook.symbolic.decode import decode
 from rvlook.symbolic.nodes import M32
 
-MAX_INSTRUCTIONS = 6000  # the most instructions of a function; the control flow of a longer one is not known
-MIN_TABLE_WORDS = 3  # words of a jump table
+MAX_INSTRUCTIONS = 6000  # the control flow of a function with more instructions is not analysed
+MIN_TABLE_WORDS = 3  # fewer words in a row are not taken to be a jump table
 BackEdge = Tuple[int, int]  # a jump back: its pc, and the pc of the head of the loop
 
 
@@ -78,7 +78,8 @@ class Flows:
         return {entry: sorted(targets) for entry, targets in targets_by_entry.items()}
 
     def next_of(self, pc: int) -> Optional[Tuple[Sequence[int], bool]]:
-        """Returns the pcs to which an instruction leads in its function, and whether it is a call. Returns None outside the image."""
+        """Returns the pcs to which an instruction leads in its function, and whether it calls a function or the monitor. Returns None if the pc
+        is outside the image."""
         at = pc - self.low
         if not 0 <= at <= len(self.memory) - 4:
             return None

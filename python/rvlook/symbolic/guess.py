@@ -9,15 +9,15 @@ from rvlook.symbolic.words import may_of, not_
 
 Part = Dict[str, int]  # values of some variables
 COMPARISONS = ("eq", "eq8", "ult", "lt")
-FLIPPED_BITS = 0x55555555  # bits that are inverted for a value that differs much
-FAR_STEPS = 8  # steps to a value that leads further, such as that of a longer message
-MAX_INVERTED = 60  # operations that are inverted one after another
+FLIPPED_BITS = 0x55555555  # the bits that are flipped to try a value that differs in many bits
+FAR_STEPS = 8  # the distance of the far value that `solutions` tries, in the least steps that a word can make
+MAX_INVERTED = 60  # the most operations that are inverted one after another
 
 
 def solutions(question: Node, model: Model, memo: Dict[Node, Any], is_far: bool = False) -> Iterator[Part]:
-    """Yields values of variables for which a condition may hold. The caller evaluates the condition. `model` has the present values of all variables,
-    and `memo` the values of nodes in it. With `is_far`, values that are larger by some steps come early: a loop that goes on for one more round then
-    goes on for several."""
+    """Yields values of variables for which the condition `question` may hold. The caller must evaluate the condition. `model` has the present values
+    of all variables, and `memo` caches the values of nodes in it. With `is_far`, values that are larger by FAR_STEPS steps come early. A loop that
+    goes on for one more round then goes on for several, as for a longer message."""
     is_not = question.op == "not"
     compared = question.args[0] if is_not else question
     if compared.op == "and1":
@@ -28,21 +28,21 @@ def solutions(question: Node, model: Model, memo: Dict[Node, Any], is_far: bool 
             x = x.args[0]
         if not is_not and type(y) is int and y == 0 and x.op == "or":
             yield invert_zero_or(x, model, memo)
-        for one, two in ((x, y), (y, x)):
-            if type(one) is not Node:
+        for changed, compared_with in ((x, y), (y, x)):  # one operand keeps its value, and the other one gets a value close to it
+            if type(changed) is not Node:
                 continue
-            value = evaluate(two, model, memo)
-            step = may_of(one) & -may_of(one)  # the lowest bit that may be set: the least distance between two values
-            further = (value + FAR_STEPS * step,) if is_far else ()
-            for target in (value, *further, value + step, value - step, value ^ FLIPPED_BITS & may_of(one)):
-                part = invert(one, target & M32, model, memo)
+            value = evaluate(compared_with, model, memo)
+            step = may_of(changed) & -may_of(changed)  # the lowest bit that may be set: the least distance between two values
+            far_values = (value + FAR_STEPS * step,) if is_far else ()
+            for target in (value, *far_values, value + step, value - step, value ^ FLIPPED_BITS & may_of(changed)):
+                part = invert(changed, target & M32, model, memo)
                 if part:
                     yield part
 
 
 def parts_of_conjunction(node: Node, is_not: bool, model: Model, memo: Dict[Node, Any], is_far: bool) -> Iterator[Part]:
-    """Yields values for which all parts of a conjunction may hold; if `is_not`, values for which one of them may not hold. The other arguments are
-    those of `solutions`."""
+    """Yields values for which all terms of a conjunction (`node`) may hold. If `is_not`, yields values for which one of the terms may not hold. The
+    other arguments are those of `solutions`."""
     if is_not:
         for part in node.args:
             yield from solutions(part.args[0] if part.op == "not" else not_(part), model, memo, is_far)
@@ -57,8 +57,8 @@ def parts_of_conjunction(node: Node, is_not: bool, model: Model, memo: Dict[Node
 
 
 def invert_zero_or(x: Node, model: Model, memo: Dict[Node, Any]) -> Part:
-    """Returns values of variables for which each part of an or is 0, as in a comparison of many bytes. `model` and `memo` are those of
-    `solutions`."""
+    """Returns values of variables for which each operand of nested ors is 0, as in a comparison of many bytes. `x` is the outermost or. `model` and
+    `memo` are those of `solutions`."""
     chosen: Part = {}
     leaves: List[Word] = [x]
     while leaves:
@@ -69,16 +69,18 @@ def invert_zero_or(x: Node, model: Model, memo: Dict[Node, Any]) -> Part:
             leaves += leaf.args
             continue
         values = {**model, **chosen}
-        pairs = ((leaf.args[0], leaf.args[1]), (leaf.args[1], leaf.args[0])) if leaf.op == "xor" else ((leaf, 0),)
+        pairs: Tuple[Tuple[Word, Word], ...] = ((leaf, 0),)  # a word to change, and a word to which it must be equal
+        if leaf.op == "xor":  # it is 0 if both operands are equal
+            pairs = (leaf.args[0], leaf.args[1]), (leaf.args[1], leaf.args[0])
         values_memo = {} if chosen else memo
-        inverses = (invert(one, evaluate(two, values, values_memo), values, values_memo) for one, two in pairs if type(one) is Node)
+        inverses = (invert(changed, evaluate(wanted, values, values_memo), values, values_memo) for changed, wanted in pairs if type(changed) is Node)
         chosen.update(next((part for part in inverses if part), {}))
     return chosen
 
 
 def invert(node: Word, value: int, model: Model, memo: Dict[Node, Any]) -> Optional[Part]:
-    """Returns values of variables for which a node has a value, or None if they are not that simple to find, as for the result of a hash. A choice
-    keeps to its side, and an index keeps its value. `model` and `memo` are those of `solutions`."""
+    """Returns values of variables for which a node has a value. Returns None if they are not simple to find, as for the result of a hash. The
+    condition of a choice and the index of a table keep their values. `model` and `memo` are those of `solutions`."""
     for _ in range(MAX_INVERTED):
         if type(node) is int:
             return {} if node == value else None
@@ -90,7 +92,7 @@ def invert(node: Word, value: int, model: Model, memo: Dict[Node, Any]) -> Optio
             return invert_bytes(node.args, value, model, memo)
         if node.op == "sx16":
             return invert_bytes(node.args, value & 0xFFFF, model, memo) if signed(value & 0xFFFF, 16) & M32 == value else None
-        if node.op == "or" and not may_of(node.args[0]) & may_of(node.args[1]):
+        if node.op == "or" and not may_of(node.args[0]) & may_of(node.args[1]):  # the operands have no bit in common
             one, two = node.args
             return union_of(invert(one, value & may_of(one), model, memo), invert(two, value & may_of(two), model, memo))
         operand_and_value = invert_operation(node, value, model, memo)
@@ -101,8 +103,8 @@ def invert(node: Word, value: int, model: Model, memo: Dict[Node, Any]) -> Optio
 
 
 def invert_operation(node: Node, value: int, model: Model, memo: Dict[Node, Any]) -> Optional[Tuple[Word, int]]:
-    """Returns an operand, and a value of it for which a node has a value while the other operands keep their values; or None. `model` and `memo` are
-    those of `solutions`."""
+    """Returns an operand of a node with a new value for it, so that the node has the value `value` while the other operands keep their values.
+    Returns None if there is no such value, or if the operation is not inverted. `model` and `memo` are those of `solutions`."""
     op, args = node.op, node.args
     if op in ("ite8", "ite"):
         return args[1] if evaluate(args[0], model, memo) else args[2], value
@@ -110,8 +112,8 @@ def invert_operation(node: Node, value: int, model: Model, memo: Dict[Node, Any]
         index = evaluate(args[0], model, memo) - args[1] & M32
         return (args[2].content[index], value) if index < len(args[2].content) and value < 256 else None
     if op == "byte":
-        n = 8 * args[1]
-        return args[0], evaluate(args[0], model, memo) & ~(255 << n) | value << n
+        shift = 8 * args[1]
+        return args[0], evaluate(args[0], model, memo) & ~(255 << shift) | value << shift  # the other bytes keep their values
     if op == "sx8":
         return (args[0], value & 255) if signed(value & 255, 8) & M32 == value else None
     if op == "bool":
@@ -134,14 +136,14 @@ def invert_operation(node: Node, value: int, model: Model, memo: Dict[Node, Any]
 
 
 def union_of(one: Optional[Part], two: Optional[Part]) -> Optional[Part]:
-    """Returns the values of variables in two parts together. Returns None if one part is None, or if the parts contradict each other."""
+    """Returns the union of the values of variables in two parts. Returns None if one part is None, or if the parts contradict each other."""
     if one is None or two is None or any(one.get(name, value) != value for name, value in two.items()):
         return None
     return {**one, **two}
 
 
 def invert_bytes(parts: Tuple[Any, ...], value: int, model: Model, memo: Dict[Node, Any]) -> Optional[Part]:
-    """Returns values of variables for which bytes have a value together, or None."""
+    """Returns values of variables for which bytes (`parts`, the lowest first) form the number `value`. Returns None if they are not found."""
     union: Optional[Part] = {}
     for n, part in enumerate(parts):
         if union is not None:

@@ -10,9 +10,10 @@ if TYPE_CHECKING:
     from rvlook.symbolic.fields import AnyState, Answer, Load, Store
     from rvlook.symbolic.nodes import Node
 
-ANSWERED = 0  # kinds of events of a path: the enclave leaves,
-LOADED = 1  # loads inputs,
-STORED = 2  # or stores to the window
+# Kinds of events of a path.
+ANSWERED = 0  # the enclave leaves with an answer
+LOADED = 1  # the enclave loads inputs
+STORED = 2  # the enclave stores to the window
 
 
 class Part(NamedTuple):

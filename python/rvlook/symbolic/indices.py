@@ -15,11 +15,11 @@ if TYPE_CHECKING:
     from rvlook.symbolic.fields import AnyState as State
     from rvlook.symbolic.flow import Flow, Flows
 
-WORD_SHIFT = 2  # bits by which an index of words is shifted to an offset
-MAX_STEPS_TO_LOAD = 8  # instructions after the shift within which the word is loaded
-MAX_STEPS_TO_JUMP = 4  # instructions after the load within which a jump to the word makes it a target
-INDEX_END = 8  # the end of the values of an index that have a part of their own
-MAX_PARTS = 8  # the most parts of one head
+WORD_SHIFT = 2  # an index of words is shifted left by so many bits to get an offset in bytes
+MAX_STEPS_TO_LOAD = 8  # a load counts as a use of the offset within so many instructions after the shift
+MAX_STEPS_TO_JUMP = 4  # a loaded word is the target of a jump if the jump follows within so many instructions
+INDEX_END = 8  # each value of an index below this number has a part of its own
+MAX_PARTS = 8  # the most parts of one head; further values share one more part
 Part = Tuple[int, ...]  # the values of the index registers of a path; -1 for a value that has no part of its own
 
 

@@ -19,8 +19,8 @@ if TYPE_CHECKING:
     from rvlook.symbolic.fields import AnyState as State
     from rvlook.symbolic.search import Search
 
-MAX_CONDITIONS = 400  # conditions of two paths since they divided; paths with more are not joined
-QUERY_TIMEOUT_MS = 500  # milliseconds of a question whether two paths exclude each other
+MAX_CONDITIONS = 400  # the most conditions that two paths may have together since they divided; else they are not joined
+QUERY_TIMEOUT_MS = 500  # milliseconds of a query whether two paths exclude each other
 EQUAL_FIELDS = (  # the fields of a state that joined paths must have in common
     "pc", "mode", "context", "call", "stack_bottom", "areas", "activation", "start_kind", "start_number", "is_released", "source_head",
     "pending_outputs", "start_head", "entry", "is_covered")
@@ -33,14 +33,14 @@ def key_of(state: State) -> Tuple[Any, ...]:
 
 
 class Joins:
-    """Joins two paths that have divided at a branch and meet again."""
+    """Joins pairs of paths that have divided and are at the same place again."""
 
     def __init__(self, search: Search) -> None:
         self.search = search
         self.count = 0  # how many pairs of paths were joined
 
     def join_paths(self, states: Sequence[State]) -> List[State]:
-        """Joins paths as far as possible. Returns the joined paths and the others. Paths that have divided last are joined first."""
+        """Joins paths as far as possible. Returns the joined paths, and the paths that cannot be joined. Paths that divided last are joined first."""
         groups: Dict[Any, List[State]] = {}
         for state in states:
             groups.setdefault(key_of(state), []).append(state)
@@ -48,20 +48,20 @@ class Joins:
         for group in groups.values():
             group.sort(key=lambda state: [condition.number for condition in state.conditions])  # paths with a long common beginning become neighbours
             while len(group) > 1:
-                at = max(range(len(group) - 1), key=lambda n: common_count(group[n].conditions, group[n + 1].conditions))
-                both = self.join_pair(group[at], group[at + 1])
-                if both is None:
-                    joined.append(group.pop(at))
+                closest = max(range(len(group) - 1), key=lambda n: common_count(group[n].conditions, group[n + 1].conditions))
+                joined_pair = self.join_pair(group[closest], group[closest + 1])
+                if joined_pair is None:
+                    joined.append(group.pop(closest))
                 else:
-                    group[at:at + 2] = [both]
+                    group[closest:closest + 2] = [joined_pair]
             joined += group
         return joined
 
     def join_pair(self, one: State, two: State) -> Optional[State]:
-        """Returns two paths as one, or None if they cannot be joined. The result is one of the two states, which is changed."""
-        count = common_count(one.conditions, two.conditions)
-        conditions_one = one.conditions[count:]
-        conditions_two = two.conditions[count:]
+        """Joins two paths into one of their states, which is changed. Returns this state, or None if the paths cannot be joined."""
+        shared_count = common_count(one.conditions, two.conditions)
+        conditions_one = one.conditions[shared_count:]
+        conditions_two = two.conditions[shared_count:]
         if not conditions_one or not conditions_two or len(conditions_one) + len(conditions_two) > MAX_CONDITIONS:
             return None
         if one.public != two.public or one.calm_window.keys() != two.calm_window.keys():
@@ -72,18 +72,18 @@ class Joins:
         if divider is None or not self.have_common_origins(one, two):
             return None
         condition: Node = divider
-        if condition.op == "not":
+        if condition.op == "not":  # exchange the paths, so that the condition is not negated
             one, two = two, one
             conditions_one, conditions_two = conditions_two, conditions_one
             condition = condition.args[0]
         self.count += 1
         self.join(one, two, condition)
-        one.conditions = one.conditions[:count] + rest_of(condition, conditions_one, conditions_two)
+        one.conditions = one.conditions[:shared_count] + rest_of(condition, conditions_one, conditions_two)
         return one
 
     def find_divider(self, one: State, conditions_one: List[Node], conditions_two: List[Node]) -> Optional[Node]:
-        """Returns a condition that the first path implies and the second one excludes, or None. `conditions_one` and `conditions_two` are those
-        of the paths since they divided. The condition must not depend on a secret."""
+        """Returns the divider of two paths: a condition that the first path implies and the second one excludes. Returns None if there is none, or if
+        it depends on a secret. `conditions_one` and `conditions_two` are the conditions of the two paths since they divided."""
         condition: Condition = conditions_one[0]
         if conditions_two[0] is not not_(conditions_one[0]):
             condition = all_of(*conditions_one)
@@ -97,7 +97,8 @@ class Joins:
         return condition
 
     def have_common_origins(self, one: State, two: State) -> bool:
-        """Returns whether two paths can be joined without the loss of an origin that is used later."""
+        """Returns whether two paths can be joined without the loss of an origin that may be used later. Their registers and words of memory must have
+        the same origins. Registers that are not read, and words that were popped from the stack, do not count."""
         flows = self.search.flows
         for register in range(1, 32):
             if one.tags[register] != two.tags[register] and is_read(flows, one.pc, register):
@@ -114,10 +115,10 @@ class Joins:
     # ---- the parts of a state
 
     def join(self, one: State, two: State, condition: Node) -> None:
-        """Changes the first state so that it is both states: itself if a condition holds, else the second."""
-        past = Join(condition, part_of(one), part_of(two))
+        """Changes the state `one` so that it is both states: itself if the condition holds, else `two`."""
+        actions_so_far = Join(condition, part_of(one), part_of(two))
         one.joined_steps = max(one.joined_steps + one.steps, two.joined_steps + two.steps)
-        one.join = past
+        one.join = actions_so_far
         one.earlier_pcs = None
         one.pcs = []
         one.steps_before = 0
@@ -140,7 +141,7 @@ class Joins:
         one.last_objects = {pc: last for pc, last in one.last_objects.items() if two.last_objects.get(pc) == last}
 
     def join_memory(self, one: State, two: State, condition: Node) -> None:
-        """Joins the region, word by word, and the origins of words."""
+        """Joins the regions of two states word by word in the state `one`, with the origins of words."""
         low = self.search.world.region[0]
         places = {at & -4 for at in changed_bytes(bytes(one.region_bytes), bytes(two.region_bytes), low)}
         places |= {at & -4 for at, content in one.symbolic_bytes.items() if two.symbolic_bytes.get(at) != content}
@@ -161,12 +162,12 @@ class Joins:
 
 
 def are_compatible(one: Tag, two: Tag) -> bool:
-    """Returns whether two origins of a word are equal, or say that it is no pointer."""
+    """Returns whether two origins of a word of memory are equal, or both say that the word is no pointer."""
     return one == two or {one, two} == {None, NO_ORIGIN}
 
 
 def join_registers(one: State, two: State, condition: Node) -> None:
-    """Joins the registers of two states in the first one, with their origins."""
+    """Joins the registers of two states, and their origins, in the state `one`."""
     for register in range(1, 32):
         if one.tags[register] != two.tags[register]:
             one.tags[register] = MIXED
@@ -181,13 +182,14 @@ def contents(state: State, at: int, low: int) -> List[Byte]:
 
 
 def choose_word(condition: Node, one: Word, two: Word) -> Word:
-    """Returns the first word if a condition holds, else the second. The choice is byte by byte if one of them is made of bytes."""
+    """Returns the word `one` if a condition holds, else `two`. If the bytes of both words are known one by one, and not both words are numbers, each
+    byte is a choice."""
     if one is two:
         return one
-    first = bytes_of(one)
-    second = bytes_of(two)
-    if first and second and not (type(one) is int and type(two) is int):
-        return word(*(choice8(condition, byte_one, byte_two) for byte_one, byte_two in zip(first, second)))
+    bytes_one = bytes_of(one)
+    bytes_two = bytes_of(two)
+    if bytes_one and bytes_two and not (type(one) is int and type(two) is int):
+        return word(*(choice8(condition, byte_one, byte_two) for byte_one, byte_two in zip(bytes_one, bytes_two)))
     return choice(condition, one, two)
 
 
@@ -202,25 +204,28 @@ def common_count(one: Sequence[Node], two: Sequence[Node]) -> int:
 
 
 def rest_of(condition: Node, one: List[Node], two: List[Node]) -> List[Node]:
-    """Returns the conditions of joined paths, after those that they have in common from the beginning on. `one` has the further conditions of the
-    first path, for which the divider `condition` holds, and `two` those of the second path."""
+    """Returns the conditions of joined paths since they divided. `one` has those of the first path, for which the divider `condition` holds, and
+    `two` those of the second path. A condition of only one path becomes an implication: it holds if that path is executed."""
     negation = not_(condition)
     both = [term for term in one if term in two]
-    first = [term for term in one if term not in both and term is not condition and term is not negation]
-    second = [term for term in two if term not in both and term is not condition and term is not negation]
+    only_one = [term for term in one if term not in both and term is not condition and term is not negation]
+    only_two = [term for term in two if term not in both and term is not condition and term is not negation]
     conditions: List[Condition] = both[:]
-    for side, rest in ((negation, all_of(*first)), (condition, all_of(*second))):
-        if rest is not not_(side):
-            conditions.append(any_of(side, rest))
+    for is_other_path, terms_of_path in ((negation, all_of(*only_one)), (condition, all_of(*only_two))):
+        if terms_of_path is not not_(is_other_path):
+            conditions.append(any_of(is_other_path, terms_of_path))
     return [part for part in conditions if type(part) is Node]
 
 
 def join_fetched(one: State, two: State, condition: Node) -> None:
-    """Joins what two states have loaded from the window in the first one. A load of only one path keeps the condition of this path."""
+    """Joins the loads of the window of two states in the state `one`. A load of only one path gets the condition under which this path is
+    executed."""
     both = [load for load in one.symbolic_fetches if load in two.symbolic_fetches]
     fetches = both[:]
-    for state, other, side in ((one, two, condition), (two, one, not_(condition))):
-        fetches += [load._replace(joined=(*load.joined, side)) for load in state.symbolic_fetches if load not in both]
-        fetches += [SymbolicFetch(at, 1, pc, context, (side,)) for at, (pc, context) in state.fetched.items() if at not in other.fetched]
+    for state, other, is_executed in ((one, two, condition), (two, one, not_(condition))):
+        fetches += [load._replace(joined=(*load.joined, is_executed)) for load in state.symbolic_fetches if load not in both]
+        for at, (pc, context) in state.fetched.items():
+            if at not in other.fetched:
+                fetches.append(SymbolicFetch(at, 1, pc, context, joined=(is_executed,)))
     one.fetched = {at: site for at, site in one.fetched.items() if at in two.fetched}
     one.symbolic_fetches = fetches

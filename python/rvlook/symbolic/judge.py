@@ -20,10 +20,12 @@ if TYPE_CHECKING:
 
 Place = Tuple[int, int]  # the pc of an instruction, and its call context
 Bounds = Tuple[int, int]  # the first address of an object, and its end
-ILLEGAL = 2  # causes of traps: an illegal instruction,
-ECALL = 8  # or an ecall in U-mode
+# Causes of traps: values of scause (Privileged ISA).
+ILLEGAL = 2  # illegal instruction
+ECALL = 8  # ecall in U-mode
 ASSUMPTION = MARKS["4153000b"]  # the mark of an `assume` in the enclave that does not hold
 CONSOLE_STATE = 16  # bytes before the text of a console (examples/shared/console.h)
+# Why the question whether a byte is loaded twice is not decided.
 MAY_BE_POLLING = "one instruction loads a byte again, as a loop that waits does"
 INDEX_MAY_MEET = "an index of the host may lead to a byte that was loaded before"
 
@@ -64,8 +66,8 @@ class Judge(Leaving):
     # ---- accesses
 
     def doubt_access(self, what: str, state: State, reason: str) -> bool:
-        """Notes an access that the rule of objects does not decide: the question is not decided unless --allow names the access. Returns whether
-        --allow names it."""
+        """Records an access that the object rule (`accesses`) does not decide, and why. The question is not decided unless --allow names the
+        instruction. Returns whether --allow names it."""
         if not self.world.allowed.has(state.pc):
             self.doubt(what, state, reason)
             return False
@@ -102,78 +104,82 @@ class Judge(Leaving):
         return given is not None and all(given.has(at + n) for n in range(width))
 
     def is_console(self, at: int, width: int) -> bool:
-        """Returns whether bytes of the window are those in which a console keeps its state: a program loads from there how much it has printed."""
+        """Returns whether bytes of the window are the state of a console. A program loads from there how much it has printed, so a second load of
+        them is no double fetch."""
         console = self.world.symbols.by_name.get("window_console")
         return console is not None and console.address <= at and at + width <= console.address + CONSOLE_STATE
 
     def note_fetch(self, state: State, place: Word, width: int, names: Sequence[Tuple[int, str]]) -> None:
-        """Notes a load of the window, and asks whether this activation has loaded one of its bytes before. `place` is the address, and `names` has
-        the loaded bytes: offsets and variables."""
+        """Records a load of the window, and asks whether this activation has loaded one of its bytes before. `place` is the address, a number or an
+        expression. `names` has an offset and the name of a variable for each loaded byte."""
         if self.options.calm:
             return
         if type(place) is int and self.is_console(place, width):
             return
-        here = state.pc, state.context
+        site = state.pc, state.context
         if type(place) is int:
             for n, _ in names:
-                first = state.fetched.setdefault(place + n, here)
-                if state.fetched[place + n] is not here:
-                    self.fetched_again(state, first, place + n, state.model)
+                first_site = state.fetched.setdefault(place + n, site)
+                is_first_load = first_site is site
+                if not is_first_load:
+                    self.fetched_again(state, first_site, place + n, state.model)
         if (type(place) is not int or state.symbolic_fetches) and ("reread", state.pc) not in self.findings:
             self.ask_overlap(state, place, width)
         if type(place) is not int:
-            state.symbolic_fetches.append(SymbolicFetch(place, width, *here))
+            state.symbolic_fetches.append(SymbolicFetch(place, width, *site))
 
-    def fetched_again(self, state: State, first: Place, at: int, model: Dict[str, int]) -> None:
-        """Reports a byte of the window that is loaded a second time in an activation. `first` is the earlier load, and `at` the address of the
-        byte."""
-        here = state.pc, state.context
+    def fetched_again(self, state: State, first_site: Place, at: int, model: Dict[str, int]) -> None:
+        """Reports a double fetch: the byte of the window at the address `at` is loaded a second time in an activation. `first_site` is the earlier
+        load. If the same instruction loads the byte twice, the question is not decided, since the instruction may be in a polling loop."""
+        site = state.pc, state.context
         if self.is_trial:
             return
         if not state.is_merged:
-            if (first, here) in self.rereads_seen:
+            if (first_site, site) in self.rereads_seen:
                 return
-            self.rereads_seen.add((first, here))
-        if first == here:
+            self.rereads_seen.add((first_site, site))
+        if first_site == site:
             self.doubt("reread", state, MAY_BE_POLLING)
         else:
-            self.report("reread", state, "loads %08x again, which %s has loaded" % (at, self.world.place(first[0])), model)
+            first_pc, _ = first_site
+            self.report("reread", state, "loads %08x again, which %s has loaded" % (at, self.world.place(first_pc)), model)
 
     def ask_overlap(self, state: State, place: Word, width: int) -> None:
-        """Asks whether a load has a byte in common with an earlier load, if one of the two is at an expression. If they always have, it is a double
-        fetch. If they have only for some inputs, that is not decided. The address `place` may also be a pointer of the host, which may lead to any
-        byte: then it is no finding."""
+        """Asks whether a load has a byte in common with an earlier load, if one of the two is at an expression. `place` is the address of the new
+        load. If the two always have a common byte, that is a double fetch. If they have one only for some inputs, the question is not decided. A
+        pointer of the host may lead to any byte, so it is neither."""
         earlier = [EarlierLoad(overlap(place, width, old.at, old.width), (old.pc, old.context), old.joined) for old in state.symbolic_fetches]
         if type(place) is not int:
-            earlier += [EarlierLoad(within(place, low - width + 1, high - 1), first) for low, high, first in ranges_of(state.fetched)]
-        earlier = [access for access in earlier if access.overlaps is not False]
-        for joined in sorted({access.joined for access in earlier}, key=len):
-            own = [access for access in earlier if set(access.joined) <= set(joined)]
-            self.ask_overlap_of(state, place, own, all_of(*joined))
+            earlier += [EarlierLoad(within(place, low - width + 1, high - 1), site) for low, high, site in ranges_of(state.fetched)]
+        earlier = [load for load in earlier if load.overlaps is not False]
+        for joined in sorted({load.joined for load in earlier}, key=len):  # one question for each group of joined paths
+            loads_of_group = [load for load in earlier if set(load.joined) <= set(joined)]
+            self.ask_overlap_of(state, place, loads_of_group, all_of(*joined))
 
     def ask_overlap_of(self, state: State, place: Word, earlier: List[EarlierLoad], joined: Condition) -> None:
-        """Asks whether a load has a byte in common with one of `earlier`, for those of the joined paths for which the condition `joined` holds."""
-        here = state.pc, state.context
-        question = any_of(*(access.overlaps for access in earlier))
-        can, model = self.solver.satisfiable(state.conditions, all_of(joined, question), state.model)
-        if can is False or ("reread", state.pc) in self.findings:
+        """Asks whether a load has a byte in common with one of the loads `earlier`. Only those of the joined paths count for which the condition
+        `joined` holds."""
+        site = state.pc, state.context
+        has_common_byte = any_of(*(load.overlaps for load in earlier))
+        can_overlap, model = self.solver.satisfiable(state.conditions, all_of(joined, has_common_byte), state.model)
+        if can_overlap is False or ("reread", state.pc) in self.findings:
             return
-        must_not, _ = self.solver.satisfiable(state.conditions, all_of(joined, not_(question)), state.model)
-        if can is None or must_not is None:
+        can_differ, _ = self.solver.satisfiable(state.conditions, all_of(joined, not_(has_common_byte)), state.model)
+        if can_overlap is None or can_differ is None:
             self.undecided["reread", state.pc] += 1
-        elif must_not is False:
+        elif can_differ is False:
             memo: Dict[Node, object] = {}
-            hits = [access.site for access in earlier if evaluate(access.overlaps, model, memo)]
-            first = next((hit for hit in hits if hit != here), hits[0])
-            self.fetched_again(state, first, evaluate(place, model, memo), model)
+            overlapping_sites = [load.site for load in earlier if evaluate(load.overlaps, model, memo)]
+            first_site = next((other for other in overlapping_sites if other != site), overlapping_sites[0])
+            self.fetched_again(state, first_site, evaluate(place, model, memo), model)
         elif state.has_origin():
             self.doubt("reread", state, INDEX_MAY_MEET)
 
     # ---- traps and jumps
 
     def note_trap(self, state: State, cause: int, value: Word) -> None:
-        """Reports a trap of the enclave that is a fault, or a mark of enclave_check.h: a check or an assumption that does not hold. A mark is an
-        illegal instruction, and `value` is its word."""
+        """Reports a trap of the enclave. `cause` is the value of scause, and `value` is that of stval. An `ecall` is no finding. An illegal
+        instruction may be a mark of enclave_check.h, whose word is `value`. A failed check is a finding, and a failed assumption ends the path."""
         mark = MARKS.get("%08x" % value) if cause == ILLEGAL and type(value) is int else None
         if mark == ASSUMPTION:
             self.assumptions.add(state.pc)
@@ -186,13 +192,16 @@ class Judge(Leaving):
             self.report("fault", state, "traps: cause %d, value %08x" % (cause, state.value(value)), state.model)
 
     def jump(self, state: State, target: Node, is_return: bool) -> int:
-        """Asks about a jump to an address that is an expression. The host may choose the target only among functions with which the enclave has
-        compared it. Returns the address at which this path goes on."""
+        """Asks about a jump to an address that is an expression. A return must have one target, and the target of another jump must be a function for
+        all inputs. Otherwise the host chooses the target, which is reported. Returns the address at which this path goes on."""
         what = "return" if is_return else "jump"
         if (what, state.pc) not in self.findings:
             are_functions: List[Condition] = [eq(target, entry) for entry in sorted(self.world.functions)]
-            outside = differ(target, state.value(target)) if is_return else all_of(*(not_(is_function) for is_function in are_functions))
-            answer, model = self.solver.satisfiable(state.conditions, outside, state.model)
+            if is_return:
+                is_wrong_target = differ(target, state.value(target))
+            else:
+                is_wrong_target = all_of(*(not_(is_function) for is_function in are_functions))
+            answer, model = self.solver.satisfiable(state.conditions, is_wrong_target, state.model)
             if answer:
                 self.report(what, state, "the host chooses the target: %08x" % evaluate(target, model), model)
             elif answer is None:
@@ -206,8 +215,8 @@ class Judge(Leaving):
         return state.value(target)
 
     def check_target(self, state: State, target: int, tag: Tag, offset: int) -> None:
-        """Asks about a jump to a number that is no return: the target must be a function, or an address of the program. `tag` is the origin of the
-        register with the address, and `offset` that of the instruction."""
+        """Checks a jump to a number that is no return: the target must be a function, or an address that the program has computed as a constant. Else
+        the question is not decided. `tag` is the origin of the register with the address, and `offset` is the immediate of the instruction."""
         if target in self.world.functions:
             return
         if tag is None or target not in (tag.base, tag.base + offset & M32):
@@ -217,11 +226,13 @@ class Judge(Leaving):
 
 
 def ranges_of(fetched: Dict[int, Place]) -> List[Tuple[int, int, Place]]:
-    """Returns bytes as ranges: the first address, the end, and the one instruction that has loaded the range."""
+    """Returns loaded bytes as ranges: the first address, the end, and the load of all bytes of the range. `fetched` has the load of each byte, by
+    address."""
     ranges: List[Tuple[int, int, Place]] = []
     for at in sorted(fetched):
-        if ranges and ranges[-1][1] == at and ranges[-1][2] == fetched[at]:
-            ranges[-1] = ranges[-1][0], at + 1, fetched[at]
+        low, high, site = ranges[-1] if ranges else (at, at, None)
+        if ranges and high == at and site == fetched[at]:
+            ranges[-1] = low, at + 1, fetched[at]
         else:
             ranges.append((at, at + 1, fetched[at]))
     return ranges

@@ -7,8 +7,8 @@ from rvlook.symbolic.conditions import eq
 from rvlook.symbolic.nodes import M32, Condition, Node, Word
 from rvlook.symbolic.words import may_of
 
-MAX_TERMS = 8  # terms of a linear form
-MAX_DEPTH = 5  # nested sums that become one linear form
+MAX_TERMS = 8  # the most terms of a linear form
+MAX_DEPTH = 5  # how deep nested sums become one linear form; a sum further inside is a term
 
 
 class Linear(NamedTuple):

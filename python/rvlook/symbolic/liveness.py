@@ -11,7 +11,7 @@ from rvlook.symbolic.nodes import M32
 if TYPE_CHECKING:
     from rvlook.symbolic.flow import Flows
 
-MAX_EXAMINED = 400  # instructions that are examined, before a register counts as read
+MAX_EXAMINED = 400  # if no read or write is found within so many instructions, a register counts as read
 ARGUMENTS = range(10, 18)  # a0 to a7 of the calling convention; a0 and a1 have the results of a call
 TEMPORARIES = (1, 5, 6, 7, 28, 29, 30, 31)  # ra and t0 to t6, which a call may change
 TWO_REGISTERS = ("op", "store", "branch")  # kinds of instructions that read two registers

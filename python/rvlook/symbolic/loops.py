@@ -89,10 +89,10 @@ class Loops:
 
     @staticmethod
     def turn(merged: Merged) -> Turn:
-        """Returns the key by which merged states are sorted: the state with the least key is explored first. The key has four members: whether the
-        state is that of a stop, whether there was a head at its place before, the depth of a loop at a new place, and its place in the program.
-        Heads at a new place come first, and inner loops before those around them. The search then knows what an inner loop changes before it
-        explores the outer loop again."""
+        """Returns the key by which merged states are sorted: the state with the least key is explored first. Its first members say whether the state
+        is that of a stop, and whether there was a head at its place before. Then come the depth of a loop at a new place (negated), and its place in
+        the program. Heads at a new place come first, and inner loops before those around them. The search then knows what an inner loop changes
+        before it explores the outer loop again."""
         if not isinstance(merged, Head):
             return True, False, 0, ()
         depth = 0 if merged.is_known else len(merged.turn)

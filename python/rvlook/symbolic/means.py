@@ -10,14 +10,14 @@ if TYPE_CHECKING:
 
 @dataclass(frozen=True)
 class Means:
-    """The means of a search. Without arguments, these are the means of the exact search."""
+    """The method of a search. The default values are those of the exact search."""
     is_rare_first: bool = False  # whether the branches that the fewest paths take come first, and paths are not joined
-    is_far: bool = False  # whether values that lead further are tried first, such as long messages
+    is_far: bool = False  # whether larger values of inputs are tried early, so that messages are long (`guess.solutions`)
     loops_from: int = 0  # after so many divisions of a path in a loop, paths are merged at its head; 0 for never
     is_rough: bool = False  # whether facts of merged states do not depend on the contents of large tables
-    merges: Optional[bool] = None  # whether the states of stops are merged, in place of --each; None: as the options say
-    activations: int = 0  # the number of activations of a path, in place of --activations; 0: as the options say
-    rounds: int = 1  # so many times the rounds of --bound are followed in a loop
+    merges: Optional[bool] = None  # whether the states of stops are merged, whatever --each says; None to follow --each
+    activations: int = 0  # the number of activations of a path, in place of --activations; 0 to follow --activations
+    rounds: int = 1  # the factor by which more rounds of a loop are followed than --bound says
 
     @property
     def is_whole(self) -> bool:

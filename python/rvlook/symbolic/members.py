@@ -16,10 +16,11 @@ if TYPE_CHECKING:
     from rvlook.symbolic.accesses import AccessState
     from rvlook.symbolic.extents import Extent
 
+# Reasons why an access is not decided.
 INDEX_INTO_ROWS = "an index into an array of arrays"
 UNION_MEMBER = "a member of a union"
 MOVED_FROM_MEMBER = "a member that is moved from by numbers"
-Terms = Dict[Node, int]  # the terms of a sum: nodes with their coefficients
+Terms = Dict[Node, int]  # a sum without its constant: nodes, each with the number by which it is multiplied
 
 
 class Place(NamedTuple):
@@ -30,7 +31,7 @@ class Place(NamedTuple):
 
     @property
     def base(self) -> int:
-        """Returns the address at which the access begins if nothing is added to it."""
+        """Returns the address of the access without an index: the base of its origin plus the offset of the instruction."""
         return self.tag.base + self.offset & M32
 
 
@@ -67,7 +68,7 @@ def stride_of(state: AccessState, member: Member) -> int:
 
 
 def member_of(state: AccessState, place: Place) -> Optional[Member]:
-    """Returns the member in which an access begins. Returns None for a local variable, and without types."""
+    """Returns the member in which the base address of an access is. Returns None for a local variable, and for an image without types."""
     search = state.search
     if place.tag.how not in (How.SYMBOL, How.UPPER, How.MEMORY):
         return None
@@ -76,8 +77,8 @@ def member_of(state: AccessState, place: Place) -> Optional[Member]:
 
 def is_shifted(state: AccessState, address: Word, width: int, place: Place, kind: str) -> bool:
     """Returns whether the offset of the instruction leads out of the variable of an access, as in `-4(v + 4 * i)` for `v[i - 1]`. The offset then
-    belongs to the index, and the access stays in the variable. If the variable is not one array, the access must also stay in a member that the run
-    itself reaches by the instruction; else it is not decided. `kind` is "load" or "store"."""
+    belongs to the index, and the caller knows that the access stays in the variable. If the variable is not one array, the access must also stay in
+    a member that the run itself reaches by the instruction. Else the access is not decided. `kind` is "load" or "store"."""
     search = state.search
     start = place.tag.base
     whole = place.whole
@@ -90,30 +91,34 @@ def is_shifted(state: AccessState, address: Word, width: int, place: Place, kind
 
 
 def stays_usual(state: AccessState, address: Word, width: int) -> bool:
-    """Returns whether an access always stays in one member, which the run itself reaches by the instruction."""
+    """Returns whether an access stays in one member for all inputs, and the run itself reaches this member by the same instruction."""
     search = state.search
     member = search.extents.member_at(state.value(address))
     if member is None or member.is_union:
         return False
-    usual = state.context, state.pc, member.at
-    inside = within(address, member.at, member.at + member.size - width)
+    usual_member = state.context, state.pc, member.at
+    is_inside = within(address, member.at, member.at + member.size - width)
     if state.is_base:
-        search.usual_members.add(usual)
-    if usual not in search.usual_members or inside is False:
+        search.usual_members.add(usual_member)
+    if usual_member not in search.usual_members or is_inside is False:
         return False
-    return inside is True or search.solver.satisfiable(state.conditions, not_(inside), state.model)[0] is False
+    if is_inside is True:
+        return True
+    can_leave, _ = search.solver.satisfiable(state.conditions, not_(is_inside), state.model)
+    return can_leave is False
 
 
 def is_one_array(member: Member, whole: Extent) -> bool:
-    """Returns whether a member is a whole variable that is an array of numbers."""
+    """Returns whether a member is a whole variable, and this variable is an array of numbers."""
     is_whole = (member.at, member.size) == (whole.low, whole.high - whole.low)
     is_array = member.element > 0 and not member.row and not member.is_union
     return is_whole and is_array and "[]" not in member.name
 
 
 def member_leaves(state: AccessState, at: int, width: int, place: Place, kind: str) -> None:
-    """Checks an access at a number inside its variable. If the access has moved out of the member in which it begins, it is not decided: a pointer to
-    a structure may be one to its first member. The run itself is allowed to do so, and other paths at the same instruction too."""
+    """Checks an access at the address `at`, a number, inside its variable. If the access has moved out of the member in which its base address is,
+    it is not decided. The reason is that the pointer may be one to the whole structure, and not to its first member. If the run itself leaves the
+    member at this instruction, other paths may leave it too."""
     search = state.search
     if is_shifted(state, at, width, place, kind):
         start = search.extents.member_at(place.tag.base)
@@ -125,12 +130,12 @@ def member_leaves(state: AccessState, at: int, width: int, place: Place, kind: s
         return
     del state.last_objects[state.pc]
     stride = stride_of(state, member)
-    moved = at - member.at
+    distance = at - member.at
     if stride:
-        moved %= stride
-    is_inside = 0 <= moved and moved + width <= reach_of(state, member) and not member.is_union
+        distance %= stride
+    is_inside = 0 <= distance and distance + width <= reach_of(state, member) and not member.is_union
     if at == place.base or is_inside:
-        if not member.is_union:  # the next access of the instruction may leave the member
+        if not member.is_union:  # the next access of the instruction needs no check if it stays in the member
             state.last_objects[state.pc] = place.tag, member.at, member.at + member.size
     elif state.is_base:
         search.usual_moves.add((state.context, state.pc))
@@ -139,8 +144,8 @@ def member_leaves(state: AccessState, at: int, width: int, place: Place, kind: s
 
 
 def reach_of(state: AccessState, member: Member) -> int:
-    """Returns the size of the largest object that begins with a member. A pointer to a number may be one to the variable, the structure or the
-    element that begins with this number."""
+    """Returns the size in bytes of the largest object that begins with a member. A pointer to a number may be one to the variable, the structure or
+    the element that begins with this number."""
     sizes = state.search.extents.reaches
     if member not in sizes:
         sizes[member] = member.size if member.element or member.is_union else size_begun(state, member)
@@ -148,29 +153,31 @@ def reach_of(state: AccessState, member: Member) -> int:
 
 
 def size_begun(state: AccessState, member: Member) -> int:
-    """Returns the size of the largest structure or element that begins with a number, or the size of the number itself."""
-    whole = state.search.extents.variable_at(member.at)
-    members = [other for other in state.search.extents.static_members if whole.low <= other.at < whole.high]  # the members of the same variable
-    parts = member.name.split(".")
-    for n in range(1, len(parts)):
-        prefix = ".".join(parts[:n])
+    """Returns the size of the largest structure or element of an array that begins with a member, or the size of the member itself. `member` is a
+    number or a pointer."""
+    variable = state.search.extents.variable_at(member.at)
+    members = [other for other in state.search.extents.static_members if variable.low <= other.at < variable.high]  # of the same variable
+    names = member.name.split(".")
+    for n in range(1, len(names)):  # the structures around the member, the outermost first
+        prefix = ".".join(names[:n])
         group = [other for other in members if other.name.startswith(prefix + ".")]  # the members of the structure, or of all elements
         stride = stride_of(state, member) if prefix.endswith("[]") else 0
-        moved = member.at - group[0].at
+        distance = member.at - group[0].at
         if stride:
-            moved %= stride
-        if moved:
-            continue  # the structure does not begin with the number
+            distance %= stride
+        if distance:
+            continue  # the structure does not begin with the member
         if stride:
             return stride
         end = max(other.at + other.size for other in group)
-        return min((other.at for other in members if other.at >= end), default=whole.high) - member.at
+        next_start = min((other.at for other in members if other.at >= end), default=variable.high)
+        return next_start - member.at
     return member.size
 
 
 def ask_member(state: AccessState, address: Node, width: int, place: Place, kind: str) -> Extent:
-    """Asks whether an access at an expression, which stays in its variable, can leave the member or the row of an array in which it begins. Returns
-    the array in which it stays for sure, or the variable."""
+    """Asks whether an access at an expression can leave the member, or the row of an array of arrays, in which its base address is. The caller knows
+    that the access stays in its variable. Returns the array in which the access certainly stays, else the variable."""
     search = state.search
     member = None if is_shifted(state, address, width, place, kind) else member_of(state, place)
     if member is None or (kind, state.pc) in search.findings or (state.context, state.pc) in search.usual_moves:
@@ -193,14 +200,14 @@ def ask_member(state: AccessState, address: Node, width: int, place: Place, kind
             offset = operation("remu", operation("sub", address, variable.low), stride)  # the offset in the element of the array around the member
             inside = within(offset, first, first + size - width)
         else:
-            most = size if member.element else reach_of(state, member)
-            inside = within(rest_of(terms, start, stride), 0, most - width)
+            allowed_bytes = size if member.element else reach_of(state, member)
+            inside = within(without_multiples(terms, start, stride), 0, allowed_bytes - width)
         answer, model = search.solver.satisfiable(state.conditions, not_(inside), state.model)
         if answer is None:
             search.undecided[kind, state.pc] += 1
         elif answer:
-            if start >= size if member.element else not stride:
-                search.doubt_access(kind, state, MOVED_FROM_MEMBER)  # the constant may be a part of the address of another member
+            if start >= size if member.element else not stride:  # the constant may be a part of the address of another member
+                search.doubt_access(kind, state, MOVED_FROM_MEMBER)
             else:
                 search.report(kind, state, "the host can move it out of %s" % member.name, model)
                 search.assumed_inside[state.pc] += 1
@@ -210,18 +217,18 @@ def ask_member(state: AccessState, address: Node, width: int, place: Place, kind
     return place.whole._replace(low=member.at, high=member.at + member.size, name=member.name) if is_inside else place.whole
 
 
-def rest_of(terms: Terms, constant: int, stride: int) -> Word:
+def without_multiples(terms: Terms, constant: int, stride: int) -> Word:
     """Returns a sum of terms and a constant without the terms that are multiples of a stride. With stride 0, this is the whole sum."""
-    rest: Word = constant
+    total: Word = constant
     for node, factor in terms.items():
         if not stride or factor % stride:
-            rest = operation("add", rest, operation("mul", node, factor))
-    return rest
+            total = operation("add", total, operation("mul", node, factor))
+    return total
 
 
 def can_wrap(state: AccessState, terms: Terms, stride: int, variable: Extent) -> bool:
-    """Returns whether a term that is a multiple of a stride may be larger than a variable, so that it may wrap around and be no multiple any more.
-    Multiples of a power of two, and of 0, always stay multiples."""
+    """Returns whether a term that is a multiple of a stride may be larger than a variable. Such a term may wrap around at 2 ** 32, and is then no
+    multiple any more. Multiples of a power of two, and of the stride 0, always stay multiples."""
     is_power_of_two = not stride & stride - 1
     if is_power_of_two:
         return False
@@ -231,8 +238,8 @@ def can_wrap(state: AccessState, terms: Terms, stride: int, variable: Extent) ->
 
 
 def ask_flat(state: AccessState, address: Node, width: int, member: Member, kind: str) -> None:
-    """Asks about an access at an expression to an array of arrays, if no part of the expression chooses the row. The access is decided only if it
-    always stays in the first row."""
+    """Asks about an access at an expression to an array of arrays, if no term of the expression is a multiple of the size of a row. The access is
+    decided only if it always stays in the first row."""
     inside = within(address, member.at, member.at + member.row - width)
     answer, _ = state.search.solver.satisfiable(state.conditions, not_(inside), state.model)
     if answer is not False:
@@ -240,8 +247,8 @@ def ask_flat(state: AccessState, address: Node, width: int, member: Member, kind
 
 
 def sizes_of(state: AccessState, member: Member, terms: Terms) -> List[Tuple[int, int]]:
-    """Returns the sizes of the arrays in which an access must stay, each with the stride of the structure or array around it, or 0. `terms` are those
-    of the address."""
+    """Returns the sizes in bytes of the arrays in which an access must stay, each with the stride of the array around it. The stride is 0 if there is
+    none. `terms` are those of the address."""
     sizes = []
     if member.element != member.size or "[]" in member.name:
         sizes.append((member.size, stride_of(state, member)))

@@ -23,9 +23,10 @@ from __future__ import annotations
 from typing import Any, Dict, List, Optional, Tuple
 
 M32 = 0xFFFFFFFF  # the mask of a word
-INPUT = 1  # the bits of a taint: the value depends on inputs of the host,
-SECRET = 2  # on the secret,
-CHECK = 4  # or on the bytes that the host must know
+# The bits of a taint (`Node.taint`): on which data a value depends.
+INPUT = 1  # inputs of the host
+SECRET = 2  # the secret
+CHECK = 4  # the bytes that the host must know (--must-know)
 MAX_WEIGHT = 1 << 24  # operations; heavier nodes are counted as this
 HEAVY = 1 << 16  # operations; a heavier node is the result of a hash
 Word = Any  # an int of 32 bits, or a Node
@@ -45,7 +46,7 @@ class Node:
         self.number = number  # the age: a node is older than the nodes that contain it; a variable has a negative number
         self.weight = 1  # the number of operations; one that is used several times counts each time; at most MAX_WEIGHT
         self.parts: Optional[Tuple[Any, ...]] = None  # the bytes of a word as pairs, once they are needed (`words.parts_of`)
-        self.mask: Optional[int] = None  # the variables, once `mask_of` has computed them
+        self.mask: Optional[int] = None  # a bit for each variable in the node (`variables`), once `mask_of` has computed them
 
     def __repr__(self) -> str:
         return "%s#%d" % (self.op, self.number)
@@ -91,7 +92,7 @@ def variable(name: str, taint: int) -> Node:
 
 
 def operands(node: Node) -> List[Node]:
-    """Returns the nodes on which the value of a node depends directly."""
+    """Returns the operands of a node that are nodes: those on which its value depends directly. For a table, these include its bytes."""
     if node.op == "table":
         at, _, table = node.args
         bytes_of_table = [content_byte for content_byte in table.content if type(content_byte) is Node]
@@ -100,12 +101,12 @@ def operands(node: Node) -> List[Node]:
 
 
 def weight_of(expression: Word | Condition) -> int:
-    """Returns the number of operations in an expression, with repetitions."""
+    """Returns the number of operations in an expression. An operation whose result is used several times counts each time."""
     return expression.weight if type(expression) is Node else 0
 
 
 def mask_of(expression: Word | Condition) -> int:
-    """Returns the mask of the variables of an expression."""
+    """Returns the mask of the variables of an expression: bit n is set if the expression contains `variables[n]`."""
     if type(expression) is not Node:
         return 0
     if expression.mask is not None:

@@ -22,16 +22,16 @@ if TYPE_CHECKING:
     from rvlook.protocol.run import Setup
 
 MAX_PATH_STEPS = 400000  # the most steps of the path
-DEFAULT_SECONDS = 60.0  # the seconds of the decision, if the option --seconds does not limit it
+DEFAULT_SECONDS = 60.0  # the time limit in seconds, unless the option --seconds gives one
 SECRET_FREE_FINDINGS = ("fault", "assertion", "older")  # kinds of findings that do not depend on the secret
 OBJECT_DOUBTS = ("load", "store", "jump", "return")  # kinds of doubts about objects, after which the path goes on as the run does
 STEP_COMMANDS = ("step", "run", "sched")  # commands of a script that execute steps
 CHANGE_COMMANDS = ("poke", "setreg", "timer")  # commands of a script that change the machine
-SYMBOLIC_ADDRESS = "open"  # why the path ends: it loads or stores the window at an expression
+SYMBOLIC_ADDRESS = "open"  # the reason for the end of a path that loads or stores the window at an expression
 
 
 class BaseRunState(State):
-    """A state that loads from the window what the host gives in the run, or what the enclave itself has stored there."""
+    """The state of the path of the run itself. It loads from the window what the host gives in the run, or what the enclave has stored there."""
     __slots__ = ()
 
     def load_window(self, number: int, width: int, address: Word) -> List[Byte]:
@@ -55,22 +55,23 @@ class OwnPath(Search):
     def __init__(self, world: World, options: VerifyOptions) -> None:
         super().__init__(world, options)
         self.is_divided = False  # whether another secret may take another path
-        self.last: Optional[State] = None  # the last state of the path
+        self.last_state: Optional[State] = None  # the state at the end of the path, or where the search has stopped
 
     def add_path(self, state: State) -> None:
-        """Continues the path of the run itself. Each other path is one of another secret."""
+        """Queues the path of the run itself to continue it. Any other path is not followed: it shows that another secret may take another path."""
         if state.is_base:
             super().add_path(state)
         else:
             self.is_divided = True
 
-    def check_output(self, state: State, parts: Sequence[Byte], places: Sequence[Optional[int]], what: str) -> None:
-        """Checks bytes that the host can read. They are not taken to be equal afterwards, since --public allows a difference."""
-        super().check_output(state, parts, places, what)
+    def check_output(self, state: State, output: Sequence[Byte], places: Sequence[Optional[int]], what: str) -> None:
+        """Checks bytes that the host can read. Unlike `verify`, does not take them to be equal for two secrets afterwards: --public allows that they
+        differ."""
+        super().check_output(state, output, places, what)
         state.public.clear()
 
     def check_answer(self, state: State, value: Word) -> None:
-        """Checks the answer with which the enclave leaves. It is not taken to be equal afterwards."""
+        """Checks the answer `value` with which the enclave leaves. Does not take it to be equal for two secrets afterwards."""
         super().check_answer(state, value)
         state.public.clear()
 
@@ -79,18 +80,18 @@ class OwnPath(Search):
         return self.is_divided or bool(self.harm()) or super().is_late()
 
     def harm(self) -> List[str]:
-        """Returns the kinds of findings and of open questions after which the host may observe the secret."""
+        """Returns the kinds of findings and undecided questions that do not exclude that the host observes the secret."""
         harmful = [what for what, _ in self.findings if what not in SECRET_FREE_FINDINGS]
         return harmful + [what for what, pc in self.undecided if what not in OBJECT_DOUBTS or (what, pc) not in self.reasons]
 
     def explore(self, state: State) -> None:
         """Explores the path, and keeps its last state."""
         super().explore(state)
-        self.last = state
+        self.last_state = state
 
     def is_hidden(self) -> bool:
         """Returns whether the whole run is one path, which is the same for all secrets."""
-        last = self.last
+        last = self.last_state
         activations = self.world.own_activations
         if last is None or self.queue or self.is_divided or self.harm():
             return False

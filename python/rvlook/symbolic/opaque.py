@@ -6,7 +6,7 @@ from typing import Any, Callable, Dict, List, Optional, Sequence, Tuple
 from rvlook.symbolic.nodes import Node, operands
 from rvlook.symbolic.translate import Translator
 
-FEW_BYTES = 8  # expressions in a table that is not large
+FEW_BYTES = 8  # a table is large if more than this number of its bytes are expressions
 
 
 def is_lookup_or_choice(node: Node) -> bool:
@@ -15,7 +15,7 @@ def is_lookup_or_choice(node: Node) -> bool:
 
 
 def is_large_lookup(node: Node) -> bool:
-    """Returns whether a node is a byte of a table that has many expressions."""
+    """Returns whether a node is a byte of a large table: one with more than FEW_BYTES expressions."""
     return node.op == "table" and sum(type(byte) is Node for byte in node.args[2].content) > FEW_BYTES
 
 

@@ -11,20 +11,20 @@ from rvlook.symbolic.nodes import M32
 
 
 class How(Enum):
-    """How the first address of an origin was computed."""
-    UPPER = "upper"  # lui or auipc: the lower bits are still to come
-    SYMBOL = "symbol"  # a constant address
-    STACK = "stack"  # sp itself: the offset is still to come
-    FRAME = "frame"  # sp and an offset
+    """How the base address of an origin was computed."""
+    UPPER = "upper"  # by lui or auipc: a later instruction adds the lower bits
+    SYMBOL = "symbol"  # as a constant address
+    STACK = "stack"  # as sp: a later instruction may add the offset of a variable
+    FRAME = "frame"  # as sp plus an offset
     MEMORY = "memory"  # a pointer that the image has in its data
     NONE = "none"  # a word in memory that is no pointer, although its value looks like one
     MIXED = "mixed"  # a word that has another origin on another of the paths that were joined
 
 
 class Origin(NamedTuple):
-    """The first address of a pointer, and where it was computed."""
+    """The origin of a pointer: the address from which the enclave has computed it, and where."""
     how: How
-    base: int  # the first address
+    base: int  # this address: a pointer is the base plus offsets and indices
     call: int = 0  # the number of the call that has computed it
     pc: int = 0  # the instruction that has computed it
     index_constant: int = 0  # a constant in the index that was added to sp, which the compiler may have taken from the offset
@@ -37,12 +37,13 @@ Tag = Optional[Origin]  # None for a word that is no pointer, as far as is known
 
 
 def register_tag(tag: Tag) -> Tag:
-    """Returns an origin as the tag of a register: None for NO_ORIGIN, which only words in memory have."""
+    """Returns the tag of a register for the tag of a word of memory: None for NO_ORIGIN, which only words of memory have."""
     return None if tag is NO_ORIGIN else tag
 
 
 def moved_by_constant(tag: Tag, offset: int, pc: int) -> Tag:
-    """Returns the origin of a pointer to which a constant is added: it completes an address whose lower bits were still to come."""
+    """Returns the origin of a pointer to which the instruction at `pc` adds a constant. If the base was not complete (UPPER or STACK), the constant
+    completes it."""
     if tag is None or offset == 0:
         return tag
     if tag.how is How.UPPER:
@@ -53,7 +54,8 @@ def moved_by_constant(tag: Tag, offset: int, pc: int) -> Tag:
 
 
 def added(one: Tag, two: Tag) -> Tag:
-    """Returns the origin of the sum of two words: that of the only pointer."""
+    """Returns the origin of the sum of two words: that of the only pointer. Returns None for the sum of two pointers. If the origin of one word is
+    LOST, the origin of the other word counts."""
     if one is LOST or two is LOST:
         other = two if one is LOST else one
         return other if other is not None else LOST
@@ -63,10 +65,11 @@ def added(one: Tag, two: Tag) -> Tag:
 
 
 def subtracted(one: Tag, two: Tag) -> Tag:
-    """Returns the origin of a difference: that of a pointer from which an offset is taken."""
+    """Returns the origin of a difference: that of the pointer `one` from which an offset is subtracted. Returns None for the difference of two
+    pointers."""
     return one if two is None or two is LOST else None
 
 
 def masked(one: Tag, two: Tag) -> Tag:
-    """Returns the origin of an and or an or of two words: that of the only pointer, which is aligned or chosen so."""
+    """Returns the origin of the bitwise and, or the bitwise or, of two words: that of the only pointer, which is aligned or selected in this way."""
     return added(one, two)

@@ -11,11 +11,12 @@ if TYPE_CHECKING:
     from rvlook.symbolic.record import Counterexample
     from rvlook.symbolic.search import Search
 
-PROVED = "PROVED"  # verdicts (docs/VERIFY.md)
+# Verdicts (docs/VERIFY.md).
+PROVED = "PROVED"
 FOUND = "FOUND"
 NOT_DECIDED = "NOT DECIDED"
 NONE_FOUND = "none found"
-MIN_STATE_ACTIVATIONS = 3  # activations from which on the question `state` is asked
+MIN_STATE_ACTIVATIONS = 3  # from this number of activations on, the question `state` is asked
 QUESTIONS: Dict[str, Tuple[str, Sequence[str]]] = {  # by name: the statement, and the kinds of findings and doubts that belong to it
     "memory": ("no access leaves its object, no jump has a target that the host chooses, no saved return address is overwritten",
                ("load", "store", "return", "jump", "value", "branch")),
@@ -30,11 +31,15 @@ QUESTIONS: Dict[str, Tuple[str, Sequence[str]]] = {  # by name: the statement, a
     "influence": ("what comes out depends on each byte of the secret that must matter", ("influence",)),
     "state": ("no older state is accepted as the latest", ("older",))}
 PATH_DOUBTS = ("branch", "value")  # kinds of doubts about which paths exist
-LIMITS = {"memory": "; what it cannot know about the accesses of --allow is taken to be right",
-          "state": ", in the activations of the run itself; use --each for others"}  # what the statement does not cover, by question
-REASONS = {"any_bytes": "any_bytes names bytes outside the region",  # why a path is not complete, by the reason for which it ended
-           CODE_CHANGED: "a path reaches code that changes", "outside": "a path leaves the region", "steps": "a path is too long",
-           "sp": "the stack pointer depends on the host"}
+LIMITS = {  # by question: what its statement does not cover
+    "memory": "; what it cannot know about the accesses of --allow is taken to be right",
+    "state": ", in the activations of the run itself; use --each for others"}
+REASONS = {  # by the reason for which a path has ended: why it was not followed to its end
+    "any_bytes": "any_bytes names bytes outside the region",
+    CODE_CHANGED: "a path reaches code that changes",
+    "outside": "a path leaves the region",
+    "steps": "a path is too long",
+    "sp": "the stack pointer depends on the host"}
 
 
 @dataclass
@@ -48,7 +53,7 @@ class Answer:
 
 
 def questions_asked(search: Search) -> List[str]:
-    """Returns the names of the questions that the options ask."""
+    """Returns the names of the questions that the options of a search ask, in the order of QUESTIONS."""
     options = search.options
     has_secret = bool(search.world.secret)
     is_asked = {  # the other questions are always asked
@@ -117,11 +122,11 @@ def answers(search: Search) -> List[Answer]:
     for name in questions_asked(search):
         title, kinds = QUESTIONS[name]
         is_limited = (name == "memory" and bool(search.allowed)) or (name == "state" and search.merger is not None)
-        answer = Answer(name, PROVED if has_all_paths else NONE_FOUND, title + LIMITS[name] if is_limited else title)
-        own = [example for example in search.findings.values() if example.what in kinds]
-        answer.findings = sorted((example for example in own if example.is_confirmed), key=lambda example: (example.pc, example.what))
+        answer = Answer(name, verdict=PROVED if has_all_paths else NONE_FOUND, title=title + LIMITS[name] if is_limited else title)
+        findings = [example for example in search.findings.values() if example.what in kinds]
+        answer.findings = sorted((example for example in findings if example.is_confirmed), key=lambda example: (example.pc, example.what))
         answer.places = undecided_places(search, kinds)
-        answer.places += ["%s at %s: not replayed" % (example.what, search.world.place(example.pc)) for example in own if not example.answer]
+        answer.places += ["%s at %s: not replayed" % (example.what, search.world.place(example.pc)) for example in findings if not example.answer]
         if name == "returns":
             answer.places += ["the end of the loop at %s" % search.world.place(pc) for pc in search.loops.endless()]
         if name == "influence":
@@ -135,7 +140,7 @@ def answers(search: Search) -> List[Answer]:
 
 
 def undecided_places(search: Search, kinds: Sequence[str]) -> List[str]:
-    """Returns where questions of some kinds are not decided, and why, in the order of the pcs."""
+    """Returns the places at which questions of some kinds are not decided, and why, as texts in the order of the pcs."""
     texts = []
     for (what, pc), count in sorted(search.undecided.items(), key=lambda item: (item[0][1], item[0][0])):
         if what in kinds and (what, pc) not in search.findings:
@@ -169,8 +174,8 @@ def open_texts(search: Search) -> List[str]:
 
 
 def covered(search: Search) -> str:
-    """Returns what a complete search has covered."""
-    if search.merger:
+    """Returns a text about what a complete search has covered: the paths, inputs, secrets and activations, and what it takes to be right."""
+    if search.merger:  # the states of stops are merged
         number = "any number of activations"
     else:
         number = "1 activation" if search.activations == 1 else "%d activations" % search.activations
@@ -178,16 +183,16 @@ def covered(search: Search) -> str:
     calm = ", for a host that waits while the enclave runs" if search.options.calm else ""
     secrets = ", all secrets" if search.world.secret else ""
     types = "" if search.world.has_types else "; objects are known by symbols alone, without types"
-    places = ", ".join(search.world.place(pc) for pc in sorted(search.assumptions))
-    assumed = ", if the assumptions hold at %s" % places if places else ""
+    assumption_places = ", ".join(search.world.place(pc) for pc in sorted(search.assumptions))
+    assumed = ", if the assumptions hold at %s" % assumption_places if assumption_places else ""
     allowed = ", if the allowed accesses are right: %s" % "; ".join(allowed_texts(search)) if search.allowed else ""
-    copies = ", ".join(search.world.place(pc) for pc in sorted(search.declared_copies))
-    shown = ", if copies of the secret may come out at %s" % copies if copies else ""
+    copy_places = ", ".join(search.world.place(pc) for pc in sorted(search.declared_copies))
+    shown = ", if copies of the secret may come out at %s" % copy_places if copy_places else ""
     return "%sall paths, all inputs%s%s, %s%s%s%s%s%s" % (limits(search), secrets, given, number, calm, assumed, allowed, shown, types)
 
 
 def allowed_texts(search: Search) -> List[str]:
-    """Returns the accesses that only --allow makes right, each with what is not known about it."""
+    """Returns a text about each access that only --allow makes right, with what is not known about the access."""
     return ["%s (%s)" % (search.world.place(pc), ", ".join(sorted(reasons))) for pc, reasons in sorted(search.allowed.items())]
 
 

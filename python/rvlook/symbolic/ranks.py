@@ -11,37 +11,38 @@ from rvlook.symbolic.conditions import all_of, any_of, ult
 from rvlook.symbolic.nodes import Condition, Node, Word, mask_of
 from rvlook.symbolic.words import not_
 
-MAX_COMPARED_NUMBERS = 8  # numbers with which a word is compared
+MAX_COMPARED_NUMBERS = 8  # how many of the numbers with which a loop compares a word are used as measures
 
 
 class Measure(NamedTuple):
-    """A word that may grow or fall in each round. With a number, the measure is whether the word is above this number."""
+    """A word that changes in one direction in each round, as long as the loop goes on. With a number, the measure is not the word itself, but whether
+    the word is above this number."""
     place: Union[int, str]  # the address of a word, or a register such as "x10"
-    grows: bool  # whether the word grows
+    grows: bool  # the direction: whether the word grows; else it falls
     number: Optional[int] = None
 
 
-Change = Tuple[Union[int, str], Word, Word]  # a place, and its word before and now
+Change = Tuple[Union[int, str], Word, Word]  # the place of a word, the word at an earlier head, and the word now
 
 
 class Edge(NamedTuple):
-    """A way from one head to the next. The heads are named by their prefixes."""
-    source: str
-    target: str
+    """A way of a path from one head to another. The heads are named by their prefixes."""
+    source: str  # the head at which the way begins
+    target: str  # the head at which it ends
     strict: Set[Measure]  # the measures that change in their direction on this way
-    weak: Set[Measure]  # the measures that do so or stay the same
+    weak: Set[Measure]  # the measures that change in their direction or stay the same on this way
 
 
 class Passage(NamedTuple):
     """A path that arrives at the head of a loop."""
-    last: str  # the prefix of the head that it has passed last
-    edges: Dict[str, Edge]  # the ways to this head from the last one, and from the heads around that one, by where each begins
+    last: str  # the prefix of the head that the path has passed last
+    edges: Dict[str, Edge]  # the ways to this head from the last head, and from the heads around the last head; by the head at which the way begins
 
 
 def directions(changes: Sequence[Change], equations: Iterable[Node],
                implied: Callable[[Sequence[Condition]], Sequence[bool]]) -> Tuple[Set[Measure], Set[Measure]]:
-    """Returns the measures that change in their direction, and the measures that do so or stay the same. `changes` has the words before and now.
-    `equations` compare words with numbers. `implied` returns which of some conditions always hold."""
+    """Returns the measures that change in their direction, and the measures that do so or stay the same. `equations` compare words with numbers.
+    `implied` returns for each of some conditions whether it always holds."""
     measures = list(measured(changes, equations))
     answers = implied([condition for _, *pair in measures for condition in pair])  # two for each measure
     strict: Set[Measure] = set()
@@ -55,8 +56,8 @@ def directions(changes: Sequence[Change], equations: Iterable[Node],
 
 
 def measured(changes: Sequence[Change], equations: Iterable[Node]) -> Iterator[Tuple[Measure, Condition, Condition]]:
-    """Yields each measure of changed words with the condition that it changes in its direction, and the condition that it does so or stays the same.
-    An index that begins again at 0 has passed the number with which it is compared, and does not pass it again."""
+    """Yields each measure of changed words with two conditions: that the measure changes in its direction, and that it does so or stays the same. A
+    measure with a number is for an index that begins again at 0 after it has passed the number with which it is compared."""
     for place, before, now in changes:
         for grows in (True, False):
             less, more = (before, now) if grows else (now, before)
@@ -64,7 +65,7 @@ def measured(changes: Sequence[Change], equations: Iterable[Node]) -> Iterator[T
         for number in numbers_compared(equations, before):
             was_above = ult(number, before)
             is_above = ult(number, now)
-            yield Measure(place, False, number), all_of(was_above, not_(is_above)), any_of(was_above, not_(is_above))
+            yield Measure(place, grows=False, number=number), all_of(was_above, not_(is_above)), any_of(was_above, not_(is_above))
 
 
 def comparisons(conditions: Iterable[Node]) -> List[Node]:
@@ -87,27 +88,28 @@ def numbers_compared(equations: Iterable[Node], word: Word) -> List[int]:
 
 
 def is_ranked(rounds: List[Edge]) -> bool:
-    """Returns whether the rounds of a loop end. In some rounds a word changes in one direction, and in the others it stays the same or does so too.
-    These others are ranked in turn."""
+    """Returns whether the rounds of a loop are shown to end. A measure that no round changes against its direction, and some rounds change strictly,
+    shows that these rounds are executed a finite number of times. The remaining rounds are examined in the same way."""
     while rounds:
-        common = set.intersection(*(edge.weak for edge in rounds))
-        left = [edge for edge in rounds if edge.strict.isdisjoint(common)]
-        if len(left) == len(rounds):
+        never_reversed = set.intersection(*(edge.weak for edge in rounds))
+        remaining = [edge for edge in rounds if edge.strict.isdisjoint(never_reversed)]
+        if len(remaining) == len(rounds):
             return False
-        rounds = left
+        rounds = remaining
     return True
 
 
 def circular(edges: List[Edge]) -> Set[str]:
-    """Returns the heads that may be passed forever, by ways between heads."""
+    """Returns the heads that a path may pass forever on the ways `edges`. Ways that are taken a finite number of times are left out as in
+    `is_ranked`, for each strongly connected component."""
     while edges:
-        left: List[Edge] = []
+        remaining: List[Edge] = []
         for component in components(edges):
-            common = set.intersection(*(edge.weak for edge in component))
-            left += [edge for edge in component if edge.strict.isdisjoint(common)]
-        if len(left) == len(edges):
+            never_reversed = set.intersection(*(edge.weak for edge in component))
+            remaining += [edge for edge in component if edge.strict.isdisjoint(never_reversed)]
+        if len(remaining) == len(edges):
             break
-        edges = left
+        edges = remaining
     return {edge.source for edge in edges}
 
 
@@ -156,9 +158,10 @@ def components(edges: List[Edge]) -> List[List[Edge]]:
 
 
 def extends(reached: Dict[str, Set[str]], edge: Edge) -> bool:
-    """Adds what the end of an edge reaches to each head that reaches its beginning. Returns whether anything was added."""
-    new = reached.get(edge.target, set()) | {edge.target}
-    grown = [own for own in reached.values() if edge.source in own and not new <= own]
-    for own in grown:
-        own |= new
-    return bool(grown)
+    """Adds the target of an edge, and the heads that the target reaches, to each set in `reached` that has the source of the edge. Returns whether
+    anything was added."""
+    reached_by_target = reached.get(edge.target, set()) | {edge.target}
+    incomplete = [heads for heads in reached.values() if edge.source in heads and not reached_by_target <= heads]
+    for heads in incomplete:
+        heads |= reached_by_target
+    return bool(incomplete)

@@ -15,7 +15,7 @@ if TYPE_CHECKING:
     from rvlook.symbolic.fields import AnyState as State, Answer, Load, Store
     from rvlook.symbolic.nodes import Node
 
-LAST_CONDITIONS = 8  # the last conditions of a path, on which a finding without an address is taken to depend
+LAST_CONDITIONS = 8  # a finding without an address is taken to depend on so many of the last conditions of its path
 IN_MERGED = "only in a merged state: no sequence of activations is known that reaches it"
 Key = Tuple[str, int]  # a kind and the pc of an instruction
 MergedPlace = Union[int, str]  # a place in a merged state: the address of a byte, or a register such as "x10"
@@ -40,20 +40,20 @@ def merged_place(name: str) -> Optional[MergedPlace]:
 @dataclass
 class Counterexample:
     """A finding with the path that leads to it."""
-    what: str  # its kind
+    what: str  # the kind of the finding, such as "load"
     pc: int  # the instruction at which it was found
     text: str  # what was found; empty for kinds that have one text (`text.HEADINGS`)
     pcs: List[int]  # the pcs of the path, up to and with `pc`
     loads: List[Load]
     stores: List[Store]
     answers: List[Answer]
-    one: Dict[str, int]  # the values of the variables, by name
+    one: Dict[str, int]  # the values of the variables that show the finding, by name
     two: Optional[Dict[str, int]]  # for a difference between two secrets: the values with the second secret
     conditions: List[Node] = field(default_factory=list)  # the conditions of the path
     address: Any = None  # the address that a load or store accesses, as an expression
-    count: int = 1  # how often it was found
-    answer: str = ""  # what a replay showed; empty before the replay
-    log: List[str] = field(default_factory=list)  # the commands of its replay, up to its last step
+    count: int = 1  # how often the finding was reported
+    answer: str = ""  # the text of `confirm` about its replay; empty before the replay
+    log: List[str] = field(default_factory=list)  # the commands of its replay, up to the last step
 
     def copy_without_stores(self) -> Counterexample:
         """Returns the finding without its stores, which differ with another secret."""
@@ -61,7 +61,7 @@ class Counterexample:
 
     @property
     def is_confirmed(self) -> bool:
-        """Returns whether a replay showed the same."""
+        """Returns whether a replay showed the finding."""
         return self.answer.startswith("confirmed")
 
 
@@ -87,8 +87,8 @@ class Record:
         self.lengths_met: Set[int] = set()  # the addresses of --length that were loaded
 
     def report(self, what: str, state: State, text: str, one: Dict[str, int], two: Optional[Dict[str, int]] = None) -> None:
-        """Adds a finding of a kind at the pc of a state, once for each kind and instruction. `one` has values of the variables that show it, and
-        `two` those with a second secret. In a merged state it is no finding: the question is not decided."""
+        """Adds a finding of the kind `what` at the pc of a state, once for each kind and instruction. `text` says what was found. `one` has values of
+        the variables that show the finding, and `two` those with a second secret. In a merged state, the question is not decided instead."""
         key = what, state.pc
         if self.is_trial:
             return

@@ -41,10 +41,10 @@ def relations_of(new: Iterable[WordPlace], unknown: Iterable[WordPlace], others:
 
 
 def solve(x: WordPlace, y: WordPlace, z: WordPlace, number: int, free: Set[WordPlace]) -> Optional[Fact]:
-    """Returns x = y + z + number as a relation for one of the words that are free, or None."""
+    """Solves the relation x = y + z + number for one of its words that is in `free`. Returns the relation as a fact, or None if no word is free."""
     if x in free:
         return Fact(SUM_OF_WORDS, x, ((y, 1), (z, 1)), bound=number)
-    for one, other in ((y, z), (z, y)):
-        if one in free:
-            return Fact(SUM_OF_WORDS, one, ((x, 1), (other, -1)), bound=-number & M32)
+    for summand, other_summand in ((y, z), (z, y)):
+        if summand in free:
+            return Fact(SUM_OF_WORDS, summand, ((x, 1), (other_summand, -1)), bound=-number & M32)
     return None

@@ -18,15 +18,15 @@ if TYPE_CHECKING:
     from rvlook.symbolic.world import World
 
 RESUME = 4  # the function of the monitor that resumes an enclave
-ECALL = 0x73  # the instruction word of an ecall, whose other bytes are 0
+ECALL = 0x73  # the instruction word of an ecall: the first byte, followed by three bytes 0
 A0 = 10  # numbers of registers
 A1 = 11
 A6 = 16
 A7 = 17
-STEPS_AT_ONCE = 20000  # between two checks of the time
-FURTHER_STEPS = 20000  # the steps of an endless loop that are executed after its finding
-FURTHER_STEPS_AT_ONCE = 2000  # between two checks of the time
-WATCHED_STEPS = 40000  # the steps after FURTHER_STEPS, which are executed one by one until the registers repeat
+STEPS_AT_ONCE = 20000  # steps of a path between two checks of the time
+FURTHER_STEPS = 20000  # steps of an endless loop that are executed after its finding
+FURTHER_STEPS_AT_ONCE = 2000  # steps of an endless loop between two checks of the time
+WATCHED_STEPS = 40000  # the most steps after FURTHER_STEPS; they are executed one by one until the registers repeat
 
 
 class Path(Protocol):
@@ -40,15 +40,15 @@ class Path(Protocol):
 class Replayed:
     """The results of a replay of a path on rvbench."""
     pcs: List[int] = field(default_factory=list)  # the pcs of the steps that were executed
-    regs: List[int] = field(default_factory=list)  # x0 to x31 before the last step, if the path is not whole
+    regs: List[int] = field(default_factory=list)  # x0 to x31 before the last step of a finding; empty if the path is replayed as a whole
     after: int = 0  # the pc after the last step
     world: str = ""  # the world after the last step
     trap: str = "-"  # the cause and the value of the trap in the last step
     wrong: str = ""  # the first difference from the prediction; empty if there is none
     expected: Dict[int, int] = field(default_factory=dict)  # the bytes of the window that the path has loaded or stored, by address
     log: List[str] = field(default_factory=list)  # the commands that change the state, and the steps
-    is_late: bool = False  # whether the time was over before its end
-    is_again: bool = False  # whether the registers at the last pc were the same again after further steps
+    is_late: bool = False  # whether the time was over before the end of the replay
+    is_again: bool = False  # whether the registers at the last pc of the path had the same values again in further steps
 
     def note(self, line: str) -> None:
         """Notes the reply to a step."""
@@ -59,7 +59,7 @@ class Replayed:
 
 
 class Plan:
-    """The inputs and the outputs of a path for one model."""
+    """The inputs that the host gives on a path, and the outputs that are expected of it, for one model."""
 
     def __init__(self, path: Path, model: Mapping[str, int], window: Tuple[int, int]) -> None:
         self.window = window  # the first address, and the end
@@ -73,8 +73,8 @@ class Plan:
             first = evaluate(store.at, model, memo)
             value = evaluate(store.value, model, memo)
             self.stored.setdefault(store.step, []).extend((first + n, value >> 8 * n & 255) for n in range(store.width))
-        self.leaves = {answer.step: (answer.call, evaluate(answer.value, model, memo)) for answer in path.answers}  # the call and the answer of a
-        # step that leaves the enclave, by its number
+        # The call and the answer of each step that leaves the enclave, by the number of the step.
+        self.leaves = {answer.step: (answer.call, evaluate(answer.value, model, memo)) for answer in path.answers}
 
 
 class Replayer:
@@ -85,17 +85,18 @@ class Replayer:
         self.deadline = deadline  # the end of the time, by time.perf_counter()
 
     def secrets(self, model: Mapping[str, int]) -> List[str]:
-        """Returns the commands that set the secrets of a model, and the bytes that the host must know."""
+        """Returns the commands that set the bytes of the secret, and the bytes that the host must know, to their values in a model."""
         commands = ["poke %x %02x" % (at, model["k_%08x" % at]) for at in self.world.secret]
         return commands + ["poke %x %02x" % (at, model["c_%08x" % at]) for at in self.world.check]
 
     def go(self, pcs: Sequence[int], path: Path, model: Mapping[str, int], is_whole: bool, is_endless: bool = False) -> Replayed:
-        """Replays the steps of a path with the inputs and the secrets of a model. `pcs` has the predicted pcs. If the path is not whole, executes the
-        last step alone, and keeps the registers before it. If the path is endless, executes further steps after it. Returns the results."""
+        """Replays the steps of a path with the inputs and the secrets of a model. `pcs` has the predicted pcs. For a path that has ended
+        (`is_whole`), compares the window at the end. For a finding, executes the last step alone, and keeps the registers before it. For an endless
+        loop, executes further steps after the path. Returns the results."""
         replayed = Replayed()
         plan = Plan(path, model, self.world.window)
         first = 0  # the number of the next step
-        last = len(pcs) - 1
+        last = len(pcs) - 1  # the number of the last step
         with self.world.run.replay() as replay:
             bench = replay.bench
             replayed.after = self.world.pc
@@ -104,15 +105,15 @@ class Replayer:
                 replayed.is_late = time.perf_counter() > self.deadline
                 if replayed.is_late:
                     return replayed
-                most = min(first + STEPS_AT_ONCE - 1, last)
-                end = next((n for n in range(first, most + 1) if n in plan.leaves), most)
+                end_of_batch = min(first + STEPS_AT_ONCE - 1, last)
+                end = next((n for n in range(first, end_of_batch + 1) if n in plan.leaves), end_of_batch)  # a batch ends where the enclave leaves
                 if end == last and not is_whole:
                     execute_steps(bench, plan, replayed, range(first, end))
                     execute_last_step(bench, plan, replayed, last)
                 else:
                     execute_steps(bench, plan, replayed, range(first, end + 1))
                     if end in plan.leaves:
-                        self.leave(bench, replayed, plan.leaves[end], end == last)
+                        self.leave(bench, replayed, plan.leaves[end], is_last=end == last)
                 first = end + 1
             if is_whole and not replayed.wrong:
                 check_window(bench, replayed)
@@ -124,25 +125,26 @@ class Replayer:
         return replayed
 
     def begin(self, bench: Bench, replayed: Replayed, lines: List[str], model: Mapping[str, int]) -> None:
-        """Executes the commands up to the first entry of the enclave, and sets the secrets of a model."""
+        """Executes the commands `lines`, which lead to the first entry of the enclave, and sets the secrets of a model."""
         replayed.log = lines
         if self.world.run.setup.harts > 1:
             replayed.log.append("hart %d" % self.world.hart)
         replayed.log += self.secrets(model)
         bench.ask(*replayed.log)
 
-    def leave(self, bench: Bench, replayed: Replayed, end: Tuple[int, int], is_last: bool) -> None:
-        """Compares the answer and the window after the enclave has left, and resumes the enclave unless this was the last step. `end` is the
-        predicted call with its answer. After a stop, a0 of the host is 1, and a1 is the answer."""
-        call, answer = end
+    def leave(self, bench: Bench, replayed: Replayed, prediction: Tuple[int, int], is_last: bool) -> None:
+        """Compares the answer and the window after the enclave has left, and resumes the enclave unless this was the last step. `prediction` is the
+        predicted call (STOP or EXIT) with its answer. The host gets 1 in a0 after a stop and 0 after an exit, and the answer in a1."""
+        call, answer = prediction
         a0 = bench.register(A0)
         a1 = bench.register(A1)
-        if replayed.world != "host" or a0 != (1 if call == STOP else 0) or a1 != answer:
+        expected_a0 = 1 if call == STOP else 0
+        if replayed.world != "host" or a0 != expected_a0 or a1 != answer:
             replayed.wrong = "answer %d %08x, predicted %08x" % (a0, a1, answer)
         check_window(bench, replayed)
         if replayed.wrong or is_last:
             return
-        commands = ["poke %x %02x" % (replayed.after + n, ECALL if n == 0 else 0) for n in range(4)]
+        commands = ["poke %x %02x" % (replayed.after + n, ECALL if n == 0 else 0) for n in range(4)]  # an ecall as the next instruction of the host
         commands += ["setreg %d %x" % (A7, MONITOR_KEY), "setreg %d %x" % (A6, RESUME), "setreg %d %x" % (A0, self.world.slot)]
         bench.ask(*commands)
         replayed.log += commands + ["step 1"]
@@ -150,7 +152,7 @@ class Replayer:
 
 
 def replies_to_steps(bench: Bench, commands: Sequence[str]) -> List[str]:
-    """Executes commands. Returns the replies to steps."""
+    """Executes commands. Returns the replies to the commands that execute steps, without those to other commands."""
     if not commands:
         return []
     text = "".join(command + "\n" for command in commands)

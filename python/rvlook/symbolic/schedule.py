@@ -1,8 +1,8 @@
-"""The paths that wait to be continued, in the order of the program: the path that is furthest behind comes first, so that paths meet where they can
-be joined.
+"""The queue of paths that wait to be continued. The path that is furthest behind in the program comes first, so that paths meet where they can be
+joined.
 
-The order is that of the steps of a program without branches. The activation comes first, then the open calls, from the outermost on. Within a call
-the rounds of loops come before the place in the function."""
+Paths are compared by their activation first, and then by their open calls, the outermost first. Within a call, the rounds of loops are compared
+before the place in the function."""
 from __future__ import annotations
 
 import heapq
@@ -20,16 +20,16 @@ Position = Tuple[int, ...]  # the key by which waiting paths are sorted; a path 
 
 
 def position_of(flows: Flows, state: State) -> Position:
-    """Returns the place of a path in the order of the program."""
-    parts = [place_of(flows, state, state.entry, state.call, state.pc)]
-    parts += [place_of(flows, state, call.entry, call.caller, call.back - 4) for call in state.open_calls()]
-    return (state.start_number, state.activation, *(n for part in reversed(parts) for n in part), state.pc)
+    """Returns the sort key of a path: its place in the order of the program."""
+    places = [place_of(flows, state, state.entry, state.call, state.pc)]  # in each open call, the innermost first
+    places += [place_of(flows, state, call.entry, call.caller, call.back - 4) for call in state.open_calls()]
+    return (state.start_number, state.activation, *(n for place in reversed(places) for n in place), state.pc)
 
 
 def place_of(flows: Flows, state: State, entry: int, call: int, pc: int) -> Position:
     """Returns the place of a path in one of its calls. `entry` is the first instruction of the function, `call` is the number of the call, and `pc`
-    is the present instruction in it. The place consists of the head and the round of each loop around the instruction, and then of the
-    instruction."""
+    is the present instruction in this call. The place consists of the head and the round of each loop around the instruction, and then of the
+    instruction. It is (0,) if the control flow is not known."""
     flow = flows.by_entry.get(entry)
     if flow is None or pc not in flow.order:
         return (0,)
@@ -68,20 +68,20 @@ class Schedule:
         return len(self.heap)
 
     def add(self, state: State) -> None:
-        """Adds a path to the queue."""
+        """Adds a path to the queue, at its place in the program, or by its rarity if rare branches come first."""
         self.count += 1
         position = self.rarity(state) if self.is_rare_first else position_of(self.flows, state)
         heapq.heappush(self.heap, (position, self.count, state))
 
     def rarity(self, state: State) -> Position:
-        """Counts a path, and returns how many paths have begun at its place. The place includes the values of index registers, and the value that the
-        path follows. A parser is at another place for each depth, and for each type of a field."""
+        """Returns the sort key of a path if rare branches come first: how many paths have begun at its place, with this one. The place includes the
+        values of index registers, and the value that the path follows. A parser thus has a place for each depth, and for each type of a field."""
         place = state.pc, state.context, *state.search.indices.values(state), state.value_followed
         self.begun[place] += 1
         return (self.begun[place],)
 
     def take(self) -> List[State]:
-        """Removes and returns the paths that are furthest behind, which are all at the same position. If rare branches come first, this is one
+        """Removes the first path from the queue, and all others at the same position. Returns them. If rare branches come first, this is one
         path."""
         position, _, state = heapq.heappop(self.heap)
         states = [state]
@@ -91,13 +91,14 @@ class Schedule:
 
 
 def waiting(step: Step) -> Step:
-    """Returns the function of an instruction at which paths meet: a path waits for others there, may be merged, and then executes `step`."""
+    """Returns the function of an instruction at which paths meet. It makes the path wait for others, may merge the path, and then executes the
+    instruction by the function `step`."""
     def execute(state: State, pc: int) -> int:
-        if state.start_head == pc:
+        if state.start_head == pc:  # the path begins in the merged state of this head
             next_pc = step(state, pc)
             state.start_head = None
             return next_pc
-        if state.resumed_at == pc:
+        if state.resumed_at == pc:  # the path has waited already
             state.resumed_at = None
         else:
             state.wait_for_others(pc)
@@ -107,7 +108,8 @@ def waiting(step: Step) -> Step:
 
 
 def count_round(flows: Flows, state: State, head: int) -> None:
-    """Counts a round of a loop for a path that arrives at its head. The counts of the loops inside, and of the calls inside, begin again."""
+    """Counts a round of a loop for a path that arrives at its head. Removes the counts of the loops inside, and of the branches in these loops and in
+    calls from this function."""
     flow = flows.by_entry.get(state.entry)
     if flow is None or head not in flow.heads.get(head, ()):
         return
@@ -117,8 +119,8 @@ def count_round(flows: Flows, state: State, head: int) -> None:
             del state.rounds[call, other]
     contexts = state.search.world.contexts
     for key in list(state.branch_counts):
-        pc = abs(key[0])  # negative if only one side was possible (`PathState.branch_counts`)
-        context = key[1]
+        signed_pc, context = key
+        pc = abs(signed_pc)  # negative if only one side was possible (`PathState.branch_counts`)
         if context == state.context:
             heads = flow.heads.get(pc, ())
             is_inner = head in heads and heads[-1] != head

@@ -17,7 +17,8 @@ STEP = "step 1"  # the command that executes one step
 
 
 def write(folder: str, run: Run, findings: Sequence[Counterexample], headings: Sequence[str]) -> None:
-    """Writes a file into a folder for each finding, with its heading. Raises Unfinished if a file cannot be written."""
+    """Writes the files of --scripts: for each finding an input of rvbench that shows it, with its heading as a comment. Makes the folder if it does
+    not exist. Raises Unfinished if a file cannot be written."""
     try:
         os.makedirs(folder, exist_ok=True)
         for number, (example, heading) in enumerate(zip(findings, headings), 1):
@@ -27,7 +28,7 @@ def write(folder: str, run: Run, findings: Sequence[Counterexample], headings: S
 
 
 def input_of(run: Run, example: Counterexample, heading: str) -> bytes:
-    """Returns a finding as an input of rvbench."""
+    """Returns the input of rvbench that shows a finding: the image, comments, and the commands that lead to the last step and execute it."""
     head = [comment(heading), comment("./rvbench %s < this file" % " ".join(run.setup.arguments())),
             comment("./rvlook page --monitor this file, or ./rvlook gdb --monitor this file")]
     lines = [*head, *joined(example.log), "dis %x" % example.pc, "regs", STEP]
@@ -35,7 +36,7 @@ def input_of(run: Run, example: Counterexample, heading: str) -> bytes:
 
 
 def joined(commands: Sequence[str]) -> List[str]:
-    """Returns commands in which consecutive single steps are one command."""
+    """Returns the same commands with consecutive commands `step 1` joined into one command `step N`."""
     joined_commands: List[str] = []
     for command in commands:
         if command == STEP and joined_commands and joined_commands[-1].startswith("step "):

@@ -32,11 +32,11 @@ if TYPE_CHECKING:
     from rvlook.symbolic.options import VerifyOptions
     from rvlook.symbolic.world import World
 
-POINTER_MARGIN = 4096  # bytes around region and window to which lui and auipc may point
-FIRST_REPLAYS = 10  # the first paths, which are all replayed; of the later ones, every Nth is replayed (--replay N)
-STATE_QUESTION_ACTIVATIONS = 3  # activations from which on the question `state` is asked, for which a path must have one history
+POINTER_MARGIN = 4096  # bytes around region and window; an address there that lui or auipc computes may be the upper part of a pointer
+FIRST_REPLAYS = 10  # how many of the first paths are all replayed; of later paths, every Nth is replayed (--replay N)
+STATE_QUESTION_ACTIVATIONS = 3  # from this number of activations on, the question `state` is asked, for which a path must have one history
 WINDOW_REGISTER = 12  # a2, which has the address of the window at the first entry
-MIN_PATIENCE_STEPS = 20000  # steps after which a path may be examined for an endless loop, beside twice the steps of the run itself
+MIN_PATIENCE_STEPS = 20000  # a path is not examined for an endless loop before this number of steps plus twice the steps of the run itself
 
 
 class Search(Judge):
@@ -63,7 +63,7 @@ class Search(Judge):
         self.meeting_points: Set[int] = set()  # the pcs at which paths wait for each other
         self.joins = Joins(self) if self.may_join() else None
         self.merger = Merger(self) if self.options.merges else None  # merges the states of stops
-        self.merge_queue: List[Tuple[Any, Merged]] = []  # the merged states that are to be explored, each with its merger
+        self.merge_queue: List[Tuple[Any, Merged]] = []  # the merged states that are to be explored, each with the Merger or LoopMerger it belongs to
         self.loops = Loops(self)  # merges paths at the heads of loops
         self.loops_from = means.loops_from  # how often a path divides in a loop before paths are merged at its head, 0 for never
         self.heads: Set[Tuple[int, int]] = set()  # the heads at which paths are merged: pc and context
@@ -73,15 +73,16 @@ class Search(Judge):
         self.deadline = self.began + self.options.seconds  # the end of the time, by time.perf_counter()
 
     def set_limits(self) -> None:
-        """Sets the limits of paths: the addresses of pointers, the steps before a branch, and the activations."""
+        """Sets the limits of paths: the range of pointers, the steps before a path is examined for an endless loop, and the activations."""
         world = self.world
         self.low_pointer = min(world.region[0], world.window[0]) - POINTER_MARGIN  # the range of addresses to which lui and auipc may point
         self.high_pointer = max(world.region[1], world.window[1]) + POINTER_MARGIN
-        self.patience = MIN_PATIENCE_STEPS + 2 * sum(len(activation.pcs) for activation in world.own_activations)  # steps of a path
+        steps_of_run = sum(len(activation.pcs) for activation in world.own_activations)
+        self.patience = MIN_PATIENCE_STEPS + 2 * steps_of_run  # steps after which a path is examined for an endless loop
         self.activations = self.options.activations or len(world.own_activations)  # how many activations a path has at most
 
     def set_counts(self) -> None:
-        """Sets the counters and the results of replays."""
+        """Sets the counters of the search and the results of replays to zero."""
         self.calls = 1  # the number of the last call; calls are numbered over all paths
         self.paths = 0  # paths that have ended
         self.steps = 0  # steps of all paths
@@ -103,7 +104,7 @@ class Search(Judge):
         return self.options.merges or not self.means.is_whole or self.activations < STATE_QUESTION_ACTIVATIONS
 
     def is_late(self) -> bool:
-        """Returns whether this search is over: the time is over, or a new search has to begin with what this one knows."""
+        """Returns whether this search must stop: the time is over, or a new search has to begin with the results of this one (`is_outgrown`)."""
         return self.is_outgrown or time.perf_counter() > self.deadline
 
     # ---- paths
@@ -139,10 +140,10 @@ class Search(Judge):
             state.tags[WINDOW_REGISTER] = Origin(How.SYMBOL, low)
         state.symbolic_bytes = {}
         state.model = {}
-        for values, name, taint in ((world.secret, "k_%08x", SECRET), (world.check, "c_%08x", CHECK)):
+        for values, name_format, taint in ((world.secret, "k_%08x", SECRET), (world.check, "c_%08x", CHECK)):
             for address, value in values.items():
-                state.symbolic_bytes[address] = variable(name % address, taint)
-                state.model[name % address] = value
+                state.symbolic_bytes[address] = variable(name_format % address, taint)
+                state.model[name_format % address] = value
         return state
 
     def add_path(self, state: State) -> None:
@@ -151,12 +152,13 @@ class Search(Judge):
             self.queue.add(state)
 
     def add_divided_path(self, state: State) -> None:
-        """Adds the path with the other values to the queue, after a path has divided."""
+        """Adds the new path to the queue after a path has divided, and counts the division."""
         self.divisions += 1
         self.add_path(state)
 
     def note_flow(self, entry: int) -> None:
-        """Notes a function that is called for the first time, by its entry. Its instructions at which paths meet then wait for other paths."""
+        """Adds the meeting points of a function that is called for the first time. `entry` is its first instruction. Paths that arrive at a meeting
+        point wait there for other paths."""
         flow = self.flows.of(entry)
         if flow is None:
             return
@@ -191,13 +193,13 @@ class Search(Judge):
                 merger, merged = self.merge_queue.pop(self.next_merged_index())
                 self.add_path(merger.state_to_explore(merged))
             for state in self.take_paths():
-                state.resumed_at = state.pc if state.pc in self.meeting_points else None
+                state.resumed_at = state.pc if state.pc in self.meeting_points else None  # the path does not wait there again
                 progress.show("%d paths, %d left, %d findings, %d steps", self.paths, len(self.queue), len(self.findings), self.steps)
                 self.explore(state)
 
     def take_paths(self) -> List[State]:
-        """Removes the next paths from the queue, which are at one place, and joins them as far as possible. If the time is over meanwhile, returns
-        the paths as they are."""
+        """Removes the next paths from the queue, which are all at one place. Returns them joined as far as possible, or as they are if the time is
+        over before they are joined."""
         states = self.queue.take()
         if self.joins and len(states) > 1:
             try:
@@ -222,7 +224,8 @@ class Search(Judge):
         return turns.index(min(turns))
 
     def explore(self, state: State) -> None:
-        """Executes a path until it ends or waits for others. If it ends, replays it if its number says so."""
+        """Executes a path until it ends or waits for other paths. Replays each of the first paths that end, and every Nth of the later ones
+        (--replay N)."""
         steps_before = state.steps
         why = state.go()
         self.steps += state.steps - steps_before
@@ -237,8 +240,8 @@ class Search(Judge):
             self.replay(state, why)
 
     def replay(self, state: State, why: str) -> None:
-        """Replays a path on rvbench. `why` is the reason for which the path has ended: the last step of a path is replayed only if it leaves the
-        enclave."""
+        """Replays a path on rvbench, and records a difference. `why` is the reason for which the path has ended. The last step of a path is replayed
+        only if it leaves the enclave."""
         history = history_of(state, state.model)
         pcs = history.pcs if why in (EXITED, STOPPED) else history.pcs[:-1]
         replayed = self.replayer.go(pcs, history, state.model, is_whole=True)

@@ -15,12 +15,12 @@ from rvlook.symbolic.words import not_
 if TYPE_CHECKING:
     from rvlook.symbolic.solver import Answer, Solver
 
-MAX_JOINT_QUESTIONS = 40  # questions about all conditions at once, before each condition is asked about alone
+MAX_JOINT_QUESTIONS = 40  # the most questions about all conditions at once; then `Session.implied` asks about each condition alone
 
 
 class Session:
-    """Conditions for several questions. Conditions that share no variables with any question are left out, and so are conditions
-    about results of a hash."""
+    """Asks several questions about the same conditions. Leaves out conditions that share no variables with any question, and conditions about results
+    of a hash."""
 
     def __init__(self, solver: Solver, conditions: Sequence[Node], questions: Iterable[Word], model: Dict[str, int]) -> None:
         self.solver = solver
@@ -33,11 +33,12 @@ class Session:
         self.shown = solver.shown.setdefault(self.all, set())  # the conditions that follow from `all`, as far as this was shown
         light = [condition for condition in conditions if condition.weight <= HEAVY]
         self.conditions, self.mask = self.opaque.relevant_conditions(light, mask)  # the conditions that are not left out, and their variables
-        self.asts = [self.opaque(condition) for condition in self.conditions]  # as expressions of z3
+        self.asts = [self.opaque(condition) for condition in self.conditions]  # the same conditions as expressions of z3
         self.memo: Dict[Node, Any] = {}  # the values of nodes by the last answer
 
     def satisfiable(self, question: Condition) -> Answer:
-        """Returns whether the conditions and a question hold for some values, by which `value_of` then evaluates expressions."""
+        """Returns whether the conditions and a question hold for some values. If so, `value_of` evaluates expressions for these values from then
+        on."""
         if type(question) is bool:
             return question
         solver, opaque = self.solver, self.opaque
@@ -57,14 +58,16 @@ class Session:
         return evaluate(expression, self.model, self.memo)
 
     def implied(self, wanted: Sequence[Condition], is_late: Callable[[], bool], strongest: Callable[[List[int]], List[int]] = list) -> List[bool]:
-        """Returns which of the conditions `wanted` follow from those of the session. One question is about all of them, and each answer leaves out
-        those that do not hold. `strongest` returns those of some numbers of `wanted` from which the others follow. Stops as soon as `is_late` returns
-        True. A condition that was shown for the same conditions needs no question: in the last pass, most paths arrive as they did before."""
+        """Returns for each of the conditions `wanted` whether it follows from those of the session. A question is about all of them at once, and each
+        answer leaves out those that do not hold. `strongest` gets indices of `wanted`, and returns some of them, whose conditions imply those of the
+        others. Stops as soon as `is_late` returns True. A condition that was shown for the same conditions before needs no question: in the last
+        pass, most paths arrive as they did before."""
         shown = [condition is True or condition in self.all or condition in self.shown for condition in wanted]
         may_hold = [shown[n] or (condition is not False and bool(self.value_of(condition))) for n, condition in enumerate(wanted)]
         for _ in range(0 if is_late() else MAX_JOINT_QUESTIONS):
-            open_numbers = [n for n in strongest([n for n, holds in enumerate(may_hold) if holds]) if not shown[n]]
-            answer = self.satisfiable(not_(all_of(*(wanted[n] for n in open_numbers)))) if open_numbers else False
+            candidates = [n for n, holds in enumerate(may_hold) if holds]
+            open_indices = [n for n in strongest(candidates) if not shown[n]]
+            answer = self.satisfiable(not_(all_of(*(wanted[n] for n in open_indices)))) if open_indices else False
             if answer is None:
                 break
             if answer is False:
@@ -72,6 +75,6 @@ class Session:
                 return may_hold
             may_hold = [shown[n] or (holds and bool(self.value_of(wanted[n]))) for n, holds in enumerate(may_hold)]
 
-        def follows(number: int) -> bool:
-            return not is_late() and self.satisfiable(not_(wanted[number])) is False
+        def follows(index: int) -> bool:
+            return not is_late() and self.satisfiable(not_(wanted[index])) is False
         return [shown[n] or (holds and follows(n)) for n, holds in enumerate(may_hold)]

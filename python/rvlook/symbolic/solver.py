@@ -21,24 +21,25 @@ from rvlook.symbolic.nodes import CHECK, HEAVY, SECRET, Condition, Node, Word, b
 from rvlook.symbolic.opaque import Opaque, is_large_lookup, is_none
 from rvlook.symbolic.translate import Primed, Translator
 
-CORNERS = (0, 1, 255, 128, 127, 65, 4, 16)  # values of bytes that are tried as guesses
-UNIFORM_CORNERS = 3  # guesses in which all variables have the same corner
+# Limits of guesses: values of the variables that are tried before z3.
+CORNERS = (0, 1, 255, 128, 127, 65, 4, 16)  # values of bytes for which conditions often hold
+UNIFORM_CORNERS = 3  # how many of the first corners are tried as the value of all variables
 RANDOM_GUESSES = 2  # guesses with random bytes; one more guess has random corners
-SECRET_TRIES = 6  # other secrets that are tried
-MAX_INVERSIONS = 8  # guesses by inversion of the question
-MAX_REPAIRS = 4  # conditions that are repaired in a guess
-MAX_GUESSED_VARIABLES = 64  # variables of a question for which corners are tried
-MAX_GUESSED_CONJUNCTS = 12  # the most parts of a conjunction that is guessed
+SECRET_TRIES = 6  # how many other secrets are tried
+MAX_INVERSIONS = 8  # guesses by inversion of the question (`guess.solutions`)
+MAX_REPAIRS = 4  # conditions that are repaired in one guess
+MAX_GUESSED_VARIABLES = 64  # a question with more variables is not guessed by corners or random bytes
+MAX_GUESSED_CONJUNCTS = 12  # a conjunction with more parts is not guessed
 OPAQUE_TIMEOUT_MS = 500  # milliseconds of a query without the contents of tables and choices
-MAX_RECOMPUTED_OPERATIONS = 256  # operations of a public node that is computed for both of two secrets, so that it restricts them
-Answer = Optional[bool]  # whether values exist; None if it is not decided
+MAX_RECOMPUTED_OPERATIONS = 256  # operations of the largest public node that is computed for both of two secrets, so that it restricts them
+Answer = Optional[bool]  # whether values exist; None if that is not decided
 Pair = Tuple[Answer, Optional[Part], Optional[Part]]  # an answer, and the values of the variables with the first and with the second secret
 
 
 class Equal(NamedTuple):
     """The nodes that are taken to be equal for two secrets."""
-    public: FrozenSet[Node]  # all of them
-    computed: List[Node]  # those that are computed for both secrets
+    public: FrozenSet[Node]  # all of these nodes
+    computed: List[Node]  # the nodes that are computed for both secrets, with the condition that the results are equal
 
 
 class Solver:
@@ -66,7 +67,7 @@ class Solver:
         self.seconds = 0.0  # the seconds in z3
 
     def within(self, timeout: int) -> Solver:
-        """Returns the same solver with at most `timeout` milliseconds for a query, and a cache of its own."""
+        """Returns a copy of the solver with at most `timeout` milliseconds for a query, and a cache of its own."""
         solver = copy(self)
         solver.timeout = min(timeout, self.timeout)
         solver.cache = {}
@@ -78,21 +79,22 @@ class Solver:
     def relevant_conditions(conditions: Sequence[Node], mask: int) -> Tuple[List[Node], int]:
         """Returns the conditions that share variables with a question, directly or through other conditions, and the mask of all these variables.
         `mask` has the variables of the question."""
-        left = list(conditions)
+        remaining = list(conditions)
         relevant: List[Node] = []
         while True:
-            more = [condition for condition in left if mask_of(condition) & mask]
+            more = [condition for condition in remaining if mask_of(condition) & mask]
             if not more:
                 return relevant, mask
             relevant += more
             chosen = set(more)
-            left = [condition for condition in left if condition not in chosen]
+            remaining = [condition for condition in remaining if condition not in chosen]
             for condition in more:
                 mask |= mask_of(condition)
 
     def satisfiable(self, conditions: Sequence[Node], question: Condition, model: Part) -> Tuple[Answer, Part]:
         """Returns whether the conditions and a question can hold together, and a model for which they do. `model` has values of all variables for
-        which the conditions hold; the result differs from it as little as possible."""
+        which the conditions hold. The returned model differs from it only in variables that the question restricts, directly or through
+        conditions."""
         if type(question) is bool:
             return question, model
         relevant, mask = self.relevant_conditions(conditions, mask_of(question))
@@ -106,7 +108,8 @@ class Solver:
 
     @staticmethod
     def is_valid_for(cached: Tuple[Answer, Optional[Part]], relevant: Sequence[Node], question: Node, model: Part) -> bool:
-        """Returns whether a cached answer is valid for a model. The cached values are those that differed from another model."""
+        """Returns whether a cached answer is valid for a model. The cached values may have been found for another model, so the conditions and the
+        question are evaluated with them."""
         answer, part = cached
         if not answer:
             return True
@@ -115,8 +118,8 @@ class Solver:
         return all(evaluate(condition, whole, memo) for condition in (*relevant, question))
 
     def decide(self, relevant: List[Node], question: Node, mask: int, model: Part) -> Tuple[Answer, Optional[Part]]:
-        """Returns whether conditions and a question can hold together, and the values that differ from a model: by the values of bytes, by guesses,
-        by simplification, or by z3. `mask` has the variables of all of them."""
+        """Returns whether conditions and a question can hold together, and the values that differ from a model. Decides this by all values of single
+        bytes, by guesses, by simplification, or by z3, in this order. `mask` has the variables of the conditions and the question."""
         conditions = [*relevant, question]
         answer, sets = self.domains.answer(conditions)
         if answer is False:
@@ -130,19 +133,22 @@ class Solver:
             return True, {**{name: model.get(name, 0) for name in names_of(mask)}, **part}  # all values: the answer may be used for another model
         if self.is_impossible(relevant, question):
             return False, None
-        left, values = reduced(conditions)
-        if left is None:
+        reduced_conditions, known_values = reduced(conditions)
+        if reduced_conditions is None:
             self.note_proof([self.plain(condition) for condition in conditions])
             return False, None
-        answer, part = (True, {}) if not left else self.solve([self.plain(condition) for condition in left], names_of(mask))
+        if reduced_conditions:
+            answer, part = self.solve([self.plain(condition) for condition in reduced_conditions], names_of(mask))
+        else:
+            answer, part = True, {}
         if answer and part is not None:
-            part.update({node.args[0]: value for node, value in values.items()})
+            part.update({node.args[0]: value for node, value in known_values.items()})
             if not self.is_valid_for((answer, part), relevant, question, model):
                 return None, None
         return answer, part
 
     def is_impossible(self, relevant: List[Node], question: Node) -> bool:
-        """Returns whether conditions and a question cannot hold together, whatever the contents of tables and choices are."""
+        """Returns whether z3 shows that conditions and a question cannot hold together, whatever the contents of tables and choices are."""
         asked = self.opaque.relevant(relevant, question)
         if asked is None:
             return False
@@ -153,7 +159,8 @@ class Solver:
         return answer is False
 
     def guess(self, conditions: Sequence[Node], question: Node, mask: int, model: Part) -> Optional[Part]:
-        """Returns values of the variables of a question for which the question and the conditions hold, or None. `mask` has these variables."""
+        """Guesses values of the variables of a question for which the question and the conditions hold. Returns the values, or None if no guess fits.
+        `mask` has these variables."""
         names = names_of(mask)
         memo: Dict[Node, Any] = {}
         if (len(names) > MAX_GUESSED_VARIABLES and question.weight > HEAVY) or is_long(question):
@@ -171,7 +178,8 @@ class Solver:
 
     @staticmethod
     def repair_guess(part: Part, conditions: Sequence[Node], question: Node, model: Part) -> Optional[Part]:
-        """Returns the values of a guess for which a question and conditions hold, after repairs of conditions that do not hold; or None."""
+        """Repairs the guess `part`: changes further variables for conditions that do not hold. Returns the values for which the question and all
+        conditions hold, or None if at most MAX_REPAIRS rounds do not suffice."""
         whole: Part = {**model, **part}
         for _ in range(MAX_REPAIRS):
             memo: Dict[Node, Any] = {}
@@ -201,8 +209,8 @@ class Solver:
         return self.ask_in_time(partial(check, asts), timeout)
 
     def ask_in_time(self, ask: Callable[[int], Tuple[Answer, Part]], timeout: int) -> Tuple[Answer, Part]:
-        """Asks z3 by a function of the milliseconds that are left, at most `timeout`. Raises TimeIsOver if the time of the whole run ends before an
-        answer."""
+        """Asks z3 by the function `ask`, whose argument is the milliseconds that are left, at most `timeout`. Raises TimeIsOver if the time of the
+        whole run ends before an answer."""
         began = time.perf_counter()
         if began >= self.deadline:
             raise TimeIsOver
@@ -215,7 +223,7 @@ class Solver:
         return answer, values
 
     def note_proof(self, asts: List[Any]) -> None:
-        """Keeps expressions that cannot hold together, for a second solver."""
+        """Records expressions of z3 that cannot hold together, if a second solver is to check this answer."""
         if self.proofs is not None:
             self.proofs.append(asts)
 
@@ -237,8 +245,8 @@ class Solver:
     # ---- two runs with different secrets
 
     def secret_pair(self, conditions: Sequence[Node], question: Word, public: Set[Node], model: Part) -> Pair:
-        """Returns whether a word can differ for two secrets and equal inputs, with a model for each secret. `public` has the nodes that are taken to
-        be equal for both secrets."""
+        """Returns whether the word `question` can differ for two secrets and equal inputs, with a model for each of the two secrets. `public` has the
+        nodes that are taken to be equal for both secrets."""
         if type(question) is not Node or not question.taint & SECRET or question in public:
             return False, None, None
         relevant, mask = self.relevant_conditions(conditions, mask_of(question))
@@ -253,8 +261,8 @@ class Solver:
         if key in self.cache:
             self.cached += 1
             return self.cache[key]
-        secret = [condition for condition in relevant if condition.taint & SECRET]
-        pair = self.try_other_secrets(question, mask, secret, equal, model)
+        secret_conditions = [condition for condition in relevant if condition.taint & SECRET]
+        pair = self.try_other_secrets(question, mask, secret_conditions, equal, model)
         if pair is None:
             pair = self.solve_pair(question, mask, relevant, equal, model)
         self.cache[key] = pair
@@ -274,22 +282,24 @@ class Solver:
         answer, part = self.solve(asts, names + second_names)
         if not answer or part is None:
             return answer, None, None
-        one = {**model, **{name: value for name, value in part.items() if not name.endswith("'")}}
-        return True, one, {**one, **{name[:-1]: value for name, value in part.items() if name.endswith("'")}}
+        first_model = {**model, **{name: value for name, value in part.items() if not name.endswith("'")}}
+        second_secret = {name[:-1]: value for name, value in part.items() if name.endswith("'")}  # without the apostrophes
+        return True, first_model, {**first_model, **second_secret}
 
     def try_other_secrets(self, question: Node, mask: int, conditions: Sequence[Node], equal: Equal, model: Part) -> Optional[Pair]:
-        """Tries other secrets. Returns the answer of `secret_pair` if a node differs for one of them, else None. `conditions` depend on the
-        secret."""
+        """Evaluates a node for a few other secrets. Returns the result of `secret_pair` if the node differs for one of them, else None. `conditions`
+        has the conditions that depend on the secret, and `mask` the variables of the question and the conditions."""
         names = [name for name in names_of(mask) if by_name[name].taint & SECRET]
         if not names:
             return None
         memo: Dict[Node, Any] = {}
         value = evaluate(question, model, memo)
-        wanted = {node: evaluate(node, model, memo) for node in equal.computed}
-        forced = {name: evaluate(name, model, memo) for name in equal.public if name.taint & SECRET and mask_of(name) & mask and name not in wanted}
+        wanted = {node: evaluate(node, model, memo) for node in equal.computed}  # the values that must stay the same
+        fixed_nodes = [node for node in equal.public if node.taint & SECRET and mask_of(node) & mask and node not in wanted]
+        fixed_values = {node: evaluate(node, model, memo) for node in fixed_nodes}  # taken to be the same, and not computed again
         for number in range(SECRET_TRIES):
             other = {**model, **self.other_secret(number, names, model)}
-            values = dict(forced)
+            values = dict(fixed_values)
             if evaluate(question, other, values) == value or not all(evaluate(condition, other, values) for condition in conditions):
                 continue
             if all(evaluate(node, other, values) == public_value for node, public_value in wanted.items()):
@@ -298,7 +308,8 @@ class Solver:
         return None
 
     def other_secret(self, number: int, names: Sequence[str], model: Model) -> Part:
-        """Returns another secret: all bits changed, zeros, one bit changed, or random bytes. `number` says which, and `names` are its variables."""
+        """Returns another secret than that of a model, for the try with a number. The tries are: all bits flipped, zeros, one bit flipped, and then
+        random bytes. `names` has the variables of the secret."""
         if number == 0:
             return {name: model.get(name, 0) ^ 255 for name in names}
         if number == 1:
@@ -310,6 +321,6 @@ class Solver:
 
 
 def is_long(question: Node) -> bool:
-    """Returns whether a question is about many conditions at once."""
+    """Returns whether a question is a conjunction of many conditions, or the negation of one."""
     compared = question.args[0] if question.op == "not" else question
     return compared.op == "and1" and len(compared.args) > MAX_GUESSED_CONJUNCTS

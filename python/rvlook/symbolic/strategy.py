@@ -23,27 +23,28 @@ if TYPE_CHECKING:
     from rvlook.symbolic.options import VerifyOptions
     from rvlook.symbolic.world import World
 
-# Which part of the time that is left a search may use.
+# The part of the remaining time that a search may use, from 0 to 1.
 EXACT_PART = .25  # the exact search
 LOOPS_PART = .8  # each search with merged loops
 SEQUENCES_PART = .4  # the search for sequences of activations
 MOST_PART = .8  # any search, if the exact search has ended; and a search with merged loops, if few paths divide
-FIRST_FAR = Means(is_rare_first=True, is_far=True, merges=False, activations=1)
-RARE_FIRST = Means(is_rare_first=True, merges=False)
+FIRST_FAR = Means(is_rare_first=True, is_far=True, merges=False, activations=1)  # one activation with long messages
+RARE_FIRST = Means(is_rare_first=True, merges=False)  # all activations
 RARE_SEARCHES = (FIRST_FAR, .35), (RARE_FIRST, .4)  # the searches for rare branches, each with its part of the time
-ALL_PART = 1  # a search that is continued at last
+ALL_PART = 1  # a search that is continued at the end
 
 LONGEST_FIRST = 30  # seconds of the exact search before the others
 LONGEST_RARE = 15  # seconds of each search for rare branches
-LONGEST_REPLAYS = 1  # seconds at the end in which findings are replayed,
-REPLAYS = .1  # and the part of --seconds, if that is less
+# The time at the end in which findings are replayed: the less of a number of seconds and a part of --seconds.
+LONGEST_REPLAYS = 1
+REPLAYS = .1
 
-STEPS_OF_A_HASH = 1000  # for each division of a path; a search with more steps computes, as in a hash, and has no rare branches
-LOOPS_FROM = 1, 3  # after so many divisions of a path in a loop, its head is merged: at first, and if that decides too little
+STEPS_OF_A_HASH = 1000  # steps for each division of a path; a search with more steps computes, as in a hash, and has no rare branches
+LOOPS_FROM = 1, 3  # the head of a loop is merged after so many divisions of a path in it: first after 1, and if that decides too little, after 3
 LOOP_SEARCHES = Means(loops_from=LOOPS_FROM[0], is_rough=True), *(Means(loops_from=count) for count in LOOPS_FROM)  # the searches with merged loops
-MORE_ROUNDS = 16  # factor by which a search over sequences of activations of the enclave follows more rounds of a loop
-MOST_ACTIVATIONS = 12  # the longest sequence of activations
-MOST_STARTS = 60  # searches with the same means, each of which merges more loops, or proposes facts about more words
+MORE_ROUNDS = 16  # a search for sequences of activations follows so many times more rounds of a loop
+MOST_ACTIVATIONS = 12  # the longest sequence of activations that is searched
+MOST_STARTS = 60  # how often a search with the same means begins again, to merge more loops or to propose facts about more words
 
 
 class Strategy:
@@ -69,7 +70,7 @@ class Strategy:
             self.run(self.exact_search, ALL_PART, progress)
 
     def search_otherwise(self, progress: Progress) -> None:
-        """Searches with other means, after the exact search was not complete and found nothing."""
+        """Searches with other means (see the list of searches in this module), after the exact search was not complete and found nothing."""
         is_computing = self.exact_search.steps >= STEPS_OF_A_HASH * self.exact_search.divisions
         if self.has_paths_left() and not is_computing:
             for means, part in RARE_SEARCHES[:self.exact_search.activations]:
@@ -83,8 +84,8 @@ class Strategy:
             self.run(self.add_search(Means(merges=False, activations=MOST_ACTIVATIONS, rounds=MORE_ROUNDS)), SEQUENCES_PART, progress)
 
     def search_merged(self, means: Means, part: float, progress: Progress) -> None:
-        """Searches with merged loops, and begins again if a search has to merge more. A search without a doubt that is in its last pass is
-        continued."""
+        """Searches with merged loops, and begins again if a search has to merge more loops. If a search has decided everything so far and is in its
+        last pass, it is continued for all of the remaining time."""
         for _ in range(MOST_STARTS):
             if self.is_done():
                 break
@@ -148,8 +149,8 @@ class Strategy:
         return any(IN_MERGED in reason for reason in reasons)
 
     def result(self) -> Search:
-        """Returns the search that knows most. This is a complete search, else one that has left out no path. Else it is one that has ended and names
-        the places that are not decided. Else it is the exact search."""
+        """Returns the search whose results are printed. This is a complete search, else one that has left out no path. Else it is a search that has
+        ended and has questions which are not decided, provided that nothing was found. Else it is the exact search."""
         whole = [search for search in self.searches if search.means.is_whole]
         for search in whole:
             if questions.is_complete(search):
@@ -159,7 +160,7 @@ class Strategy:
                 return search
         if not self.exact_search.findings:
             for search in whole:
-                is_going = search.queue or search.merge_queue or search.is_outgrown or search.cut_loops
-                if search.undecided and not is_going:
+                is_unfinished = search.queue or search.merge_queue or search.is_outgrown or search.cut_loops
+                if search.undecided and not is_unfinished:
                     return search
         return self.exact_search

@@ -21,7 +21,7 @@ Implied = Callable[[Condition], bool]  # returns whether the conditions of a pat
 
 class Sweep(NamedTuple):
     """The range of the loads of a merged loop."""
-    last_words: Tuple[Tuple[WordPlace, int], ...] = ()  # words with an offset: word + offset is the end of the range, for each of them
+    last_words: Tuple[Tuple[WordPlace, int], ...] = ()  # places of words, each with an offset: word + offset is the end of the range
     has_begun: bool = False  # whether anything was loaded
     site: Site = (0, 0)  # the first instruction that loads
 
@@ -31,8 +31,8 @@ class Sweep(NamedTuple):
         return self.has_begun and not self.last_words
 
     def extended(self, loads: Sequence[SymbolicFetch], facts: Sequence[Fact], word_before: WordAt, state: State, implied: Implied) -> Sweep:
-        """Returns the range with the loads of a round: without the words that are not after all of them. `facts` are those of the merged state.
-        `word_before` gives the words at the beginning of the round, and `state` is the end of the round."""
+        """Returns the range extended by the loads of a round. Drops a word from `last_words` if its sum is not after all loads. `facts` are those of
+        the merged state. `word_before` returns a word at the beginning of the round, and `state` is the state at its end."""
         if not self.has_begun and not loads:
             return self
         least = least_values_of(facts)
@@ -43,17 +43,17 @@ class Sweep(NamedTuple):
         else:
             tried = tuple((x, distance_to_end(loads, word_now(x), state)) for x in sorted(least, key=str, reverse=True))
             site = loads[0].pc, loads[0].context
-        left = []
+        last_words = []
         for x, offset in tried:
             if x in least:
                 old_end = operation("add", word_before(x), offset)
                 new_end = operation("add", word_now(x), offset)
                 if implied(all_of(*conditions_of(loads, least[x] + offset & M32, old_end, new_end))):
-                    left.append((x, offset))
-        return Sweep(tuple(left), has_begun=True, site=site)
+                    last_words.append((x, offset))
+        return Sweep(tuple(last_words), has_begun=True, site=site)
 
     def entry(self, facts: Sequence[Fact], word_at: WordAt) -> List[SymbolicFetch]:
-        """Returns the range as a load in a list. The list is empty if there is no range, or if its end is a number."""
+        """Returns the range as one SymbolicFetch in a list. The list is empty if there is no range, or if its end is a number."""
         least = least_values_of(facts)
         for x, offset in self.last_words:
             if x in least and type(word_at(x)) is Node:

@@ -15,8 +15,8 @@ Place = Union[int, str]  # the place of a word; in `cells`, of a byte
 
 
 def tags_of(state: State, zeros: Tuple[int, ...]) -> Dict[Place, Tag]:
-    """Returns the origins of registers and words by their places. The calls are numbered by their depth, which is the same in all paths that are
-    merged. The registers `zeros` are 0, and are left out."""
+    """Returns the origins of registers and words of a state by their places. In these origins, calls are numbered by their depth, since all paths
+    that are merged have the same depth. The registers `zeros` are 0 in the merged state, and are left out."""
     depths = {call: depth for depth, call in enumerate(state.call_numbers(), 1)}
     tags: Dict[Place, Tag] = {"x%d" % n: renumbered(tag, depths) for n, tag in enumerate(state.tags) if n not in zeros}
     tags.update({"c%x" % number: renumbered(tag, depths) for number, tag in state.csr_tags.items()})
@@ -25,15 +25,15 @@ def tags_of(state: State, zeros: Tuple[int, ...]) -> Dict[Place, Tag]:
 
 
 def renumbered(tag: Tag, numbers: Dict[int, int]) -> Tag:
-    """Returns an origin with another number for its call: `numbers` has the new number for each old one. A call that has returned gets the number
-    -1."""
+    """Returns an origin with another number for its call. `numbers` has the new number for each old one. A call that has returned has none, and gets
+    the number -1."""
     if tag is None or tag is NO_ORIGIN or not tag.call:
         return tag
     return tag._replace(call=numbers.get(tag.call, -1))
 
 
 def join_tags(old: Dict[Place, Tag], new: Dict[Place, Tag]) -> bool:
-    """Adds the origins of a path (`new`) to those of a merged state (`old`). Returns whether these changed."""
+    """Adds the origins of a path (`new`) to those of a merged state (`old`), which are changed. Returns whether they changed."""
     is_changed = False
     for at in [*old, *(at for at in new if at not in old)]:
         if at in old and old[at] is LOST:
@@ -48,7 +48,7 @@ def join_tags(old: Dict[Place, Tag], new: Dict[Place, Tag]) -> bool:
 
 
 def joined_tag(at: Place, one: Tag, two: Tag) -> Tag:
-    """Returns the origin of the word at a place that has two different origins."""
+    """Returns the origin in a merged state of a word with the two different origins `one` and `two`: LOST if one of them is a pointer."""
     has_origin = any(tag is not None and tag is not NO_ORIGIN for tag in (one, two))
     if has_origin:
         return LOST
@@ -62,10 +62,10 @@ def set_tags(state: State, tags: Dict[Place, Tag]) -> None:
     state.csr_tags = {}
     state.mem_tags = {}
     for at, tag in tags.items():
-        own = renumbered(tag, numbers)
+        tag_in_state = renumbered(tag, numbers)
         if isinstance(at, int):
-            state.mem_tags[at] = own
+            state.mem_tags[at] = tag_in_state
         elif at.startswith("x"):
-            state.tags[int(at[1:])] = own
+            state.tags[int(at[1:])] = tag_in_state
         else:
-            state.csr_tags[int(at[1:], 16)] = own
+            state.csr_tags[int(at[1:], 16)] = tag_in_state

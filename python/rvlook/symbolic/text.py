@@ -25,23 +25,24 @@ HEADINGS = {  # the texts of findings that have no text of their own, by kind
 
 
 def heading_of(search: Search, example: Counterexample) -> str:
-    """Returns a finding in one line."""
+    """Returns the first line of a finding: what was found, and the source line or symbol at which it was found."""
     text = example.text or HEADINGS.get(example.what, "")
     return "%s, at %s" % (text, search.world.place(example.pc))
 
 
 def details_of(search: Search, example: Counterexample) -> List[str]:
-    """Returns the further lines of a finding."""
+    """Returns the lines of a finding after its heading: the step, the secrets if there are two, and the inputs."""
     times = ", %d times" % example.count if example.count > 1 else ""
     lines = ["  step %d  %08x  %s  [%s%s]" % (len(example.pcs), example.pc, search.world.symbols.name(example.pc) or "", example.answer, times)]
     if example.two:
-        texts = tuple("".join("%02x" % model["k_%08x" % at] for at in search.world.secret) for model in (example.one, example.two))
-        lines.append("  secrets %s and %s" % texts)
+        secrets = tuple("".join("%02x" % model["k_%08x" % at] for at in search.world.secret) for model in (example.one, example.two))
+        lines.append("  secrets %s and %s" % secrets)
     return lines + input_lines(search, example)
 
 
 def show(search: Search, printer: Printer, findings: ReportedCases) -> None:
-    """Prints what a search found and covered, and notes it for the exit status."""
+    """Prints what a search has found and covered. Adds the findings, and the reasons why it is not complete, to those that decide the exit status
+    (`findings`)."""
     answers = questions.answers(search)
     if search.options.scripts:
         found_findings = [finding for answer in answers for finding in answer.findings]
@@ -58,7 +59,7 @@ def show(search: Search, printer: Printer, findings: ReportedCases) -> None:
 
 
 def text_of(search: Search, example: Counterexample) -> str:
-    """Returns a finding with its inputs."""
+    """Returns a finding as one text of several lines, with its inputs."""
     return "\n".join([heading_of(search, example), *details_of(search, example)])
 
 
@@ -104,7 +105,7 @@ def print_text(search: Search, answers: Sequence[questions.Answer], printer: Pri
 
 
 def covered_text(search: Search) -> str:
-    """Returns how much was explored, in a line."""
+    """Returns a line about how much was explored: paths, steps, instructions, queries and replays."""
     solver = search.solver
     return "Explored: %d paths, %d steps, %d instructions, %d merged states; %d queries to z3, %d answered by values; %d paths replayed; %.1f s" % (
         search.paths, search.steps, len(search.code), len(search.merger.merged) if search.merger else 0, solver.queries, solver.guesses,
@@ -112,7 +113,7 @@ def covered_text(search: Search) -> str:
 
 
 def write_objects(search: Search, answers: Sequence[questions.Answer], printer: Printer) -> None:
-    """Writes the findings, the answers, and what was covered as objects."""
+    """Writes the findings, the answers to the questions, and what was covered as JSON objects."""
     number = 0
     for answer in answers:
         for example in answer.findings:

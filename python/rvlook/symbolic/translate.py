@@ -8,7 +8,7 @@ from typing import Any, Container, Dict, List, Optional, Sequence, Tuple
 from rvlook.errors import RvlookError, package_missing
 from rvlook.symbolic.nodes import M32, SECRET, Node, operands
 
-MAX_KEPT_EXPRESSIONS = 10000  # expressions in a context, after which the next run begins with an empty one
+MAX_KEPT_EXPRESSIONS = 10000  # if a context has more expressions, the next run begins with an empty context
 BYTE_OPERANDS = ("word", "sx8", "sx16", "eq8", "ite8")  # operations whose operands are bytes
 
 
@@ -33,8 +33,8 @@ class Z3:
         self.numbers: Dict[Tuple[int, int], Any] = {}  # the constants so far, by value and number of bits
         names = "simplify", "propagate-values", "solve-eqs", "simplify", "bit-blast", "sat"
         self.tactics = z3.Then(*names, ctx=self.owner)
-        for part in (self.owner, self.tactics):  # to free long expressions one by one takes minutes; the process ends anyway
-            ctypes.pythonapi.Py_IncRef(ctypes.py_object(part))
+        for unfreed in (self.owner, self.tactics):  # to free long expressions one by one takes minutes; the process ends anyway
+            ctypes.pythonapi.Py_IncRef(ctypes.py_object(unfreed))
         # ---- the functions that make operations: on two operands of one sort, shifts, upper halves of products, and divisions
         self.binary = {"add": library.Z3_mk_bvadd, "sub": library.Z3_mk_bvsub, "mul": library.Z3_mk_bvmul, "xor": library.Z3_mk_bvxor,
                        "or": library.Z3_mk_bvor, "and": library.Z3_mk_bvand, "eq": library.Z3_mk_eq, "eq8": library.Z3_mk_eq,
@@ -70,7 +70,7 @@ class Z3:
         return self.connective(self.c.Z3_mk_or, asts)
 
     def equal(self, one: Any, two: Any) -> Any:
-        """Returns the condition that two expressions are equal."""
+        """Returns the condition that the expressions `one` and `two` are equal."""
         return self.hold(self.c.Z3_mk_eq(self.context, one, two))
 
     def unequal(self, one: Any, two: Any) -> Any:
@@ -78,17 +78,18 @@ class Z3:
         return self.hold(self.c.Z3_mk_not(self.context, self.equal(one, two)))
 
     def concatenate(self, high: Any, low: Any) -> Any:
-        """Returns the bit vector of two bit vectors, the upper one first."""
+        """Returns a bit vector with the bits of `high` above those of `low`."""
         return self.hold(self.c.Z3_mk_concat(self.context, high, low))
 
     def operation(self, op: str, args: Sequence[Any], operands: List[Any]) -> Any:
-        """Returns the expression of an operation of a Node with the operands `args`. `operands` has them as expressions of z3, as far as they have a
-        sort."""
+        """Returns the expression of z3 for the operation `op` of a Node. `args` are the operands of the Node. `operands` has the same operands, with
+        nodes and numbers as expressions of z3."""
         library, context = self.c, self.context
         if op in self.binary:
             return self.hold(self.binary[op](context, operands[0], operands[1]))
         if op in self.shifts:
-            return self.hold(self.shifts[op](context, operands[0], self.hold(library.Z3_mk_bvand(context, operands[1], self.number(31, 32)))))
+            distance = self.hold(library.Z3_mk_bvand(context, operands[1], self.number(31, 32)))  # RISC-V uses the lower five bits
+            return self.hold(self.shifts[op](context, operands[0], distance))
         if op == "word":
             return self.concatenate(self.concatenate(operands[3], operands[2]), self.concatenate(operands[1], operands[0]))
         if op == "byte":
@@ -104,30 +105,33 @@ class Z3:
         return self.wide_operation(op, operands)
 
     def wide_operation(self, op: str, operands: List[Any]) -> Any:
-        """Returns the expression of an operation that extends its operands, or of a division."""
+        """Returns the expression of an operation that extends its operands, or of a division, for which RISC-V defines the results of x / 0."""
         library, context = self.c, self.context
         if op == "sx8":
             return self.hold(library.Z3_mk_sign_ext(context, 24, operands[0]))
         if op == "sx16":
             return self.hold(library.Z3_mk_sign_ext(context, 16, self.concatenate(operands[1], operands[0])))
         if op in self.high:
-            one, two = self.high[op]  # they extend the factors to 64 bits
-            product = self.hold(library.Z3_mk_bvmul(context, self.hold(one(context, 32, operands[0])), self.hold(two(context, 32, operands[1]))))
+            extend_first, extend_second = self.high[op]  # with the sign or with zeros
+            first = self.hold(extend_first(context, 32, operands[0]))
+            second = self.hold(extend_second(context, 32, operands[1]))
+            product = self.hold(library.Z3_mk_bvmul(context, first, second))  # 64 bits
             return self.hold(library.Z3_mk_extract(context, 63, 32, product))
         is_zero = self.hold(library.Z3_mk_eq(context, operands[1], self.number(0, 32)))
-        by_zero = self.number(M32, 32) if op in ("div", "divu") else operands[0]
-        return self.hold(library.Z3_mk_ite(context, is_zero, by_zero, self.hold(self.divisions[op](context, operands[0], operands[1]))))
+        result_by_zero = self.number(M32, 32) if op in ("div", "divu") else operands[0]
+        result = self.hold(self.divisions[op](context, operands[0], operands[1]))
+        return self.hold(library.Z3_mk_ite(context, is_zero, result_by_zero, result))
 
     def look_up(self, at: Any, low: int, content: List[Any]) -> Any:
         """Returns the byte at an address of an object as a tree of choices over the bits of the index; 0 outside. The object begins at `low`, and
         `content` has its bytes."""
         library, context = self.c, self.context
         index = self.hold(library.Z3_mk_bvsub(context, at, self.number(low, 32)))
-        bits = max(1, (len(content) - 1).bit_length())
+        bits = max(1, (len(content) - 1).bit_length())  # of the index
         zero = self.number(0, 8)
         one = self.number(1, 1)
         row = [content[n] if n < len(content) else zero for n in range(1 << bits)]
-        for bit in range(bits):
+        for bit in range(bits):  # each bit, the lowest first, halves the row: it chooses between two neighbours
             is_set = self.hold(library.Z3_mk_eq(context, self.hold(library.Z3_mk_extract(context, bit, bit, index)), one))
             row = [x if x is y else self.hold(library.Z3_mk_ite(context, is_set, y, x)) for x, y in zip(row[::2], row[1::2])]
         is_inside = self.hold(library.Z3_mk_bvult(context, index, self.number(len(content), 32)))
@@ -141,7 +145,8 @@ class Z3:
         return solver
 
     def ask(self, solver: Any, timeout: int) -> Tuple[Optional[bool], Dict[str, int]]:
-        """Asks a solver for values for which its conditions hold, for at most `timeout` milliseconds. Returns True with them, False, or None."""
+        """Asks a solver for values for which its conditions hold, for at most `timeout` milliseconds. Returns True with the values by name, False if
+        there are none, or None if z3 does not decide it."""
         solver.set("timeout", timeout)
         answer = solver.check()
         if answer == self.z3.sat:
@@ -150,11 +155,12 @@ class Z3:
         return (False if answer == self.z3.unsat else None), {}
 
     def check(self, asts: Sequence[Any], timeout: int) -> Tuple[Optional[bool], Dict[str, int]]:
-        """Asks for values for which all conditions hold, for at most `timeout` milliseconds. Returns True with the values, False, or None."""
+        """Asks for values for which all conditions hold, with a new solver of z3. The result is that of `ask`."""
         return self.ask(self.solver_with(asts), timeout)
 
     def check_by_tactics(self, asts: Sequence[Any], timeout: int) -> Tuple[Optional[bool], Dict[str, int]]:
-        """Asks for values as `check` does, with a fixed list of tactics. These take less time if there are many simple conditions."""
+        """Asks for values for which all conditions hold, with a fixed list of tactics of z3. This takes less time than `check` if there are many
+        simple conditions. The result is that of `ask`."""
         solver = self.tactics.solver()
         for ast in asts:
             self.c.Z3_solver_assert(self.context, solver.solver, ast)

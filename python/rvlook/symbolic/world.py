@@ -27,8 +27,8 @@ if TYPE_CHECKING:
     from rvlook.protocol.symbols import Symbols
     from rvlook.symbolic.options import VerifyOptions
 
-FAILED_CHECK = bytes.fromhex("0b004843")  # the instruction of a failed check (examples/shared/enclave_check.h), in the order of memory
-ANSWER_CONDITION = "@answer="  # in --public: what is before it is public only in activations that end with the answer after it
+FAILED_CHECK = bytes.fromhex("0b004843")  # the bytes in memory of the instruction for a failed check (examples/shared/enclave_check.h)
+ANSWER_CONDITION = "@answer="  # in --public WHAT@answer=N: WHAT is public only in activations that end with the answer N
 PC_OF_REPLY = slice(9, 17)  # the characters of the pc in the reply to a step, `ran 1 pc=80000000 ...`: the pc after the step
 
 
@@ -64,14 +64,15 @@ class World:
         self.objects = Objects(self.enclave, symbols, variables, self.contexts)
         sizes = {symbol.address: symbol.size for symbol in self.objects.own if symbol.is_function}
         self.functions: Set[int] = set(sizes)  # the entries of the functions that symbols name
-        self.code = self.memory, self.region[0], sizes  # the arguments of Flows: contents, first address, and sizes of functions by entry
+        self.code = self.memory, self.region[0], sizes  # the arguments of Flows: the image, its first address, and the sizes of functions by entry
         self.read_options(options)
         self.allowed = Allowed(options.allow, symbols, self.region)  # the instructions of --allow
 
     def read_options(self, options: VerifyOptions) -> None:
         """Finds the bytes that the options name. Raises RvlookError."""
-        always, self.public_if = conditional(options.public, self.symbols)  # `public_if`: what is public only with an answer, each with the answer
-        self.public = public_of(always, self.symbols)  # what --public names without a condition
+        # `public_if`: what --public names with a condition, each with the answer with which it is public.
+        unconditional_texts, self.public_if = conditional(options.public, self.symbols)
+        self.public = public_of(unconditional_texts, self.symbols)  # what --public names without a condition
         self.secret = self.bytes_of(options.at)  # the bytes of the secrets: their values at the first entry, by address
         self.check = self.bytes_of(options.must_know)  # the bytes that the host must know, such as a PIN: their values, by address
         if self.secret.keys() & self.check.keys():
@@ -189,26 +190,27 @@ def lengths_of(texts: Sequence[str], symbols: Symbols) -> Dict[int, int]:
     """Returns what texts PLACE:N of --length say: the greatest value N of a load in the window, by its address. Raises RvlookError."""
     lengths: Dict[int, int] = {}
     for text in texts:
-        name, _, most = text.partition(":")
+        name, _, limit = text.partition(":")
         at = symbols.address(name)
-        if at is None or not (most.isascii() and most.isdigit()):
+        if at is None or not (limit.isascii() and limit.isdigit()):
             raise RvlookError("'%s' is no length; use --length PLACE:N, with a hexadecimal address or a symbol" % text)
-        lengths[at] = int(most)
+        lengths[at] = int(limit)
     return lengths
 
 
 def conditional(texts: Sequence[str], symbols: Symbols) -> Tuple[List[str], List[Tuple[Public, int]]]:
-    """Returns what texts of --public name: the texts without a condition, and what WHAT@answer=N texts name, each with the answer N. Raises
+    """Divides the texts of --public. Returns the texts without a condition, and what each text WHAT@answer=N names, with the answer N. Raises
     RvlookError."""
-    always: List[str] = []
-    conditions: List[Tuple[Public, int]] = []
+    unconditional_texts: List[str] = []
+    public_with_answer: List[Tuple[Public, int]] = []
     for text in texts:
         what, condition, value = text.partition(ANSWER_CONDITION)
         if not condition:
-            always.append(text)
+            unconditional_texts.append(text)
             continue
         try:
-            conditions.append((public_of([what], symbols), int(value, 0) & 0xFFFFFFFF))
+            public = public_of([what], symbols)
+            public_with_answer.append((public, int(value, 0) & 0xFFFFFFFF))
         except ValueError:
             raise RvlookError("'%s' is no number in --public %s" % (value, text)) from None
-    return always, conditions
+    return unconditional_texts, public_with_answer
