@@ -121,7 +121,7 @@ class AccessState(ForkingState):
         search = self.search
         low, high = search.world.window
         if low <= address and address + width <= high and (tag is None or tag.how is How.NONE or low <= tag.base < high):
-            return  # a pointer of the host, which may lead to the whole window
+            return  # the window is one object, to which a pointer without an origin may lead
         if tag is None or tag.how in (How.NONE, How.MIXED):
             search.doubt_access(kind, self, UNKNOWN_ORIGIN)
             return

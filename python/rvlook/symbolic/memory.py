@@ -80,8 +80,9 @@ class MemoryState(AccessState):
     # ---- origins of words in memory
 
     def note_origin(self, at: int, width: int, value: Word, tag: Tag) -> None:
-        """Records the origin of a stored word (`tag`) for the word of memory at `at`. A word of memory gets NO_ORIGIN if only a part of it is stored,
-        or if it looks like a pointer and has no origin."""
+        """Records the origin (`tag`) of the value that is stored at `at`. A word without an origin gets NO_ORIGIN if it may be a pointer: if it is an
+        expression, or looks like a pointer. If only a part of a word is stored, the word gets NO_ORIGIN if it had an origin or looks like a
+        pointer."""
         tags = self.mem_tags
         if width == 4 and not at & 3:
             if tag is not None:
