@@ -15,13 +15,13 @@ if TYPE_CHECKING:
     from rvlook.symbolic.record import Counterexample
     from rvlook.symbolic.search import Search
 
-MAX_INPUT_ROWS = 24  # rows of the table of inputs that are printed
-MAX_ROW_BYTES = 4  # bytes of a row that is put together from single bytes, at most
+MAX_INPUT_ROWS = 24  # the most rows of the table of inputs that are printed
+MAX_ROW_BYTES = 4  # the most bytes of a row that is put together from loads of single bytes
 HINT = "To run a finding, give --scripts DIR. It writes DIR/finding_N, which ./rvlook page and ./rvlook gdb show."
 
 
 class InputRow(NamedTuple):
-    """Bytes that a load takes from the host in a counterexample: their values there, and in the run itself."""
+    """Bytes that the enclave loads from the host in a counterexample: their values in the counterexample and in the run itself."""
     activation: int  # counted from 1
     at: int  # the address of the first byte
     values: bytes
@@ -29,16 +29,17 @@ class InputRow(NamedTuple):
 
 
 def rows_of(search: Search, example: Counterexample) -> Iterator[InputRow]:
-    """Yields the inputs on which the conditions and the address of a finding depend, load by load."""
+    """Yields the inputs of the loads on which the conditions or the address of a finding depend. A row has adjacent bytes of one load."""
     memo: Dict[Any, Any] = {}
     mask = mask_of(example.address)
     for condition in example.conditions:
         mask |= mask_of(condition)
     leaving_steps = [answer.step for answer in example.answers]
     for step, at, names in example.loads:
-        if not any(name in by_name and (by_name[name].mask or 0) & mask for _, name in names):
+        is_relevant = any(name in by_name and (by_name[name].mask or 0) & mask for _, name in names)
+        if not is_relevant:
             continue
-        activation = sum(end < step for end in leaving_steps)
+        activation = sum(end < step for end in leaving_steps)  # how often the enclave has left before the load
         first = evaluate(at, example.one, memo)
         rows: List[InputRow] = []
         for n, name in names:
@@ -52,7 +53,7 @@ def rows_of(search: Search, example: Counterexample) -> Iterator[InputRow]:
 
 
 def own_byte(search: Search, activation: int, at: int) -> int:
-    """Returns a byte of the window or of the region in the run itself. `activation` counts from 0."""
+    """Returns the byte at an address of the window or of the region in the run itself. `activation` is the number of the activation, from 0."""
     world = search.world
     if world.window[0] <= at < world.window[1]:
         return world.windows[min(activation, len(world.windows) - 1)][at - world.window[0]]
@@ -79,7 +80,8 @@ def is_continued(search: Search, last: InputRow, row: InputRow) -> bool:
     """Returns whether a row is a single byte that belongs to the same word and field as the row before it."""
     fields = search.world.fields
     size = len(last.values)
-    if len(row.values) != 1 or size >= MAX_ROW_BYTES or last.at % MAX_ROW_BYTES + size >= MAX_ROW_BYTES or last.at % 2:
+    is_at_end_of_word = last.at % MAX_ROW_BYTES + size >= MAX_ROW_BYTES
+    if len(row.values) != 1 or size >= MAX_ROW_BYTES or is_at_end_of_word or last.at % 2:
         return False
     is_next = (row.activation, row.at) == (last.activation, last.at + size)
     return is_next and fields.member(row.at) == fields.member(last.at)
@@ -96,7 +98,7 @@ def input_lines(search: Search, example: Counterexample) -> List[str]:
 
 
 def line_of(search: Search, row: InputRow) -> str:
-    """Returns an input as a line."""
+    """Returns the line that is printed for a row of the table of inputs."""
     value = int.from_bytes(row.values, "little")
     old = int.from_bytes(row.old, "little")
     count = "1 byte" if len(row.values) == 1 else "%d bytes" % len(row.values)
@@ -105,7 +107,7 @@ def line_of(search: Search, row: InputRow) -> str:
 
 
 def input_objects(search: Search, example: Counterexample) -> List[Json]:
-    """Returns the bytes of the inputs as JSON objects."""
+    """Returns the inputs of a finding as JSON objects, one for each byte."""
     fields = search.world.fields
     objects: List[Json] = []
     for row in rows_of(search, example):
@@ -125,7 +127,8 @@ def is_elf_file(path: str) -> bool:
 
 
 def commands(search: Search, number: int) -> List[str]:
-    """Returns the path of the input of rvbench that --scripts writes for a finding, and the commands that show the finding, as lines."""
+    """Returns lines with the path of the file that --scripts writes for a finding, and with the commands that show the finding. `number` is that of
+    the finding. Returns an empty list without --scripts."""
     if not search.options.scripts:
         return []
     setup = search.world.run.setup

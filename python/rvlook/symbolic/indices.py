@@ -43,7 +43,7 @@ class Indices:
         return values
 
     def values(self, state: State) -> Part:
-        """Returns the values of the registers of a path that are indices."""
+        """Returns the values of the index registers of a path at its pc: -1 for an expression, and for a value from INDEX_END on."""
         values = (state.regs[n] for n in self.of(state.entry, state.pc))
         return tuple(value if type(value) is int and value < INDEX_END else -1 for value in values)
 
@@ -61,10 +61,11 @@ class Indices:
         return self.registers_by_pc[pc]
 
     def is_changed(self, entry: int, head: int) -> bool:
-        """Returns whether the loop with a head, in the function with an entry, writes an index register."""
+        """Returns whether an instruction of a loop writes an index register. `entry` is the first instruction of the function, and `head` is the head
+        of the loop."""
         flow = self.flows.of(entry)
-        own = self.of(entry, head)
-        return flow is not None and any(self.at(pc).rd in own for pc, heads in flow.heads.items() if head in heads)
+        index_registers = self.of(entry, head)
+        return flow is not None and any(self.at(pc).rd in index_registers for pc, heads in flow.heads.items() if head in heads)
 
     def index_registers(self, flow: Flow, pc: int) -> FrozenSet[int]:
         """Returns the registers that are shifted to the offset of a word which is then loaded, in any loop around an instruction."""

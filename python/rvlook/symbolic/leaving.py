@@ -12,7 +12,7 @@ from rvlook.symbolic.nodes import INPUT, SECRET, Byte, Condition, Node, Word, by
 from rvlook.symbolic.outputs import Outputs
 from rvlook.symbolic.words import byte, plain, word
 
-MIN_EARLIER_ACTIVATIONS = 2  # earlier activations from which on there may be an old state
+MIN_EARLIER_ACTIVATIONS = 2  # with fewer earlier activations there is no old state, only the latest one
 AT_INDEX = "an index of the host may lead to what an earlier activation has stored"
 
 
@@ -26,7 +26,7 @@ class Leaving(Outputs):
     """A search that asks questions when the enclave leaves."""
 
     def check_leaving(self, state: AnyState) -> None:
-        """Asks the questions at the end of an activation."""
+        """Asks the questions about the end of an activation: old states, and what remains of the secret (--wiped)."""
         if self.options.must_matter:
             for condition in state.conditions:
                 self.output_variables |= mask_of(condition)
@@ -51,7 +51,7 @@ class Leaving(Outputs):
             self.report("remains", state, "%s depend on the secret" % " and ".join(texts), state.model)
 
     def check_older_states(self, state: AnyState) -> None:
-        """Asks whether the present activation accepts an old state as it accepts the latest state."""
+        """Asks whether the present activation accepts an old state in place of the latest one, if it can also accept the latest one."""
         ends = [Counts(0, 0)] + [Counts(answer.loads, answer.stores) for answer in state.answers]
         loaded: Dict[int, str] = {}  # the variables of the first loads of bytes in this activation, by address
         for load in state.loads[ends[state.activation].loads:]:
@@ -71,8 +71,8 @@ class Leaving(Outputs):
         self.check_older_at_index(state, ends, sorted({at for old in states[:-1] for at in old if old[at] != latest[at]}))
 
     def check_acceptance(self, state: AnyState, accepts_old: Condition, accepts_latest: Condition, changed: List[int]) -> bool:
-        """Reports an old state that the enclave accepts, and returns whether there is one. `accepts_old` and `accepts_latest` are the conditions that
-        the activation has loaded the old and the latest state. `changed` has the addresses at which the two differ."""
+        """Reports an old state that the enclave accepts, and returns whether there is one. `accepts_old` is the condition that the activation has
+        loaded the old state, and `accepts_latest` that it has loaded the latest state. `changed` has the addresses at which the two may differ."""
         is_old_accepted, model = self.solver.satisfiable(state.conditions, accepts_old, state.model)
         is_latest_accepted = self.solver.satisfiable(state.conditions, accepts_latest, state.model)[0] if is_old_accepted else False
         if is_old_accepted is None or is_latest_accepted is None:

@@ -12,9 +12,9 @@ MAX_DEPTH = 5  # how deep nested sums become one linear form; a sum further insi
 
 
 class Linear(NamedTuple):
-    """A word as a number and a sum of terms (modulo 2**32)."""
+    """A word as the sum of a number and of terms (modulo 2**32)."""
     number: int
-    atoms: FrozenSet[Tuple[Node, int]]  # the terms: words that are no sums, each with its factor
+    atoms: FrozenSet[Tuple[Node, int]]  # the terms: nodes that are no sums, each with the number by which it is multiplied
 
 
 def linear(word: Word, depth: int = MAX_DEPTH) -> Linear:
@@ -31,10 +31,10 @@ def linear(word: Word, depth: int = MAX_DEPTH) -> Linear:
 
 
 def plus(one: Linear, two: Linear, factor: int) -> Linear:
-    """Returns the sum of a linear form and a multiple of another one."""
+    """Returns the linear form of `one` + `factor` * `two`."""
     atoms = dict(one.atoms)
-    for node, own_factor in two.atoms:
-        atoms[node] = atoms.get(node, 0) + factor * own_factor & M32
+    for node, node_factor in two.atoms:
+        atoms[node] = atoms.get(node, 0) + factor * node_factor & M32
     return Linear(one.number + factor * two.number & M32, frozenset((node, n) for node, n in atoms.items() if n))
 
 

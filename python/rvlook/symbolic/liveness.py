@@ -19,7 +19,8 @@ ONE_REGISTER = ("imm", "load", "jalr", "csr")  # kinds that read one register
 
 
 def reads(instruction: Decoded, register: int, is_saved: bool) -> bool:
-    """Returns whether an instruction reads a register. An `ecall` reads its arguments, and saves all registers if `is_saved`."""
+    """Returns whether an instruction reads a register. An `ecall` reads its arguments. If `is_saved`, it reads all registers, since the monitor saves
+    them."""
     if instruction.kind == "ecall":
         return is_saved or register in ARGUMENTS
     if instruction.kind in TWO_REGISTERS:
