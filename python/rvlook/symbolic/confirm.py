@@ -53,7 +53,7 @@ def confirm_pair(search: Search, example: Counterexample, one: Replayed) -> str:
     if two.is_late:
         return ""
     if two.pcs != one.pcs:
-        return CONFIRMED + ": the runs differ before example"
+        return CONFIRMED + ": the runs differ before the finding"
     if two.wrong and example.what != "answer":
         return DIFFERS + two.wrong
     if (one.after, one.world, one.trap) != (two.after, two.world, two.trap):
