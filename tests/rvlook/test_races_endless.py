@@ -163,7 +163,7 @@ def test_wait_for_the_state_of_a_loop_is_bounded():
         hart, context, digest, registers = 0, 0, 0, ()
 
         def __init__(self, *_):
-            self.done = self.pc = 0
+            self.steps_done = self.pc = 0
 
     class Steps:
         @staticmethod
@@ -172,14 +172,14 @@ def test_wait_for_the_state_of_a_loop_is_bounded():
 
         @staticmethod
         def step(work, *_):
-            work.done, work.pc = work.done + 1, (work.pc + 1) % 4
-            assert work.done < 1000, "it is never given up"
+            work.steps_done, work.pc = work.steps_done + 1, (work.pc + 1) % 4
+            assert work.steps_done < 1000, "it is never given up"
 
     work, old = Round(), races_loop.Work
-    work.done = 12
+    work.steps_done = 12
     races_loop.Work = Round
     try:
-        assert races_loop.first_arrival(Steps, None, work, (3, 0, 0, ()), 5).done == 7
+        assert races_loop.first_arrival(Steps, None, work, (3, 0, 0, ()), 5).steps_done == 7
         with pytest.raises(RvlookError):
             races_loop.first_arrival(Steps, None, work, (9, 0, 0, ()), 0)
     finally:

@@ -41,9 +41,8 @@ UPPER_INSTRUCTIONS = ("lui", "auipc")  # build the upper part of a constant
 
 
 class PointerOperation(NamedTuple):
-    """An instruction that writes a register or accesses memory, as far as it moves pointers into the stack.
-
-    The result of a computation has each operand as a summand as often as `factors` says."""
+    """An instruction that writes a register or accesses memory, as far as it moves pointers into the stack. The result of a computation is a sum of
+    its operands, each multiplied by its factor."""
     writes: int  # number of the destination register; 0 for none
     sources: tuple[int, int] = (0, 0)  # numbers of the operands
     factors: tuple[int, int] = (0, 0)  # 0 for an operand that is not a summand

@@ -46,10 +46,9 @@ class TraceVisit(NamedTuple):
 
 @dataclass(eq=False)
 class Trace:
-    """The steps of an enclave in a run with changed inputs. The parent of a trace is the trace whose inputs were changed.
-
-    `end` is `halted` if the host halts, and `limit` if the trace was cut. It is `waits` if the enclave waits for the host to change the window,
-    and `stuck` if the enclave does not return for another reason. An index counts the steps of the trace from 0."""
+    """The steps of an enclave in a run with changed inputs. The parent of a trace is the trace whose inputs were changed. `end` is `halted` if the
+    host halts, and `limit` if the trace was cut. It is `waits` if the enclave waits for the host to change the window, and `stuck` if the enclave
+    does not return for another reason. An index counts the steps of the trace from 0."""
     changes: Changes = ()  # the changes that were made to the inputs of the run
     steps: array[int] = field(default_factory=lambda: array("I"))  # the number of each step in the run
     pcs: array[int] = field(default_factory=lambda: array("I"))  # the pc of each step

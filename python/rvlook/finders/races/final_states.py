@@ -16,7 +16,7 @@ from rvlook.finders.races.time_limit import OutOfTime
 
 # how a hart ended; `waits` and `runs on` are endless loops without and with changes of memory
 ENDED, HALTS, WAITS, RUNS_ON, UNFINISHED, NOT_SEARCHED = "ended", "halts", "waits", "runs on", "unfinished", "not searched"
-GRACE, SLACK = 0.01, 0.3  # beyond the time limit for the analysis and the replays: a share of it, and seconds
+GRACE, SLACK = 0.01, 0.3  # time beyond the limit for the analysis, and again for the replays: this share of the limit, and these seconds
 
 
 class HartEnd(NamedTuple):
@@ -138,21 +138,22 @@ class Component:
         if not self.vertices:
             return None
         is_still = not any(move.has_changes for moves in self.moves.values() for move in moves)
-        count = range(self.machine.count)
-        is_still = is_still and not any(loop and loop.has_changes for loop in map(self.loop, count))
-        is_given_up = any((self.state, hart) in self.graph.unended_alone for hart in count)
-        harts = [self.how_ended(hart, is_still, is_given_up) for hart in count]
-        ended = tuple(hart for hart in harts if hart is not None)
-        return ended if len(ended) == len(harts) else None
+        harts = range(self.machine.hart_count)
+        is_still = is_still and not any(loop and loop.has_changes for loop in map(self.loop, harts))
+        is_given_up = any((self.state, hart) in self.graph.unended_alone for hart in harts)
+        ends = [self.how_ended(hart, is_still, is_given_up) for hart in harts]
+        known_ends = tuple(end for end in ends if end is not None)
+        return known_ends if len(known_ends) == len(ends) else None
 
     def how_ended(self, hart: int, is_still: bool, is_given_up: bool) -> str | None:
-        """Returns how a hart ended in this component, or None if the hart would continue to another component."""
+        """Returns how a hart ended in this component, or None if the hart would continue to another component. `is_still`: no hart changes memory
+        here; `is_given_up`: some hart was given up here, so the search did not go on with the others."""
         state, graph, endless = self.state, self.graph, WAITS if is_still else RUNS_ON
         if hart in self.moves:
             return endless if any(move.dependent.look and move.dependent.look.kind for move in self.moves[hart]) else ENDED
         if (state, hart) in graph.unended_alone:
             return UNFINISHED
-        if graph.moves.get((state, hart, False), self) is None:
+        if graph.moves.get((state, hart, False), self) is None:  # the move was computed: the hart stops; `self` is in place of an unknown move
             if (state, hart) in graph.unended_in_move:
                 return UNFINISHED
             loop = self.loop(hart)
@@ -172,7 +173,7 @@ class Component:
         work, loop = Work(self.machine, self.state, hart), self.loop(hart)
         start = full_state(work)
         max_steps = loop.length if loop and hart not in self.moves else sum(move.steps for move in self.moves[hart])
-        for _ in do_steps(self.machine, work, max_steps, lambda: self.graph.nodes[self.vertices[0]].schedule() + [Segment(hart, work.done)]):
+        for _ in do_steps(self.machine, work, max_steps, lambda: self.graph.nodes[self.vertices[0]].schedule() + [Segment(hart, work.steps_done)]):
             yield work
             if full_state(work) == start:
                 return
@@ -186,29 +187,31 @@ class Component:
             states_by_values.setdefault(values_in(self.machine, outcome, state), OutcomeState(vertex, state))
         if self.search.is_outcome_visible:
             return states_by_values, False
-        others = [hart for hart in range(self.machine.count) if hart not in self.moves]
-        moving_harts = [*self.moves, *(hart for hart in others if self.loop(hart) and len(self.values_alone(hart, outcome)) > 1)]
+        harts_without_moves = [hart for hart in range(self.machine.hart_count) if hart not in self.moves]
+        looping_harts = [hart for hart in harts_without_moves if self.loop(hart) and len(self.values_alone(hart, outcome)) > 1]
+        moving_harts = [*self.moves, *looping_harts]  # harts that may change the outcome between the vertices
         if len(moving_harts) == 1:
             for values, state_alone in self.values_alone(moving_harts[0], outcome).items():
                 states_by_values.setdefault(values, state_alone)
         return states_by_values, len(moving_harts) > 1 and any(self.search.is_hidden(hart) for hart in moving_harts)
 
     def values_alone(self, hart: int, outcome: Sequence[Observed]) -> dict[tuple[Value, ...], OutcomeState]:
-        """Returns the sets of values while a hart runs alone, as `values` does."""
+        """Returns the values of the outcome while a hart runs alone from the first vertex, each with a state and the schedule to it."""
         watched, first = self.search.outcome, self.vertices[0]
         states_by_values: dict[tuple[Value, ...], OutcomeState] = {values_in(self.machine, outcome, self.state): OutcomeState(first, self.state)}
         if not watched.registers and not watched.addresses:
-            return states_by_values  # all of it is shared, so each value has a node
+            return states_by_values  # only dependent steps can change the outcome, so each value has a vertex
         previous: object = None
         for work in self.run_alone(hart):
             present = work.digest, work.table, [work.registers[number] for owner, number in watched.registers if owner == hart]
             if present != previous:
                 state, previous = work.cached_state(), present
-                states_by_values.setdefault(values_in(self.machine, outcome, state), OutcomeState(first, state, (Segment(hart, work.done),)))
+                states_by_values.setdefault(values_in(self.machine, outcome, state), OutcomeState(first, state, (Segment(hart, work.steps_done),)))
         return states_by_values
 
     def round(self, vertex: Vertex, state: CachedState, harts: Sequence[int], tail: Sequence[Segment]) -> tuple[Segment, ...]:
-        """Returns the schedule from a state back to it in which each of these harts moves."""
+        """Returns the schedule from a state back to it in which each of these harts moves. `tail` leads from the vertex to the state; it is empty
+        unless a hart runs alone."""
         moving = [hart for hart in harts if hart in self.moves]
         if len(moving) == 1 and tail:
             return (Segment(moving[0], sum(1 for _ in self.run_alone(moving[0]))),)
@@ -236,7 +239,7 @@ def find_final_states(search: ScheduleSearch, outcome_of: Callable[[ScheduleSear
         search.show_outcome()
         final_states = FinalStates(search.run(), outcome_of(search))
     if final_states.are_hidden:
-        search.whole = None  # of no level are all values known
+        search.whole_level = None  # of no level are all values known
     return final_states
 
 
@@ -252,35 +255,37 @@ def moves_inside(graph: Graph, part: Iterable[Vertex], component_of: Mapping[Ver
 
 def with_preemptions(graph: Graph, bound: int) -> Graph:
     """Returns a graph whose vertices include the number of preemptions so far, at most `bound`."""
-    new, start = replace(graph, nodes={}, edges={}), (next(iter(graph.nodes)), 0)
+    new_graph, start = replace(graph, nodes={}, edges={}), (next(iter(graph.nodes)), 0)
     waiting: list[Vertex] = [start]
     while waiting:
-        vertex = waiting.pop()
-        index, preemptions = vertex
-        if index in graph.nodes and vertex not in new.nodes:
-            new.nodes[vertex] = graph.nodes[index]
-            new.edges[vertex] = [edge._replace(target=(edge.target, preemptions + edge.preemptions)) for edge in graph.edges.get(index, ())
-                                 if preemptions + edge.preemptions <= bound]
-            waiting += [edge.target for edge in new.edges[vertex]]
-    return new
+        new_vertex = waiting.pop()
+        vertex, preemptions = new_vertex
+        if vertex in graph.nodes and new_vertex not in new_graph.nodes:
+            new_graph.nodes[new_vertex] = graph.nodes[vertex]
+            edges = [edge for edge in graph.edges.get(vertex, ()) if preemptions + edge.preemptions <= bound]
+            new_graph.edges[new_vertex] = [edge._replace(target=(edge.target, preemptions + edge.preemptions)) for edge in edges]
+            waiting += [edge.target for edge in new_graph.edges[new_vertex]]
+    return new_graph
 
 
 def round_of(graph: Graph, vertex: Vertex, moving: Sequence[int], part: Set[Vertex]) -> tuple[tuple[int, Move], ...]:
-    """Returns moves from a vertex through its component and back in which each of these harts moves."""
-    here = start = vertex
-    edges: list[tuple[int, Move]] = []
+    """Returns harts and their moves that lead from a vertex through its component and back. Each of the harts `moving` moves. `part` has the vertices
+    of the component."""
+    end = start = vertex
+    moves: list[tuple[int, Move]] = []
     for hart in moving:
-        here, path = path_to(graph, here, part, lambda edge: edge.hart == hart)
-        edges += path
-    if edges and here != start:
-        edges += path_to(graph, here, part, lambda edge: edge.target == start)[1]
-    return tuple(edges)
+        end, path = path_to(graph, end, part, lambda edge: edge.hart == hart)
+        moves += path
+    if moves and end != start:
+        _, path = path_to(graph, end, part, lambda edge: edge.target == start)
+        moves += path
+    return tuple(moves)
 
 
-def path_to(graph: Graph, here: Vertex, part: Set[Vertex], is_wanted: Callable[[Edge], bool]) -> tuple[Vertex, tuple[tuple[int, Move], ...]]:
-    """Finds the shortest path within a component whose last edge is wanted; returns the end and the moves of the path."""
-    waiting: deque[tuple[Vertex, tuple[tuple[int, Move], ...]]] = deque([(here, ())])
-    seen = {here}
+def path_to(graph: Graph, start: Vertex, part: Set[Vertex], is_wanted: Callable[[Edge], bool]) -> tuple[Vertex, tuple[tuple[int, Move], ...]]:
+    """Finds a shortest path from a vertex within a component whose last edge is wanted. Returns the end of the path, and its harts and moves."""
+    waiting: deque[tuple[Vertex, tuple[tuple[int, Move], ...]]] = deque([(start, ())])
+    seen = {start}
     while True:
         vertex, path = waiting.popleft()
         for edge in graph.edges.get(vertex, ()):
@@ -293,48 +298,48 @@ def path_to(graph: Graph, here: Vertex, part: Set[Vertex], is_wanted: Callable[[
 
 
 class Components:
-    """The strongly connected components of the graph (Tarjan). Each component comes after those that it leads to."""
+    """The strongly connected components of a graph, by Tarjan's algorithm. Each component comes after those that it leads to."""
 
     def __init__(self, graph: Graph) -> None:
         self.graph = graph  # the graph whose components are found
         self.number: dict[Vertex, int] = {}  # by vertex: its number in the order of visits
-        self.low: dict[Vertex, int] = {}  # the least number that is reachable through open vertices
+        self.low: dict[Vertex, int] = {}  # by vertex: the least number that it reaches through vertices on the stack (lowlink)
         self.stack: list[Vertex] = []  # the vertices whose component is not complete
-        self.on_stack: set[Vertex] = set()  # the same vertices
+        self.on_stack: set[Vertex] = set()  # the vertices in `stack`
         self.parts: list[list[Vertex]] = []  # the vertices of each component
         self.component_of: dict[Vertex, int] = {}  # the index of its component in `parts`
         for root in list(graph.nodes):
             if root not in self.number:
                 self.walk(root)
 
-    def enter(self, vertex: Vertex, work: list[tuple[Vertex, Iterator[Edge]]]) -> None:
-        """Begins a vertex, with its edges."""
+    def enter(self, vertex: Vertex, path: list[tuple[Vertex, Iterator[Edge]]]) -> None:
+        """Numbers a new vertex, and appends it with its edges to the path of the depth-first search."""
         self.number[vertex] = self.low[vertex] = len(self.number)
         self.stack.append(vertex)
         self.on_stack.add(vertex)
-        work.append((vertex, iter(self.graph.edges.get(vertex, ()))))
+        path.append((vertex, iter(self.graph.edges.get(vertex, ()))))
 
     def walk(self, root: Vertex) -> None:
-        """Visits all vertices that a vertex leads to."""
-        work: list[tuple[Vertex, Iterator[Edge]]] = []
-        self.enter(root, work)
-        while work:
-            vertex, edges = work[-1]
+        """Visits all vertices that a vertex leads to, by a depth-first search."""
+        path: list[tuple[Vertex, Iterator[Edge]]] = []  # the vertices from the root to the present one, each with the edges that remain
+        self.enter(root, path)
+        while path:
+            vertex, edges = path[-1]
             for target, *_ in edges:
                 if target not in self.number:
-                    self.enter(target, work)
+                    self.enter(target, path)
                     break
                 if target in self.on_stack:
                     self.low[vertex] = min(self.low[vertex], self.number[target])
             else:
-                work.pop()
-                self.leave(vertex, work)
+                path.pop()
+                self.leave(vertex, path)
 
-    def leave(self, vertex: Vertex, work: list[tuple[Vertex, Iterator[Edge]]]) -> None:
-        """Ends a vertex. Its component is complete if no edge leads further back."""
-        if work:
-            above = work[-1][0]
-            self.low[above] = min(self.low[above], self.low[vertex])
+    def leave(self, vertex: Vertex, path: list[tuple[Vertex, Iterator[Edge]]]) -> None:
+        """Ends the visit of a vertex. If it reaches no vertex with a lower number, the vertices above it on the stack are its component."""
+        if path:
+            parent, _ = path[-1]
+            self.low[parent] = min(self.low[parent], self.low[vertex])
         if self.low[vertex] == self.number[vertex]:
             part = [self.stack.pop()]
             while part[-1] != vertex:
@@ -345,7 +350,7 @@ class Components:
 
 
 def paths_of(graph: Graph, parts: Sequence[Sequence[Vertex]], component_of: Mapping[Vertex, int]) -> dict[int, int]:
-    """Returns for each component the number of paths from the start."""
+    """Returns for each component the number of paths to it from the start. `parts` has the vertices of each component, successors first."""
     if not graph.nodes:
         return {}
     paths, start = defaultdict(int), next(iter(graph.nodes))

@@ -41,39 +41,40 @@ class AheadMove(NamedTuple):
 
 
 class MemoryChange(NamedTuple):
-    """A memory, as a change of the memory before a move."""
-    digest: int  # the hash of the memory
-    before: int  # the hash of the memory before
+    """The memory after a move, as a change of the memory before the move."""
+    digest: int  # the hash of the memory after the move
+    before: int  # the hash of the memory before the move
     changed: Memory  # the new values of bytes that differ
     restored: Set[int]  # addresses of bytes that are again as after the script
 
 
 @dataclass
 class MoveNews:
-    """The moves of a task, with what is new in their states."""
+    """The moves of a task, with the memories and the states of harts that the search does not know."""
     moves: List[Tuple[MoveKey, AheadMove]]  # the results, by state, hart and timer
-    memories: List[MemoryChange]  # the memories that are new
-    harts: Dict[int, Tuple[int, int, Tuple[int, ...]]]  # context, pc and registers of each new number
-    written: Set[int]  # addresses of all words that are ever written
+    memories: List[MemoryChange]  # the new memories
+    harts: Dict[int, Tuple[int, int, Tuple[int, ...]]]  # context, pc and registers of each new state of a hart, by its index in RaceMachine.harts
+    written_words: Set[int]  # addresses of all words that some step has written
 
 
 class MoveRecorder:
     """Computes moves in another process, and records them. `search` is the copy that this process has inherited."""
 
     def __init__(self, search: ScheduleSearch) -> None:
-        # `inherited_harts`: states of harts that the search knew
+        # `inherited_harts`: how many states of harts the search knew when this process began
         self.search, self.machine, self.inherited_harts = search, search.machine, len(search.machine.harts)
-        self.memories = set(search.machine.memories)  # hashes of the memories that are known
-        self.touched: dict[tuple[Agent, FrozenSet[int], FrozenSet[int], FrozenSet[int]], Touched] = {}  # so that equal objects are sent once
-        self.steps: dict[DependentStep, DependentStep] = {}  # likewise
-        self.news = MoveNews(moves=[], memories=[], harts={}, written=set())  # the result of the current task
+        self.memories = set(search.machine.memories)  # hashes of the memories that the search knows or has been sent
+        # one object for equal values: pickle sends each object only once
+        self.touched: dict[tuple[Agent, FrozenSet[int], FrozenSet[int], FrozenSet[int]], Touched] = {}
+        self.steps: dict[DependentStep, DependentStep] = {}
+        self.news = MoveNews(moves=[], memories=[], harts={}, written_words=set())  # the result of the current task
 
     def follow(self, nodes: Sequence[SearchNode]) -> MoveNews:
         """Follows nodes of one level to all nodes of this level, and returns the moves. Leaves out the moves that need rvbench."""
         search, waiting, level = self.search, list(nodes), nodes[0].cost.level
         self.machine.go_offline()
         search.new_move = self.new_move
-        self.news = MoveNews(moves=[], memories=[], harts={}, written=self.machine.written)
+        self.news = MoveNews(moves=[], memories=[], harts={}, written_words=self.machine.written_words)
         while waiting and len(self.news.moves) < MAX_MOVES_PER_TASK:
             node = waiting.pop()
             if node.point in search.visited:
@@ -86,28 +87,29 @@ class MoveRecorder:
         return self.news
 
     def new_move(self, key: MoveKey, _schedule: object) -> Move | None:
-        """Computes a move, and records it for the other processes."""
+        """Computes a move, and records it for the process of the search."""
         search, graph = self.search, self.search.graph
-        search.touches, graph.loops, graph.unended_in_move = TouchedBytes(), {}, set()
-        move = search.compute_move(key, list)
+        search.touches, graph.loops, graph.unended_in_move = TouchedBytes(), {}, set()  # empty, to record this move alone
+        move = search.compute_move(key, list)  # `list` returns an empty schedule: without a bench no schedule is needed
         if move:
             move = move._replace(dependent=self.steps.setdefault(move.dependent, move.dependent))  # one object is sent once
         loop = next(((state, loop) for (state, _), loop in graph.loops.items()), None)
         self.news.moves.append((key, AheadMove(move, self.all_touched(), loop, bool(graph.unended_in_move))))
-        for state in (key[0], *([move.state] if move else ())):
-            self.note_state(key[0], state)
+        before, _hart, _is_timer = key
+        for state in (before, *([move.state] if move else ())):
+            self.record_state(before, state)
         return move
 
     def all_touched(self) -> list[Touched]:
-        """Returns the bytes that were accessed in a move."""
+        """Returns the bytes that were accessed in the last move, by agent."""
         all_touched, touches = [], self.search.touches
         for agent in list(touches.executed):
             bytes_of = (agent, frozenset(touches.read[agent]), frozenset(touches.written[agent]), frozenset(touches.executed[agent]))
             all_touched.append(self.touched.setdefault(bytes_of, Touched(*bytes_of)))
         return all_touched
 
-    def note_state(self, before: CachedState, state: CachedState) -> None:
-        """Notes what is new in a state after another one."""
+    def record_state(self, before: CachedState, state: CachedState) -> None:
+        """Adds to the news which states of harts, and which memory, are new in a state. `before` is the state before the move."""
         self.news.harts.update((hart, self.machine.harts[hart]) for hart in state.harts if hart >= self.inherited_harts)
         if state.memory not in self.memories:
             self.memories.add(state.memory)
@@ -122,32 +124,32 @@ class MovesAhead:
         self.search, self.machine, self.jobs = search, search.machine, jobs  # `jobs`: number of processes
         self.moves: dict[MoveKey, AheadMove] = {}  # computed by other processes and not yet used
         self.merged: set[Touched] = set()  # accesses that the search has recorded
-        self.valid_for = (0, 0)  # the round, and the number of regions
+        self.valid_for = (0, 0)  # the round, and the number of regions, for which `moves` are valid
         self.taken = self.computed = 0  # moves of other processes, since the start, and moves of this process, since the last exchange
-        self.seconds, self.pause = 0.0, FIRST_PAUSE  # spent on the moves of this process since the last exchange; the least before the next exchange
+        self.seconds, self.pause = 0.0, FIRST_PAUSE  # seconds spent on moves of this process since the last exchange; the least before the next one
         search.prepare, search.new_move = self.prepare, self.new_move
 
     def prepare(self, heap: Heap) -> None:
-        """Has the moves of the next level of waiting nodes computed, if the search has long computed moves since the last time."""
+        """Lets other processes compute the moves of the lowest level in the heap, if the search has computed moves for long enough by itself."""
         if not heap or self.seconds < max(self.pause, MIN_SECONDS_PER_MOVE * self.computed):
             return
-        level = heap[0][0].level
-        tasks = self.tasks_of([node for cost, _, node in heap if cost.level == level])
+        lowest_cost, _, _ = heap[0]
+        tasks = self.tasks_of([node for cost, _, node in heap if cost.level == lowest_cost.level])
         if len(tasks) < 2 or self.compute_ahead(tasks) < 2 * self.computed:
-            self.pause *= 2
+            self.pause *= 2  # the exchange gave few moves, so wait longer before the next one
         self.seconds, self.computed = 0.0, 0
 
     def tasks_of(self, nodes: Sequence[SearchNode]) -> list[list[SearchNode]]:
         """Divides nodes into tasks. Nodes in which the same hart moves on from the same states of the others often lead to the same nodes."""
         tasks: dict[int, list[SearchNode]] = defaultdict(list)
         for node in nodes:
-            harts, last = node.point.state.harts, node.point.last_hart
-            others = tuple(number for hart, number in enumerate(harts) if hart != last) or harts
-            tasks[hash((last, others)) % (TASKS_PER_JOB * self.jobs)].append(node)
+            harts, last_hart = node.point.state.harts, node.point.last_hart
+            states_of_others = tuple(number for hart, number in enumerate(harts) if hart != last_hart) or harts
+            tasks[hash((last_hart, states_of_others)) % (TASKS_PER_JOB * self.jobs)].append(node)
         return list(tasks.values())
 
     def compute_ahead(self, tasks: Sequence[Sequence[SearchNode]]) -> int:
-        """Has moves computed by other processes; returns their number."""
+        """Lets other processes compute the moves from the nodes of the tasks; returns the number of moves."""
         self.moves, self.valid_for = {}, (self.search.rounds, len(self.machine.regions))
         recorder, count = MoveRecorder(self.search), 0
         gc.freeze()  # the processes share the objects as long as nothing writes to them
@@ -163,7 +165,7 @@ class MovesAhead:
         """Takes over the moves of a task, with the numbers that their states have in this process."""
         machine = self.machine
         numbers = {number: machine.harts.number(values) for number, values in news.harts.items()}
-        machine.written |= news.written
+        machine.written_words |= news.written_words
         for change in news.memories:
             if change.before in machine.memories and change.digest not in machine.memories:
                 memory = {**machine.memories[change.before], **change.changed}
@@ -181,7 +183,7 @@ class MovesAhead:
                 self.moves[renumbered(state), hart, is_timer] = ahead._replace(move=move, loop=loop)
 
     def compute(self, key: MoveKey, schedule: Schedule) -> Move | None:
-        """Computes a move in this process. Measures the time, if it does not run rvbench."""
+        """Computes a move in this process. Adds its time to `seconds`, unless it runs rvbench: other processes cannot do such a move."""
         runs, start = self.machine.runs, time.thread_time()
         move = self.search.compute_move(key, schedule)
         if self.machine.runs == runs:

@@ -21,16 +21,16 @@ LONGEST_COMMENT = 118  # characters after `# `
 
 
 class Replays:
-    """Replays schedules, and compares their states."""
+    """Replays the schedules of final states on rvbench, and compares the states that they lead to."""
 
     def __init__(self, machine: RaceMachine) -> None:
         self.machine, self.process = machine, os.getpid()  # `process`: the id of the process that owns the benches
         self.rows: list[str] = []  # the replies of `mem` for all RAM after the script; empty before they are read
-        self.commands = memory_commands(RAM_BASE, machine.setup.ram)  # read all RAM
+        self.ram_commands = memory_commands(RAM_BASE, machine.setup.ram)  # read all RAM
 
     def ram(self, bench: Bench) -> list[str]:
         """Reads all rows of RAM."""
-        return [reply.decode() for reply in bench.replies_to(self.commands)]
+        return [reply.decode() for reply in bench.replies_to(self.ram_commands)]
 
     def check_all(self, ends: Sequence[FinalState], jobs: int) -> Iterator[int]:
         """Replays final states in `jobs` processes; yields the index of each. Raises RvlookError if the bench comes to another state."""
@@ -52,9 +52,9 @@ class Replays:
         machine = self.machine
         with machine.bench_after_script() as bench:
             self.rows = self.rows or self.ram(bench)
-            self.run_and_compare(bench, end, commands_of(end.schedule(), machine.count))
+            self.run_and_compare(bench, end, commands_of(end.schedule(), machine.hart_count))
             for _ in range(2 if end.round else 0):
-                self.run_and_compare(bench, end, commands_of(end.round, machine.count))
+                self.run_and_compare(bench, end, commands_of(end.round, machine.hart_count))
 
     def run_and_compare(self, bench: Bench, end: FinalState, commands: Sequence[str]) -> None:
         """Runs commands that lead to a final state, and compares the state after them."""
@@ -65,32 +65,33 @@ class Replays:
             if command.startswith("step"):
                 ran = step_of(lines[0])
                 reached[chosen_hart] = ran.mode, ran.world
-        for hart in range(machine.count):
+        for hart in range(machine.hart_count):
             number, pc, registers = machine.harts[state.harts[hart]]
             context = machine.contexts[number]
-            registers_and_csrs = machine.registers_and_rest(bench.ask(*machine.setup.choice(hart), "regs", *machine.context_commands))
+            registers_and_csrs = machine.registers_and_csrs(bench.ask(*machine.setup.choice(hart), "regs", *machine.context_commands))
             self.expect(end, registers_and_csrs, ((*registers, pc), context.csrs))
             self.expect(end, reached.get(hart, (context.mode, context.world)), (context.mode, context.world))
         self.expect(end, tuple(bench.ask("enclaves")[0]), machine.tables[state.table][0])
         self.expect(end, self.ram(bench), self.expected_rows(machine.memories[state.memory]))
 
     def expected_rows(self, memory: Memory) -> list[str]:
-        """Returns the expected rows of RAM."""
+        """Returns the replies of `mem` for all RAM in a state with this memory: those after the script, with the rows of changed bytes replaced."""
         rows = list(self.rows)
-        for row in {(at - RAM_BASE) // ROW for at in memory}:
-            at = RAM_BASE + ROW * row
-            rows[row] = "%08x: %s" % (at, " ".join("%02x" % byte for byte in self.machine.bytes_at(memory, at, ROW) or ()))
+        for row in {(address - RAM_BASE) // ROW for address in memory}:
+            row_address = RAM_BASE + ROW * row
+            row_bytes = self.machine.bytes_at(memory, row_address, ROW) or ()
+            rows[row] = "%08x: %s" % (row_address, " ".join("%02x" % byte for byte in row_bytes))
         return rows
 
     @staticmethod
     def expect(end: FinalState, actual: object, expected: object) -> None:
-        """Raises RvlookError if the bench shows something unexpected."""
+        """Raises RvlookError if a value that the bench shows differs from the value in the search."""
         if actual != expected:
             raise RvlookError("the replay of final state %d on rvbench differs from the search: a dependency was missed" % end.number)
 
 
 def questions_of(outcome: Observed, setup: Setup) -> list[str]:
-    """Returns the commands that show an outcome."""
+    """Returns the commands of rvbench that show a part of the outcome."""
     if isinstance(outcome, Bytes):
         return memory_commands(outcome.at, outcome.count)
     if isinstance(outcome, Register):
@@ -117,9 +118,9 @@ def command_of(setup: Setup) -> str:
 def script_of(machine: RaceMachine, end: FinalState, outcome: Sequence[Observed], heading: str) -> bytes:
     """Returns an input of the bench that replays the schedule of a final state, and shows its outcome."""
     setup = machine.setup
-    lines = machine.lines_of_script() + commands_of(end.schedule(), machine.count)
+    lines = machine.lines_of_script() + commands_of(end.schedule(), machine.hart_count)
     if end.round:
-        lines += ["# the loop that may repeat forever, twice"] + 2 * commands_of(end.round, machine.count)
+        lines += ["# the loop that may repeat forever, twice"] + 2 * commands_of(end.round, machine.hart_count)
     for observed in outcome:
         lines += questions_of(observed, setup)
     return input_of(setup, lines, heading, command_of(setup))

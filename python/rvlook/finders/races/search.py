@@ -53,7 +53,7 @@ Heap = List[Tuple["Cost", int, "SearchNode"]]  # the nodes that wait, by their c
 
 
 class Cost(NamedTuple):
-    """The cost of a schedule. Costs are compared by the first part that differs."""
+    """The cost of a schedule. Two costs are compared field by field: the first field that differs decides."""
     preemptions: int = 0  # switches from a hart that could make progress
     timers: int = 0  # timer interrupts
     switches: int = 0  # the number of all changes of the hart
@@ -61,7 +61,7 @@ class Cost(NamedTuple):
 
     @property
     def level(self) -> tuple[int, int]:
-        """Returns the numbers that the bounds of a search limit."""
+        """Returns the two numbers that SearchBounds limits. The search visits all nodes of one level before those of the next."""
         return self.preemptions, self.timers
 
 
@@ -74,13 +74,13 @@ class Edge(NamedTuple):
 
 
 class SearchNode(NamedTuple):
-    """A point with the simplest schedule that leads to it."""
+    """A point with a schedule that leads to it."""
     point: SearchPoint
     cost: Cost = Cost()  # the cost of the schedule
     parent: Optional[SearchNode] = None  # the node before; None at the start
     move: Optional[Move] = None  # the move from the parent; None at the start
     is_timer: bool = False  # whether the timer interrupt came before the move
-    moves_alone: int = 0  # moves of the hart in succession
+    moves_alone: int = 0  # moves of the last hart in succession, without a switch or a timer interrupt
     first_switch: int = 0  # the first step of the run to which the next switch may be attributed
 
     @property
@@ -136,9 +136,9 @@ class TouchedBytes:
     def shared(self) -> set[int]:
         """Returns the bytes that two agents accessed, at least one of them by a store."""
         shared = set()
-        for one, other in itertools.permutations(set(self.read) | set(self.written) | set(self.executed), 2):
-            shared |= self.written[one] & (self.read[other] | self.written[other])
-            shared |= {at for at in self.written[one] if at & -4 in self.executed[other]}
+        for writer, other in itertools.permutations(set(self.read) | set(self.written) | set(self.executed), 2):
+            shared |= self.written[writer] & (self.read[other] | self.written[other])
+            shared |= {address for address in self.written[writer] if address & -4 in self.executed[other]}
         return shared
 
 
@@ -157,7 +157,7 @@ class Graph:
 class SearchBounds(NamedTuple):
     """The bounds of a search of schedules."""
     preemptions: Optional[int] = None  # the most preemptions; None: any number
-    timers: int = 0  # timer interrupts, at most
+    timers: int = 0  # the most timer interrupts
     steps: int = 1000000  # the most steps of one move; a hart that exceeds them is given up
     first: int = 0  # the first switch or timer interrupt comes right after this step of the run, or later,
     last: Optional[int] = None  # and at the latest right after this one; None: no limit
@@ -169,25 +169,26 @@ class SearchBounds(NamedTuple):
 
 
 class ScheduleSearch:
-    """The search of all orders within bounds. `plain` switches harts before each step, without reduction."""
+    """The search of all orders within bounds. With `is_plain` it switches harts before each step, without partial-order reduction."""
 
-    def __init__(self, machine: RaceMachine, bounds: SearchBounds = SearchBounds(), plain: bool = False, outcome: Watched = Watched(),
+    def __init__(self, machine: RaceMachine, bounds: SearchBounds = SearchBounds(), is_plain: bool = False, outcome: Watched = Watched(),
                  limit: TimeLimit = TimeLimit()) -> None:
         self.machine, self.bounds, self.outcome, self.limit = machine, bounds, outcome, limit  # `outcome` distinguishes final states
         self.progress: Callable[[ScheduleSearch], None] = lambda _: None  # a caller may set it; is called at each point
         self.prepare: Callable[[Heap], None] = lambda _: None  # a caller may set it; receives the nodes that wait
         self.new_move: Callable[[MoveKey, Schedule], Move | None] = self.compute_move  # a caller may replace it
-        # steps of enclaves that store to one of these are dependent
+        # steps of enclaves that store to one of these are dependent; -1 is no address, and makes the set nonempty if there are timer interrupts
         self.watched_bytes = frozenset((*outcome.addresses, -1)) if bounds.timers else frozenset()
-        self.is_always_dependent = plain or not machine.monitor  # a handler of the bare bench shares its registers with what it stops
+        self.is_always_dependent = is_plain or not machine.monitor  # on the bare bench a trap handler uses the registers of the code it interrupts
         self.is_outcome_visible = self.is_always_dependent  # whether steps that may change the outcome are dependent
         self.shared_bytes: frozenset[int] = frozenset()  # the shared bytes of this round
-        self.touches, self.rounds, self.regions = TouchedBytes(), 0, 0  # the accesses so far, the round from 1, and the regions known at its start
+        # the accesses so far; the number of the round, from 1; and how many regions were known at the start of the round
+        self.touches, self.rounds, self.region_count = TouchedBytes(), 0, 0
         self.why_cut: str | None = None  # what ended the search early; None: nothing did
-        self.whole: tuple[int, int] | None = None  # the last level, of preemptions and timers, of which all was searched
+        self.whole_level: tuple[int, int] | None = None  # the highest level that was searched completely; None before the first
         self.graph = Graph()  # the graph of this round
-        self.earlier_graph: Graph | None = None  # the graph of the round that came to that level
-        self.reduced_graph: Graph | None = None  # the graph of the round before `show_outcome`
+        self.earlier_graph: Graph | None = None  # the graph of the round that searched `whole_level`; None after a complete round
+        self.reduced_graph: Graph | None = None  # the graph of the last round before `show_outcome`
         self.reset()
 
     def reset(self) -> None:
@@ -195,7 +196,7 @@ class ScheduleSearch:
         self.cycles: dict[tuple[CachedState, int], int] = {}  # steps in which a hart returns to a state; 0: never
         self.visited: set[SearchPoint] = set()  # the points that were visited
         self.graph = Graph()
-        self.transitions, self.level, self.waiting = 0, (0, 0), 0  # number of transitions, level of the current node, number of queued nodes
+        self.transitions, self.level, self.queued = 0, (0, 0), 0  # number of transitions, level of the current node, number of queued nodes
 
     def run(self) -> ScheduleSearch:
         """Repeats the search until a round finds no new shared bytes, or until the time limit."""
@@ -214,7 +215,7 @@ class ScheduleSearch:
 
     def show_outcome(self) -> None:
         """Makes each step that may change the outcome dependent in the following rounds. Each value of the outcome then has a node."""
-        self.is_outcome_visible, self.reduced_graph, self.whole, self.earlier_graph = True, self.graph, None, None
+        self.is_outcome_visible, self.reduced_graph, self.whole_level, self.earlier_graph = True, self.graph, None, None
 
     def graphs(self) -> list[Graph]:
         """Returns the graphs whose final states are reported."""
@@ -222,7 +223,7 @@ class ScheduleSearch:
 
     def is_hidden(self, hart: int) -> bool:
         """Returns whether independent steps of a hart may change the outcome."""
-        if any(of == hart for of, _ in self.outcome.registers):
+        if any(owner == hart for owner, _ in self.outcome.registers):
             return True
         agents = [agent for agent in self.touches.written if hart in (agent, agent[0] if isinstance(agent, tuple) else agent)]
         stored = set().union(*(self.touches.written[agent] for agent in agents))
@@ -234,17 +235,17 @@ class ScheduleSearch:
 
     def has_grown(self) -> bool:
         """Returns whether more bytes are shared, or more regions exist, than at the start of the round. Adds these bytes to the shared bytes."""
-        regions, shared = len(self.machine.regions), self.touches.shared()
-        if self.is_always_dependent or shared <= self.shared_bytes and regions == self.regions:
+        region_count, shared = len(self.machine.regions), self.touches.shared()
+        if self.is_always_dependent or shared <= self.shared_bytes and region_count == self.region_count:
             return False
         self.shared_bytes |= shared
         return True
 
     def search(self) -> bool:
         """Searches one round; returns False if more bytes turned out to be shared."""
-        order, self.regions = itertools.count(), len(self.machine.regions)
+        serial, self.region_count = itertools.count(), len(self.machine.regions)  # nodes of equal cost leave the heap in the order of serial numbers
         start = SearchNode(SearchPoint(self.machine.start, last_hart=None, timers=0, has_switched=not self.bounds.is_part))
-        heap: Heap = [(start.cost, next(order), start)]
+        heap: Heap = [(start.cost, next(serial), start)]
         while heap:
             cost, _, node = heapq.heappop(heap)
             if node.point in self.visited:
@@ -252,19 +253,19 @@ class ScheduleSearch:
             if cost.level > self.level:
                 if self.has_grown():
                     return False
-                if self.whole is None or self.level >= self.whole:
-                    self.whole, self.earlier_graph = self.level, self.graph
+                if self.whole_level is None or self.level >= self.whole_level:
+                    self.whole_level, self.earlier_graph = self.level, self.graph
                 self.level = cost.level
             self.visited.add(node.point)
             self.graph.nodes.setdefault(self.vertex(node), node)
-            self.waiting = len(heap)
+            self.queued = len(heap)
             self.progress(self)
             self.prepare(heap)
             if len(self.visited) >= MAX_STATES:
                 self.why_cut = "the limit of %d states" % MAX_STATES
                 return True
             for following in self.next_nodes(node):
-                heapq.heappush(heap, (following.cost, next(order), following))
+                heapq.heappush(heap, (following.cost, next(serial), following))
         self.earlier_graph = None
         return not self.has_grown()
 
@@ -274,7 +275,7 @@ class ScheduleSearch:
         return point if self.bounds.preemptions is not None else (point.state, point.timers, point.has_switched)
 
     def edges_of(self, node: SearchNode) -> list[Edge]:
-        """Returns the list for the edges of a node; a discarded one if its vertex has edges already."""
+        """Returns an empty list for the edges from a node. If an earlier node has filled the list of the vertex, the new list is not in the graph."""
         vertex, edges = self.vertex(node), self.graph.edges
         return edges.setdefault(vertex, []) if vertex not in edges else []
 
@@ -283,11 +284,12 @@ class ScheduleSearch:
         state, last_hart, timers, has_switched = node.point
         if node.moves_alone > MAX_MOVES_ALONE:
             self.graph.unended_alone.add((state, node.hart))
-            for hart in range(self.machine.count):
-                self.move(state, hart, node.schedule)  # so that it is known which harts have ended
+            for hart in range(self.machine.hart_count):
+                self.move(state, hart, node.schedule)  # puts into `graph.moves` which harts have ended, for the report
             return
         cost, edges = node.cost, self.edges_of(node)
-        harts = range(self.machine.count)
+        harts = range(self.machine.hart_count)
+        # whether a switch is no preemption; with one hart there is no switch
         is_free = last_hart is None or all(hart == last_hart for hart in harts) or self.is_free(state, last_hart, node.schedule)
         for hart in harts:
             is_switch = last_hart is not None and hart != last_hart
@@ -300,9 +302,10 @@ class ScheduleSearch:
                     continue
                 self.transitions += 1
                 is_break = is_switch or is_timer
-                new = SearchNode(SearchPoint(move.state, hart, timers + is_timer, has_switched or is_break),
-                                 Cost(preemptions, cost.timers + is_timer, cost.switches + is_switch, cost.steps + move.steps),
-                                 node, move, is_timer, 1 if is_break else node.moves_alone + 1, cost.steps + move.dependent.steps_before + 1)
+                point = SearchPoint(move.state, hart, timers + is_timer, has_switched or is_break)
+                new_cost = Cost(preemptions, cost.timers + is_timer, cost.switches + is_switch, cost.steps + move.steps)
+                new = SearchNode(point, new_cost, parent=node, move=move, is_timer=is_timer, moves_alone=1 if is_break else node.moves_alone + 1,
+                                 first_switch=cost.steps + move.dependent.steps_before + 1)
                 edges.append(Edge(self.vertex(new), hart, move, preemptions - cost.preemptions))
                 yield new
 
@@ -311,7 +314,7 @@ class ScheduleSearch:
         equivalent to one before each of the independent steps around it, and in an endless loop to one in each later round."""
         state, last_hart = node.point.state, node.point.last_hart
         following = self.move(state, hart if last_hart is None else last_hart, node.schedule)
-        low, high = node.first_switch, node.cost.steps + (following.dependent.steps_before if following else 0)
+        low, high = node.first_switch, node.cost.steps + (following.dependent.steps_before if following else 0)  # the steps with equivalent switches
         is_late = following is None or high >= self.bounds.first
         if not is_late and last_hart is not None and self.is_in_loop(state, last_hart, node.schedule):
             length = self.cycles[state, last_hart]
@@ -319,8 +322,6 @@ class ScheduleSearch:
             low += rounds * length
             is_late = True
         return is_late and (self.bounds.last is None or low <= self.bounds.last)
-
-    # ---- moves
 
     def move(self, state: CachedState, hart: int, schedule: Schedule, is_timer: bool = False) -> Move | None:
         """Returns the move of a hart, or None if the hart stops. `schedule` returns the schedule that leads to the state."""
@@ -336,7 +337,7 @@ class ScheduleSearch:
         return self.timer_move(state, hart, schedule) if is_timer else self.hart_move(state, hart, schedule)
 
     def timer_move(self, state: CachedState, hart: int, schedule: Schedule) -> Move | None:
-        """Returns the move of a timer interrupt, or None. Under the monitor only an enclave is interrupted, before its next instruction."""
+        """Returns the move of a timer interrupt, or None if no timer interrupt can come. The host under the monitor is never interrupted."""
         work = Work(self.machine, state, hart)
         world = work.hart_context.world
         if world == "host" or work.hart_context.is_timer_pending or self.machine.is_over(work):
@@ -346,25 +347,26 @@ class ScheduleSearch:
         look = self.machine.look(work)
         result = self.machine.step(work, look, schedule)
         self.record_access(hart, world, pc, look, result)
-        dependent = DependentStep(0, pc, look._replace(kind="timer"), world, is_taken(result))
-        return Move(self.state_after(work, result), 1, dependent, (work.digest, work.table) != before)
+        dependent = DependentStep(steps_before=0, pc=pc, look=look._replace(kind="timer"), world=world, took_timer=is_timer_taken(result))
+        return Move(self.state_after(work, result), steps=1, dependent=dependent, has_changes=(work.digest, work.table) != before)
 
     @staticmethod
     def state_after(work: Work, result: StepResult | None) -> CachedState:
         """Returns the state after a step. On the bare bench the timer interrupt is cleared after it was taken."""
-        if is_taken(result) and work.hart_context.world == "bare":
+        if is_timer_taken(result) and work.hart_context.world == "bare":
             work.set_timer_pending(is_pending=False)
         return work.cached_state()
 
     def hart_move(self, state: CachedState, hart: int, schedule: Schedule) -> Move | None:
-        """Returns a move: independent steps, one dependent step, and the independent steps after it; or None."""
+        """Returns a move: independent steps, one dependent step, and the independent steps after it. Returns None if the hart stops, is given up,
+        or only returns to its state."""
         machine, work, detector = self.machine, Work(self.machine, state, hart), LoopDetector()
         dependent: DependentStep | None = None
 
         def schedule_to_here() -> list[Segment]:
-            return schedule() + ([Segment(hart, work.done)] if work.done else [])
+            return schedule() + ([Segment(hart, work.steps_done)] if work.steps_done else [])
 
-        result, has_changes, before, skipped = None, False, (work.digest, work.table), 0
+        result, has_changes, before, skipped_steps = None, False, (work.digest, work.table), 0
         while not machine.is_over(work):
             look = machine.look(work)
             is_dependent = self.is_dependent(work, look)
@@ -372,13 +374,13 @@ class ScheduleSearch:
                 break
             length = 0 if is_dependent else detector.length(work)
             if length and machine.limit:
-                skipped += work.skip(length)
+                skipped_steps += work.skip(length)
                 detector = LoopDetector()
                 continue
             if length:
                 work = self.run_to_loop_state(state, work, length, dependent.steps_before + 1 if dependent else 0, schedule_to_here)
                 break
-            if work.done - skipped > self.bounds.steps:
+            if work.steps_done - skipped_steps > self.bounds.steps:
                 self.graph.unended_in_move.add((state, hart))
                 return None
             world, pc = work.hart_context.world, work.pc
@@ -386,19 +388,20 @@ class ScheduleSearch:
             has_changes = has_changes or (work.digest, work.table) != before
             self.record_access(hart, world, pc, look, result)
             if is_dependent:
-                dependent, detector = DependentStep(work.done - 1, pc, look, world, is_taken(result)), LoopDetector()
+                dependent, detector = DependentStep(work.steps_done - 1, pc, look, world, is_timer_taken(result)), LoopDetector()
                 if dependent.took_timer and world == "bare":
                     break
         state_after = self.state_after(work, result if dependent and dependent.took_timer else None)
-        if not work.done or not dependent and state_after._replace(steps=()) == state._replace(steps=()):
+        if not work.steps_done or not dependent and state_after._replace(steps=()) == state._replace(steps=()):
             return None
-        dependent = dependent or DependentStep(work.done, pc=None, look=None, world=work.hart_context.world, took_timer=False)
-        return Move(state_after, work.done, dependent, has_changes)
+        dependent = dependent or DependentStep(work.steps_done, pc=None, look=None, world=work.hart_context.world, took_timer=False)
+        return Move(state_after, work.steps_done, dependent, has_changes)
 
-    def run_to_loop_state(self, state: CachedState, work: Work, length: int, first: int, schedule: Schedule) -> Work:
-        """Runs a hart in an endless loop to the state that represents all states of the loop, and records the loop."""
+    def run_to_loop_state(self, state: CachedState, work: Work, length: int, min_steps: int, schedule: Schedule) -> Work:
+        """Runs a hart from `state`, at least `min_steps` steps, to the state that represents all states of its endless loop, and records the loop.
+        `work` is in the loop; `length` is the number of steps of a round."""
         loop, loop_state = loop_of(self.machine, work, length, schedule)
-        arrived = first_arrival(self.machine, state, work, loop_state, first)
+        arrived = first_arrival(self.machine, state, work, loop_state, min_steps)
         self.graph.loops[arrived.cached_state()._replace(steps=()), work.hart] = loop
         return arrived
 
@@ -413,39 +416,37 @@ class ScheduleSearch:
             return True
         if self.is_outcome_visible and self.outcome.may_change(work.hart, look):
             return True
-        if not look.kind or is_inside(work.hart_context, look):
+        if not look.kind or is_in_own_region(work.hart_context, look):
             return False
         return not shared.isdisjoint(range(look.address, look.address + look.width)) or self.machine.overlaps_region(look.address, look.width)
 
     def is_watched(self, context: HartContext, look: Look) -> bool:
-        """Returns whether a step of an enclave is dependent because the host may not resume the enclave after a timer interrupt.
-
-        This is so if the step stores a part of the outcome, or if the steps are limited."""
+        """Returns whether a step of an enclave is dependent because the host may not resume the enclave after a timer interrupt. This is so if the
+        step stores a part of the outcome, or if the steps are limited."""
         if context.world == "host":
             return False
         return bool(self.machine.limit) or look.kind == "w" and not self.watched_bytes.isdisjoint(range(look.address, look.address + look.width))
 
     def record_access(self, hart: int, world: str, pc: int, look: Look, result: StepResult) -> None:
-        """Records the accesses of a step."""
+        """Records the accesses of a step of a hart in a world. `pc` is the pc before the step."""
         agent: Agent = (hart, world) if self.bounds.timers else hart
         self.touches.executed[agent].add(pc)
         if look.kind in ("r", "w"):
             context = self.machine.contexts[look.key[0]]
-            if not is_inside(context, look):
-                (self.touches.read if look.kind == "r" else self.touches.written)[agent].update(range(look.address, look.address + look.width))
+            if not is_in_own_region(context, look):
+                touched = self.touches.read if look.kind == "r" else self.touches.written
+                touched[agent].update(range(look.address, look.address + look.width))
         elif isinstance(result, CallResult) and look.kind == "call" and result.writes:
-            self.touches.written[agent].update(at for at, _ in result.writes)
-
-    # ---- harts that make no progress
+            self.touches.written[agent].update(address for address, _ in result.writes)
 
     def is_free(self, state: CachedState, hart: int, schedule: Schedule) -> bool:
         """Returns whether a switch from a hart is no preemption: the hart stops, or returns by itself to its state."""
         return self.move(state, hart, schedule) is None or self.is_in_loop(state, hart, schedule)
 
     def is_in_loop(self, state: CachedState, hart: int, schedule: Schedule) -> bool:
-        """Returns whether a hart returns by itself to this state; `cycles` has the number of steps, or 0."""
-        chain: dict[CachedState, int] = {}
-        passed_steps, first_state, move = [0], state, None
+        """Returns whether a hart returns by itself to this state. Puts the number of steps, or 0, into `cycles`, also for the states on the way."""
+        chain: dict[CachedState, int] = {}  # the index of each state on the way
+        passed_steps, first_state, move = [0], state, None  # `passed_steps`: by index, the steps from `first_state` to the state
         while (state, hart) not in self.cycles and state not in chain and len(chain) <= MAX_MOVES_ALONE:
             chain[state] = len(chain)
             move = self.move(state, hart, lambda: schedule() + ([Segment(hart, passed_steps[-1])] if passed_steps[-1] else []))
@@ -458,14 +459,16 @@ class ScheduleSearch:
         return bool(self.cycles[first_state, hart])
 
 
-def is_taken(result: StepResult | None) -> bool:
-    """Returns whether a step was a timer interrupt."""
+def is_timer_taken(result: StepResult | None) -> bool:
+    """Returns whether a step was a timer interrupt. `result` is None if there was no step."""
     if result is None:
         return False
     return result.trap.startswith(names.TIMER) if isinstance(result, CallResult) else result.trap_cause == names.TIMER
 
 
-def is_inside(context: HartContext, look: Look) -> bool:
+def is_in_own_region(context: HartContext, look: Look) -> bool:
     """Returns whether an enclave accesses its own region, which no other world accesses while it runs."""
-    blocks = context.blocks
-    return bool(blocks) and blocks[0] <= look.address and look.address + look.width <= blocks[0] + blocks[1]
+    if not context.blocks:
+        return False
+    region, region_size, _, _ = context.blocks
+    return region <= look.address and look.address + look.width <= region + region_size

@@ -31,11 +31,11 @@ class Story:
 
     def __init__(self, end: FinalState, outcome: Sequence[Observed], search: ScheduleSearch, symbols: Symbols,
                  end_pcs: Sequence[Set[int | None]]) -> None:
-        # `end_pcs`: for each hart the pcs of all final states
+        # `end_pcs`: for each hart, its pcs in all final states
         self.end, self.outcome, self.search, self.symbols, self.end_pcs = end, outcome, search, symbols, end_pcs
 
     def heading(self) -> str:
-        """Returns a final state as a line: its values, and how the harts ended if the values do not show it."""
+        """Returns a final state as a line: its values, and how each hart ended, unless the hart ended at the same pc in all final states."""
         parts = ["%s=%s" % (observed.name, value_text(value)) for observed, value in zip(self.outcome, self.end.values) if value != ()]
         for hart, (how, pc) in enumerate(self.end.harts):
             if how == UNFINISHED:
@@ -49,7 +49,7 @@ class Story:
         return "  ".join(parts) or "all harts ended"
 
     def limit(self, hart: int) -> str:
-        """Returns how far a hart was run."""
+        """Returns how far a hart ran before it was given up."""
         search, state = self.search, self.end.node.point.state
         is_alone = any((state, hart) in graph.unended_alone for graph in search.graphs())
         return "%d transitions alone" % MAX_MOVES_ALONE if is_alone else counted(search.bounds.steps, "step")
@@ -77,19 +77,20 @@ class Story:
                 yield "%s before %s" % (timer_text(turn[0].last_move.dependent), self.location(turn[0].last_move.dependent.pc))
             elif 0 < number < len(turns) - 1:
                 before, after = turns[number - 1], turns[number + 1]
-                steps = [[node.last_move.dependent for node in part] for part in (before, turn, after)]
-                pcs = [[node.pc for node in part if node.pc is not None] for part in steps]
-                if all(pcs) and before[0].hart == after[0].hart != turn[0].hart and not after[0].is_timer:
+                steps = [[node.last_move.dependent for node in nodes] for nodes in (before, turn, after)]
+                pcs_before, pcs, pcs_after = ([step.pc for step in turn_steps if step.pc is not None] for turn_steps in steps)
+                has_steps = bool(pcs_before and pcs and pcs_after)  # dependent steps, in each of the three turns
+                if has_steps and before[0].hart == after[0].hart != turn[0].hart and not after[0].is_timer:
                     yield "hart %d executes %s between %s and %s of hart %d" % (
-                        turn[0].hart, self.span(pcs[1]), self.location(pcs[0][-1]), self.location(pcs[2][0]), before[0].hart)
+                        turn[0].hart, self.span(pcs), self.location(pcs_before[-1]), self.location(pcs_after[0]), before[0].hart)
 
     def span(self, pcs: Sequence[int]) -> str:
-        """Returns the first and the last place of a group."""
+        """Returns the places of the first and the last of these pcs as text; one place if they are the same."""
         first, last = self.location(pcs[0]), self.location(pcs[-1])
         return first if first == last else "%s to %s" % (first, last)
 
     def access(self, node: SearchNode) -> str:
-        """Returns a move as a line: its access, and its place."""
+        """Returns the dependent step of a move as a line: its access, and its place."""
         dependent = node.last_move.dependent
         pc, look = dependent.pc, dependent.look
         assert pc is not None and look is not None
@@ -102,7 +103,7 @@ class Story:
         return "      %-34s %s" % (access.rstrip(), place_text("%08x" % pc, self.symbols))
 
     def lines(self, total: int) -> Iterator[str]:
-        """Yields the lines of a final state after its heading."""
+        """Yields the lines of a final state after its heading. `total` is the number of all schedules."""
         cost = self.end.node.cost
         parts = [counted(cost.preemptions, "preemption")] + ([counted(cost.timers, "timer")] if self.search.bounds.timers else [])
         switches = counted(cost.switches, "switch").replace("switchs", "switches")
@@ -114,22 +115,22 @@ class Story:
             lines = [self.access(node) for node in turn if node.last_move.dependent.pc is not None]
             yield from lines if len(lines) <= 2 * MAX_ACCESSES_SHOWN + 1 else \
                 [*lines[:MAX_ACCESSES_SHOWN], "      ... %d more" % (len(lines) - 2 * MAX_ACCESSES_SHOWN), *lines[-MAX_ACCESSES_SHOWN:]]
-        for part in self.end.tail:
-            yield "    then hart %d, %s" % (part.hart, counted(part.steps, "step"))
+        for segment in self.end.tail:
+            yield "    then hart %d, %s" % (segment.hart, counted(segment.steps, "step"))
         if self.end.round:
-            segments = ["%s of hart %d" % (counted(part.steps, "step"), part.hart) for part in self.end.round]
+            segments = ["%s of hart %d" % (counted(segment.steps, "step"), segment.hart) for segment in self.end.round]
             yield "    then repeats " + ", ".join(segments)
 
     def object(self, printer: Printer) -> None:
         """Writes the final state as an object."""
-        end, count = self.end, self.search.machine.count
+        end, hart_count = self.end, self.search.machine.hart_count
         cost = end.node.cost
         turns = [dict(hart=turn[0].hart, steps=sum(node.last_move.steps for node in turn),
                       accesses=[self.access_object(node) for node in turn if node.last_move.dependent.pc is not None]) for turn in self.turns()]
         printer.object("final_state", number=end.number, values={observed.name: shown(value) for observed, value in zip(self.outcome, end.values)},
                        harts=[dict(hart=hart, how=how, pc=hex8(pc)) for hart, (how, pc) in enumerate(end.harts)], schedules=end.orders,
                        preemptions=cost.preemptions, timers=cost.timers, switches=cost.switches, steps=end.steps, summary=list(self.sentences()),
-                       schedule=commands_of(end.schedule(), count), loop=commands_of(end.round, count) if end.round else [], turns=turns)
+                       schedule=commands_of(end.schedule(), hart_count), loop=commands_of(end.round, hart_count) if end.round else [], turns=turns)
 
     def access_object(self, node: SearchNode) -> dict[str, Json]:
         """Returns the access of a node as an object."""
@@ -145,7 +146,7 @@ def timer_text(step: DependentStep) -> str:
 
 
 def shown(value: Value) -> Json:
-    """Returns a value for an object: words as numbers, longer bytes as digits."""
+    """Returns a value for a JSON object: 1, 2 or 4 bytes as a number, other bytes as hexadecimal digits, the states of all enclaves as an object."""
     if isinstance(value, bytes):
         return number_of(value) if len(value) in (1, 2, 4) else value.hex()
     return dict(("e%d" % slot, state) for slot, state in value) if isinstance(value, tuple) else value
@@ -165,7 +166,7 @@ def bound_text(bounds: SearchBounds) -> str:
 
 
 def covered_text(search: ScheduleSearch, final_states: FinalStates) -> str:
-    """Returns what was searched in words. `all` is used only if no order is missing."""
+    """Returns in words what was searched. The word `all` appears only if no order is missing."""
     bounds, graph, schedules = bound_text(search.bounds), search.graph, counted(final_states.orders, "schedule")
     given_up = len(graph.unended_alone) + len(graph.unended_in_move)
     if search.why_cut:
@@ -182,12 +183,12 @@ def covered_text(search: ScheduleSearch, final_states: FinalStates) -> str:
 
 def level_text(search: ScheduleSearch) -> str:
     """Returns the orders that were completely searched before the search was cut."""
-    if search.whole is None:
+    if search.whole_level is None:
         return "none"
-    preemptions, timers = search.whole
-    parts = (["at most " + counted(preemptions, "preemption")] if search.machine.count > 1 else []) + \
-        (["at most " + counted(timers, "timer")] if search.bounds.timers else [])
-    return "those with " + " and ".join(parts)
+    preemptions, timers = search.whole_level
+    preemptions_text = ["at most " + counted(preemptions, "preemption")] if search.machine.hart_count > 1 else []
+    timers_text = ["at most " + counted(timers, "timer")] if search.bounds.timers else []
+    return "those with " + " and ".join(preemptions_text + timers_text)
 
 
 class RacesOptions(NamedTuple):
@@ -196,7 +197,7 @@ class RacesOptions(NamedTuple):
     outcome: Sequence[str] = ()  # what distinguishes final states; empty: all shared memory
     end: Sequence[str] = ()  # the places at which a hart may end; empty: any
     preemptions: Optional[int] = None  # the most preemptions; None: any number
-    timers: int = 0  # timer interrupts, at most
+    timers: int = 0  # the most timer interrupts
     first: int = 0  # the first switch or timer interrupt comes right after this step, or later,
     last: Optional[int] = None  # and at the latest right after this one; None: no limit
     limit: int = 0  # steps after which each hart ends; 0: no limit
@@ -221,7 +222,7 @@ def find_races(run: Run, options: RacesOptions) -> RacesReport:
             search = ScheduleSearch(machine, bounds, options.plain, watched_of(outcome), limit)
             if options.jobs > 1:
                 MovesAhead(search, options.jobs)
-            search.progress = lambda it: progress.show(PROGRESS, it.rounds, len(it.visited), it.waiting, *it.level, it.machine.runs)
+            search.progress = lambda it: progress.show(PROGRESS, it.rounds, len(it.visited), it.queued, *it.level, it.machine.runs)
             final_states = find_final_states(search, lambda it: outcome or [*ranges_of(it.shared_bytes, symbols), EnclaveStates()])
         return completed(RacesReport(run, symbols, search, final_states, conditions), options)
     except RvlookError as fault:  # the arguments are right, but the program cannot be searched
@@ -255,7 +256,7 @@ class RacesReport:
     run: Run  # the run with its script
     symbols: Symbols  # name addresses
     search: ScheduleSearch  # has searched all orders
-    found: FinalStates  # the final states
+    final_states: FinalStates  # the final states of the search
     conditions: List[Forbidden]  # the conditions of --forbid
     stories: List[Story] = field(default_factory=list)  # describe the final states; empty before the replay
     bad: List[Tuple[Forbidden, FinalState]] = field(default_factory=list)  # each condition that holds, with a final state that meets it
@@ -271,19 +272,20 @@ class RacesReport:
 
     def cut_text(self) -> str:
         """Returns why a part of the orders was not searched; empty if all were, or if Ctrl-C ended the search."""
-        if is_whole(self.search, self.found) or self.search.why_cut == INTERRUPT:
+        if is_whole(self.search, self.final_states) or self.search.why_cut == INTERRUPT:
             return ""
-        long = [story for story in self.stories if any(how == UNFINISHED for how, _ in story.end.harts)]
+        unfinished = [story for story in self.stories if any(how == UNFINISHED for how, _ in story.end.harts)]
         if self.conditions:
             return "--forbid is undecided: the search is incomplete"
-        return "the search is incomplete: " + (long[0].heading() if long else "it was stopped by %s" % (self.search.why_cut or "--seconds"))
+        why_cut = unfinished[0].heading() if unfinished else "it was stopped by %s" % (self.search.why_cut or "--seconds")
+        return "the search is incomplete: " + why_cut
 
 
 def completed(report: RacesReport, options: RacesOptions) -> RacesReport:
     """Replays the final states, describes them, and writes their inputs if there is a folder; returns the report."""
-    search, final_states = report.search, report.found
+    search, final_states = report.search, report.final_states
     replay(search, final_states, report.conditions, options.jobs)
-    end_pcs = [{pc for end in final_states.ends for how, pc in end.harts[hart:hart + 1]} for hart in range(search.machine.count)]
+    end_pcs = [{end.harts[hart].pc for end in final_states.ends if hart < len(end.harts)} for hart in range(search.machine.hart_count)]
     report.stories = [Story(end, final_states.outcome, search, report.symbols, end_pcs) for end in final_states.ends]
     report.bad = forbidden(report.conditions, final_states)
     report.scripts = {end.number: script_of(search.machine, end, final_states.outcome, report.title(end)) for end in final_states.ends}
@@ -293,7 +295,7 @@ def completed(report: RacesReport, options: RacesOptions) -> RacesReport:
 
 
 def note(findings: ReportedCases, report: RacesReport) -> None:
-    """Notes the findings: final states that --forbid names; without it all but the first, and those in which a hart does not end."""
+    """Adds the findings: final states that --forbid names; without it all but the first, and those in which a hart does not end."""
     for story in report.stories if not report.conditions else ():
         findings.add("final state %d" % story.end.number, story.heading() if report.is_finding(story) else "")
     for condition, end in report.bad:
@@ -320,7 +322,7 @@ def replay(search: ScheduleSearch, final_states: FinalStates, conditions: Sequen
 
 
 def forbidden(conditions: Sequence[Forbidden], final_states: FinalStates) -> list[tuple[Forbidden, FinalState]]:
-    """Returns the conditions that hold, each with the final state."""
+    """Returns each condition of --forbid with each final state that meets it."""
     named = [value.name for value in final_states.outcome]
     return [(condition, end) for condition in conditions for end in final_states.ends if condition.holds(end, named)]
 
@@ -332,7 +334,7 @@ def is_whole(search: ScheduleSearch, final_states: FinalStates) -> bool:
 
 def objects(report: RacesReport, printer: Printer) -> None:
     """Writes a report as objects."""
-    search, final_states, stories, bad, symbols = report.search, report.found, report.stories, report.bad, report.symbols
+    search, final_states, stories, bad, symbols = report.search, report.final_states, report.stories, report.bad, report.symbols
     run_object(printer, report.run, symbols)
     for story in stories:
         story.object(printer)
@@ -346,7 +348,7 @@ def objects(report: RacesReport, printer: Printer) -> None:
 
 def texts(report: RacesReport, printer: Printer) -> None:
     """Writes a report as lines."""
-    search, final_states, stories, bad = report.search, report.found, report.stories, report.bad
+    search, final_states, stories, bad = report.search, report.final_states, report.stories, report.bad
     for shared in ranges_of(search.shared_bytes, report.symbols):
         printer.line("shared memory  %08x %d  %s" % (shared.at, shared.count, shared.name))
     forbidden = {end.number for _, end in bad}

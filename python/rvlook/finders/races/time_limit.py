@@ -16,14 +16,14 @@ class OutOfTime(Exception):
 
 
 class TimeLimit:
-    """A time limit, in seconds from now on. None is no limit."""
+    """A time limit in seconds, which begin when the object is created. None is no limit."""
 
     def __init__(self, seconds: float | None = None) -> None:
         self.start, self.seconds = time.monotonic(), seconds  # `start` is of the monotonic clock
 
     @contextmanager
     def until(self, share: float, more: float = 0.0) -> Iterator[None]:
-        """Raises OutOfTime in the body when this share of the limit, and `more` seconds, have passed."""
+        """Raises OutOfTime in the body of a `with` statement when this share of the limit, and `more` seconds, have passed since the start."""
         if self.seconds is None:
             yield
             return
