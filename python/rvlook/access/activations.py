@@ -83,7 +83,6 @@ def number_of(pc: bytes) -> int:
 
 class Activations:
     """The activations of a run after a step. `is_strict` records the operands of divisions too. A bare run is one activation without a window."""
-
     def __init__(self, run: Run, start: int = 0, is_strict: bool = False) -> None:
         self.run, self.start, self.is_strict = run, start, is_strict  # `start`: the step after which activations are taken
         self.worlds = [run.world] * run.setup.harts  # the world of each hart
@@ -122,8 +121,6 @@ class Activations:
     def entered(worlds: Iterable[bytes], worlds_after: Iterable[bytes]) -> list[str]:
         """Returns the enclaves that steps entered."""
         return [after.decode() for before, after in zip(worlds, worlds_after) if after != before and after.startswith(b"e")]
-
-    # ---- begin and end of an activation
 
     def begin_activation(self, world: str, hart: int, step: int) -> Activation:
         """Returns an activation that begins after a step."""

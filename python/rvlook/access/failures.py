@@ -29,10 +29,11 @@ STEPS_PER_PART = 1 << 16  # steps between two reads of the counters
 PARTS_PER_EXCHANGE = 16  # parts in one exchange
 MAX_FAILURES = 100000  # failures after which the scan ends: a handler that fails itself traps at each step
 COUNTERS = ("csr b00", "csr b02", "csr 320")  # mcycle, minstret and mcountinhibit
-TRAPPED = re.compile(rb"trap=[0-9a-f]")
-ILLEGAL, INTERRUPT = "00000002", "8"  # a cause; the first digit of the cause of each interrupt
-ECALLS = ("00000008", "00000009", "0000000b")
-A0, READ, REGISTERS = 10, (10, 16, 17), 32  # the status of a call; that, its number and its key; all registers
+TRAPPED = re.compile(rb"trap=[0-9a-f]")  # in the reply to a step that trapped; without a trap a hyphen follows
+ILLEGAL, INTERRUPT_DIGIT = "00000002", "8"  # the cause of an illegal instruction; the first digit of the cause of each interrupt
+ECALLS = ("00000008", "00000009", "0000000b")  # the causes of an ecall from U, S and M
+A0, A6, A7, REGISTERS = 10, 16, 17, 32  # numbers of registers; how many there are
+CALL_REGISTERS = (A0, A6, A7)  # after a call, a0 has its status; a6 and a7 name the call
 WORD_MASK = 0xFFFFFFFF
 MAX_SHOWN = 20  # failures that are printed; each of them counts
 CAUSES = [name for cause, name in names.CAUSES.items() if cause[0] == "0" and not name.startswith("ecall")]
@@ -84,8 +85,8 @@ def failures_of(run: Run, schedule: str, steps: int) -> list[Failure]:
 
 
 def turns(run: Run, schedule: str, remaining: int) -> Iterator[Turn]:
-    """Yields the first `left` steps of a run: those of the script, and then those of the schedule or of the selected hart."""
-    pending: list[str] = []
+    """Yields the first `remaining` steps of a run: those of the script, and then those of the schedule, or of the selected hart if it is empty."""
+    pending: list[str] = []  # commands before the next step
     for item in run.plan:
         if isinstance(item, Line):
             if item.changes_state:
@@ -94,9 +95,9 @@ def turns(run: Run, schedule: str, remaining: int) -> Iterator[Turn]:
         for hart, count in steps_within(item, 0, remaining).by_hart():
             yield Turn((*pending, *run.setup.choice(hart)), hart, count)
             pending, remaining = [], remaining - count
-    tail = turns_of(schedule) if schedule else iter(lambda: (run.hart, STEPS_PER_PART), None)
+    turns_after_script = turns_of(schedule) if schedule else itertools.repeat((run.hart, STEPS_PER_PART))
     while remaining > 0:
-        hart, count = next(tail)
+        hart, count = next(turns_after_script)
         yield Turn((*pending, *run.setup.choice(hart)), hart, min(count, remaining))
         pending, remaining = [], remaining - count
 
@@ -104,28 +105,27 @@ def turns(run: Run, schedule: str, remaining: int) -> Iterator[Turn]:
 def parts_of(turns_of_run: Iterable[Turn]) -> Iterator[list[Turn]]:
     """Yields turns in parts of at most STEPS_PER_PART steps; splits turns that are longer."""
     part: list[Turn] = []
-    room = STEPS_PER_PART
+    free_steps = STEPS_PER_PART  # how many more steps the part can have
     for turn in turns_of_run:
-        while turn.steps > room:
-            part.append(turn._replace(steps=room))
-            turn = Turn((), turn.hart, turn.steps - room)
+        while turn.steps > free_steps:
+            part.append(turn._replace(steps=free_steps))
+            turn = Turn(commands=(), hart=turn.hart, steps=turn.steps - free_steps)
             yield part
-            part, room = [], STEPS_PER_PART
+            part, free_steps = [], STEPS_PER_PART
         part.append(turn)
-        room -= turn.steps
+        free_steps -= turn.steps
     if part:
         yield part
 
 
 class LaggingBench:
     """A bench that does the parts of a run. Parts that it skips are done before the next one that it examines."""
-
     def __init__(self, bench: Bench) -> None:
         self.bench = bench  # the bench that does the parts
         self.skipped: list[str] = []  # the commands of skipped parts
 
     def skip(self, part: Sequence[Turn]) -> None:
-        """Skips a part."""
+        """Leaves out a part until the next request."""
         self.skipped += full_speed_commands(part)
 
     def ask(self, commands: Sequence[str]) -> list[bytes]:
@@ -140,32 +140,31 @@ class LaggingBench:
 
 
 def full_speed_commands(part: Sequence[Turn]) -> list[str]:
-    """Returns the commands of a part at full speed."""
+    """Returns the commands that do a part at full speed, without a reply for each step."""
     return [line for turn in part for line in (*turn.commands, *(["step %d" % turn.steps] if turn.steps else []))]
 
 
 class Scan:
     """A scan of a run with three benches."""
-
     def __init__(self, run: Run, leader: LaggingBench, follower: LaggingBench, reader: LaggingBench) -> None:
         self.leader, self.follower, self.reader = leader, follower, reader  # `follower` and `reader` lag behind `leader`
         self.harts = range(run.setup.harts)  # the numbers of the harts
         self.locations = [Location(run.pc, run.mode, run.world) for _ in self.harts]  # the location of each hart
-        self.traps = [0 for _ in self.harts]  # the traps of each hart, by its counters
+        self.traps = [0 for _ in self.harts]  # how many traps each hart has taken, by its counters
         self.position = 0  # steps so far
 
     def failures(self, parts: Iterator[list[Turn]]) -> Iterator[Failure]:
-        """Yields each failure in the order of steps."""
+        """Yields each failure in the parts of the run, in the order of steps."""
         while batch := list(itertools.islice(parts, PARTS_PER_EXCHANGE)):
             replies = iter(self.leader.ask([line for part in batch for line in [*full_speed_commands(part), *self.queries(part)]]))
             for part in batch:
-                ran = [next(replies) for _ in full_speed_commands(part)]
+                command_replies = [next(replies) for _ in full_speed_commands(part)]
                 if self.is_quiet([next(replies) for _ in self.queries(part)]):
                     self.follower.skip(part)
                     self.reader.skip(part)
-                    self.take(part, ran)
+                    self.advance(part, command_replies)
                 else:
-                    position, starts = self.position, self.take(part, ran)
+                    position, starts = self.position, self.advance(part, command_replies)
                     yield from self.examine(part, position, starts)
 
     def queries(self, part: Sequence[Turn]) -> list[str]:
@@ -175,18 +174,19 @@ class Scan:
         return [line for hart in self.harts for line in ("hart %d" % hart, *COUNTERS)] + ["hart %d" % part[-1].hart]
 
     def is_quiet(self, replies: Sequence[bytes]) -> bool:
-        """Returns whether no step of a part trapped, by the replies to the queries after it."""
-        values = [int(reply[8:], 16) for reply in replies if reply.startswith(b"csr ")]
+        """Returns whether no step of a part trapped, by the replies to the queries after it. If the program inhibits a counter, returns False."""
+        values = [int(reply[len(b"csr b00="):], 16) for reply in replies if reply.startswith(b"csr ")]  # three of each hart, see COUNTERS
         before, self.traps = self.traps, [cycles - retired & WORD_MASK for cycles, retired in zip(values[::3], values[1::3])]
         return before == self.traps and not any(values[2::3])
 
-    def take(self, part: Sequence[Turn], replies: Sequence[bytes]) -> list[Location]:
-        """Notes where the harts are after a part, by the replies to its commands. Returns where the hart of each turn was before it."""
-        ran, starts = iter([reply for reply in replies if reply.startswith(b"ran ")]), []
+    def advance(self, part: Sequence[Turn], replies: Sequence[bytes]) -> list[Location]:
+        """Updates the position and the locations of the harts after a part. `replies` are those to its commands. Returns for each turn where its hart
+        was before the turn."""
+        step_replies, starts = iter([reply for reply in replies if reply.startswith(b"ran ")]), []
         for turn in part:
             starts.append(self.locations[turn.hart])
             if turn.steps:
-                self.locations[turn.hart] = location_of(next(ran))
+                self.locations[turn.hart] = location_of(next(step_replies))
                 self.position += turn.steps
         return starts
 
@@ -212,18 +212,23 @@ class Scan:
             commands += [*turn.commands, *commands_reading(turn, position, call_steps)]
             position += turn.steps
         values = register_values(reply for reply in self.reader.ask(commands) if reply.startswith(b"x"))
-        registers = [dict(zip(READ, values[at:])) for at in range(0, len(values), len(READ))]
-        return [refused_call(call.step, call.hart, call.at, [values.get(n, 0) for n in range(REGISTERS)]) for call, values in zip(calls, registers)]
+        failures = []
+        for n, call in enumerate(calls):
+            known_registers = dict(zip(CALL_REGISTERS, values[n * len(CALL_REGISTERS):]))
+            registers = [known_registers.get(number, 0) for number in range(REGISTERS)]  # only CALL_REGISTERS matter
+            failures.append(refused_call(call.step, call.hart, call.at, registers))
+        return failures
 
 
 def trapped_in(part: Sequence[Turn], block: bytes, position: int, starts: Sequence[Location]) -> Iterator[Trapped]:
     """Yields the steps of a part that trapped, from its replies. `starts` has where the hart of each turn is before it."""
-    ends = list(itertools.accumulate(len(turn.commands) + turn.steps for turn in part))  # line numbers
-    firsts = list(itertools.accumulate((turn.steps for turn in part), initial=position))  # steps before each turn
-    for number, before, line in trapping_lines(block):
-        index = bisect_right(ends, number)
-        offset = number - ends[index] + part[index].steps
-        yield Trapped(firsts[index] + offset + 1, part[index].hart, location_of(before) if offset else starts[index], step_of(line.decode()))
+    line_ends = list(itertools.accumulate(len(turn.commands) + turn.steps for turn in part))  # by turn: the number of the line after its replies
+    positions = list(itertools.accumulate((turn.steps for turn in part), initial=position))  # by turn: the position of the run before it
+    for number, line_before, line in trapping_lines(block):
+        index = bisect_right(line_ends, number)  # of the turn with the step that trapped
+        offset = number - line_ends[index] + part[index].steps  # steps of the turn before this step
+        location = location_of(line_before) if offset else starts[index]
+        yield Trapped(positions[index] + offset + 1, part[index].hart, location, step_of(line.decode()))
 
 
 def trapping_lines(block: bytes) -> Iterator[tuple[int, bytes, bytes]]:
@@ -238,17 +243,18 @@ def trapping_lines(block: bytes) -> Iterator[tuple[int, bytes, bytes]]:
 
 
 def commands_reading(turn: Turn, position: int, steps: Sequence[int]) -> list[str]:
-    """Returns the commands that do a turn from a position, and read the registers after these steps, which are in order."""
-    commands, done = [], 0
+    """Returns the commands that do a turn from a position, and read CALL_REGISTERS after those of the steps that are in the turn. `steps` has the
+    numbers of steps of the run in ascending order."""
+    commands, steps_done = [], 0
     for step in steps[bisect_right(steps, position):bisect_right(steps, position + turn.steps)]:
-        count = step - position
-        commands += ["step %d" % (count - done), *("reg %d" % number for number in READ)]
-        done = count
-    return commands + (["step %d" % (turn.steps - done)] if done < turn.steps else [])
+        steps_to_call = step - position
+        commands += ["step %d" % (steps_to_call - steps_done), *("reg %d" % number for number in CALL_REGISTERS)]
+        steps_done = steps_to_call
+    return commands + (["step %d" % (turn.steps - steps_done)] if steps_done < turn.steps else [])
 
 
 def location_of(line: bytes) -> Location:
-    """Returns where a hart is after a step."""
+    """Returns where a hart is after a step. `line` is the reply to the step."""
     ran = step_of(line.decode())
     return Location(ran.pc, ran.mode, ran.world)
 
@@ -257,12 +263,12 @@ def trap_of(trapped: Trapped) -> Failure | None:
     """Returns the failure of a step that trapped, or None for a call or an interrupt."""
     assert trapped.ran.trap is not None
     cause, value = trapped.ran.trap.cause, trapped.ran.trap.value
-    is_call_or_interrupt = cause in ECALLS or cause.startswith(INTERRUPT)
+    is_call_or_interrupt = cause in ECALLS or cause.startswith(INTERRUPT_DIGIT)
     return None if is_call_or_interrupt else Failure(names.trap_name(cause, value), trapped.step, trapped.hart, trapped.at, value)
 
 
 def refused_call(step: int, hart: int, at: Location, registers: Sequence[int]) -> Failure | None:
-    """Returns the failure of a call that stays in its world, with the registers after it, or None if the monitor accepted it."""
+    """Returns the failure of a call that stays in its world, or None if the monitor accepted it. `registers` has x0 to x31 after the call."""
     if registers[A0] not in names.STATUSES:
         return None
     call = names.call_of(registers)
@@ -315,7 +321,6 @@ def expectation_of(text: str, symbols: Symbols) -> Expectation:
 
 class FailureReport:
     """The report of the failures of a run. Failures that the user does not expect are findings."""
-
     def __init__(self, expected: Sequence[Expectation], symbols: Symbols, printer: Printer, findings: ReportedCases) -> None:
         # `expected`: the values of --expect; `findings`: the cases of the subcommand
         self.expected, self.symbols, self.printer, self.findings = expected, symbols, printer, findings
@@ -324,7 +329,7 @@ class FailureReport:
         """Prints the failures: the expected ones as notes, the others as warnings."""
         self.printer.stream.flush()
         for number, failure in enumerate(failures):
-            is_expected = any(other.has(failure, self.symbols) for other in self.expected)
+            is_expected = any(expectation.has(failure, self.symbols) for expectation in self.expected)
             text = failure_text(failure, self.symbols)
             if not is_expected:
                 self.findings.add(text, text)
@@ -337,13 +342,14 @@ class FailureReport:
         if len(failures) > MAX_SHOWN and not self.printer.as_json:
             warn("%d more traps and refused calls are not shown; use --json" % (len(failures) - MAX_SHOWN))
         if sum(failure.count for failure in failures) >= MAX_FAILURES:
-            self.findings.add("all failures", "the search for traps and refused calls ended after %d of them" % MAX_FAILURES)
-            warn("the search for traps and refused calls ended after %d of them" % MAX_FAILURES)
+            text = "the search for traps and refused calls ended after %d of them" % MAX_FAILURES
+            self.findings.add("all failures", text)
+            warn(text)
 
     def show_missing(self, failures: Sequence[Failure]) -> None:
         """Reports each expected failure that did not occur as a finding."""
-        for other in self.expected:
-            if not any(other.has(failure, self.symbols) for failure in failures):
-                text = "--expect '%s': it did not occur" % other.text
+        for expectation in self.expected:
+            if not any(expectation.has(failure, self.symbols) for failure in failures):
+                text = "--expect '%s': it did not occur" % expectation.text
                 self.findings.add(text, text)
-                warn("--expect '%s': it did not occur" % other.text)
+                warn(text)

@@ -14,7 +14,6 @@ A0 = 10
 
 class WindowFields:
     """Names of the fields of the window."""
-
     def __init__(self, symbols: Symbols) -> None:
         self.symbols = symbols
         self.rows: list[tuple[int, Member]] = []  # address and member of each field
@@ -52,7 +51,6 @@ def index_text(index: int) -> str:
 
 class FieldReader:
     """Adds the fields that the calls of each activation of a run show."""
-
     def __init__(self, run: Run, parameters: Sequence[Parameter], fields: WindowFields) -> None:
         self.run, self.parameters, self.fields = run, parameters, fields  # `fields` receives the fields that are found
         self.read_functions: set[int] = set()  # functions whose arguments were read

@@ -122,7 +122,6 @@ def matching_lines(pattern: re.Pattern[bytes], block: bytes) -> Iterator[int]:
 
 class EventFinder:
     """Finds the events among the steps, and caches the replies of `access` for PMP entries."""
-
     def __init__(self, run: Run) -> None:
         self.run, self.setup = run, run.setup  # the run with its configuration
         self.verdicts: dict[tuple[str, ...], list[Verdicts]] = {}  # the verdicts by the replies of `pmp`

@@ -30,13 +30,11 @@ SP, A0, A1 = 2, 10, 11  # numbers of registers
 WORD = 4  # bytes of a pointer
 REGISTERS = 32
 NAME = re.compile(r"(.*(host|runtime|application|monitor))_stack_bottom\Z")
-WORLD_KINDS = {"host": ("host",), "runtime": ("runtime", "application"), "application": ("runtime", "application")}  # of one world
+WORLD_KINDS = {"host": ("host",), "runtime": ("runtime", "application"), "application": ("runtime", "application")}  # by kind: all of its world
 REACHABLE_KINDS = {"host": ("host",), "runtime": ("runtime", "application"), "application": ("application",)}  # the stacks that a store may reach
 WORD_MASK = 0xFFFFFFFF
 TIMER, CALL = names.TIMER.encode(), names.ECALL_FROM_S.encode()  # causes of traps
-
-
-FACTORS = {"add": (1, 1), "or": (1, 1), "sub": (1, -1)}
+FACTORS = {"add": (1, 1), "or": (1, 1), "sub": (1, -1)}  # the result as a sum of the two operands, each with its factor
 UPPER_INSTRUCTIONS = ("lui", "auipc")  # build the upper part of a constant
 
 
@@ -69,15 +67,15 @@ def computation_of(instruction: Instruction) -> PointerOperation:
     name, writes, operands, sources, factors = instruction.name, instruction.writes, instruction.operands, (0, 0), (0, 0)
     if name in FACTORS:
         sources, factors = (operands[1], operands[2]), FACTORS[name]
-    elif name in ("addi", "ori") or name == "andi" and operands[2] < 0:
+    elif name in ("addi", "ori") or name == "andi" and operands[2] < 0:  # andi with a negative constant aligns a pointer
         sources, factors = (operands[1], 0), (1, 0)
     return PointerOperation(writes, sources, factors, register=SP if writes == SP else None, is_upper=name in UPPER_INSTRUCTIONS)
 
 
 @dataclass
 class Pointers:
-    """How often each register and stored word of a world has the stack pointer as a summand. 1 is a pointer into the stack."""
-    registers: list[int] = field(default_factory=lambda: [0, 0, 1, *[0] * (REGISTERS - 3)])  # coefficients of x0 to x31
+    """The coefficients of the registers and stored words of a world: how often the stack pointer is a summand. 1 is a pointer into the stack."""
+    registers: list[int] = field(default_factory=lambda: [int(number == SP) for number in range(REGISTERS)])  # coefficients of x0 to x31
     words: dict[int, int] = field(default_factory=dict)  # coefficients of stored words, by address
 
     def is_pointer(self, register: int) -> bool:
@@ -89,21 +87,23 @@ class Pointers:
         return any(self.is_pointer(register) for register in operation.sources)
 
     def set_stack_pointer(self, operation: PointerOperation) -> None:
-        """Takes the effect of an instruction that writes sp and accesses no memory. A constant is no pointer into the stack."""
+        """Sets the coefficient of sp after an instruction that writes sp and accesses no memory. The result of lui or auipc is no pointer."""
         self.registers[SP] = int(not operation.is_upper)
 
-    def access(self, memory: MemoryOperand, address: int) -> None:
-        """Takes the effect of an access to an address. A load into sp makes it a pointer into the stack."""
+    def apply_access(self, memory: MemoryOperand, address: int) -> None:
+        """Changes the coefficients as a load or store at an address does. After a load into sp, sp counts as a pointer into the stack."""
         kind, width, _, _, register = memory
-        if kind == "r":
-            self.registers[register] = 1 if register == SP else self.words.get(address, 0) if width == WORD and register else 0
+        if kind == "r" and register == SP:
+            self.registers[SP] = 1
+        elif kind == "r":
+            self.registers[register] = self.words.get(address, 0) if width == WORD and register else 0
         elif width == WORD and self.registers[register]:
             self.words[address] = self.registers[register]
         else:
             self.words.pop(address, None)
 
-    def answer(self) -> None:
-        """Takes the answer of the monitor to a call, which is in a0 and a1."""
+    def clear_answer(self) -> None:
+        """Sets a0 and a1 to no pointer, because the monitor wrote its answer to a call there."""
         self.registers[A0] = self.registers[A1] = 0
 
 
@@ -148,8 +148,8 @@ def kind_of(world: str, mode: str, kinds: Container[str] = ()) -> str | None:
     return "runtime" if mode == "S" else "application"
 
 
-class Part(NamedTuple):
-    """Steps of a stretch with equal world, mode and trap."""
+class UniformSteps(NamedTuple):
+    """Successive steps of a stretch with equal world, mode and trap."""
     stretch: Stretch
     begin: int  # index of the first step in the stretch
     end: int  # index after the last step
@@ -160,33 +160,33 @@ class Part(NamedTuple):
 
 class OverflowFinder:
     """Finds the first overflow of each kind of stack."""
-
     def __init__(self, stacks: dict[str, list[Stack]]) -> None:
         self.stacks = stacks  # the stacks by kind
         self.found: dict[str, Overflow] = {}  # the first overflow, by kind of stack
         self.pointers: dict[str, Pointers] = {}  # the pointers of each world
-        self.left_at: dict[str, int] = {}  # the pc at which an enclave left
+        self.exit_pcs: dict[str, int] = {}  # by world: the pc of the last step of an enclave before it left
         self.kinds: dict[tuple[bytes, bytes], Optional[str]] = {}  # the kinds of stack, by world and mode
 
-    def take(self, stretch: Stretch, reads: Reads[PointerOperation]) -> None:
+    def check_stretch(self, stretch: Stretch, reads: Reads[PointerOperation]) -> None:
         """Checks steps of one hart, one after another, in parts with equal world, mode and trap."""
-        columns, world, at = stretch.columns, b"", 0
-        values = map(reads.values.__getitem__, reads.starts)
-        decoded = {line: operation_of(line) for line in set(reads.lines)}
-        operations = list(map(decoded.__getitem__, reads.lines))
-        for (now, mode, trap), steps in groupby(zip(columns.worlds, columns.modes, columns.traps)):
-            if now != world:
-                world = now
+        columns, world, at = stretch.columns, b"", 0  # `at`: the index of the next step
+        values = map(reads.values.__getitem__, reads.starts)  # of the registers that were read, in the order of the steps
+        decoded = {line: operation_of(line) for line in set(reads.lines)}  # each text once
+        operations = list(map(decoded.__getitem__, reads.lines))  # the operation of each step
+        for (step_world, mode, trap), steps in groupby(zip(columns.worlds, columns.modes, columns.traps)):
+            if step_world != world:
+                world = step_world
                 pointers = self.enter(stretch.hart, world.decode(), int(columns.pcs[at], 16))
-            part = Part(stretch, at, at + len(list(steps)), world, self.kind(world, mode), trap)
+            part = UniformSteps(stretch, at, at + len(list(steps)), world, self.kind(world, mode), trap)
             if trap == NO_TRAP:
-                self.follow(part, operations, values, pointers)
+                self.check_untrapped(part, operations, values, pointers)
             else:
-                self.take_traps(part, operations, values, pointers)
+                self.check_trapped(part, operations, values, pointers)
             at = part.end
 
-    def follow(self, part: Part, operations: Sequence[Optional[PointerOperation]], values: Iterator[int], pointers: Pointers) -> None:
-        """Checks the steps of a part without traps, and follows the pointers."""
+    def check_untrapped(self, part: UniformSteps, operations: Sequence[Optional[PointerOperation]], values: Iterator[int],
+                        pointers: Pointers) -> None:
+        """Checks the steps of a part without traps, and updates `pointers` after each. `values` yields the registers that the operations read."""
         registers = pointers.registers
         for at, operation in enumerate(operations[part.begin:part.end], part.begin):
             if operation is None:
@@ -198,25 +198,26 @@ class OverflowFinder:
             address = next(values) + memory.offset & WORD_MASK if memory else next(values)
             if is_store or writes == SP:
                 self.check(part, at, operation, pointers, address)
-            pointers.access(memory, address) if memory else pointers.set_stack_pointer(operation)
+            pointers.apply_access(memory, address) if memory else pointers.set_stack_pointer(operation)
 
-    def take_traps(self, part: Part, operations: Sequence[Optional[PointerOperation]], values: Iterator[int], pointers: Pointers) -> None:
-        """Checks the steps of a part that trapped. None of them has an effect on the pointers, but the answer to a call has."""
+    def check_trapped(self, part: UniformSteps, operations: Sequence[Optional[PointerOperation]], values: Iterator[int],
+                      pointers: Pointers) -> None:
+        """Checks the steps of a part that trapped. None of them changes a register or memory, but the monitor writes the answer to a call."""
         columns, is_timer = part.stretch.columns, part.trap.startswith(TIMER)
         for at in range(part.begin, part.end):
             operation = operations[at]
             if is_timer if operation else columns.after[at] != part.world:
-                self.left_at[part.world.decode()] = int(columns.pcs[at], 16)
+                self.exit_pcs[part.world.decode()] = int(columns.pcs[at], 16)
             if part.trap.startswith(CALL):
-                pointers.answer()
+                pointers.clear_answer()
             if operation is None or operation.register is None:
                 continue
             address = next(values) + operation.memory.offset & WORD_MASK if operation.memory else next(values)
             if (operation.is_store or operation.writes == SP) and not is_timer:
                 self.check(part, at, operation, pointers, address)
 
-    def check(self, part: Part, at: int, operation: PointerOperation, pointers: Pointers, address: int) -> None:
-        """Adds a write of sp or a store, if it uses a stack outside its range."""
+    def check(self, part: UniformSteps, at: int, operation: PointerOperation, pointers: Pointers, address: int) -> None:
+        """Adds an overflow if a step uses a stack outside its range. `at` is the index of the step; `address` the stored one, or the new sp."""
         if part.kind and self.is_outside(part.kind, operation, pointers, address):
             stretch, pc = part.stretch, int(part.stretch.columns.pcs[at], 16)
             self.found[part.kind] = Overflow(stretch.first + at, stretch.hart, part.world.decode(), pc, operation.is_store, address,
@@ -224,9 +225,9 @@ class OverflowFinder:
 
     def enter(self, hart: int, world: str, pc: int) -> Pointers:
         """Returns the pointers of a world that continues at pc. If an enclave is entered elsewhere than where it left, only sp is a pointer."""
-        key = world if world.startswith("e") else "%s %d" % (world, hart)
-        left_pc = self.left_at.get(world)
-        if key not in self.pointers or left_pc is not None and pc not in (left_pc, left_pc + 4):
+        key = world if world.startswith("e") else "%s %d" % (world, hart)  # an enclave can move to another hart, with its registers
+        exit_pc = self.exit_pcs.get(world)
+        if key not in self.pointers or exit_pc is not None and pc not in (exit_pc, exit_pc + 4):
             self.pointers[key] = Pointers()
         return self.pointers[key]
 
@@ -246,9 +247,10 @@ class OverflowFinder:
             base = operation.sources[0]
             allowed_kinds = (kind,) if base == SP else REACHABLE_KINDS.get(kind, ()) if pointers.is_pointer(base) else ()
         elif operation.memory is None and not operation.is_upper and address:
-            # 0 is no stack: a handler exchanges sp with sscratch
+            # an address of 0 is skipped: a trap handler exchanges sp with sscratch, which may be 0
             allowed_kinds = (kind,) if pointers.has_source(operation) else self.stacks_of_world(kind)
         stacks = [stack for name in allowed_kinds for stack in self.stacks.get(name, ())]
+        # sp may be equal to the top, which is the sp of an empty stack; a store may not begin there
         return bool(stacks) and not any(stack.bottom <= address and address - (not is_store) < stack.top for stack in stacks)
 
     def nearest(self, kind: str, address: int) -> Stack:
@@ -278,7 +280,7 @@ def overflows(run: Run, symbols: Symbols) -> list[Overflow]:
     with Reader(run, need_of) as reader:
         for item in run.stretches():
             if isinstance(item, Stretch):
-                finder.take(item, reader.read(item))
+                finder.check_stretch(item, reader.read(item))
     return sorted(finder.found.values(), key=lambda it: it.step)
 
 

@@ -8,6 +8,7 @@ from collections import Counter, defaultdict
 from dataclasses import dataclass
 from typing import Iterable, Iterator, NamedTuple, Optional, Sequence
 
+from rvlook.access.failures import INTERRUPT_DIGIT
 from rvlook.access.map import Event, events
 from rvlook.access.ranges import NOTHING, Range
 from rvlook.access.returns import Return, returns_of
@@ -24,8 +25,8 @@ from rvlook.protocol.stretch import Stretch
 from rvlook.protocol.symbols import Symbol, Symbols
 
 KINDS = {"r": "read", "w": "wrote", "x": "executed"}
-LEAST_SIZE = 4096
-LOWER_MODE = re.compile(rb"mode=[SU]")
+LEAST_SIZE = 4096  # bytes of the smallest region that the monitor accepts
+LOWER_MODE = re.compile(rb"mode=[SU]")  # in the reply to a step after which the hart is in S or U
 
 
 class Access(NamedTuple):
@@ -39,15 +40,15 @@ class Access(NamedTuple):
 
 def accesses(run: Run, by_mode: bool = False) -> tuple[Counter[Access], End]:
     """Counts the accesses of a run by kind, address and width; returns the counts and the end of the run. With `by_mode` each mode is a world."""
-    counter, end = Counting(by_mode), None
+    counter, end = AccessCounter(by_mode), None
     with Reader(run, base_of) as reader:
         for item in run.stretches():
             if isinstance(item, Stretch):
-                counter.take(item, reader.read(item))
+                counter.add(item, reader.read(item))
             elif isinstance(item, End):
                 end = item
     assert end is not None
-    return counter.found(), end
+    return counter.counts(), end
 
 
 def base_of(line: bytes) -> Need[MemoryOperand] | None:
@@ -56,16 +57,15 @@ def base_of(line: bytes) -> Need[MemoryOperand] | None:
     return (instruction.memory, (instruction.memory.base,), False) if instruction and instruction.memory else None
 
 
-class Counting:
-    """Counts steps by their fields, and loads and stores by address and width. With `by_mode` each mode is a world."""
-
+class AccessCounter:
+    """Counts steps by pc, world and trap, and loads and stores by address and width. With `by_mode` each mode is a world."""
     def __init__(self, by_mode: bool) -> None:
         self.by_mode = by_mode  # whether each mode is a world
         self.steps: Counter[tuple[bytes, bytes, bytes]] = Counter()  # the number of steps by pc, world and trap
         self.touched: Counter[tuple[bytes, str, int, int, bool]] = Counter()  # the number of accesses by world, kind, address, width and `done`
 
-    def take(self, stretch: Stretch, reads: Reads[MemoryOperand]) -> None:
-        """Counts the accesses of the steps of a stretch."""
+    def add(self, stretch: Stretch, reads: Reads[MemoryOperand]) -> None:
+        """Counts the accesses of the steps of a stretch. `reads` has the memory operands of its loads and stores, and the values of their bases."""
         columns = stretch.columns
         worlds, traps = columns.modes if self.by_mode else columns.worlds, columns.traps
         self.steps.update(zip(columns.pcs, worlds, traps))
@@ -75,13 +75,13 @@ class Counting:
             if trap == NO_TRAP or trap[:8].decode() in names.ACCESS_FAULTS:
                 self.touched[world, memory.kind, base + memory.offset & 0xFFFFFFFF, memory.width, trap == NO_TRAP] += count
 
-    def found(self) -> Counter[Access]:
-        """Returns all counts. Each step fetches the word at pc, except if an interrupt replaces it."""
+    def counts(self) -> Counter[Access]:
+        """Returns how often each access occurred. Each step fetches the word at pc, except if an interrupt replaces the step."""
         counts = Counter({Access(key[0].decode(), *key[1:]): count for key, count in self.touched.items()})
         for (pc, world, trap), count in self.steps.items():
             cause, _, value = trap.decode().partition(":")
             is_refused = cause in names.FETCH_FAULTS and value == pc.decode()
-            if not cause.startswith("8"):  # no interrupt
+            if not cause.startswith(INTERRUPT_DIGIT):
                 counts[Access(world.decode(), "x", int(pc, 16), 4, not is_refused)] += count
         return counts
 
@@ -105,10 +105,10 @@ class Permitted(NamedTuple):
     """A range that a world may access, and which part it accessed."""
     what: str  # the meaning of the range
     range: Range
-    kinds: str  # the kinds of permitted accesses
+    kinds: str  # the kinds of permitted accesses, such as `rw-`
     touched: dict[str, int]  # number of accessed bytes by kind
-    lowest: Optional[int]  # accessed address; None without an access
-    highest: Optional[int]  # accessed address; None without an access
+    lowest: Optional[int]  # the lowest accessed address; None without an access
+    highest: Optional[int]  # the highest accessed address; None without an access
 
     @property
     def enough(self) -> int:
@@ -121,7 +121,6 @@ class Permitted(NamedTuple):
 
 class Touches:
     """The accesses of a run, counted by first byte and width."""
-
     def __init__(self, run: Run) -> None:
         self.counts: dict[AccessKind, Counter[tuple[int, int]]] = defaultdict(Counter)  # the number of accesses by address and width
         self.permitted: dict[str, list[tuple[Range, str, set[str]]]] = defaultdict(list)  # range, meaning and kinds, by world
@@ -141,7 +140,9 @@ class Touches:
     def allow(self, event: Event) -> None:
         """Adds the access rights that an event gives to each world that runs."""
         for column in (column for column in event.columns if not column.derived):
-            self.permitted[column.world] += [(row.range, row.what, set("".join(row.may[column.name].values())) - {"-"}) for row in event.rows]
+            for row in event.rows:
+                letters = set("".join(row.may[column.name].values()))  # of the rights in all modes
+                self.permitted[column.world].append((row.range, row.what, letters - {"-"}))
 
     def allow_mode(self, event: Event, mode: str) -> None:
         """Adds the access rights of a mode in the state that an event begins."""
@@ -165,16 +166,16 @@ class Touches:
 
     def bytes_of(self, world: str, kind: str) -> list[int]:
         """Returns the addresses that a world accessed, in ascending order."""
-        return sorted({address + i for address, width in self.counts[AccessKind(world, kind, done=True)] for i in range(width)})
+        return sorted({address + n for address, width in self.counts[AccessKind(world, kind, done=True)] for n in range(width)})
 
     def permitted_rows(self, world: str) -> Iterator[Permitted]:
         """Yields each range that a world was ever permitted to access, with its accesses there."""
         touched = {kind: self.bytes_of(world, kind) for kind in KINDS}
         for range_, what, kinds in joined(self.permitted[world]):
             by_kind = {kind: within(addresses, range_) for kind, addresses in touched.items()}
-            every = [address for addresses in by_kind.values() for address in addresses]
+            all_addresses = [address for addresses in by_kind.values() for address in addresses]
             counts = {kind: len(addresses) for kind, addresses in by_kind.items()}
-            yield Permitted(what, range_, kinds, counts, min(every, default=None), max(every, default=None))
+            yield Permitted(what, range_, kinds, counts, lowest=min(all_addresses, default=None), highest=max(all_addresses, default=None))
 
     def executed(self, world: str) -> dict[int, int]:
         """Returns how often a world executed each instruction, by address."""
@@ -182,7 +183,7 @@ class Touches:
 
 
 def joined(rows: Iterable[tuple[Range, str, set[str]]]) -> list[tuple[Range, str, str]]:
-    """Splits overlapping ranges into disjoint ones, each with all its names and kinds. Leaves out ranges without a kind."""
+    """Splits overlapping ranges into disjoint ones, each with the meanings and kinds of all ranges that cover it. Omits ranges without a kind."""
     ends = sorted({address for range_, _, _ in rows for address in (range_.first, range_.end)})
     joined_rows: list[tuple[Range, str, str]] = []
     for first, end in zip(ends, ends[1:]):
@@ -209,7 +210,7 @@ def covered_functions(touches: Touches, world: str, symbols: Symbols) -> Iterato
 
 
 def covered_lines(touches: Touches, world: str, symbols: Symbols) -> list[tuple[str, int]]:
-    """Returns each source line of the functions that a world executed, with the count of its most executed instruction."""
+    """Returns each source line of the functions that a world executed, and how often the most executed instruction of the line was executed."""
     executed = touches.executed(world)
     counts: dict[str, int] = {}
     addresses = sorted(executed)
@@ -218,7 +219,7 @@ def covered_lines(touches: Touches, world: str, symbols: Symbols) -> list[tuple[
         counts.update((source, counts.get(source, 0)) for source in symbols.sources_in(first, end) if source)
         for address in addresses[bisect_left(addresses, first):bisect_left(addresses, end)]:
             source = symbols.source(address)
-            if source and (address - first) % 4 == 0:
+            if source and (address - first) % 4 == 0:  # an aligned instruction of the function
                 counts[source] = max(executed[address], counts.get(source, 0))
     return sorted(counts.items(), key=lambda it: place_of(it[0]))
 
@@ -297,7 +298,8 @@ def permitted_text(permitted: Permitted) -> str:
 
 
 def show_lcov(run: Run, symbols: Symbols, printer: Printer, paths: Sequence[str]) -> None:
-    """Prints a record of lcov, which is a test of it, for each world and each source file. Raises RvlookError if there are no source lines."""
+    """Prints a record in the format of lcov for each world and each source file; the world is the test name. Raises RvlookError if there are no
+    source lines."""
     if not symbols.has_lines():
         raise RvlookError("no source lines; use an ELF file built with -g")
     touches = Touches(run)

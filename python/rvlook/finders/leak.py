@@ -74,7 +74,6 @@ def observe(run: Run, secret: Secret, is_strict: bool) -> Observation:
 
 class Comparison:
     """A comparison of two runs with different secrets."""
-
     def __init__(self, one: Observation, two: Observation, secret: Secret, public: Public, is_strict: bool) -> None:
         self.one, self.two, self.secret, self.public, self.is_strict = one, two, secret, public, is_strict  # `public`: what may differ
         self.differences: dict[tuple[str, int | None], Difference] = {}  # the differences by channel and instruction

@@ -34,7 +34,6 @@ class LeakOptions(NamedTuple):
 
 class Leak:
     """A run with its secret, and how runs are compared."""
-
     def __init__(self, run: Run, options: LeakOptions, is_hidden: Callable[[Leak], bool] = lambda _: False) -> None:
         # `cut`: why an observation ended early; `is_hidden` decides whether no secret changes what the host observes
         self.run, self.symbols, self.options, self.cut, self.is_hidden = run, run.setup.symbols, options, "", is_hidden

@@ -124,7 +124,6 @@ class LeftByte(NamedTuple):
 
 class Leftovers:
     """The data that the activations of each enclave left in its window."""
-
     def __init__(self) -> None:
         self.kept: dict[str, dict[int, LeftByte]] = defaultdict(dict)  # the bytes that were left, by world and by offset
         self.stored: dict[int, tuple[int, int, str]] = {}  # the value, the instruction and the world that stored each byte of any window last
@@ -207,7 +206,6 @@ class WindowOptions(NamedTuple):
 
 class WindowSearch:
     """A run whose activations are examined. If there is a secret, a second run has its complement."""
-
     def __init__(self, run: Run, variables: Variables, options: WindowOptions) -> None:
         self.run, self.options, symbols = run, options, run.setup.symbols  # with the secret of the program
         self.context = WindowContext(symbols, WindowFields(symbols), public_of(options.public, symbols))  # names, and what may differ

@@ -12,7 +12,6 @@ DEEPEST = 200  # calls that are open at the same time; deeper ones count as one
 
 class Contexts:
     """The call contexts of all traces, by number. A context is the context of the caller with one more call."""
-
     def __init__(self) -> None:
         self.numbers: dict[tuple[int, int], int] = {}  # the number of each context, by the caller's context and the pc of the call
         # by number: the caller's context, the pc of the call, the open calls, and whether a trap opened it

@@ -74,7 +74,6 @@ class Seen:
 
 class TraceJudge:
     """Judges the traces of a search."""
-
     def __init__(self, tracer: Tracer, objects: Objects, base: Trace) -> None:
         self.tracer, self.objects, self.base, self.seen = tracer, objects, base, Seen()  # `base` is the trace of the run itself
         self.findings: dict[tuple[object, ...], InputFinding] = {}  # the best one for each access, object and kind
@@ -200,8 +199,6 @@ class TraceJudge:
                 is_new = is_new or (key, place) not in self.seen.reached_objects
                 self.seen.reached_objects.add((key, place))
         return is_new
-
-    # ---- findings of steps
 
     def finding_of(self, trace: Trace, index: int) -> InputFinding | None:
         """Returns the finding of a step, or None."""

@@ -25,7 +25,6 @@ WINDOW, OUTSIDE, UNUSED, NOTHING = (ObjectPlace(text) for text in ("the window",
 
 class Objects:
     """The objects of an enclave: variables and their members by DWARF, else symbols; then local variables and stack frames."""
-
     def __init__(self, enclave: Enclave, symbols: Symbols, variables: Variables, contexts: Contexts) -> None:
         self.enclave, self.symbols, self.contexts = enclave, symbols, contexts  # `contexts`: have the stack frames
         self.fixed = [variable for variable in variables.fixed if enclave.has(variable.at)]  # variables at fixed addresses, down to their members

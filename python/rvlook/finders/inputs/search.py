@@ -116,7 +116,6 @@ class Parent:
 
 class InputSearch:
     """A search over the inputs of an enclave. `jobs` processes trace its runs."""
-
     def __init__(self, run: Run, symbols: Symbols, variables: Variables, slot: int, seed: int) -> None:
         self.run, self.symbols, self.variables = run, symbols, variables  # `variables`: of the enclave
         self.tracer = Tracer(run, slot)  # runs the enclave

@@ -36,7 +36,6 @@ def steps_of(trace: Trace, visit: TraceVisit) -> range:
 
 class SecretRules:
     """Compares which parts of a secret come out of each trace."""
-
     def __init__(self, search: InputSearch, secret: Secret, public: Public) -> None:
         self.search, self.secret, self.public = search, secret, public  # `public`: the outputs that may depend on the secret
         self.reported_offsets: set[int] = set()  # offsets of bytes of the secret that come out and are not public
@@ -111,8 +110,6 @@ class SecretRules:
                 return replay.bench.register(11) != trace.visits[trace.visit_at(output.end)].answer[1]
             size = min(output.size, 64)
             return replay.bench.memory(output.address, size) != self.secret.bytes[output.offset:output.offset + size]
-
-    # ---- checks
 
     def note_check(self, trace: Trace, visits: set[int]) -> None:
         """Takes a trace with one change, and records a check that the trace shows. The branch by which it leaves the trace of the run itself is a

@@ -169,7 +169,6 @@ class ProbeComparison:
 
 class Probes:
     """The probes of a trace, in order, and the replies to them. A probe has one reply to its first command, and one for each register."""
-
     def __init__(self, probes: Sequence[TraceProbe]) -> None:
         self.probes = probes  # the probes in the order of the run
         self.indices = [probe.step_index for probe in probes]  # the indices of their steps

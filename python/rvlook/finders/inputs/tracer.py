@@ -99,7 +99,6 @@ class Started:
 
 class Tracer:
     """Traces the enclave of a slot."""
-
     def __init__(self, run: Run, slot: int) -> None:
         self.run, self.slot, self.world = run, slot, b"e%d " % slot  # `world` begins the world in a reply
         self.code: dict[int, Code] = {}  # the code by pc
@@ -158,8 +157,6 @@ class Tracer:
     def child(self, parent: Trace, index: int, changes: Changes) -> Trace:
         """Returns the trace with other changes. Up to a step they change nothing of the parent's trace."""
         return self.finish(self.start(parent, index, changes))
-
-    # ---- along the trace of the parent
 
     def started(self, run: Run, parent: Trace, joined: Joined, changes: Changes) -> Started:
         """Sends the probes of the parent to a run, from an index of the parent and a position of the run on."""
@@ -227,8 +224,6 @@ class Tracer:
                 probes.expected += [place, *(next(block) for _ in range(probe.question.count(b"\n")))]
             parent.probes = probes
         return parent.probes
-
-    # ---- a new path
 
     def explore(self, run: Run, trace: Trace, position: int, other: tuple[Trace, int] | None) -> Joined | None:
         """Adds steps from a position on, up to the end, the limit, or where they join another trace after an index: returns where, or None."""

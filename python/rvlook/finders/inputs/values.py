@@ -43,7 +43,6 @@ class Details:
 
 class DetailReader:
     """Reads the details of traces."""
-
     def __init__(self, tracer: Tracer, objects: Objects, fields: WindowFields) -> None:
         self.tracer, self.objects, self.fields = tracer, objects, fields  # `fields`: names of the fields of the window
         self.parameters_of: dict[int, list[tuple[int, object]]] = {}  # number and members of each parameter, by address
@@ -138,14 +137,11 @@ class Child:
 
 class Values:
     """Finds the inputs of a trace and the values to try."""
-
     def __init__(self, tracer: Tracer, objects: Objects, fields: WindowFields, reader: DetailReader, seed: int) -> None:
         # `rng` draws the random values
         self.tracer, self.objects, self.fields, self.reader, self.rng = tracer, objects, fields, reader, random.Random(seed)
         self.target_addresses: list[int] = []  # addresses of objects, which values point to
         self.has_entry = False  # whether the registers at the entry are inputs
-
-    # ---- inputs
 
     def inputs(self, trace: Trace, details: Details) -> list[Input]:
         """Returns the inputs of a trace, in the order of their steps."""
@@ -198,8 +194,6 @@ class Values:
             enclave = self.objects.enclave
             for register, value in enumerate((enclave.base, enclave.size, enclave.window, enclave.window_size), A0):
                 yield Input(number, visit.first, visit.first, entry, 0, value.to_bytes(WORD, "little"), is_loaded_again=False, register=register)
-
-    # ---- values
 
     def children(self, trace: Trace, details: Details, inputs: list[Input]) -> Iterator[Child]:
         """Yields the trace with one more input changed. Inputs that an earlier activation loads in the same way come last."""

@@ -56,7 +56,6 @@ class FinalState:
 
 class FinalStates:
     """All final states of a search."""
-
     def __init__(self, search: ScheduleSearch, outcome: Sequence[Observed]) -> None:
         self.search, self.machine, self.outcome, self.orders = search, search.machine, outcome, 0  # `orders`: number of schedules
         self.by_report: dict[tuple[tuple[HartEnd, ...], tuple[Value, ...]], FinalState] = {}  # the final states by their reports
@@ -121,7 +120,6 @@ class FinalStates:
 
 class Component:
     """A strongly connected component of the graph of orders."""
-
     def __init__(self, search: ScheduleSearch, graph: Graph, vertices: Iterable[Vertex], component_of: Mapping[Vertex, int]) -> None:
         self.search, self.machine, self.graph = search, search.machine, graph  # the vertices and edges are those of `graph`
         self.vertices = sorted((vertex for vertex in vertices if vertex in graph.nodes), key=lambda it: graph.nodes[it].cost)  # the vertices by cost
@@ -299,7 +297,6 @@ def path_to(graph: Graph, start: Vertex, part: Set[Vertex], is_wanted: Callable[
 
 class Components:
     """The strongly connected components of a graph, by Tarjan's algorithm. Each component comes after those that it leads to."""
-
     def __init__(self, graph: Graph) -> None:
         self.graph = graph  # the graph whose components are found
         self.number: dict[Vertex, int] = {}  # by vertex: its number in the order of visits

@@ -16,7 +16,6 @@ class Loop(NamedTuple):
 
 class LoopDetector:
     """Detects that a hart returns to an earlier state by Brent's algorithm: compares with one marked state, and marks states 1, 2, 4, 8 and so on."""
-
     def __init__(self) -> None:
         self.calls_at_mark, self.calls, self.next_mark = 0, 0, 1  # calls of `length`: at the mark, so far, and at the next mark
         self.marked_state: tuple[int, int, int, tuple[int, ...]] | None = None  # the state to compare with; None before the first mark

@@ -59,7 +59,6 @@ class MoveNews:
 
 class MoveRecorder:
     """Computes moves in another process, and records them. `search` is the copy that this process has inherited."""
-
     def __init__(self, search: ScheduleSearch) -> None:
         # `inherited_harts`: how many states of harts the search knew when this process began
         self.search, self.machine, self.inherited_harts = search, search.machine, len(search.machine.harts)
@@ -119,7 +118,6 @@ class MoveRecorder:
 
 class MovesAhead:
     """The moves that other processes have computed for a search. They are valid in one round, until a new region is created."""
-
     def __init__(self, search: ScheduleSearch, jobs: int) -> None:
         self.search, self.machine, self.jobs = search, search.machine, jobs  # `jobs`: number of processes
         self.moves: dict[MoveKey, AheadMove] = {}  # computed by other processes and not yet used

@@ -22,7 +22,6 @@ LONGEST_COMMENT = 118  # characters after `# `
 
 class Replays:
     """Replays the schedules of final states on rvbench, and compares the states that they lead to."""
-
     def __init__(self, machine: RaceMachine) -> None:
         self.machine, self.process = machine, os.getpid()  # `process`: the id of the process that owns the benches
         self.rows: list[str] = []  # the replies of `mem` for all RAM after the script; empty before they are read

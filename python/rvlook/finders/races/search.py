@@ -127,7 +127,6 @@ def schedule_of(moves: Iterable[tuple[int, Move, bool]]) -> list[Segment]:
 
 class TouchedBytes:
     """The bytes that each agent loaded, stored and executed."""
-
     def __init__(self) -> None:
         self.read: dict[Agent, set[int]] = defaultdict(set)  # addresses of loaded bytes
         self.written: dict[Agent, set[int]] = defaultdict(set)  # addresses of stored bytes
@@ -145,7 +144,6 @@ class TouchedBytes:
 @dataclass
 class Graph:
     """The orders that one round of the search has found."""
-
     nodes: dict[Vertex, SearchNode] = field(default_factory=dict)  # the first node of each vertex
     edges: dict[Vertex, list[Edge]] = field(default_factory=dict)  # the moves from each vertex
     moves: dict[MoveKey, Move | None] = field(default_factory=dict)  # None: the hart stops
@@ -170,7 +168,6 @@ class SearchBounds(NamedTuple):
 
 class ScheduleSearch:
     """The search of all orders within bounds. With `is_plain` it switches harts before each step, without partial-order reduction."""
-
     def __init__(self, machine: RaceMachine, bounds: SearchBounds = SearchBounds(), is_plain: bool = False, outcome: Watched = Watched(),
                  limit: TimeLimit = TimeLimit()) -> None:
         self.machine, self.bounds, self.outcome, self.limit = machine, bounds, outcome, limit  # `outcome` distinguishes final states

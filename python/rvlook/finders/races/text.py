@@ -28,7 +28,6 @@ HOW_TEXT = {WAITS: "waits forever", RUNS_ON: "runs forever", NOT_SEARCHED: "not 
 
 class Story:
     """A final state with its text."""
-
     def __init__(self, end: FinalState, outcome: Sequence[Observed], search: ScheduleSearch, symbols: Symbols,
                  end_pcs: Sequence[Set[int | None]]) -> None:
         # `end_pcs`: for each hart, its pcs in all final states

@@ -17,7 +17,6 @@ class OutOfTime(Exception):
 
 class TimeLimit:
     """A time limit in seconds, which begin when the object is created. None is no limit."""
-
     def __init__(self, seconds: float | None = None) -> None:
         self.start, self.seconds = time.monotonic(), seconds  # `start` is of the monotonic clock
 
