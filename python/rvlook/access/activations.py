@@ -15,9 +15,9 @@ from rvlook.protocol.replies import NO_TRAP, Enclave, enclave_of, register_value
 from rvlook.protocol.run import End, Run
 from rvlook.protocol.stretch import Stretch
 
-DIVISIONS = ("div", "divu", "rem", "remu")
-ENDED_BY = {0: "exit", 1: "stop", 2: "timer"}
-BARE = "bare"
+DIVISIONS = ("div", "divu", "rem", "remu")  # instructions whose time may depend on the operands
+ENDED_BY = {0: "exit", 1: "stop", 2: "timer"}  # why an enclave left, by a0 of the host after it
+BARE = "bare"  # the world of a run without the monitor
 
 
 class Operation(NamedTuple):
@@ -44,14 +44,14 @@ class Activation:
     answer: tuple[int, ...] = ()  # a0 and a1 of the host after it; may be empty
     pc: Optional[int] = None  # the pc of the last step
     pcs: array[int] = field(default_factory=lambda: array("I"))  # the pc of each step, with its mode in the lowest bits
-    steps: array[int] = field(default_factory=lambda: array("I"))  # the number of each
+    steps: array[int] = field(default_factory=lambda: array("I"))  # the number of each step in the run
     traps: dict[int, bytes] = field(default_factory=dict)  # the traps of the steps that trapped, by index
     operations: list[Operation] = field(default_factory=list)  # loads and stores, and divisions if they are recorded
     operations_at: array[int] = field(default_factory=lambda: array("I"))  # the index of the step of each operation
     before: bytes = b""  # the window at the entry
     after: bytes = b""  # the window at the end
-    others: tuple[str, ...] = ()  # the world of the other hart, where there is one
-    table: tuple[Enclave, ...] = ()  # the table of the live enclaves
+    others: tuple[str, ...] = ()  # the world of the other hart at the entry; empty if there is one hart
+    table: tuple[Enclave, ...] = ()  # the table of the live enclaves at the entry
 
     @property
     def slot(self) -> int:
@@ -107,7 +107,7 @@ class Activations:
                 yield self.complete(activation, self.end.steps, pc=None, ended_by="none")
 
     def take(self, part: Stretch, reader: Reader[MemoryOperand]) -> Iterator[Activation]:
-        """Takes steps in one world; yields the activation that ends with them."""
+        """Adds steps in one world to the open activation of their hart, or to a new one. Yields the activation if it ends with these steps."""
         hart, world, after = part.hart, part.before[2].decode(), part.last[2].decode()
         if world.startswith("e") or not self.run.setup.monitor:
             activation = self.open[hart] or self.begin_activation(world, hart, max(self.start, part.first - 1))
@@ -123,7 +123,7 @@ class Activations:
         return [after.decode() for before, after in zip(worlds, worlds_after) if after != before and after.startswith(b"e")]
 
     def begin_activation(self, world: str, hart: int, step: int) -> Activation:
-        """Returns an activation that begins after a step."""
+        """Returns the activation of an enclave, or of a bare run, that begins after a step of the run."""
         self.numbers[world] += 1
         enclave, before = self.table_and_window(world, step)
         activation = Activation(world, hart, step + 1, self.numbers[world], enclave, before=before)
@@ -132,7 +132,7 @@ class Activations:
         return activation
 
     def complete(self, activation: Activation, step: int, pc: int | None, ended_by: str | None = None) -> Activation:
-        """Completes an activation that ends with a step, and returns it."""
+        """Completes an activation that ends with a step at `pc`, and returns it. If `ended_by` is None, reads from a0 why the enclave left."""
         _, activation.after = self.table_and_window(activation.world, step, activation.enclave)
         activation.last, activation.pc, activation.ended_by = step, pc, ended_by or ""
         if ended_by is None:
@@ -142,7 +142,7 @@ class Activations:
         return activation
 
     def table_and_window(self, world: str, step: int, enclave: Enclave | None = None) -> tuple[Enclave, bytes]:
-        """Returns the table entry of an enclave and the bytes of its window after a step."""
+        """Returns the table entry of an enclave, and the bytes of its window, after a step. If the table has no entry, returns `enclave` instead."""
         bench = self.viewer.bench
         *_, table = bench.ask(*self.viewer.lines_to(step), "enclaves")
         entry = next((enclave for enclave in map(enclave_of, table) if enclave.world == world), enclave or self.bare_region(world))
@@ -156,7 +156,7 @@ class Activations:
 
 
 def extend(activation: Activation, part: Stretch, reads: Reads[MemoryOperand]) -> None:
-    """Adds steps to an activation."""
+    """Adds steps, and the operations in them, to an activation."""
     columns, begin_at = part.columns, len(activation.pcs)
     activation.pcs += columns.pcs_with_modes
     activation.steps.extend(range(part.first, part.first + part.count))
@@ -168,7 +168,7 @@ def extend(activation: Activation, part: Stretch, reads: Reads[MemoryOperand]) -
 
 
 def operations_of(part: Stretch, reads: Reads[MemoryOperand]) -> list[Operation]:
-    """Returns the operations of steps."""
+    """Returns the loads, stores and divisions in steps. `reads` has their operands, and the values of the registers that these need."""
     operations, values, first = [], reads.values, part.first
     pcs, traps = (map(column.__getitem__, reads.indices) for column in (part.columns.pcs, part.columns.traps))
     for n, pc, trap, (kind, width, _, offset, _), at in zip(reads.indices, map(number_of, pcs), traps, reads.items, reads.starts):

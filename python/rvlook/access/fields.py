@@ -9,17 +9,17 @@ from rvlook.protocol.replies import value_of
 from rvlook.protocol.run import Run
 from rvlook.protocol.symbols import Symbols
 
-A0 = 10
+A0 = 10  # number of the register with the first argument
 
 
 class WindowFields:
-    """Names of the fields of the window."""
+    """Names of the fields of a window. A field is a member of a structure to which an argument points."""
     def __init__(self, symbols: Symbols) -> None:
         self.symbols = symbols
         self.rows: list[tuple[int, Member]] = []  # address and member of each field
 
     def add(self, address: int, members: tuple[Member, ...]) -> None:
-        """Adds the members of the memory at an address, unless its fields are known. Structures come before single values."""
+        """Adds the members of the memory at an address, unless they are known. Members of unknown size (0) come last: they have no end."""
         if members and (address, members[0]) not in self.rows:
             rows = [(address + member.at, member) for member in members]
             self.rows = self.rows + rows if not members[0].size else rows + self.rows

@@ -30,7 +30,7 @@ SP, A0, A1 = 2, 10, 11  # numbers of registers
 WORD = 4  # bytes of a pointer
 REGISTERS = 32
 NAME = re.compile(r"(.*(host|runtime|application|monitor))_stack_bottom\Z")
-WORLD_KINDS = {"host": ("host",), "runtime": ("runtime", "application"), "application": ("runtime", "application")}  # by kind: all of its world
+WORLD_KINDS = {"host": ("host",), "runtime": ("runtime", "application"), "application": ("runtime", "application")}  # those of the same world
 REACHABLE_KINDS = {"host": ("host",), "runtime": ("runtime", "application"), "application": ("application",)}  # the stacks that a store may reach
 WORD_MASK = 0xFFFFFFFF
 TIMER, CALL = names.TIMER.encode(), names.ECALL_FROM_S.encode()  # causes of traps
@@ -164,7 +164,7 @@ class OverflowFinder:
         self.stacks = stacks  # the stacks by kind
         self.found: dict[str, Overflow] = {}  # the first overflow, by kind of stack
         self.pointers: dict[str, Pointers] = {}  # the pointers of each world
-        self.exit_pcs: dict[str, int] = {}  # by world: the pc of the last step of an enclave before it left
+        self.exit_pcs: dict[str, int] = {}  # by world: the pc of the step with which it last left
         self.kinds: dict[tuple[bytes, bytes], Optional[str]] = {}  # the kinds of stack, by world and mode
 
     def check_stretch(self, stretch: Stretch, reads: Reads[PointerOperation]) -> None:

@@ -37,7 +37,7 @@ class Observation:
     """The observations of a host in one run."""
     run: Run
     activations: list[Activation]  # the activations of the enclave
-    last: int  # number of the last step that is observed
+    last: int  # number of the last step that is observed, in the run
     is_cut: bool = False  # whether --steps ended the run before the enclave exited
 
 
@@ -75,7 +75,8 @@ def observe(run: Run, secret: Secret, is_strict: bool) -> Observation:
 class Comparison:
     """A comparison of two runs with different secrets."""
     def __init__(self, one: Observation, two: Observation, secret: Secret, public: Public, is_strict: bool) -> None:
-        self.one, self.two, self.secret, self.public, self.is_strict = one, two, secret, public, is_strict  # `public`: what may differ
+        # `public`: what may differ; `is_strict`: whether the operands of divisions are compared
+        self.one, self.two, self.secret, self.public, self.is_strict = one, two, secret, public, is_strict
         self.differences: dict[tuple[str, int | None], Difference] = {}  # the differences by channel and instruction
         self.writers: dict[int, int] = {}  # the instruction that stored each byte of the window last
         for pair in zip(one.activations, two.activations):
@@ -95,7 +96,7 @@ class Comparison:
         return sorted(self.differences.values(), key=lambda it: (CHANNELS.index(it.channel), it.steps))
 
     def add(self, channel: str, steps: tuple[int, int], values: tuple[Any, ...], pc: int | None = None) -> None:
-        """Adds a difference, or counts it if there is one at the same instruction."""
+        """Adds a difference, or counts it if there is one in the same channel at the same instruction. Ignores a public instruction."""
         if pc is not None and self.public.has(pc):
             return
         old = self.differences.setdefault((channel, pc), Difference(channel, steps, values, pc, count=0))
@@ -103,15 +104,15 @@ class Comparison:
 
     def compare_steps(self, one: Activation, two: Activation) -> None:
         """Compares two activations step by step, and after a divergence from where they converge again."""
-        second_operations = dict(zip(two.operations_at, two.operations))  # the second operations by index of their steps
+        second_operations = dict(zip(two.operations_at, two.operations))  # the operations of `two` by index of their steps
         x = y = 0  # indices of the next steps, in `one` and `two`
         while x < len(one.pcs) and y < len(two.pcs):
-            same = common_length(one, x, two, y)
-            for number in range(bisect_left(one.operations_at, x), bisect_left(one.operations_at, x + same)):
+            equal_steps = common_length(one, x, two, y)
+            for number in range(bisect_left(one.operations_at, x), bisect_left(one.operations_at, x + equal_steps)):
                 first, second = one.operations[number], second_operations.get(one.operations_at[number] - x + y)
                 if second is not None and first != second:
                     self.compare_access(first, second, one.enclave)
-            x, y = x + same, y + same
+            x, y = x + equal_steps, y + equal_steps
             if x == len(one.pcs) and y == len(two.pcs):
                 return
             x, y = self.add_divergence(one, x, two, y, second_operations)
@@ -152,11 +153,11 @@ class Comparison:
             self.add("answer", (one.last, two.last), tuple((side.ended_by, *side.answer) for side in (one, two)), one.pc)
         self.writers.update(writers_of(one, two))
         if one.after != two.after:
-            base, writers, reported = one.enclave.window, self.writers, {pc for channel, pc in self.differences if channel == "window"}
-            for address, (value, other) in enumerate(zip(one.after, two.after), base):
-                pc = writers.get(address, one.pc)
-                if value != other and not self.public.has(address) and pc not in reported:
-                    self.add("window", (one.last, two.last), ((address, bytes([value])), (address, bytes([other]))), pc)
+            window, reported_pcs = one.enclave.window, {pc for channel, pc in self.differences if channel == "window"}
+            for address, (first_value, second_value) in enumerate(zip(one.after, two.after), window):
+                pc = self.writers.get(address, one.pc)
+                if first_value != second_value and not self.public.has(address) and pc not in reported_pcs:
+                    self.add("window", (one.last, two.last), ((address, bytes([first_value])), (address, bytes([second_value]))), pc)
 
 
 def operation_at(activation: Activation, index: int) -> Operation | None:
@@ -183,36 +184,36 @@ def stores_to_window(activation: Activation) -> Iterator[Operation]:
 
 
 def equal_length(one: array[int], x: int, two: array[int], y: int) -> int:
-    """Returns how many numbers from x and y on are equal."""
-    count, max_count, part = 0, min(len(one) - x, len(two) - y), 1
+    """Returns how many numbers from index x of `one` and index y of `two` on are equal. Compares slices of doubling, then of halving size."""
+    count, max_count, size = 0, min(len(one) - x, len(two) - y), 1  # `count`: numbers that are known to be equal
     if one[x:x + max_count] == two[y:y + max_count]:
         return max_count
-    while one[x + count:x + count + part] == two[y + count:y + count + part]:
-        count, part = count + part, 2 * part
-    while part:
-        if count + part <= max_count and one[x + count:x + count + part] == two[y + count:y + count + part]:
-            count += part
-        part //= 2
+    while one[x + count:x + count + size] == two[y + count:y + count + size]:
+        count, size = count + size, 2 * size
+    while size:
+        if count + size <= max_count and one[x + count:x + count + size] == two[y + count:y + count + size]:
+            count += size
+        size //= 2
     return count
 
 
 def common_length(one: Activation, x: int, two: Activation, y: int) -> int:
-    """Returns how many steps from x and y on have the same pcs, modes and traps."""
+    """Returns how many steps from index x of `one` and index y of `two` on have the same pcs, modes and traps."""
     count = equal_length(one.pcs, x, two.pcs, y)
-    trapped = {n - x for n in one.traps if x <= n < x + count} | {n - y for n in two.traps if y <= n < y + count}
-    return min((n for n in trapped if one.traps.get(x + n) != two.traps.get(y + n)), default=count)
+    trapped_offsets = {n - x for n in one.traps if x <= n < x + count} | {n - y for n in two.traps if y <= n < y + count}
+    return min((offset for offset in trapped_offsets if one.traps.get(x + offset) != two.traps.get(y + offset)), default=count)
 
 
 def convergence(one: Activation, x: int, two: Activation, y: int) -> tuple[int, int]:
-    """Returns where two activations converge: after the fewest steps from x and y. Returns the ends if they do not converge."""
-    indices = defaultdict(list)
+    """Returns the indices at which two activations converge: after the fewest steps from x and y. Returns their lengths if they do not converge."""
+    second_indices = defaultdict(list)  # the indices in `two`, by pc
     for second in range(y, min(y + MAX_DISTANCE, len(two.pcs))):
-        indices[two.pcs[second]].append(second)
-    best = None
+        second_indices[two.pcs[second]].append(second)
+    best = None  # the number of steps from x and y, and the two indices
     for first in range(x, min(x + MAX_DISTANCE, len(one.pcs))):
         if best and first - x > best[0]:
             break
-        for second in indices.get(one.pcs[first], ()):
+        for second in second_indices.get(one.pcs[first], ()):
             cost = first - x + second - y
             if cost and (best is None or cost < best[0]) and one.pcs[first:first + CONVERGED_STEPS] == two.pcs[second:second + CONVERGED_STEPS]:
                 best = cost, first, second

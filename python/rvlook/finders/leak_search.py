@@ -38,23 +38,23 @@ class Leak:
         # `cut`: why an observation ended early; `is_hidden` decides whether no secret changes what the host observes
         self.run, self.symbols, self.options, self.cut, self.is_hidden = run, run.setup.symbols, options, "", is_hidden
         self.public, self.is_strict = public_of(options.public, self.symbols), options.is_strict
-        left_out = {*([] if self.is_strict else ["operand"]), *([] if run.setup.monitor else ["answer", "window"])}
-        self.channels = [channel for channel in CHANNELS if channel not in left_out]  # the channels that are compared
+        not_compared = {*([] if self.is_strict else ["operand"]), *([] if run.setup.monitor else ["answer", "window"])}
+        self.channels = [channel for channel in CHANNELS if channel not in not_compared]  # the channels that are compared
 
     def secret(self, size: int | None = None) -> Secret:
         """Returns the secret that the options name; `size` is its length in bytes."""
         return secret_of(self.options.at, self.symbols, self.run, self.options.slot, size)
 
     def observe(self, secret: Secret) -> Observation:
-        """Returns the observations of the run with a secret. Notes if --steps ends the run too early."""
+        """Returns the observations of the run with a secret. Sets `cut` if --steps ends the run too early."""
         observation = observe(self.run.with_lines(secret.step, secret.lines()), secret, self.is_strict)
         if observation.is_cut and not self.cut:
-            what = "the enclave in slot %d was running" % secret.slot if self.run.setup.monitor else "it was running"
-            self.cut = "--steps %d ended the run while %s" % (self.run.setup.limit, what)
+            what_ran = "the enclave in slot %d was running" % secret.slot if self.run.setup.monitor else "it was running"
+            self.cut = "--steps %d ended the run while %s" % (self.run.setup.limit, what_ran)
         return observation
 
     def compared(self, one: Observation, two: Observation, secret: Secret) -> Comparison:
-        """Compares the observations of two runs."""
+        """Compares the observations of two runs. `secret` has the place of the secrets; its value does not matter."""
         return Comparison(one, two, secret, self.public, self.is_strict)
 
 
@@ -79,7 +79,7 @@ class ComparedPair(NamedTuple):
 class TriedPairs:
     """The result of drawn pairs."""
     pairs: List[ComparedPair] = field(default_factory=list)  # the pairs that were compared
-    again: Callable[[ComparedPair], ComparedPair] = lambda it: it  # returns a pair with its comparison, which it repeats if need be
+    again: Callable[[ComparedPair], ComparedPair] = lambda it: it  # returns a pair with its comparison; repeats it if another process did it
     cut: str = ""  # why some pairs were left out; empty if all were compared
     is_interrupted: bool = False  # whether Ctrl-C ended the search
 
@@ -88,6 +88,7 @@ class TriedPairs:
         """Returns the numbers of the pairs that differ with a verdict: the program answers its own secret one way, and each other secret another.
         Other differences of such a pair may follow from the answer. If the answer has a part of the secret, other secrets have several answers."""
         own_answers = {pair.answers[0] for pair in self.pairs if pair.is_own}
+        # without the answer to the own secret, which is the first one if `is_own`
         other_answers = {answer for pair in self.pairs for answer in pair.answers[pair.is_own:]}
         secrets = {secret.bytes for pair in self.pairs for secret in pair.secrets[pair.is_own:]}
         is_verdict = len(own_answers) == len(other_answers) == 1 and own_answers != other_answers and len(secrets) > 1
@@ -115,18 +116,18 @@ def compare_given(leak: Leak) -> ComparedPair:
 
 
 def compare_drawn(leak: Leak, heard: Callable[[ComparedPair], None] = lambda it: None) -> TriedPairs:
-    """Compares the run with runs that have drawn secrets. Calls `heard` with each pair."""
+    """Compares the run with runs that have drawn secrets. Calls `heard` with each compared pair."""
     options, tried = leak.options, TriedPairs()
     zeros = leak.secret()
     own = zeros.with_bytes(zeros.bytes_in(leak.run))
     end_time = None if options.seconds is None else time.monotonic() + options.seconds
     try:
         with Progress() as progress:
-            base = leak.observe(own)
-            count = options.tries or 0
-            pairs = drawn_pairs(own.bytes, guesses_of(base, len(own.bytes)), options.seed, options.first, min(count, options.last or count))
+            base = leak.observe(own)  # of the run with the secret of the program
+            tries = options.tries or 0
+            pairs = drawn_pairs(own.bytes, guesses_of(base, len(own.bytes)), options.seed, options.first, min(tries, options.last or tries))
             tried.again = lambda it: it if it.result else try_pair(leak, own, base, pairs[it.number - pairs[0].number])
-            for pair, cut in results_of(partial(task, leak, own, base, pairs), len(pairs), options.jobs):
+            for pair, cut in results_of(partial(compare_indexed, leak, own, base, pairs), len(pairs), options.jobs):
                 leak.cut = leak.cut or cut
                 with uninterrupted():
                     tried.pairs.append(pair)
@@ -140,14 +141,15 @@ def compare_drawn(leak: Leak, heard: Callable[[ComparedPair], None] = lambda it:
     return tried
 
 
-def task(leak: Leak, own: Secret, base: Observation, pairs: Sequence[Pair], number: int) -> tuple[ComparedPair, str]:
-    """Compares a pair, by its index; returns the result, with several jobs without the large runs, and why an observation was cut."""
-    pair = try_pair(leak, own, base, pairs[number])
+def compare_indexed(leak: Leak, own: Secret, base: Observation, pairs: Sequence[Pair], index: int) -> tuple[ComparedPair, str]:
+    """Compares the pair at an index; returns the result, and why an observation was cut. With several processes, leaves out the observations, which
+    are large to send."""
+    pair = try_pair(leak, own, base, pairs[index])
     return (pair if leak.options.jobs == 1 else pair._replace(result=None, observations=())), leak.cut
 
 
 def guesses_of(base: Observation, size: int) -> list[bytes]:
-    """Returns values that the host may give for the secret: aligned bytes of the window that the enclave loads."""
+    """Returns guesses of the host for a secret of `size` bytes: aligned bytes of the window that the enclave loads. `base` is the run itself."""
     guesses: dict[bytes, None] = {}
     for activation in base.activations:
         loaded = {at for op in activation.operations if op.kind == "r" for at in range(op.address, op.address + op.width)}
@@ -158,15 +160,15 @@ def guesses_of(base: Observation, size: int) -> list[bytes]:
 
 
 def try_pair(leak: Leak, own: Secret, base: Observation, pair: Pair) -> ComparedPair:
-    """Compares the runs with the two secrets of a pair."""
-    one = own if pair.one is None else own.with_bytes(pair.one)
-    two = own.with_bytes(pair.two)
-    observations = (base if pair.one is None else leak.observe(one)), leak.observe(two)
+    """Compares the runs with the two secrets of a pair. `own` is the secret of the program, and `base` the observation of its run."""
+    is_own = pair.first is None
+    secrets = (own if pair.first is None else own.with_bytes(pair.first)), own.with_bytes(pair.second)
+    observations = (base if is_own else leak.observe(secrets[0])), leak.observe(secrets[1])
     result = leak.compared(*observations, own)
     channels = result.channels()
     answers = [tuple((activation.ended_by, activation.answer) for activation in observation.activations) for observation in observations]
-    details = (result, observations) if channels else (None, ())
-    return ComparedPair(pair.number, (one, two), pair.one is None, answers, channels, *details)
+    details = (result, observations) if channels else (None, ())  # equal runs need no details
+    return ComparedPair(pair.number, secrets, is_own, answers, channels, *details)
 
 
 def values_in(texts: Sequence[str]) -> list[bytes]:

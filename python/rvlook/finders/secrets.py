@@ -20,7 +20,7 @@ from rvlook.protocol.symbols import Symbols
 REGISTER_AT = re.compile(r"(\w+)@(.+)\Z")
 COUNT = re.compile(r"[0-9]{1,8}\Z")  # a number of bytes
 CORNER_BYTES = (b"\0", b"\xff", b"\x7f", b"\x80", b"\x01", b"\x55", b"\xaa")  # the special values that each byte of a secret gets
-WORD = 4
+WORD = 4  # bytes of a register
 IN_IMAGE = "image:"  # begins the place of a secret that is written at reset
 NEAR_INTERVAL = 3  # each pair with a number divisible by this has values that agree in a prefix
 Bytes = bytes  # a member of Secret has that name
@@ -69,7 +69,8 @@ def created(run: Run, slot: int) -> Event:
 
 
 def place_and_size(text: str, symbols: Symbols) -> tuple[int, int | None]:
-    """Parses PLACE or PLACE:BYTES: an address, and a size or None. Raises RvlookError if the place is neither an address nor a symbol."""
+    """Parses PLACE or PLACE:BYTES. Returns the address, and the size: BYTES, else that of the symbol, else None. Raises RvlookError if the place is
+    neither an address nor a symbol."""
     name, _, count = text.partition(":")
     at = symbols.address(name)
     if at is None or count and not COUNT.match(count):
@@ -118,8 +119,8 @@ def register_secret(match: re.Match[str], symbols: Symbols, run: Run, slot: int)
 class Pair(NamedTuple):
     """Two secrets whose runs are compared."""
     number: int  # the number of the pair, from 1
-    one: Optional[Bytes]  # None: the secret of the program itself
-    two: Bytes  # a secret that was drawn
+    first: Optional[Bytes]  # None: the secret of the program itself
+    second: Bytes  # a secret that was drawn
 
 
 def drawn_pairs(own: bytes, guesses: Sequence[bytes], seed: int, first: int, last: int) -> list[Pair]:
@@ -134,12 +135,13 @@ def drawn_pairs(own: bytes, guesses: Sequence[bytes], seed: int, first: int, las
             pairs.append(Pair(number, *near_pair(near, turn, rng)))
         else:
             value = next(values)
-            pairs.append(Pair(number, one=None, two=value if value != own else bytes(byte ^ 0xA5 for byte in own)))
+            pairs.append(Pair(number, first=None, second=value if value != own else bytes(byte ^ 0xA5 for byte in own)))
     return pairs[max(0, first - 1):]
 
 
 def near_pair(value: bytes, turn: int, rng: random.Random) -> tuple[bytes, bytes]:
-    """Returns two values that differ from a value in one byte each: in the first and the last byte, and later in random ones."""
+    """Returns two values that differ from `value` in one byte each: in the first four turns in its first and in its last byte, later in random bytes.
+    `turn` counts the calls from 0."""
     last = len(value) - 1
     indices = (0, last) if turn < 4 else sorted(rng.sample(range(last + 1), min(2, last + 1)))
     changed = [value[:index] + bytes([value[index] ^ rng.randrange(1, 256)]) + value[index + 1:] for index in indices]
@@ -149,7 +151,7 @@ def near_pair(value: bytes, turn: int, rng: random.Random) -> tuple[bytes, bytes
 
 
 def drawn(size: int, seed: int, count: int) -> list[bytes]:
-    """Returns the first values of an endless list: corner values, then single bits and random values in turn."""
+    """Returns the first `count` values, of `size` bytes each, of an endless list: corner values, then single bits and random values in turn."""
     rng = random.Random(seed)
     values = [corner * size for corner in CORNER_BYTES] + [bytes([1]) + bytes(size - 1), bytes(size - 1) + b"\x80"]
     bits = [1 << n for n in range(8 * size)]
@@ -164,14 +166,14 @@ class Copy(NamedTuple):
     """Bytes that equal a part of the secret."""
     at: int  # index of the first byte in the data
     size: int  # number of bytes
-    offset: int  # the offset of the part in the secret
+    offset: int  # the offset of the equal part in the secret
 
 
 def copies_in(data: bytes, secret: bytes) -> list[Copy]:
     """Returns the copies of parts of the secret in data, by index, without parts of equal bytes and parts that a longer copy covers."""
     least = min(LEAST, len(secret))
     copies: list[Copy] = []
-    ends: dict[int, int] = {}  # the ends of the last copy at each distance between the bytes and the secret
+    ends: dict[int, int] = {}  # the end of the last copy, by the difference of its index in the data and its offset in the secret
     for offset in range(len(secret) - least + 1):
         part = secret[offset:offset + least]
         at = data.find(part) if len(set(part)) > 1 else -1
@@ -189,19 +191,19 @@ def short_copies_in(data: bytes, other: bytes, secret: bytes) -> list[Copy]:
     of a run with the complement of the secret."""
     least = min(LEAST, len(secret))
     copies = []
-    for at, (value, theirs) in enumerate(zip(data, other)):
-        offset = secret.find(bytes([value])) if value ^ theirs == 0xFF else -1
+    for at, (value, other_value) in enumerate(zip(data, other)):
+        offset = secret.find(bytes([value])) if value ^ other_value == 0xFF else -1
         while offset >= 0:
             size = 1
             while data[at + size:at + size + 1] == secret[offset + size:offset + size + 1] != b"" and data[at + size] ^ other[at + size] == 0xFF:
                 size += 1
             copies.append(Copy(at, size, offset))
             offset = secret.find(bytes([value]), offset + 1)
-    return [area for area in not_covered(copies) if area.size < least or len(set(data[area.at:area.at + area.size])) == 1]
+    return [copy for copy in not_covered(copies) if copy.size < least or len(set(data[copy.at:copy.at + copy.size])) == 1]
 
 
 def extended(data: bytes, secret: bytes, at: int, offset: int, size: int) -> Copy:
-    """Returns the maximal copy that contains the bytes at an index."""
+    """Extends a copy of `size` bytes, at index `at` of the data and at `offset` of the secret, in both directions as far as the bytes are equal."""
     while at and offset and data[at - 1] == secret[offset - 1]:
         at, offset, size = at - 1, offset - 1, size + 1
     while at + size < len(data) and offset + size < len(secret) and data[at + size] == secret[offset + size]:

@@ -22,15 +22,15 @@ from rvlook.protocol.timeline import Timeline
 
 MAX_STEPS_PER_EXCHANGE = 200  # the most steps of the enclave in one exchange
 MAX_HOST_STEPS = 1000000  # steps in which the host must enter the enclave
-TIMER = names.TIMER.encode()
-READ_ANSWER = ["reg 10", "reg 11"]
+TIMER = names.TIMER.encode()  # the cause of a timer interrupt, hexadecimal digits
+READ_ANSWER = ["reg 10", "reg 11"]  # read a0 and a1 of the host after the enclave has left
 ENDED_STATES = ("Exited", "Stopped")  # states after which steps of the host are not compared
 
 
 class TimerOptions(NamedTuple):
     """The options of `timer`."""
     slot: int = 0  # the slot of the enclave
-    every: int = 1  # an interrupt comes before every so many steps
+    every: int = 1  # the distance between interrupts in steps of the enclave; 1: before each step
     jobs: int = 1  # number of processes
 
 
@@ -63,8 +63,8 @@ class InterruptedRun:
     steps: int = 0  # the steps of the enclave
     interrupts: int = 0  # the interrupts that were taken
     difference: Optional[TimerDifference] = None  # the first one; None if the results are equal
-    not_resumed: Optional[TimerDifference] = None  # the step before which the host did not enter the enclave
-    finish: Sequence[str] = ()  # the final state; only the last part has it
+    not_resumed: Optional[TimerDifference] = None  # the step before which the host did not enter the enclave; None if it always did
+    finish: Sequence[str] = ()  # the final state, as replies; empty for a part that is not the last one
 
     @property
     def is_other(self) -> bool:
@@ -89,23 +89,23 @@ def comparison_end(run: Run, slot: int) -> ComparisonEnd:
 
 def enclave_steps(run: Run, slot: int, last: ComparisonEnd, reader: Timeline) -> Iterator[EnclaveStep]:
     """Yields the steps of the enclave after the script, without a timer. `reader` is a replay that reads the results of the host."""
-    own, entered = b"e%d" % slot, True
+    enclave, is_entered = b"e%d" % slot, True
     for item in run.stretches():
         if isinstance(item, Stretch) and item.first <= last.step:
             columns = item.columns
-            for step, (pc, line, was, now) in enumerate(zip(columns.pcs, item.data.splitlines(), columns.worlds, columns.after), item.first):
-                if was != own:
-                    entered = True
+            for step, (pc, line, before, after) in enumerate(zip(columns.pcs, item.data.splitlines(), columns.worlds, columns.after), item.first):
+                if before != enclave:
+                    is_entered = True
                 elif run.length < step <= last.step:
-                    answer = reader.bench.replies_to([*reader.lines_to(step), *READ_ANSWER])[-len(READ_ANSWER):] if now != own else ()
-                    yield EnclaveStep(pc, line, entered, tuple(answer))
-                    entered = False
+                    answer = reader.bench.replies_to([*reader.lines_to(step), *READ_ANSWER])[-len(READ_ANSWER):] if after != enclave else ()
+                    yield EnclaveStep(pc, line, is_entered, tuple(answer))
+                    is_entered = False
 
 
 @lru_cache(maxsize=65536)
 def commands_for(pc: bytes, is_entered: bool, is_stopped: bool, is_left: bool) -> tuple[bytes, int]:
-    """Returns the commands for one step of the enclave, and their number. The host runs until the enclave is at pc before it, if it is entered, and
-    after each stop. The last command does the step, or reads the result after it."""
+    """Returns the commands for one step of the enclave at `pc`, and their number. If the host ran before the step (`is_entered`), and after a timer
+    interrupt (`is_stopped`), the host first runs until the enclave is at pc. If the step leaves (`is_left`), the last commands read the answer."""
     enter = [b"break %s\n" % pc, b"run %d\n" % MAX_HOST_STEPS, b"clear %s\n" % pc]
     commands = [*(enter if is_entered else []), *([b"timer on\n", b"step 1\n", *enter] if is_stopped else []), b"step 1\n"]
     commands += [b"%s\n" % command.encode() for command in READ_ANSWER if is_left]
@@ -113,7 +113,8 @@ def commands_for(pc: bytes, is_entered: bool, is_stopped: bool, is_left: bool) -
 
 
 def interrupted(replay: Timeline, steps: Iterator[tuple[int, EnclaveStep]], every: int, progress: Progress | None) -> InterruptedRun:
-    """Runs numbered steps with a timer interrupt before every one that is due. After the first difference the steps are only counted."""
+    """Runs numbered steps with a timer interrupt before each step whose number is divisible by `every`. After the first difference only counts the
+    steps. `progress` is None if another object shows the progress."""
     outcome = InterruptedRun()
     for batch in batches_of(steps):
         outcome.steps += len(batch)
@@ -138,22 +139,22 @@ class TimerParts(NamedTuple):
                    for item in self.run.stretches() if isinstance(item, Stretch) and item.first <= self.last.step)
 
     def part(self, number: int) -> InterruptedRun:
-        """Does the part with a number, from 0 on."""
+        """Does the part with a number, from 0 on: repeats the parts before it, and compares its own steps."""
         jobs, every, is_whole = self.options.jobs, self.options.every, self.options.jobs == 1
-        size = 0 if is_whole else -(-self.steps // jobs)
+        size = 0 if is_whole else -(-self.steps // jobs)  # steps of a part, rounded up
         with self.run.replay() as reader, self.run.replay() as replay:
             replay.go_before(self.run.length + 1)
             steps = enumerate(enclave_steps(self.run, self.options.slot, self.last, reader))
             for batch in batches_of(itertools.islice(steps, number * size)):
                 replies_to(replay, commands_of(batch, every))
-            own = steps if is_whole else itertools.islice(steps, size)
-            outcome = interrupted(replay, own, every, self.progress if is_whole else None)
+            steps_of_part = steps if is_whole else itertools.islice(steps, size)
+            outcome = interrupted(replay, steps_of_part, every, self.progress if is_whole else None)
             if number == jobs - 1 and not outcome.is_other:
                 outcome.finish = finish_of(replay.bench, self.last.enclave)
         return outcome
 
     def whole(self) -> InterruptedRun:
-        """Does all parts, or the parts up to the first difference."""
+        """Does all parts, or the parts up to the first difference. Returns the result of the last one, with the counts of all of them."""
         whole = InterruptedRun()
         jobs = self.options.jobs
         for number, outcome in enumerate(results_of(self.part, jobs, jobs), 1):
@@ -161,7 +162,7 @@ class TimerParts(NamedTuple):
             outcome.steps, outcome.interrupts = whole.steps + outcome.steps, whole.interrupts + outcome.interrupts
             whole = outcome
             if outcome.is_other:
-                outcome.steps = self.steps
+                outcome.steps = self.steps  # as without parts: after a difference the other steps are counted too
                 break
         return whole
 
@@ -175,17 +176,17 @@ def batches_of(steps: Iterator[tuple[int, EnclaveStep]]) -> Iterator[list[tuple[
 
 
 def commands_of(batch: Sequence[tuple[int, EnclaveStep]], every: int) -> list[tuple[bytes, int]]:
-    """Returns the commands for each of some steps, and their number."""
+    """Returns for each step of a batch its commands, and the number of the commands."""
     return [commands_for(step.pc, step.is_entered, number % every == 0, bool(step.answer)) for number, step in batch]
 
 
 def replies_to(replay: Timeline, commands: Sequence[tuple[bytes, int]]) -> list[bytes]:
-    """Runs commands; returns the lines of their replies."""
+    """Runs commands, each text with the number of its commands; returns the replies. Each command has a reply of one line."""
     return replay.bench.block(b"".join([text for text, _ in commands]), sum(count for _, count in commands)).splitlines()
 
 
 def compare(replay: Timeline, batch: Sequence[tuple[int, EnclaveStep]], every: int, outcome: InterruptedRun) -> None:
-    """Compares some steps of the enclave, up to the first difference."""
+    """Runs and compares the steps of a batch up to the first difference, and adds the result to `outcome`."""
     commands = commands_of(batch, every)
     replies, end = replies_to(replay, commands), 0
     for (number, step), (_, count) in zip(batch, commands):
@@ -205,16 +206,17 @@ def difference_at(number: int, step: EnclaveStep, expected: bytes, actual: bytes
 
 
 def not_entered(number: int, step: EnclaveStep, lines: Sequence[bytes]) -> TimerDifference | None:
-    """Returns the first time that the host did not enter the enclave before a step, or None. The reply to each of its runs is the third one before
-    the end, or before that of a timer interrupt."""
-    for reply in lines[-3::-5][::-1]:
+    """Returns a difference if the host did not enter the enclave before a step, else None. `lines` has the replies to the commands of the step. The
+    reply to a run of the host is the third one from the end (run, clear, step), and with a timer interrupt also the one five replies before it."""
+    for reply in lines[-3::-5][::-1]:  # in the order of the runs
         if b" why=break " not in reply:
             return difference_at(number, step, b"the host resumes the enclave", reply)
     return None
 
 
 def compare_step(number: int, step: EnclaveStep, is_stopped: bool, lines: Sequence[bytes], answer: tuple[bytes, ...]) -> TimerDifference | None:
-    """Returns the difference in one step of the enclave, or None."""
+    """Returns the difference in one step of the enclave, or None. `lines` has the replies to the commands of the step, without the answer. If the
+    timer stops the enclave first (`is_stopped`), the last five are those to step, break, run, clear and step."""
     if is_stopped and b" trap=%s:" % TIMER not in lines[-5]:
         return difference_at(number, step, b"a timer interrupt", lines[-5])
     if lines[-1] != step.reply and visible_part(lines[-1]) != visible_part(step.reply):
@@ -239,14 +241,15 @@ def finish_of(bench: Bench, enclave: Enclave) -> list[str]:
 def find_timer(run: Run, options: TimerOptions) -> tuple[InterruptedRun, ComparisonEnd]:
     """Compares the runs; returns the result and the end of the comparison. Raises Unfinished if the enclave does no step after the script."""
     last = comparison_end(run, options.slot)
-    with run.replay() as quiet, Progress() as progress:
-        quiet.go(last.step)
+    with run.replay() as replay, Progress() as progress:
+        replay.go(last.step)  # without interrupts
         outcome = TimerParts(run, options, last, progress).whole()
         if not outcome.steps:
             raise Unfinished("the enclave in slot %d executes no step after the script" % options.slot)
         if not outcome.is_other:
-            pairs = zip(finish_of(quiet.bench, last.enclave), outcome.finish)
-            outcome.difference = next((TimerDifference(outcome.steps, None, a, b) for a, b in pairs if a != b), None)
+            pairs = zip(finish_of(replay.bench, last.enclave), outcome.finish)
+            differences = (TimerDifference(outcome.steps, None, expected, actual) for expected, actual in pairs if expected != actual)
+            outcome.difference = next(differences, None)
     return outcome, last
 
 
@@ -277,8 +280,8 @@ def timer_object(run: Run, printer: Printer, options: TimerOptions, outcome: Int
 def timer_text(run: Run, printer: Printer, options: TimerOptions, outcome: InterruptedRun) -> None:
     """Prints the result."""
     difference, slot, every = outcome.difference or outcome.not_resumed, options.slot, options.every
-    which = "each step" if every == 1 else "every %d steps" % every
-    printer.line("e%d: %d steps, timer interrupt before %s: %s" % (slot, outcome.steps, which, counted(outcome.interrupts, "interrupt")))
+    which_steps = "each step" if every == 1 else "every %d steps" % every
+    printer.line("e%d: %d steps, timer interrupt before %s: %s" % (slot, outcome.steps, which_steps, counted(outcome.interrupts, "interrupt")))
     if difference is None:
         printer.line(printer.styled("same result: every step, a0 and a1, region and window", Style.good))
         return

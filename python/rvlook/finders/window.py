@@ -17,7 +17,7 @@ from rvlook.image.variables import Variables
 from rvlook.protocol.run import Run
 from rvlook.protocol.symbols import Symbols
 
-Marks = Tuple[Tuple[int, ...], Optional[bool], bool]  # instructions, whether it is secret, and whether it is public
+Marks = Tuple[Tuple[int, ...], Optional[bool], bool]  # the fields `pcs`, `is_secret` and `is_public` of MarkedBytes, for one byte
 
 
 class MarkedBytes(NamedTuple):
@@ -50,7 +50,7 @@ class SecretCopy(NamedTuple):
 
 class ActivationView(NamedTuple):
     """The findings about the window in one activation."""
-    found: list[MarkedBytes]  # ranges of the window
+    ranges: list[MarkedBytes]  # ranges of the window, by kind
     copies: list[SecretCopy]  # the copies of parts of the secret
 
 
@@ -75,24 +75,25 @@ def bytes_of(activation: Activation) -> dict[int, Byte]:
     """Returns what the activation did with each byte of its window, by offset."""
     bytes_by_offset: dict[int, Byte] = defaultdict(Byte)
     base, end = activation.enclave.window, activation.enclave.window + activation.enclave.window_size
-    repeated: set[tuple[int, int]] = set()  # loads that change nothing, by instruction and address
+    recorded_loads: set[tuple[int, int]] = set()  # pc and address of loads that would record nothing new, to skip them in loops
     for _, pc, kind, address, width, values, done in activation.operations:
-        if not done or address >= end or address + width <= base or (pc, address) in repeated or kind not in "rw":
+        if not done or address >= end or address + width <= base or (pc, address) in recorded_loads or kind not in "rw":
             continue
         accessed = [bytes_by_offset[at - base] for at in range(address, address + width)]
         if kind == "w":
             for byte, value in zip(accessed, values):
                 byte.stored_at = pc
                 byte.values.append(value)
-        if kind == "w" or any([note_load(byte, pc) for byte in accessed]):
-            repeated.clear()
+        if kind == "w" or any([record_load(byte, pc) for byte in accessed]):
+            recorded_loads.clear()
         else:
-            repeated.add((pc, address))
+            recorded_loads.add((pc, address))
     return bytes_by_offset
 
 
-def note_load(byte: Byte, pc: int) -> bool:
-    """Records a load of a byte that the host may have written: the enclave has not stored to it in this activation. Returns whether that is new."""
+def record_load(byte: Byte, pc: int) -> bool:
+    """Records a load of a byte, unless the enclave has stored to the byte in this activation: then the host did not write the value. Returns whether
+    the load is new."""
     if byte.stored_at is not None or byte.read_at == pc and (pc, pc) in byte.repeated_loads:
         return False
     if byte.input_at is None:
@@ -104,7 +105,7 @@ def note_load(byte: Byte, pc: int) -> bool:
 
 
 def ranges(kind: str, marks: Mapping[int, Marks]) -> list[MarkedBytes]:
-    """Joins adjacent bytes with equal marks. `marks` has the marks by offset."""
+    """Joins adjacent bytes with equal marks to ranges of one kind. `marks` has the marks of each byte by its offset in the window."""
     ranges: list[MarkedBytes] = []
     for at in sorted(marks):
         last = ranges[-1] if ranges else None
@@ -125,11 +126,12 @@ class LeftByte(NamedTuple):
 class Leftovers:
     """The data that the activations of each enclave left in its window."""
     def __init__(self) -> None:
-        self.kept: dict[str, dict[int, LeftByte]] = defaultdict(dict)  # the bytes that were left, by world and by offset
+        self.left_bytes: dict[str, dict[int, LeftByte]] = defaultdict(dict)  # the bytes that were left, by world and by offset
         self.stored: dict[int, tuple[int, int, str]] = {}  # the value, the instruction and the world that stored each byte of any window last
 
     def received(self, activation: Activation, window_bytes: Mapping[int, Byte]) -> dict[int, tuple[int, str]]:
-        """Returns the loaded bytes that another enclave stored, with instruction and world of the store. Then notes the activation's stores."""
+        """Returns the loaded bytes that another enclave stored, with instruction and world of the store, by offset in the window. Then adds the
+        activation's stores to `stored`."""
         base, marks = activation.enclave.window, {}
         for at, byte in window_bytes.items():
             value, pc, world = self.stored.get(base + at, (0, 0, activation.world))
@@ -140,15 +142,15 @@ class Leftovers:
                 self.stored[base + at] = byte.values[-1], byte.stored_at, activation.world
         return marks
 
-    def take(self, activation: Activation, window_bytes: Mapping[int, Byte]) -> dict[int, LeftByte]:
-        """Updates the data after an activation; returns the bytes that remain from an earlier activation."""
-        kept, after = self.kept[activation.world], activation.after
-        for at in [offset for offset in kept if offset >= len(activation.before) or activation.before[offset] != kept[offset].value]:
-            del kept[at]  # the host has written there
-        remaining = {at: byte for at, byte in kept.items() if at < len(after) and after[at] == byte.value and byte.activation != activation.number}
+    def update(self, activation: Activation, window_bytes: Mapping[int, Byte]) -> dict[int, LeftByte]:
+        """Updates `left_bytes` after an activation; returns the bytes that remain from an earlier activation, by offset in the window."""
+        left, before, after = self.left_bytes[activation.world], activation.before, activation.after
+        for at in [offset for offset in left if offset >= len(before) or before[offset] != left[offset].value]:
+            del left[at]  # the host has written there
+        remaining = {at: byte for at, byte in left.items() if at < len(after) and after[at] == byte.value and byte.activation != activation.number}
         for at, byte in window_bytes.items():
             if byte.stored_at is not None:
-                kept[at] = LeftByte(byte.values[-1], byte.stored_at, activation.number)
+                left[at] = LeftByte(byte.values[-1], byte.stored_at, activation.number)
                 remaining.pop(at, None)
         return remaining
 
@@ -162,7 +164,7 @@ def reread(window_bytes: Mapping[int, Byte], symbols: Symbols) -> Iterator[Marke
     for pairs in groups.values():
         marks: dict[int, Marks] = {}
         for at in sorted(pairs):
-            marks[at] = marks.get(at - 1, (pairs[at], None, False))
+            marks[at] = marks.get(at - 1, (pairs[at], None, False))  # the marks of the byte before it, so that the two become one range
         yield from ranges("rereads", marks)
 
 
@@ -170,28 +172,31 @@ def view_of(activation: Activation, leftovers: Leftovers, other: Activation | No
     """Returns all findings of an activation. `other` is the corresponding activation of a run with another secret, or None."""
     public = context.public
     window_bytes, base = bytes_of(activation), activation.enclave.window
-    theirs = bytes_of(other) if other else {}
-    kept = leftovers.take(activation, window_bytes)
+    other_bytes = bytes_of(other) if other else {}
+    remaining = leftovers.update(activation, window_bytes)
     received = leftovers.received(activation, window_bytes)
     writes: dict[int, Marks] = {}
     for at, byte in window_bytes.items():
         if byte.stored_at is not None:
-            is_secret = None if other is None else theirs.get(at, Byte()).values != byte.values
+            is_secret = None if other is None else other_bytes.get(at, Byte()).values != byte.values
             writes[at] = (byte.stored_at,), is_secret, bool(is_secret) and (public.has(base + at) or public.has(byte.stored_at))
-    found_ranges = [*ranges("reads", {at: ((byte.input_at,), None, False) for at, byte in window_bytes.items() if byte.input_at is not None}),
-                    *sorted(reread(window_bytes, context.symbols), key=lambda it: it.pcs),
-                    *(part._replace(world=world) for world in sorted({writer for _, writer in received.values()})
-                      for part in ranges("receives", {at: ((pc,), None, False) for at, (pc, writer) in received.items() if writer == world})),
-                    *ranges("writes", writes), *ranges("remains", {at: ((byte.pc, byte.activation), None, False) for at, byte in kept.items()})]
-    writers = {at: byte.pc for at, byte in leftovers.kept[activation.world].items()}
-    return ActivationView(found_ranges, list(copies_of(activation, other, secret, writers, public)) if secret else [])
+    reads: dict[int, Marks] = {at: ((byte.input_at,), None, False) for at, byte in window_bytes.items() if byte.input_at is not None}
+    remains: dict[int, Marks] = {at: ((byte.pc, byte.activation), None, False) for at, byte in remaining.items()}
+    receives: list[MarkedBytes] = []
+    for world in sorted({writer for _, writer in received.values()}):
+        marks: dict[int, Marks] = {at: ((pc,), None, False) for at, (pc, writer) in received.items() if writer == world}
+        receives += [marked._replace(world=world) for marked in ranges("receives", marks)]
+    rereads = sorted(reread(window_bytes, context.symbols), key=lambda it: it.pcs)
+    all_ranges = [*ranges("reads", reads), *rereads, *receives, *ranges("writes", writes), *ranges("remains", remains)]
+    writers = {at: byte.pc for at, byte in leftovers.left_bytes[activation.world].items()}
+    return ActivationView(all_ranges, list(copies_of(activation, other, secret, writers, public)) if secret else [])
 
 
 def copies_of(activation: Activation, other: Activation | None, secret: Secret, writers: Mapping[int, int], public: Public) -> Iterator[SecretCopy]:
     """Yields the copies of parts of the secret in the window at the end. `writers` has the instruction that stored each byte."""
     base = activation.enclave.window
-    short = [] if other is None else short_copies_in(activation.after, other.after, secret.bytes)
-    for copy in sorted([*copies_in(activation.after, secret.bytes), *short]):
+    short_copies = [] if other is None else short_copies_in(activation.after, other.after, secret.bytes)
+    for copy in sorted([*copies_in(activation.after, secret.bytes), *short_copies]):
         indices = range(copy.at, copy.at + copy.size)
         is_secret = other is None or other.after[indices.start:indices.stop] != activation.after[indices.start:indices.stop]
         yield SecretCopy(copy, is_secret, all(public.has(base + at) or at in writers and public.has(writers[at]) for at in indices))

@@ -36,8 +36,8 @@ def show_window(run: Run, variables: Variables, printer: Printer, options: Windo
 def rows_that_are_findings(activation: Activation, view: ActivationView, context: WindowContext,
                            secret: Secret | None) -> list[tuple[str, int | None]]:
     """Returns the rows of an activation that are findings, each with the first instruction that it names."""
-    rows: list[tuple[str, int | None]] = [(found_text(activation, leftover, context).strip(), next(iter(leftover.pcs), None))
-                                          for leftover in view.found if leftover.is_finding]
+    rows: list[tuple[str, int | None]] = [(range_text_of(activation, marked, context).strip(), next(iter(marked.pcs), None))
+                                          for marked in view.ranges if marked.is_finding]
     return rows + [(copy_text(activation, copy, context, secret).strip(), None) for copy in view.copies if copy.is_finding]
 
 
@@ -54,7 +54,7 @@ def places_text(pcs: Iterable[int], symbols: Symbols) -> str:
     return " and ".join(dict.fromkeys(map(symbols.place, pcs)))
 
 
-def found_text(activation: Activation, marked: MarkedBytes, context: WindowContext) -> str:
+def range_text_of(activation: Activation, marked: MarkedBytes, context: WindowContext) -> str:
     """Returns a range as a line."""
     symbols = context.symbols
     base = activation.enclave.window + marked.first
@@ -116,10 +116,10 @@ def heading_of(activation: Activation) -> str:
 def activation_text(printer: Printer, context: WindowContext, activation: Activation, view: ActivationView, secret: Secret | None) -> None:
     """Prints an activation."""
     printer.line(printer.styled(heading_of(activation), Style.heading))
-    for marked in view.found:
-        text = found_text(activation, marked, context)
+    for marked in view.ranges:
+        text = range_text_of(activation, marked, context)
         printer.line(printer.styled(text, Style.bad) if marked.is_finding else text)
-    if not view.found:
+    if not view.ranges:
         printer.line("  does not access its window" if activation.enclave.window_size else "  no window")
     for at, row in rows_of(activation):
         printer.line(row_text(at, row))
@@ -135,7 +135,7 @@ def activation_objects(printer: Printer, context: WindowContext, activation: Act
     printer.object("activation", world=activation.world, hart=activation.hart, activation=activation.number, first=activation.first,
                    last=activation.last, ended_by=activation.ended_by,
                    answer=[hex8(word) for word in activation.answer], window=hex8(activation.enclave.window), size=activation.enclave.window_size)
-    for marked in view.found:
+    for marked in view.ranges:
         base, pcs = activation.enclave.window + marked.first, marked.pcs[:1] if marked.kind == "remains" else marked.pcs
         printer.object("window", world=activation.world, activation=activation.number, what=marked.kind, first=hex8(base),
                        last=hex8(base + marked.size - 1), symbol=symbols.name(base), field=context.fields.known(base), stored_by=marked.world or None,
