@@ -172,7 +172,7 @@ MUTANTS = (
            "test_inputs_parts.py::test_only_members_after_an_array_are_other_objects"),
     Mutant("inputs_guesses_private_values", "finders/inputs/values.py", "trace.addresses[at] < self.objects.stack", "False",
            "test_inputs_parts.py::test_value_that_is_compared_with_private_memory_is_not_tried"),
-    Mutant("inputs_keeps_both_changes_of_the_same_bytes", "finders/inputs/values.py", "kept = [old for old in changes if", "kept = [old for old in changes if True or",
+    Mutant("inputs_keeps_both_changes_of_the_same_bytes", "finders/inputs/values.py", "other_changes = [old for old in changes if", "other_changes = [old for old in changes if True or",
            "test_inputs_parts.py::test_change_of_the_same_bytes_replaces_the_older_one"),
     Mutant("inputs_never_loads_again", "finders/inputs/values.py", "is_again = any(byte_address in first_loads for byte_address in range(at, at + len(data)))", "is_again = False",
            "test_inputs.py::test_bug_is_found_and_replayed[17]"),

@@ -90,16 +90,16 @@ COLUMNS = ("steps", "pcs", "addresses", "values", "contexts", "traps", "visits",
 def test_steps_of_an_earlier_trace_are_those_that_are_added_one_by_one(search, monkeypatch):
     it = search(5)
     tracer, taken = it.tracer, []
-    monkeypatch.setattr(tracer, "take", lambda trace, *more: (taken.append((trace.context, *more)), type(tracer).take(tracer, trace, *more)))
+    monkeypatch.setattr(tracer, "add_part", lambda trace, *more: (taken.append((trace.context, *more)), type(tracer).add_part(tracer, trace, *more)))
     for child in list(it.root.children)[:40]:
         tracer.child(it.base, child.index, child.changes)
     assert sum(part.last_added is not None for _, part, _, _ in taken) > 10
 
     def check(context, part, first, registers):
         found, wanted = Trace(context=context), Trace(context=context)
-        type(tracer).take(tracer, found, part, first, registers)
+        type(tracer).add_part(tracer, found, part, first, registers)
         frames = dict(tracer.contexts.frames)
-        tracer.add(wanted, part, first, iter(values_of(registers)))
+        tracer.add_one_by_one(wanted, part, first, iter(values_of(registers)))
         assert [getattr(found, name) for name in COLUMNS] == [getattr(wanted, name) for name in COLUMNS] and frames == tracer.contexts.frames
 
     for context, part, first, registers in taken[-20:]:
@@ -122,7 +122,7 @@ def test_parts_of_earlier_traces_have_the_same_unusual_steps(search, task):
         whole = replace(trace, parts=[])
         it.tracer.contexts.version += number % 20 == 19  # the judges forget what is usual
         assert list(it.judge.unusual(trace)) == list(again.unusual(whole))
-        assert it.judge.take(trace) == again.take(whole) and it.judge.seen == again.seen
+        assert it.judge.judge_trace(trace) == again.judge_trace(whole) and it.judge.seen == again.seen
 
 
 def stored(search, trace):
@@ -161,9 +161,9 @@ def objects():
     contexts = Contexts()
     outer = contexts.called(0, 0x80020100, False)
     inner = contexts.called(outer, 0x80020104, False)
-    contexts.note_frame(outer, code("sw x1, 28(x2)"), 0x80020f00 + 28)
-    contexts.note_frame(inner, code("addi x2, x2, -32"), 0)
-    contexts.note_frame(inner, code("sw x1, 28(x2)"), 0x80020ee0 + 28)
+    contexts.update_frame(outer, code("sw x1, 28(x2)"), 0x80020f00 + 28)
+    contexts.update_frame(inner, code("addi x2, x2, -32"), 0)
+    contexts.update_frame(inner, code("sw x1, 28(x2)"), 0x80020ee0 + 28)
     symbols = Symbols([Symbol(0x80020100, 0x80, "outer", True), Symbol(0x80020200, 0x80, "inner", True), Symbol(0x80020800, 8, "key", False),
                        Symbol(0x80020900, 0, "application_stack_bottom", False)])
     variables = Variables([Member(0x80020800, 8, "user.name", 1), Member(0x80020808, 4, "user.is_admin")],

@@ -127,7 +127,7 @@ class TracerOfCalls:
 
     def call(self, context, pc, sp):
         found = self.contexts.called(context, pc, False)
-        self.contexts.note_frame(found, self.access, sp)
+        self.contexts.update_frame(found, self.access, sp)
         self.learn(pc, self.access)
         return found
 

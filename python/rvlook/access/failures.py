@@ -1,9 +1,7 @@
-"""The failures of a run: each trap that is neither a call nor an interrupt, and each call that the monitor refuses. Also the failures that an author
-expects (--expect), and the report of all failures.
-
-A long run is not examined step by step. mcycle counts every step and minstret only retired instructions, so their difference counts traps. One
-bench does parts of the run at full speed, and reads both counters after each part. A second bench does the parts with traps in single steps. A
-third one reads the registers of calls."""
+"""The failures of a run: each trap that is neither a call nor an interrupt, and each call that the monitor refuses. Also the failures that an
+author expects (--expect), and the report of all failures. A long run is not examined step by step. mcycle counts every step and minstret only
+retired instructions, so their difference counts traps. One bench does parts of the run at full speed, and reads both counters after each part. A
+second bench does the parts with traps in single steps. A third one reads the registers of calls."""
 from __future__ import annotations
 
 import itertools

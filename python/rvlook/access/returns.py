@@ -1,6 +1,5 @@
-"""`map --returns`: the access rights at each return from M on the bare bench, and states inside M in which S may access more than before and after.
-
-A trap inside M, an access under MPRV or an early return would meet such a state."""
+"""`map --returns`: the access rights at each return from M on the bare bench, and states inside M in which S may access more than before and
+after. A trap inside M, an access under MPRV or an early return would meet such a state."""
 from __future__ import annotations
 
 from typing import Iterator, NamedTuple, Optional, Sequence

@@ -1,13 +1,10 @@
 """Stack overflows: the first use of each stack that lies outside the range which its symbols give. A use is a write of sp, whatever the
-instruction, a store through sp, or a store through another pointer that came from sp.
-
-A stack is a pair of symbols NAME_stack_bottom and NAME_stack_top. The host uses those whose NAME ends with `host`, an enclave in mode S those
-with `runtime`, in mode U those with `application`. On the bare bench M uses those with `monitor`, if there are any; S and U are not
-checked if the image has an enclave. All of this is derived from the instruction at pc, registers before the step, and the symbols.
-
-For pointers that come from sp, each register has a coefficient: how often the stack pointer is a summand of its value. It is 1 for a pointer into
-the stack, and 0 for a number, for any other pointer, and for the difference of two pointers into the stack.
-"""
+instruction, a store through sp, or a store through another pointer that came from sp. A stack is a pair of symbols NAME_stack_bottom and
+NAME_stack_top. The host uses those whose NAME ends with `host`, an enclave in mode S those with `runtime`, in mode U those with `application`. On
+the bare bench M uses those with `monitor`, if there are any; S and U are not checked if the image has an enclave. All of this is derived from the
+instruction at pc, registers before the step, and the symbols. For pointers that come from sp, each register has a coefficient: how often the stack
+pointer is a summand of its value. It is 1 for a pointer into the stack, and 0 for a number, for any other pointer, and for the difference of two
+pointers into the stack."""
 from __future__ import annotations
 
 import re

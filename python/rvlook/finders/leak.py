@@ -1,7 +1,6 @@
-"""The subcommand `leak`: compares runs that differ only in a secret of an enclave, in the channels that a host can observe.
-
-The channels are the pc, the number of steps, the addresses of loads and stores, the operands of divisions with --strict, the results, and the
-window. After two runs diverge, they are compared from where they converge again."""
+"""The subcommand `leak`: compares runs that differ only in a secret of an enclave, in the channels that a host can observe. The channels are the
+pc, the number of steps, the addresses of loads and stores, the operands of divisions with --strict, the results, and the window. After two runs
+diverge, they are compared from where they converge again."""
 from __future__ import annotations
 
 from array import array

@@ -1,7 +1,6 @@
-"""Examines what each activation of an enclave did with the bytes of its window.
-
-An activation reads bytes, reads them again (a double fetch), receives them from another enclave, or writes them. Bytes remain if an earlier
-activation left them. A second run shows whether the written bytes depend on a secret. Copies of the secret in the window are found too."""
+"""Examines what each activation of an enclave did with the bytes of its window. An activation reads bytes, reads them again (a double fetch),
+receives them from another enclave, or writes them. Bytes remain if an earlier activation left them. A second run shows whether the written bytes
+depend on a secret. Copies of the secret in the window are found too."""
 from __future__ import annotations
 
 from collections import defaultdict

@@ -58,7 +58,7 @@ class Extents:
     def __init__(self, world: World) -> None:
         self.world = world
         self.objects = world.objects
-        self.region_symbols = world.objects.own  # the symbols in the region, in ascending order of their addresses
+        self.region_symbols = world.objects.region_symbols  # the symbols in the region, in ascending order of their addresses
         self.static_members = world.objects.fixed  # the variables at fixed addresses, down to their members, in the same order
         low, high = world.region
         self.stacks: List[Stack] = [stack for stacks in stacks_of(world.symbols).values() for stack in stacks if low <= stack.bottom < high]
@@ -77,7 +77,7 @@ class Extents:
     def variable_at(self, address: int) -> Extent:
         """Returns the variable at an address of the region below the stacks: by its symbol, else the bytes between two symbols."""
         symbol = self.objects.symbol_at(address)
-        starts = self.objects.own_starts
+        starts = self.objects.symbol_starts
         index = bisect_right(starts, address)  # the index of the next symbol
         end = starts[index] if index < len(starts) else self.objects.stack
         if symbol:

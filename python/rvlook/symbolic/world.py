@@ -62,7 +62,7 @@ class World:
         self.contexts = Contexts()  # numbers the chains of callers
         self.has_checks = any(self.memory[at:at + 4] == FAILED_CHECK for at in range(0, len(self.memory), 4))  # whether the enclave calls `check`
         self.objects = Objects(self.enclave, symbols, variables, self.contexts)
-        sizes = {symbol.address: symbol.size for symbol in self.objects.own if symbol.is_function}
+        sizes = {symbol.address: symbol.size for symbol in self.objects.region_symbols if symbol.is_function}
         self.functions: Set[int] = set(sizes)  # the entries of the functions that symbols name
         self.code = self.memory, self.region[0], sizes  # the arguments of Flows: the image, its first address, and the sizes of functions by entry
         self.read_options(options)

@@ -11,8 +11,8 @@ from rvlook.protocol.instructions import BRANCHES, Instruction, instruction_of
 
 SP, A0, A1, A6 = 2, 10, 11, 16  # numbers of registers
 LINKS = (1, 5)  # registers that hold a return address (Unprivileged ISA, section 2.5)
-SAVED = {1, 8, 9, *range(18, 28)}  # ra and the callee-saved registers
-SOURCES = re.compile(r"\bx(\d+)")
+SAVED = {1, 8, 9, *range(18, 28)}  # ra and the callee-saved registers s0 to s11
+SOURCES = re.compile(r"\bx(\d+)")  # a register in the text of an instruction
 
 
 class Kind(Enum):
@@ -39,7 +39,7 @@ class Code:
     probes: Tuple[int, ...] = ()  # registers to read before it: base and stored register, or a6 and a1
     width: int = 0  # bytes of a load or store
     offset: int = 0  # the offset of a load or store, signed
-    link: int = 0  # receives the return address
+    link: int = 0  # the register that receives the return address
     writes: int = 0  # the destination register
     sources: Tuple[int, ...] = ()  # the operands
     moves_sp: int = 0  # bytes by which it moves sp, if it lowers sp by a constant; else 0
@@ -106,6 +106,7 @@ def transfer_of(instruction: Instruction) -> Code | None:
 
 def other_of(instruction: Instruction) -> Code:
     """Decodes an instruction that neither accesses memory nor jumps."""
-    moves_sp = instruction.operands[2] if instruction.name == "addi" and instruction.operands[:2] == (SP, SP) and instruction.operands[2] < 0 else 0
-    sources = tuple(int(number) for number in SOURCES.findall(instruction.text.partition(", ")[2]))
+    lowers_sp = instruction.name == "addi" and instruction.operands[:2] == (SP, SP) and instruction.operands[2] < 0
+    moves_sp = instruction.operands[2] if lowers_sp else 0
+    sources = tuple(int(number) for number in SOURCES.findall(instruction.text.partition(", ")[2]))  # after the destination
     return Code(Kind.OTHER, instruction.text, writes=instruction.writes, sources=sources, moves_sp=moves_sp)

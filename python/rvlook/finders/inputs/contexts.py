@@ -7,7 +7,7 @@ from rvlook.finders.inputs.code import LINKS, Code, Kind
 from rvlook.finders.inputs.trace import ROOT
 
 MONITOR_CALL = 9  # the cause of an ecall from S
-DEEPEST = 200  # calls that are open at the same time; deeper ones count as one
+MAX_DEPTH = 200  # open calls of a context; a deeper call has the context of its caller
 
 
 class Contexts:
@@ -33,8 +33,8 @@ class Contexts:
         return context
 
     def called(self, context: int, pc: int, is_trap: bool) -> int:
-        """Returns the context of a call, or of a trap."""
-        if self.depths[context] >= DEEPEST:
+        """Returns the context after a call or a trap at pc in a context. Adds it if it is new."""
+        if self.depths[context] >= MAX_DEPTH:
             return context
         key = context, pc
         if key not in self.numbers:
@@ -59,16 +59,16 @@ class Contexts:
             yield context
             context = self.parents[context]
 
-    def note_frame(self, context: int, code: Code, address: int) -> None:
-        """Notes where the frame of a context is, from an access relative to sp or from a move of sp."""
+    def update_frame(self, context: int, code: Code, address: int) -> None:
+        """Records sp of a context, from an access relative to sp at `address`, or from an instruction that lowers sp. Records saved registers too."""
         sp = address - code.offset
-        if code.moves_sp:
-            caller = self.frames.get(self.parents[context]) if context else None
-            sp = self.frames.get(context, -1) if caller is None or context in self.frames else caller + code.moves_sp
-        if sp != self.frames.get(context, -1):
+        if code.moves_sp:  # `address` is not that of an access: sp follows from the caller's sp, if that is known
+            caller_sp = self.frames.get(self.parents[context]) if context else None
+            sp = self.frames.get(context, -1) if caller_sp is None or context in self.frames else caller_sp + code.moves_sp
+        if sp != self.frames.get(context, -1):  # -1: not known
             self.frames[context] = sp
             self.version += 1
-        new = set(range(address, address + 4)) - self.saved.get(context, set()) if code.is_saving else ()
-        if new:
-            self.saved.setdefault(context, set()).update(new)
+        new_addresses = set(range(address, address + 4)) - self.saved.get(context, set()) if code.is_saving else ()
+        if new_addresses:
+            self.saved.setdefault(context, set()).update(new_addresses)
             self.version += 1

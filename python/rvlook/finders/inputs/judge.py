@@ -14,11 +14,11 @@ from rvlook.finders.inputs.tracer import Tracer
 from rvlook.protocol.names import MARKS
 
 MEASURE, DIGEST_SIZE = 5, 32  # the number of the monitor call `measure`, and the bytes that it stores
-CALL_CAUSES = (3, 8, 9)  # causes of traps that are no faults: ebreak and ecall
+CALL_CAUSES = (3, 8, 9)  # causes of traps that are no faults: ebreak, ecall from U and ecall from S
 MAX_STRIDE = 64  # bytes between two accesses of a loop
 MAX_STEPS_BACK = 400  # steps in which the access of the last round of a loop is searched
 MIN_CHOSEN_ADDRESSES = 3  # an access with so many addresses is at an address that the host chooses
-FAULT = ObjectPlace("a fault")
+FAULT = ObjectPlace("a fault")  # the place of an access that traps
 JUMPS = (Kind.BRANCH, Kind.CALL, Kind.RETURN)  # the jumps, whose findings do not depend on the changes of a trace
 Key = Tuple[int, int]  # a call context and a pc
 StepKey = Tuple[int, int, int]  # a pc, a call context, and an address
@@ -45,11 +45,11 @@ class InputFinding:
     index: int  # the index of the step in the trace
     pc: int  # the pc of the step
     place: ObjectPlace = ObjectPlace("")  # the object at the address
-    address: int = 0  # the address of the access, or the target of the jump
+    address: int = 0  # the address of the access, the target of the jump, or the value of the trap
     usual: tuple[str, ...] = ()  # names of the objects that the instruction reaches in other runs
     is_walk: bool = False  # whether the access moves over the end of a usual object
     note: str = ""  # a further text for the report
-    is_sure: bool = True  # false: a finding only if the access reaches more addresses
+    is_sure: bool = True  # false: a finding only if the access reaches MIN_CHOSEN_ADDRESSES addresses in all traces
     context: int = 0  # the call context of the step
     after: tuple[Key, ...] = ()  # accesses before it in the trace that were no sure findings then
 
@@ -80,31 +80,31 @@ class TraceJudge:
         self.usual_steps: set[StepKey] = set()  # steps without a trap that are no finding
         self.version = 0  # the version of the contexts when `usual_steps` was last cleared
         for index in range(len(base)):
-            self.learn(base, index)
+            self.add_usual(base, index)
 
-    def learn(self, trace: Trace, index: int) -> None:
-        """Takes a step of the run itself as usual."""
+    def add_usual(self, trace: Trace, index: int) -> None:
+        """Records what a step of the run itself does as usual, so that it is no finding in other traces."""
         pc, code, key = trace.pcs[index], self.code(trace, index), (trace.contexts[index], trace.pcs[index])
         self.seen.pcs.add(pc)
         if index in trace.traps:
             self.seen.usual_traps.add((pc, trace.traps[index][0]))
         if self.is_access(trace, index):
-            for at in self.places(trace, index):
-                self.seen.usual_objects.setdefault(key, set()).add(at)
-                self.seen.reached_objects.add((key, at))
+            for place in self.places(trace, index):
+                self.seen.usual_objects.setdefault(key, set()).add(place)
+                self.seen.reached_objects.add((key, place))
             self.seen.addresses[key].add(trace.addresses[index])
         if code.kind in ENDS_BLOCK:
             self.seen.pairs.add((pc, trace.following(index)))
             self.seen.usual_targets[key].add(trace.following(index))
 
-    def take(self, trace: Trace) -> bool:
-        """Takes a trace. Returns whether to go on from it: it reached something new, and no finding makes later steps meaningless."""
+    def judge_trace(self, trace: Trace) -> bool:
+        """Adds the findings of a trace. Returns whether to go on from it: it reached something new, and no finding makes later steps meaningless."""
         is_new, sure_finding = False, None
         unsure_accesses: list[Key] = []
         for index in self.unusual(trace):
             pc = trace.pcs[index]
             is_new = self.reaches_new(trace, index) or is_new
-            if sure_finding and sure_finding.pc != pc:  # a consequence
+            if sure_finding and sure_finding.pc != pc:  # a finding at a later instruction would be a consequence of the sure one
                 continue
             finding = self.finding_of(trace, index)
             if finding:
@@ -128,12 +128,13 @@ class TraceJudge:
         return is_new
 
     def unusual(self, trace: Trace) -> Iterator[int]:
-        """Yields the indices of the steps that differ from the parent's, without plain steps, and without repeated steps that are no finding."""
+        """Yields the indices of the steps that may be findings: they differ from the parent's, are not plain, and are not in `usual_steps`. Adds the
+        pcs of all other steps to `seen`."""
         if self.version != self.tracer.contexts.version:
             self.version = self.tracer.contexts.version
             self.usual_steps.clear()
         for indices, part in trace.differences():
-            pcs, begin = part.pcs if part else [trace.pcs[index] for index in indices], 0
+            pcs, begin = part.pcs if part else [trace.pcs[index] for index in indices], 0  # the pcs before `begin` are in `seen`
             unusual: list[int] = []
             for n in self.indices_to_judge(trace, indices, pcs, part):
                 if indices[n] in trace.traps or self.step_key(trace, indices[n]) not in self.usual_steps:
@@ -146,19 +147,20 @@ class TraceJudge:
                 part.unusual = self.version, unusual
 
     def indices_to_judge(self, trace: Trace, indices: Sequence[int], pcs: Sequence[int], part: Trace | None) -> Sequence[int]:
-        """Returns which of these steps of a trace may be unusual. If a part was judged before, they are the steps that were unusual then."""
+        """Returns the positions in `indices` of steps that may be unusual; `pcs` has the pcs of these steps. If the part was judged before, they are
+        the steps that were unusual then."""
         if part and part.unusual and part.unusual[0] == self.version:
             return part.unusual[1]
         plain = self.tracer.plain
         return [n for n, pc in enumerate(pcs) if pc not in plain or indices[n] in trace.traps]
 
     def step_key(self, trace: Trace, index: int) -> StepKey:
-        """Returns the pc and the context of a step, and its address or the pc after it. For some kinds these decide whether the step is a finding."""
+        """Returns pc and context of a step, and the pc after a jump or the address of an access. They decide whether the step is a finding."""
         pc = trace.pcs[index]
         return pc, trace.contexts[index], trace.following(index) if self.tracer.code[pc].kind in JUMPS else trace.addresses[index]
 
     def add(self, finding: InputFinding) -> None:
-        """Adds a finding, or replaces one that needs more changes or is not sure."""
+        """Adds a finding, unless there is one at the same pc and place that is as good. It replaces one that needs more changes or is not sure."""
         context = finding.context if finding.kind in (FindingKind.LOAD, FindingKind.STORE) else 0
         key = (finding.kind, 0 if finding.kind is FindingKind.STUCK else finding.pc, context, finding.place)
         old = self.findings.get(key)
@@ -170,7 +172,7 @@ class TraceJudge:
         return self.tracer.code[trace.pcs[index]]
 
     def is_access(self, trace: Trace, index: int) -> bool:
-        """Returns whether a step accesses memory at an address of its own."""
+        """Returns whether a step accesses memory at an address that the trace has: a load, a store, or the call `measure`."""
         code = self.code(trace, index)
         if code.kind is Kind.ECALL:
             trap = trace.traps.get(index)
@@ -240,7 +242,7 @@ class TraceJudge:
 
     @staticmethod
     def is_inner(place: ObjectPlace, usual: set[ObjectPlace]) -> bool:
-        """Returns whether an object is a member of a variable with a usual object, and no array ends between them: it may be accessed."""
+        """Returns whether an object belongs to the same variable as a usual object that is no array. A loop may walk from one to the other."""
         return any(other.variable and other.variable == place.variable and not other.is_array for other in usual)
 
     def previous(self, trace: Trace, index: int, key: Key) -> Optional[int]:
@@ -256,16 +258,16 @@ class TraceJudge:
         if target == NO_PC or target in self.seen.usual_targets[key]:
             return None
         if is_return:
-            is_found = not self.tracer.contexts.is_return_address(context, target)
+            is_finding = not self.tracer.contexts.is_return_address(context, target)
         else:
             host_values, function = {int.from_bytes(change.value, "little") for change in trace.changes}, self.objects.symbols.function
-            is_table = not self.code(trace, index).link and function(target) == function(pc)  # whether it is the jump of a switch
-            is_found = not self.objects.is_function(target) and not is_table or target in host_values
-        if not is_found:
+            is_switch = not self.code(trace, index).link and function(target) == function(pc)  # whether it is the jump of a switch statement
+            is_finding = not self.objects.is_function(target) and not is_switch or target in host_values
+        if not is_finding:
             return None
-        kind, usual = FindingKind.RETURN if is_return else FindingKind.CALL, {target for target in self.seen.usual_targets[key] if target != NO_PC}
-        return InputFinding(kind, trace, index, pc, self.objects.object_at(target, context, pc), target,
-                            names({self.objects.object_at(other, context, pc) for other in usual}), context=context)
+        usual_places = {self.objects.object_at(usual, context, pc) for usual in self.seen.usual_targets[key] if usual != NO_PC}
+        return InputFinding(FindingKind.RETURN if is_return else FindingKind.CALL, trace, index, pc, self.objects.object_at(target, context, pc),
+                            target, names(usual_places), context=context)
 
     def sure_findings(self) -> Iterator[InputFinding]:
         """Yields the findings that are sure now: also an access whose address the host chooses. Leaves out findings that follow from another."""

@@ -31,10 +31,11 @@ class Objects:
         self.starts = [variable.at for variable in self.fixed]  # the addresses of `fixed`
         self.locals, self.parameters = variables.locals, variables.parameters  # the local variables and the parameters of functions
         region_symbols = [symbol for symbol in symbols.ordered if enclave.has(symbol.address) and not symbol.name.endswith(LINKER_SUFFIXES)]
-        self.own, self.own_starts = region_symbols, [symbol.address for symbol in region_symbols]  # the symbols in the region, and their addresses
+        self.region_symbols, self.symbol_starts = region_symbols, [symbol.address for symbol in region_symbols]  # in the region; their addresses
         bottoms = [symbol.address for symbol in symbols.ordered if symbol.name.endswith("_stack_bottom") and enclave.has(symbol.address)]
-        # the lowest address of the stacks
-        self.stack = min(bottoms, default=max((each.address + max(4, each.size) for each in region_symbols), default=enclave.base + enclave.size))
+        # the lowest address of the stacks; without symbols of stacks the end of the last symbol, without any symbol the end of the region
+        symbol_ends = (symbol.address + max(4, symbol.size) for symbol in region_symbols)
+        self.stack = min(bottoms, default=max(symbol_ends, default=enclave.base + enclave.size))
 
     def object_at(self, address: int, context: int, pc: int) -> ObjectPlace:
         """Returns the object at an address, for an instruction in a call context."""
@@ -55,12 +56,12 @@ class Objects:
 
     def symbol_at(self, address: int) -> Symbol | None:
         """Returns the symbol of the region that includes an address, or None."""
-        index = bisect_right(self.own_starts, address) - 1
-        symbol = self.own[index] if index >= 0 else None
+        index = bisect_right(self.symbol_starts, address) - 1
+        symbol = self.region_symbols[index] if index >= 0 else None
         return symbol if symbol and (not symbol.size or address < symbol.address + symbol.size) else None
 
     def stack_object_at(self, address: int, context: int, pc: int) -> ObjectPlace:
-        """Returns the local variable at an address, the saved registers, or the rest of a frame."""
+        """Returns the local variable at an address of a stack, the saved registers, or the rest of a frame. `pc` and `context` are of the access."""
         frames, is_below = self.contexts.frames, True
         for frame_context in self.contexts.chain(context):
             sp, caller = frames.get(frame_context), frames.get(self.contexts.parents[frame_context])
@@ -71,7 +72,7 @@ class Objects:
         return UNUSED if is_below and context else ObjectPlace("the stack")
 
     def frame_object_at(self, address: int, context: int, sp: int, pc: int) -> ObjectPlace:
-        """Returns the object at an address in the frame of a context, whose function has the instruction."""
+        """Returns the object at an address in the frame of a context that begins at sp. The function of the context has the instruction at pc."""
         function = self.symbols.function(pc) or "%08x" % pc
         caller = self.contexts.frames.get(self.contexts.parents[context], sp)
         for local in self.locals:
@@ -84,13 +85,13 @@ class Objects:
         return ObjectPlace("the frame of " + function, "the frame of " + function)
 
     def object_starts(self, executed: set[int]) -> list[int]:
-        """Returns the addresses at which objects begin. Leaves out functions that were executed."""
-        fixed = [variable.at for variable in self.fixed]
-        return list(dict.fromkeys(fixed + [symbol.address for symbol in self.own if symbol.address not in executed and symbol.address < self.stack]))
+        """Returns the addresses at which objects begin. Leaves out symbols that are in `executed`, the pcs of the run: they are functions."""
+        symbols = [symbol.address for symbol in self.region_symbols if symbol.address not in executed and symbol.address < self.stack]
+        return list(dict.fromkeys([variable.at for variable in self.fixed] + symbols))
 
     def is_function(self, address: int) -> bool:
-        """Returns whether a symbol begins at an address."""
-        return any(symbol.address == address for symbol in self.own)
+        """Returns whether a symbol of the region begins at an address, so that a call may go there."""
+        return any(symbol.address == address for symbol in self.region_symbols)
 
 
 def place_of(member: Member) -> ObjectPlace:

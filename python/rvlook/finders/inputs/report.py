@@ -260,8 +260,7 @@ TEXTS = {
     FindingKind.LOAD: access_text, FindingKind.STORE: access_text,
     FindingKind.CALL: lambda it: "call to %s, an address that the host chooses" % it.place.name,
     FindingKind.RETURN: lambda it: "return to %08x, not to its caller" % it.address,
-    FindingKind.FAULT: lambda it: "the enclave traps: %s" % it.note,
-    FindingKind.STUCK: lambda it: "the enclave does not return",
+    FindingKind.FAULT: lambda it: "the enclave traps: %s" % it.note, FindingKind.STUCK: lambda it: "the enclave does not return",
     FindingKind.SECRET: lambda it: it.note, FindingKind.CHECK: lambda it: it.note, FindingKind.REPLAY: lambda it: it.note}
 
 

@@ -1,8 +1,7 @@
-"""The search of `inputs`: tries values, goes on from each trace that reaches something new, and combines changes.
-
-Several processes may trace runs. A process begins with all that the search knows: decoded instructions, call contexts and their stack frames. It
-returns each trace with the knowledge that it has gained. The search takes the traces in the order of the runs. If a trace depends on what an
-earlier one has found, the search traces the run again. The result is therefore that of one process."""
+"""The search of `inputs`: tries values, goes on from each trace that reaches something new, and combines changes. Several processes may trace
+runs. A process begins with all that the search knows: decoded instructions, call contexts and their stack frames. It returns each trace with the
+knowledge that it has gained. The search takes the traces in the order of the runs. If a trace depends on what an earlier one has found, the search
+traces the run again. The result is therefore that of one process."""
 from __future__ import annotations
 
 from array import array
@@ -222,7 +221,7 @@ class InputSearch:
 
     def take(self, trace: Trace) -> None:
         """Takes the trace of a run, and goes on from it if it reached something new."""
-        is_new = self.judge.take(trace)
+        is_new = self.judge.judge_trace(trace)
         if self.rules:
             self.rules.take(trace)
         if is_new and len(trace.changes) < MAX_CHANGES_PER_RUN and len(trace):

@@ -177,8 +177,6 @@ def first_difference(one: Trace, two: Trace) -> int:
     return equal_length(one.pcs, 0, two.pcs, 0)
 
 
-# ---- states that are given again
-
 class OlderState(NamedTuple):
     """An older state, which the host gives to the enclave again."""
     change: Change  # gives the state
@@ -263,7 +261,7 @@ def replayed_states(search: InputSearch, loaded: dict[int, bytes]) -> Iterator[I
             continue
         tried_changes.add(key)
         trace = search.tracer.child(base, base.visits[state.visit].first, (state.change,))
-        search.judge.take(trace)
+        search.judge.judge_trace(trace)
         if len(trace.visits) <= state.visit or trace.visits[state.visit].last is None:
             continue
         steps = steps_of(trace, trace.visits[state.visit])

@@ -1,8 +1,7 @@
-"""The inputs that the host gives in a trace, and the values that a search tries for each of them. For both, the bytes that the enclave loads from its
-window, the operands of branches, and the fields of the window are read.
-
-Also requests of the run in another order. A *request* is what one activation loads from the window. An activation gets the request of another one,
-or a part of it, so that a check over the whole request may still pass."""
+"""The inputs that the host gives in a trace, and the values that a search tries for each of them. For both, the bytes that the enclave loads from
+its window, the operands of branches, and the fields of the window are read. Also requests of the run in another order. A *request* is what one
+activation loads from the window. An activation gets the request of another one, or a part of it, so that a check over the whole request may still
+pass."""
 from __future__ import annotations
 
 import random
@@ -25,10 +24,10 @@ STEPS_AHEAD = 400  # steps after a load in which branches and accesses are consi
 MAX_VALUES, MAX_MOVED_ACCESSES, MAX_TARGET_OBJECTS = 64, 6, 6  # for each input: values, accesses that it may move, objects that values point to
 MAX_FIRST_WORDS = 4  # words at the start of a buffer that are inputs
 MAX_CONSTANTS = 12  # the most constants that are taken from instructions after a load
-NEAR = 1 << 12  # the distance of operands that an input may make equal is smaller
+NEAR = 1 << 12  # two operands of a branch with a smaller distance may become equal if an input changes by the distance
 VALUES_PER_PART = 3  # values of other inputs for each value of a part of a buffer
-IMMEDIATE = re.compile(r"(?:lui|addi|xori|slti|sltiu) x(\d+), (?:x(\d+), )?(-?(?:0x)?[0-9a-f]+)\Z")
-FILLS = ((0x41, 20), (0x41, 40), (0x41, 512), (0xFF, 512), (0x00, 512))  # values, and the most bytes that are filled with them
+IMMEDIATE = re.compile(r"(?:lui|addi|xori|slti|sltiu) x(\d+), (?:x(\d+), )?(-?(?:0x)?[0-9a-f]+)\Z")  # destination, source and constant
+FILLS = ((0x41, 20), (0x41, 40), (0x41, 512), (0xFF, 512), (0x00, 512))  # bytes, and how many bytes at most are filled with them
 WORD_MASK = 0xFFFFFFFF
 MAX_ORDERS = 48  # runs with requests in another order
 Content = Mapping[int, int]  # bytes by address
@@ -45,7 +44,7 @@ class DetailReader:
     """Reads the details of traces."""
     def __init__(self, tracer: Tracer, objects: Objects, fields: WindowFields) -> None:
         self.tracer, self.objects, self.fields = tracer, objects, fields  # `fields`: names of the fields of the window
-        self.parameters_of: dict[int, list[tuple[int, object]]] = {}  # number and members of each parameter, by address
+        self.parameters_of: dict[int, list[tuple[int, object]]] = {}  # by address of a function: number and members of each parameter
         for parameter in objects.parameters:
             self.parameters_of.setdefault(parameter.function, []).append((parameter.number, parameter.members))
 
@@ -58,11 +57,13 @@ class DetailReader:
             for step, (_, lines) in zip(steps, questions):
                 text += [step, lines]
                 count += step.count(b"\n") + lines.count(b"\n")
-            replies = [reply for reply in replay.bench.block(b"".join(text), count).split(b"\n") if reply[:1] in (b"x", b"8") or reply[8:9] == b":"]
+            all_replies = replay.bench.block(b"".join(text), count).split(b"\n")
+        replies = [reply for reply in all_replies if reply[:1] in (b"x", b"8") or reply[8:9] == b":"]  # to `reg` and `mem`
         return self.decoded_details(trace, questions, replies)
 
     def detail_questions(self, trace: Trace) -> Iterator[tuple[int, bytes]]:
-        """Yields the steps that need more, with the commands to read it."""
+        """Yields indices of steps, each with the commands that read details before the step. The details are the arguments at the start of a
+        function, the operands of a branch, and the bytes that a load takes from the window."""
         for index in range(len(trace)):
             code, pc = self.tracer.code[trace.pcs[index]], trace.pcs[index]
             if pc in self.parameters_of:
@@ -73,23 +74,25 @@ class DetailReader:
                 yield index, b"mem %x %d\n" % (trace.addresses[index], code.width)
 
     def decoded_details(self, trace: Trace, questions: list[tuple[int, bytes]], replies: list[bytes]) -> Details:
-        """Decodes the replies."""
-        details, values = Details(), iter(replies)
+        """Decodes the replies to `questions`. Adds the fields to which arguments point, if they are in the window."""
+        details, remaining_replies = Details(), iter(replies)
         for index, lines in questions:
+            code = self.tracer.code[trace.pcs[index]]
             if lines.startswith(b"mem"):
-                details.loaded[index] = bytes.fromhex(next(values).split(b":")[1].decode())
+                details.loaded[index] = bytes.fromhex(next(remaining_replies).split(b":")[1].decode())
                 continue
-            numbers = [int(next(values)[-8:], 16) for _ in range(lines.count(b"\n"))]
-            if self.tracer.code[trace.pcs[index]].kind is Kind.BRANCH and lines == b"reg %d\nreg %d\n" % self.tracer.code[trace.pcs[index]].sources:
-                details.operands[index] = numbers[0], numbers[1]
+            registers = [int(next(remaining_replies)[-8:], 16) for _ in range(lines.count(b"\n"))]
+            if code.kind is Kind.BRANCH and lines == b"reg %d\nreg %d\n" % code.sources:
+                details.operands[index] = registers[0], registers[1]
             else:
-                for (_, members), pointer in zip(self.parameters_of[trace.pcs[index]], numbers):
+                for (_, members), pointer in zip(self.parameters_of[trace.pcs[index]], registers):
                     if self.objects.enclave.shares(pointer):
                         self.fields.add(pointer, members)  # type: ignore[arg-type]
         return details
 
     def is_private(self, trace: Trace, index: int, register: int, depth: int = 0) -> bool:
-        """Returns whether the value of a register before a step comes from memory of the region, so that the host does not know it."""
+        """Returns whether the value of a register before a step comes from memory of the region below the stacks, so that the host does not know it.
+        `depth` is the number of instructions that were followed back so far."""
         if not register or depth > MAX_SOURCE_DEPTH:
             return False
         for at in range(index - 1, max(-1, index - MAX_SOURCE_STEPS), -1):
@@ -111,11 +114,11 @@ class Input:
     step: int  # number of the step of the run after which they are changed
     at: int  # address; 0 for a register
     value: bytes  # the value without a change
-    is_loaded_again: bool = False  # whether the enclave has loaded them before
+    is_loaded_again: bool = False  # whether the enclave has loaded one of the bytes before in the activation
     register: int = 0  # the number of the register; 0 for memory
     pc: int = 0  # the pc of the load
-    is_first: bool = False  # whether it is the first that the instruction loads in the activation
-    is_part: bool = False  # whether it is a part of a buffer
+    is_first: bool = False  # whether it is the first input that the instruction loads in the activation
+    is_part: bool = False  # whether it is a part of a buffer, so that the instruction loads other parts of it too
 
     @property
     def width(self) -> int:
@@ -140,7 +143,7 @@ class Values:
     def __init__(self, tracer: Tracer, objects: Objects, fields: WindowFields, reader: DetailReader, seed: int) -> None:
         # `rng` draws the random values
         self.tracer, self.objects, self.fields, self.reader, self.rng = tracer, objects, fields, reader, random.Random(seed)
-        self.target_addresses: list[int] = []  # addresses of objects, which values point to
+        self.target_addresses: list[int] = []  # addresses of objects, to be tried as values of pointers
         self.has_entry = False  # whether the registers at the entry are inputs
 
     def inputs(self, trace: Trace, details: Details) -> list[Input]:
@@ -174,8 +177,9 @@ class Values:
                 first_loads.setdefault(byte_address, index)
                 content.setdefault(byte_address, value)
             start = index if is_again else min(first_loads[byte_address] for byte_address in range(at, at + len(data)))
+            step = trace.steps[index] - 1 if is_again else entry  # bytes that are loaded again change between the two loads
             groups[trace.pcs[index], is_again].append(
-                Input(number, index, start, trace.steps[index] - 1 if is_again else entry, at, data, is_again, register=0, pc=trace.pcs[index]))
+                Input(number, index, start, step, at, value=data, is_loaded_again=is_again, register=0, pc=trace.pcs[index]))
         for inputs in groups.values():
             is_part = len({input_.at for input_ in inputs}) > 1
             yield from (replace(input_, is_first=n == 0, is_part=is_part) for n, input_ in enumerate(sample_of(inputs)))
@@ -187,16 +191,16 @@ class Values:
         """With --entry, yields a0 after the resume of a stop, and a0 to a3 at the entry. The monitor sets them, so no host can choose them."""
         if not self.has_entry:
             return
-        entry, before = trace.steps[visit.first] - 1, trace.visits[number - 1].ended_by if number else ""
-        if before == "stop":
-            yield Input(number, visit.first, visit.first, entry, 0, bytes(WORD), is_loaded_again=False, register=A0)
-        elif before != "timer":
+        entry, previous_end = trace.steps[visit.first] - 1, trace.visits[number - 1].ended_by if number else ""
+        if previous_end == "stop":
+            yield Input(number, visit.first, visit.first, entry, at=0, value=bytes(WORD), register=A0)
+        elif previous_end != "timer":
             enclave = self.objects.enclave
             for register, value in enumerate((enclave.base, enclave.size, enclave.window, enclave.window_size), A0):
-                yield Input(number, visit.first, visit.first, entry, 0, value.to_bytes(WORD, "little"), is_loaded_again=False, register=register)
+                yield Input(number, visit.first, visit.first, entry, at=0, value=value.to_bytes(WORD, "little"), register=register)
 
     def children(self, trace: Trace, details: Details, inputs: list[Input]) -> Iterator[Child]:
-        """Yields the trace with one more input changed. Inputs that an earlier activation loads in the same way come last."""
+        """Yields the runs with one more input changed than in the trace. Inputs that an earlier activation loads in the same way come last."""
         known_keys: set[tuple[int, bytes, bool]] = set()
         new_inputs: list[Input] = []
         repeated_inputs: list[Input] = []
@@ -213,30 +217,30 @@ class Values:
         values_of_inputs = [(input_, list(self.values(trace, details, input_))) for input_ in inputs]
         for turn in range(VALUES_PER_PART * max((len(values) for _, values in values_of_inputs), default=0)):
             for input_, values in values_of_inputs:
-                number, is_turn = turn, True
+                index, is_turn = turn, True  # the index of the value in this turn; whether the input gets a value in it
                 if input_.is_part and turn > 1:
-                    number, is_turn = 1 + turn // VALUES_PER_PART, turn % VALUES_PER_PART == 0
-                if number < len(values) and is_turn:
-                    yield self.child(trace, input_, values[number])
+                    index, is_turn = 1 + turn // VALUES_PER_PART, turn % VALUES_PER_PART == 0
+                if index < len(values) and is_turn:
+                    yield self.child(trace, input_, values[index])
                 if turn == 1 and input_.is_first:
                     yield from self.filled_children(trace, input_)
 
     def child(self, trace: Trace, input_: Input, value: bytes) -> Child:
-        """Returns a trace with one more input changed."""
+        """Returns the run in which, besides the changes of the trace, an input has another value."""
         name = "a%d" % (input_.register - A0) if input_.register else self.name(input_.at)
-        change = Change(input_.step, input_.at, value, input_.register, name, input_.value.hex())
+        change = Change(input_.step, input_.at, value, input_.register, name, old=input_.value.hex())
         return Child(with_change(trace.changes, change), input_.start)
 
     def name(self, address: int) -> str:
-        """Returns the name of a field of the window, a symbol or the address."""
+        """Returns the name of the field of the window, or of the symbol, at an address; else the address as hexadecimal digits."""
         return self.fields.name(address) or "%08x" % address
 
     def filled_children(self, trace: Trace, input_: Input) -> Iterator[Child]:
-        """Yields the trace with the bytes from an input on filled."""
+        """Yields the runs in which the input and the bytes after it have one value, at most up to the end of the window: buffers without an end."""
         for value, max_count in FILLS:
             count = min(max_count, self.objects.enclave.window + self.objects.enclave.window_size - input_.at)
             name = "%s and the following bytes" % self.name(input_.at)
-            change = Change(input_.step, input_.at, bytes([value]) * count, 0, name, input_.value.hex())
+            change = Change(input_.step, input_.at, bytes([value]) * count, register=0, name=name, old=input_.value.hex())
             start = input_.start if input_.is_loaded_again else min(input_.start, trace.visits[input_.visit].first)
             yield Child(with_change(trace.changes, change), start)
 
@@ -256,26 +260,27 @@ class Values:
         return iter([value.to_bytes(input_.width, "little") for value in values[:MAX_VALUES]])
 
     def branch_values(self, trace: Trace, details: Details, input_: Input) -> Iterator[int]:
-        """Yields values at which branches after the load go another way. If one operand is the input, it becomes the other operand. If an operand
-        is near the other one, the input moves it there."""
+        """Yields values at which branches after the load go another way. If one operand is the input, the input gets the value of the other operand.
+        If the operands are near each other, the input changes by their distance. Both also with 1 more and 1 less."""
         number = input_.number
         for index in range(input_.start, min(len(trace), input_.start + STEPS_AHEAD)):
-            pair = details.operands.get(index)
-            if pair is None or pair[0] == pair[1] and number not in pair:
+            operands = details.operands.get(index)
+            if operands is None or operands[0] == operands[1] and number not in operands:
                 continue
             sources = self.tracer.code[trace.pcs[index]].sources
             if any(self.reader.is_private(trace, index, register) for register in sources):
                 continue
-            distance = pair[1] - pair[0]
-            if number in pair:
-                other = pair[1] if number == pair[0] else pair[0]
-                yield from (other + n for n in (0, 1, -1))
+            first, second = operands
+            distance = second - first
+            if number in operands:
+                other_operand = second if number == first else first
+                yield from (other_operand + n for n in (0, 1, -1))
             elif abs(distance) < NEAR:
                 yield from (number + sign * distance + n for sign in (1, -1) for n in (0, 1, -1))
 
     def constants(self, trace: Trace, input_: Input) -> list[int]:
-        """Returns the constants of the instructions after the load, without addresses."""
-        known_registers, constants = {0: 0}, []
+        """Returns the constants of the instructions after the load that are less than RAM_BASE, and so no addresses."""
+        known_registers, constants = {0: 0}, []  # the registers with a constant value; x0 is 0
         for index in range(input_.start, min(len(trace), input_.start + STEPS_AHEAD // 2)):
             code = self.tracer.code[trace.pcs[index]]
             match = IMMEDIATE.match(code.text)
@@ -292,7 +297,7 @@ class Values:
 
     def moving_values(self, trace: Trace, input_: Input) -> Iterator[int]:
         """Yields values that move an access after the load to an object, if its address moves with the input, by bytes or by words."""
-        accesses: dict[int, int] = {}
+        accesses: dict[int, int] = {}  # the first address of each load and store, by pc
         for index in range(input_.start, min(len(trace), input_.start + STEPS_AHEAD)):
             code = self.tracer.code[trace.pcs[index]]
             if code.kind in (Kind.LOAD, Kind.STORE) and not code.is_sp_relative:
@@ -309,9 +314,10 @@ def sample_of(inputs: list[Input]) -> Iterable[Input]:
 
 
 def word_inputs(content: dict[int, int], first_loads: dict[int, int], visit: int, entry: int) -> Iterator[Input]:
-    """Yields aligned words all of whose bytes are loaded one by one: the first ones of each buffer, and the last."""
-    starts = [at for at in sorted(content) if at % WORD == 0 and all(at + n in content for n in range(WORD))
-              and len({first_loads[at + n] for n in range(WORD)}) == WORD]
+    """Yields aligned words whose bytes are loaded one by one: the first MAX_FIRST_WORDS of each buffer and the last. `content` has the loaded bytes
+    by address, and `first_loads` the index of the first load of each byte."""
+    aligned = [at for at in sorted(content) if at % WORD == 0 and all(at + n in content for n in range(WORD))]
+    starts = [at for at in aligned if len({first_loads[at + n] for n in range(WORD)}) == WORD]  # four loads, so byte by byte
     buffers: list[list[int]] = []
     for at in starts:
         if buffers and buffers[-1][-1] + WORD == at:
@@ -327,8 +333,8 @@ def word_inputs(content: dict[int, int], first_loads: dict[int, int], visit: int
 def with_change(changes: Changes, change: Change) -> Changes:
     """Returns the changes with one more, in the order of their steps. The new change replaces one of the same bytes at the same step."""
     place = change.step, change.at, change.register, len(change.value)
-    kept = [old for old in changes if (old.step, old.at, old.register, len(old.value)) != place]
-    return tuple(sorted([*kept, change], key=lambda each: each.step))
+    other_changes = [old for old in changes if (old.step, old.at, old.register, len(old.value)) != place]
+    return tuple(sorted([*other_changes, change], key=lambda each: each.step))
 
 
 class HostRequest(NamedTuple):
@@ -339,26 +345,27 @@ class HostRequest(NamedTuple):
 
 
 def reordered(trace: Trace, requests: Sequence[HostRequest], name: Callable[[int], str]) -> Iterator[Child]:
-    """Yields a trace with two requests exchanged, then with one in place of another, and then with a part of one in another. Activations that follow
-    each other come first. `name` returns the name of an address."""
-    pairs = [combination for combination in combinations(requests, 2) if combination[0].content != combination[1].content]
+    """Yields the runs with two requests exchanged, then those with one request in place of another, and then those with a half of one in another.
+    Activations that follow each other come first. `name` returns the name of an address."""
+    pairs = [(first, second) for first, second in combinations(requests, 2) if first.content != second.content]
     pairs.sort(key=lambda it: requests.index(it[1]) - requests.index(it[0]))
-    both = [(one, other) for pair in pairs for one, other in (pair, pair[::-1])]
-    orders = chain((((one, other.content), (other, one.content)) for one, other in pairs), (((one, other.content),) for one, other in both),
-                   (((one, part),) for one, other in both for part in halves(one, other)))
-    return (with_requests(trace, order, name) for order in islice(orders, MAX_ORDERS))
+    ordered_pairs = [ordered for first, second in pairs for ordered in ((first, second), (second, first))]
+    exchanges = (((first, second.content), (second, first.content)) for first, second in pairs)
+    replacements = (((request, other.content),) for request, other in ordered_pairs)
+    half_replacements = (((request, half),) for request, other in ordered_pairs for half in halves(request, other))
+    return (with_requests(trace, order, name) for order in islice(chain(exchanges, replacements, half_replacements), MAX_ORDERS))
 
 
-def halves(one: HostRequest, other: HostRequest) -> Iterator[Content]:
-    """Yields the first half and the second half of the words in which a request differs from another."""
-    words = sorted({at // WORD for at, value in other.content.items() if one.content.get(at) != value})
+def halves(request: HostRequest, other: HostRequest) -> Iterator[Content]:
+    """Yields the bytes of `other` in the first half, and then in the second half, of the words in which a request differs from it."""
+    words = sorted({at // WORD for at, value in other.content.items() if request.content.get(at) != value})
     for part in (words[:len(words) // 2], words[len(words) // 2:]):
         if 0 < len(part) < len(words):
             yield {at: value for at, value in other.content.items() if at // WORD in part}
 
 
 def with_requests(trace: Trace, new_contents: Sequence[tuple[HostRequest, Content]], name: Callable[[int], str]) -> Child:
-    """Returns a trace in which activations get other bytes."""
+    """Returns the run in which, besides the changes of the trace, the activations of these requests load other bytes."""
     changes = trace.changes
     for request, content in new_contents:
         for at, data in runs_of(content):

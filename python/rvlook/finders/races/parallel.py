@@ -1,9 +1,8 @@
-"""Computes moves of `races` ahead of the search, in several processes.
-
-The search itself has one process and one order. After some moves it gives the nodes that wait to other processes. They follow these nodes as the
-search would, and return the moves, with all that the search records for a move. The search then takes a move from them in place of computing it. It
-computes a lost move itself. The other processes never run rvbench: they leave out a move that has a step which is not cached. The search
-therefore runs rvbench as it would alone. Its result does not depend on the number of processes."""
+"""Computes moves of `races` ahead of the search, in several processes. The search itself has one process and one order. After some moves it gives
+the nodes that wait to other processes. They follow these nodes as the search would, and return the moves, with all that the search records for a
+move. The search then takes a move from them in place of computing it. It computes a lost move itself. The other processes never run rvbench: they
+leave out a move that has a step which is not cached. The search therefore runs rvbench as it would alone. Its result does not depend on the number
+of processes."""
 from __future__ import annotations
 
 import gc
