@@ -178,8 +178,7 @@ class Scan:
         return before == self.traps and not any(values[2::3])
 
     def advance(self, part: Sequence[Turn], replies: Sequence[bytes]) -> list[Location]:
-        """Updates the position and the locations of the harts after a part. `replies` are those to its commands. Returns for each turn where its hart
-        was before the turn."""
+        """Updates position and locations of the harts after a part, by the replies to its commands. Returns where the hart of each turn was first."""
         step_replies, starts = iter([reply for reply in replies if reply.startswith(b"ran ")]), []
         for turn in part:
             starts.append(self.locations[turn.hart])

@@ -16,7 +16,8 @@ from rvlook.protocol.run import End, Run
 from rvlook.protocol.stretch import Stretch
 from rvlook.protocol.timeline import Timeline
 
-CALLED = re.compile(rb"trap=(?:00000009|80000007):")
+CALLED = re.compile(rb"trap=(?:00000009|80000007):")  # in the reply to a step that an ecall from S or the timer interrupt ended
+A0, A1 = 10, 11  # numbers of registers
 ENTRY_WRITTEN = re.compile(rb" csrr\w+ x\d+, 0x3[ab][0-9a-f],")  # pmpcfg0 to pmpaddr15, by the text of dis
 
 
@@ -36,7 +37,7 @@ class Row(NamedTuple):
     """A range of RAM with the access rights to it."""
     range: Range
     what: str  # the meaning of the range; empty on the bare bench
-    may: dict[str, dict[str, str]]  # rights by column and mode
+    may: dict[str, dict[str, str]]  # rights, such as `rw-`, by the name of the column and by mode
 
 
 class Event(NamedTuple):
@@ -51,8 +52,8 @@ class Event(NamedTuple):
     mode: str  # the mode after the step
     world: str  # the world after the step
     enclaves: tuple[Enclave, ...]  # the enclave table after the step
-    columns: tuple[Column, ...]  # the columns of the worlds
-    rows: tuple[Row, ...]  # the rows of the ranges of RAM
+    columns: tuple[Column, ...]  # the worlds whose rights are shown
+    rows: tuple[Row, ...]  # all ranges of RAM with their rights
 
 
 class RightsState(NamedTuple):
@@ -113,10 +114,10 @@ def written_entry(line: bytes) -> Need[bytes] | None:
 
 def matching_lines(pattern: re.Pattern[bytes], block: bytes) -> Iterator[int]:
     """Yields the numbers of the lines that match a pattern, each number at most once."""
-    location = number = 0
+    counted_to = number = 0  # the index up to which line ends are counted, and their number
     for match in pattern.finditer(block):
-        number += block.count(b"\n", location, match.start())
-        location = match.start()
+        number += block.count(b"\n", counted_to, match.start())
+        counted_to = match.start()
         yield number
 
 
@@ -136,7 +137,7 @@ class EventFinder:
         """Returns the event after a step, or a refused call; None if nothing has changed."""
         bench = replay.bench
         before = bench.ask(*replay.lines_to(step - 1), *replay.lines_up_to_next(), "regs")[-1]
-        pc = before[32][3:]
+        pc = before[32][len("pc="):]  # the line after x0 to x31
         text = bench.one("dis " + pc).split(" ", 2)[-1]
         *_, ran_line, after = bench.ask(*replay.lines_to(step), "regs")
         ran = step_of(ran_line[0])
@@ -144,8 +145,8 @@ class EventFinder:
         if state == self.state:
             world = state.worlds[hart]
             return refused_call(step, hart, Location(pc, ran.mode, world), register_values(after)) if world != "bare" else None
-        old, self.state = self.state, state
-        cause = cause_of(ran, old, hart, register_values(before), register_values(after), text)
+        old_state, self.state = self.state, state
+        cause = cause_of(ran, old_state, hart, register_values(before), register_values(after), text)
         return self.event(step, hart, cause, Location(pc, ran.mode, ran.world))
 
     def state_of(self, replay: Timeline, worlds: Sequence[str]) -> RightsState:
@@ -168,8 +169,8 @@ class EventFinder:
         """Returns a column for the world of each hart, and one for each world that runs on no hart."""
         worlds = self.state.worlds
         running = [Column("hart %d: %s" % (hart, world) if len(worlds) > 1 else world, world, hart) for hart, world in enumerate(worlds)]
-        live = ["host"] + [enclave.world for enclave in self.state.enclaves] if self.setup.monitor else []
-        return tuple(running + [Column(world, world, hart=None) for world in live if world not in worlds])
+        all_worlds = ["host"] + [enclave.world for enclave in self.state.enclaves] if self.setup.monitor else []
+        return tuple(running + [Column(world, world, hart=None) for world in all_worlds if world not in worlds])
 
     def rows(self, columns: Sequence[Column]) -> Iterator[Row]:
         """Yields the ranges between all boundaries: those of the PMP entries, and those of the table of enclaves."""
@@ -193,11 +194,12 @@ class EventFinder:
 
 
 def cause_of(ran: Ran, old: RightsState, hart: int, before: Sequence[int], after: Sequence[int], text: str) -> Cause:
-    """Returns the cause of a step that changed the access rights."""
+    """Returns the cause of a step that changed the access rights. `before` and `after` have x0 to x31 before and after the step, `text` the
+    instruction, and `old` the state before the step."""
     world = old.worlds[hart]
     if world == "bare":
         return Cause("pmp", text=text)
-    status = "%08x" % after[10]
+    status = "%08x" % after[A0]
     assert ran.trap is not None
     if ran.trap.cause == names.TIMER:
         return Cause("timer", int(world[1:]), status)
@@ -206,6 +208,6 @@ def cause_of(ran: Ran, old: RightsState, hart: int, before: Sequence[int], after
     if world != "host":
         return Cause(call.name, int(world[1:]), status)
     if call is names.Call.create:
-        return Cause("create", after[11], status, text)
-    entered = call in (names.Call.run, names.Call.resume)
-    return Cause(call.name, before[10], None if entered else status, text)
+        return Cause("create", slot=after[A1], status=status, text=text)
+    has_entered = call in (names.Call.run, names.Call.resume)  # then a0 is the enclave's, and no status
+    return Cause(call.name, slot=before[A0], status=None if has_entered else status, text=text)

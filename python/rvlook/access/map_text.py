@@ -13,7 +13,7 @@ from rvlook.protocol.replies import Enclave
 from rvlook.protocol.run import End, Run
 from rvlook.protocol.symbols import Symbols
 
-CELL = 6
+CELL = 6  # the least width of a column, in characters
 
 
 def show_map(run: Run, symbols: Symbols, printer: Printer, is_brief: bool = False) -> None:
@@ -95,15 +95,15 @@ def print_brief(printer: Printer, event: Event, before: Event | None, symbols: S
     printer.line("  ".join(parts))
     for enclave in event.enclaves:
         if not before or enclave not in before.enclaves:
-            was = next((earlier.state for earlier in before.enclaves if earlier.slot == enclave.slot), None) if before else None
-            printer.line("  %s %s -> %s" % (enclave.world, was, enclave.state) if was else enclave_text(enclave))
+            old_state = next((old.state for old in before.enclaves if old.slot == enclave.slot), None) if before else None
+            printer.line("  %s %s -> %s" % (enclave.world, old_state, enclave.state) if old_state else enclave_text(enclave))
     for range_, what, changed in changed_rows(event, before):
         ends = "%08x-%08x %7s" % (range_.first, range_.end - 1, names.size_text(range_.end - range_.first))
         printer.line("  %s  %s%s" % (ends, "  ".join(changed), "  " + what if what else ""))
 
 
 def changed_rows(event: Event, before: Event | None) -> list[tuple[Range, str, list[str]]]:
-    """Returns each range whose access rights change, with its meaning and changes, joined if alike; all ranges without an earlier event."""
+    """Returns each range whose access rights differ from those at the event before, with meaning and changes, joined if alike; without one, all."""
     rows: list[tuple[Range, str, list[str]]] = []
     starts = sorted({row.range.first for each in (event, before) if each for row in each.rows})
     for first, end in zip(starts, [*starts[1:], event.rows[-1].range.end]):
@@ -118,18 +118,18 @@ def changed_rows(event: Event, before: Event | None) -> list[tuple[Range, str, l
 
 
 def row_at(event: Event, address: int) -> Row:
-    """Returns the row of an address."""
+    """Returns the row of an event whose range includes an address."""
     return event.rows[bisect_right([row.range.first for row in event.rows], address) - 1]
 
 
 def rights_of(event: Event, address: int) -> dict[str, str]:
     """Returns the access rights of each world to an address, by mode if they differ between modes. A world that does not exist has no rights."""
-    row, rights_by_mode = row_at(event, address), {}
+    row, rights_by_name = row_at(event, address), {}
     for column in event.columns:
         for mode, rights in row.may[column.name].items():
-            split = "%s %s" % (column.world, mode) if is_split(column, event) else column.world
-            rights_by_mode[mode if column.world == "bare" else split] = rights
-    return rights_by_mode
+            world_and_mode = "%s %s" % (column.world, mode) if is_split(column, event) else column.world
+            rights_by_name[mode if column.world == "bare" else world_and_mode] = rights
+    return rights_by_name
 
 
 def change_text(name: str, old: str | None, new: str) -> str:
@@ -145,7 +145,7 @@ def enclave_text(enclave: Enclave) -> str:
 
 
 def is_split(column: Column, event: Event) -> bool:
-    """Returns whether the modes of a column may have different access rights."""
+    """Returns whether a column has a heading and a cell for each mode: the rights differ between modes, or the bench is bare."""
     return any(len(set(row.may[column.name].values())) > 1 for row in event.rows) or column.world == "bare"
 
 
@@ -159,7 +159,7 @@ def heads_of(column: Column, event: Event) -> list[str]:
 
 
 def cells_of(row: Row, event: Event) -> Iterator[str]:
-    """Yields the cells of a row."""
+    """Yields the cells of a row: the access rights of each column, or of each mode of a column that `is_split`."""
     for column in event.columns:
         values = list(row.may[column.name].values())
         yield from values if is_split(column, event) else values[:1]

@@ -29,15 +29,16 @@ class Verdicts(NamedTuple):
 def entry_range(entries: Sequence[PmpEntry], index: int) -> Range | None:
     """Returns the range that a PMP entry covers, or None if it is off or empty."""
     entry = entries[index]
-    mode = entry.cfg >> 3 & 3
+    mode = entry.cfg >> 3 & 3  # the field A
     if mode == TOR:
         first = 4 * entries[index - 1].addr if index else 0
         return Range(first, 4 * entry.addr) if first < 4 * entry.addr else None
     if mode == NA4:
         return Range(4 * entry.addr, 4 * entry.addr + 4)
     if mode == NAPOT:
-        size = 8 * ((entry.addr ^ (entry.addr + 1)) + 1) // 2
-        first = 4 * (entry.addr & ~(entry.addr ^ (entry.addr + 1)))
+        low_bits = entry.addr ^ (entry.addr + 1)  # the lowest bits of pmpaddr that are 1, and the 0 above them
+        size = 8 * (low_bits + 1) // 2
+        first = 4 * (entry.addr & ~low_bits)
         return Range(first, first + size)
     return None
 
@@ -53,7 +54,7 @@ def boundaries(entries: Sequence[PmpEntry], ram: int) -> list[int]:
 
 
 def verdicts_of(bench: Bench, pmp_lines: Sequence[str], modes: str, ram: int) -> list[Verdicts]:
-    """Queries the access rights to all of RAM under the PMP entries: `access` of the first byte after each boundary."""
+    """Queries the access rights to all of RAM in each of `modes`, by `access` to the first byte after each boundary of the PMP entries."""
     ends = boundaries([entry_of(line) for line in pmp_lines], ram)
     queries = [(mode, kind) for mode in modes for kind in KINDS]
     lines = ["access %s %s %x 1" % (mode, kind, at) for at in ends[:-1] for mode, kind in queries]
@@ -61,25 +62,26 @@ def verdicts_of(bench: Bench, pmp_lines: Sequence[str], modes: str, ram: int) ->
     ranges = []
     for index, (first, end) in enumerate(zip(ends, ends[1:])):
         verdicts = replies[index * len(queries):(index + 1) * len(queries)]
-        may = {mode: "".join(kind if verdicts[i * 3 + k].startswith("allowed") else "-" for k, kind in enumerate(KINDS))
-               for i, mode in enumerate(modes)}
+        may = dict.fromkeys(modes, "")
+        for (mode, kind), verdict in zip(queries, verdicts):
+            may[mode] += kind if verdict.startswith("allowed") else "-"
         ranges.append(Verdicts(Range(first, end), may, tuple(verdicts)))
     return merged(ranges)
 
 
 def merged(ranges: Iterable[Verdicts]) -> list[Verdicts]:
     """Joins adjacent ranges that have the same replies, including the entry that decides. An access across their boundary has that reply too."""
-    rows: list[Verdicts] = []
-    for part in ranges:
-        if rows and (rows[-1].may, rows[-1].replies) == (part.may, part.replies):
-            rows[-1] = Verdicts(Range(rows[-1].range.first, part.range.end), part.may, part.replies)
+    joined: list[Verdicts] = []
+    for verdicts in ranges:
+        if joined and (joined[-1].may, joined[-1].replies) == (verdicts.may, verdicts.replies):
+            joined[-1] = Verdicts(Range(joined[-1].range.first, verdicts.range.end), verdicts.may, verdicts.replies)
         else:
-            rows.append(part)
-    return rows
+            joined.append(verdicts)
+    return joined
 
 
 def derived_rights(world: str, enclaves: Sequence[Enclave], at: int) -> str:
-    """Returns the access rights of a world that runs on no hart to a byte, by the enclave table: three letters, as `rw-`."""
+    """Returns the access rights to the byte at an address of a world that runs on no hart, by the enclave table: three letters, as `rw-`."""
     if at < MONITOR_END:
         return NOTHING
     regions = [enclave.world for enclave in enclaves if enclave.has(at)]

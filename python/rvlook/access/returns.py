@@ -18,7 +18,7 @@ from rvlook.protocol.symbols import Symbols
 
 class Transient(NamedTuple):
     """A range that S may access only while M runs."""
-    event: Event  # opened it
+    event: Event  # the change of rights that gave S access
     range: Range
     may: str  # the rights that S has neither before nor after
 
@@ -40,13 +40,14 @@ def mode_returns(run: Run) -> Iterator[tuple[int, str, str] | End]:
         elif isinstance(item, Stretch):
             columns, last = item.columns, item.last
             after = zip([*columns.pcs[1:], last[0]], [*columns.modes[1:], last[1]])
-            yield from ((step, pc.decode(), mode.decode()) for step, (was, (pc, mode)) in enumerate(zip(columns.modes, after), item.first)
-                        if was == b"M" != mode)
+            for step, (old_mode, (pc, mode)) in enumerate(zip(columns.modes, after), item.first):
+                if old_mode == b"M" != mode:
+                    yield step, pc.decode(), mode.decode()
 
 
 def returns_of(run: Run, changes: Sequence[Event]) -> Iterator[Return | End]:
     """Yields each return from M with its access rights, and then the End. `changes` are the events of the run."""
-    index, before = 0, None
+    index, before = 0, None  # the index of the last change up to the return; the last change up to the return before it
     for item in mode_returns(run):
         if isinstance(item, End):
             yield item
@@ -61,8 +62,8 @@ def returns_of(run: Run, changes: Sequence[Event]) -> Iterator[Return | End]:
 
 
 def transients_of(before: Optional[Event], events_in_m: Sequence[Event], after: Event) -> Iterator[Transient]:
-    """Yields for each state of a stay the first range in which S may access more than before and after the stay."""
-    ends = [each for each in (before, after) if each]
+    """Yields for each state of a stay in M the first range in which S may access more than before and after the stay. `before` is None at reset."""
+    ends = [event for event in (before, after) if event]
     for event in events_in_m:
         starts = sorted({row.range.first for each in (event, *ends) for row in each.rows})
         for first, end in zip(starts, [*starts[1:], event.rows[-1].range.end]):

@@ -298,8 +298,7 @@ def permitted_text(permitted: Permitted) -> str:
 
 
 def show_lcov(run: Run, symbols: Symbols, printer: Printer, paths: Sequence[str]) -> None:
-    """Prints a record in the format of lcov for each world and each source file; the world is the test name. Raises RvlookError if there are no
-    source lines."""
+    """Prints an lcov record for each world and each source file; the world is its test name. Raises RvlookError if there are no source lines."""
     if not symbols.has_lines():
         raise RvlookError("no source lines; use an ELF file built with -g")
     touches = Touches(run)

@@ -142,8 +142,7 @@ def compare_drawn(leak: Leak, heard: Callable[[ComparedPair], None] = lambda it:
 
 
 def compare_indexed(leak: Leak, own: Secret, base: Observation, pairs: Sequence[Pair], index: int) -> tuple[ComparedPair, str]:
-    """Compares the pair at an index; returns the result, and why an observation was cut. With several processes, leaves out the observations, which
-    are large to send."""
+    """Compares the pair at an index; returns the result, and why an observation was cut. With several processes omits the large observations."""
     pair = try_pair(leak, own, base, pairs[index])
     return (pair if leak.options.jobs == 1 else pair._replace(result=None, observations=())), leak.cut
 

@@ -91,8 +91,7 @@ def bytes_of(activation: Activation) -> dict[int, Byte]:
 
 
 def record_load(byte: Byte, pc: int) -> bool:
-    """Records a load of a byte, unless the enclave has stored to the byte in this activation: then the host did not write the value. Returns whether
-    the load is new."""
+    """Records a load of a byte, unless the enclave has stored to it in this activation: then the host did not write it. Returns whether it is new."""
     if byte.stored_at is not None or byte.read_at == pc and (pc, pc) in byte.repeated_loads:
         return False
     if byte.input_at is None:

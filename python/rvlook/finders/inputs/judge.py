@@ -147,8 +147,7 @@ class TraceJudge:
                 part.unusual = self.version, unusual
 
     def indices_to_judge(self, trace: Trace, indices: Sequence[int], pcs: Sequence[int], part: Trace | None) -> Sequence[int]:
-        """Returns the positions in `indices` of steps that may be unusual; `pcs` has the pcs of these steps. If the part was judged before, they are
-        the steps that were unusual then."""
+        """Returns the positions in `indices` of steps that may be unusual. If the part was judged before, these were unusual then."""
         if part and part.unusual and part.unusual[0] == self.version:
             return part.unusual[1]
         plain = self.tracer.plain

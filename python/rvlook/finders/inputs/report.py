@@ -31,7 +31,7 @@ from rvlook.protocol.timeline import Timeline
 Group = Sequence[InputFinding]  # the findings of one instruction and kind; the first one has the fewest changes, and is replayed
 Models = Callable[[InputSearch, Trace], Iterator[Child]]
 TIME_LIMIT_OPTION, INTERRUPT = "--seconds", "Ctrl-C"  # the names of what ends a search early
-GRACE_SECONDS = 2.0  # seconds after the limit in which the findings are completed, and again in which they are replayed
+GRACE_SECONDS = 2.0  # seconds after the limit in which the findings are completed, and as many again in which they are replayed
 MAX_NAMES = 4  # names in a list
 MAX_PRINTED_BYTES = 16  # bytes of a value that is printed whole
 
@@ -42,12 +42,12 @@ def replay_of(search: InputSearch, finding: InputFinding) -> Timeline:
 
 
 def lines_to_input(replay: Timeline, finding: InputFinding) -> list[str]:
-    """Returns the commands up to the last change."""
+    """Returns the commands from the start of a replay up to the last change of a finding."""
     return replay.lines_to(max((change.step for change in finding.trace.changes), default=0)) + replay.lines_up_to_next()
 
 
 def lines_after(search: InputSearch, replay: Timeline, finding: InputFinding) -> list[str]:
-    """Returns the commands from the last change to the step of the finding, with its instruction and operands, and the step."""
+    """Returns the commands from the last change to the step of the finding: they go there, show the instruction and its operands, and do the step."""
     trace, index = finding.trace, finding.index
     commands = replay.lines_to(trace.steps[index] - 1) + ["dis %x" % trace.pcs[index]]
     commands += ["reg %d" % probe for probe in search.tracer.code[trace.pcs[index]].probes] + ["step 1"]
@@ -62,17 +62,17 @@ def check_replay(search: InputSearch, finding: InputFinding) -> None:
     with replay_of(search, finding) as replay:
         before, after = lines_to_input(replay, finding), lines_after(search, replay, finding)
         replies = replay.bench.ask(*before, *after)
-    shown = replies[len(before) + after.index("dis %x" % trace.pcs[index]):]
-    reached = [reply[0] for reply in replies if reply and reply[0].startswith("ran ")][-2]
-    probes = search.tracer.code[trace.pcs[index]].probes
-    values = register_values(reply[0] for reply in shown[1:1 + len(probes)])
-    is_same = not probes or access_of(search.tracer.code[trace.pcs[index]], values)[0] == trace.addresses[index]
-    if " pc=%08x " % trace.pcs[index] not in reached or not is_same:
+    pc, code = trace.pcs[index], search.tracer.code[trace.pcs[index]]
+    replies_from_dis = replies[len(before) + after.index("dis %x" % pc):]
+    *_, reply_before_step, _reply_to_step = [reply[0] for reply in replies if reply and reply[0].startswith("ran ")]
+    values = register_values(reply[0] for reply in replies_from_dis[1:1 + len(code.probes)])
+    is_same_address = not code.probes or access_of(code, values)[0] == trace.addresses[index]
+    if " pc=%08x " % pc not in reply_before_step or not is_same_address:
         raise Unfinished("a finding at step %d differs in its replay on rvbench" % trace.steps[index])
 
 
 def texts_of(search: InputSearch, finding: InputFinding, heading: str) -> tuple[bytes, bytes]:
-    """Returns two inputs of the bench: one that replays a finding, and one that ends after its last change."""
+    """Returns two inputs of rvbench: one that replays a finding, and one that ends after its last change."""
     setup = search.run.setup
     with replay_of(search, finding) as replay:
         before = lines_to_input(replay, finding)
@@ -105,16 +105,16 @@ class Inputs:
     """A search of `inputs`, and its result."""
     options: InputsOptions  # the options of the command
     limit: TimeLimit  # the limit of the time
-    models: Optional[Models]  # proposes inputs; None without a solver
+    models: Optional[Models]  # proposes inputs that a solver computes; None without a solver
     failures: Sequence[Failure]  # the failures of the run itself
     search: Optional[InputSearch] = None  # None if the run itself was not traced
     states: list[InputFinding] = field(default_factory=list)  # findings about older states
-    groups: Sequence[Group] = ()  # the findings, grouped
-    headings: Sequence[str] = ()  # the headings of the groups
+    groups: Sequence[Group] = ()  # the findings, grouped by kind and source line
+    headings: Sequence[str] = ()  # a line about each group
     cut: str = ""  # what ended the search early; empty if nothing did
     not_replayed: str = ""  # why findings were not replayed; empty if they were
 
-    def work(self, run: Run, symbols: Symbols, variables: Variables) -> None:
+    def run_search(self, run: Run, symbols: Symbols, variables: Variables) -> None:
         """Searches to the end, to the limit or to Ctrl-C. Raises Unfinished if the enclave does not return in the run itself."""
         try:
             with self.limit.until(1.0), Progress() as progress:
@@ -131,7 +131,7 @@ class Inputs:
             self.cut = INTERRUPT
 
     def prepare(self, search: InputSearch) -> None:
-        """Prepares a search: the secret, if there is one, and the runs from the run itself."""
+        """Prepares a search: the rules of the secret, if there is one, and the first runs."""
         options = self.options
         if options.at:
             secret = secret_of(options.at, search.symbols, search.run, options.slot)
@@ -164,7 +164,7 @@ def find_inputs(run: Run, variables: Variables, options: InputsOptions, heard: C
     """Searches inputs, proposed by `models` too, and replays the findings. Calls `heard` first, with the failures of the run itself."""
     result = Inputs(options, TimeLimit(options.seconds), models, failures_in(run, options.slot))
     heard(result.failures)
-    result.work(run, run.setup.symbols, variables)
+    result.run_search(run, run.setup.symbols, variables)
     if result.search:
         result.groups = groups_of(result.search, result.findings())
         result.not_replayed = replay_all(result.limit, result.search, result.groups)
@@ -203,15 +203,15 @@ def show_findings(result: Inputs, search: InputSearch, printer: Printer, finding
 
 
 def replay_all(limit: TimeLimit, search: InputSearch, groups: Sequence[Group]) -> str:
-    """Replays each finding, and reads the values that its changes replace. Returns why some were left out, if the time ended before that."""
-    done = 0
+    """Replays the first finding of each group, and reads the values that its changes replace. Returns why some were left out; empty if none were."""
+    number = 0  # of the group that is replayed, from 1
     try:
         with limit.until(1.0, 2 * GRACE_SECONDS):
-            for done, group in enumerate(groups, 1):
+            for number, group in enumerate(groups, 1):
                 group[0].trace.changes = with_old_values(search.run, group[0].trace.changes)
                 check_replay(search, group[0])
     except OutOfTime:
-        not_replayed = len(groups) - done + 1
+        not_replayed = len(groups) - number + 1
         return "--seconds ended inputs before rvbench replayed the last %d of %d findings; use a larger --seconds" % (not_replayed, len(groups))
     return ""
 
@@ -226,16 +226,19 @@ def groups_of(search: InputSearch, findings: Sequence[InputFinding]) -> list[Gro
     """Returns the findings in groups. A group has one kind at one source line, or at one instruction without source lines."""
     findings_by_key: dict[tuple[object, ...], list[InputFinding]] = {}
     for finding in findings:
-        where = search.symbols.line(finding.pc) or finding.pc
-        key = (finding.kind, finding.note if finding.kind in (FindingKind.SECRET, FindingKind.CHECK, FindingKind.REPLAY) else where)
-        findings_by_key.setdefault(key if finding.kind is not FindingKind.STUCK else (finding.kind, finding.place), []).append(finding)
+        what_is_equal: object = search.symbols.line(finding.pc) or finding.pc  # in all findings of a group
+        if finding.kind in (FindingKind.SECRET, FindingKind.CHECK, FindingKind.REPLAY):
+            what_is_equal = finding.note
+        elif finding.kind is FindingKind.STUCK:
+            what_is_equal = finding.place
+        findings_by_key.setdefault((finding.kind, what_is_equal), []).append(finding)
     order = list(FindingKind)
     groups = [sorted(group, key=priority) for group in findings_by_key.values()]
     return sorted(groups, key=lambda it: (order.index(it[0].kind), it[0].pc, it[0].trace.steps[it[0].index]))
 
 
 def priority(finding: InputFinding) -> tuple[object, ...]:
-    """Returns the order of the findings of a group: objects before traps, few changes before many, early steps before late ones."""
+    """Returns the sort key of a finding in its group: objects before traps, few changes before many, walks first, early steps before late ones."""
     return finding.place is FAULT, finding.cost, not finding.is_walk, finding.trace.steps[finding.index]
 
 
@@ -247,7 +250,7 @@ def heading_of(search: InputSearch, group: Group) -> str:
 
 
 def access_text(finding: InputFinding) -> str:
-    """Returns what an access does."""
+    """Returns in words what the access of a finding does."""
     usual = " or ".join(finding.usual[:MAX_NAMES]) or "nothing"
     if finding.place is FAULT:
         return "%s traps at an address that the host chooses" % finding.kind.value
@@ -265,7 +268,7 @@ TEXTS = {
 
 
 def details_of(search: InputSearch, group: Group) -> list[str]:
-    """Returns the further lines of a finding."""
+    """Returns the lines after the heading of a finding: its step, its caller, the reached objects and the changed inputs."""
     finding = group[0]
     step, name = finding.trace.steps[finding.index], search.symbols.name(finding.pc) or ""
     lines = ["  step %d  %08x  %s  %s" % (step, finding.pc, name, search.tracer.code[finding.pc].text)]
@@ -332,9 +335,9 @@ def coverage_text(search: InputSearch) -> str:
     lines = ", %(lines)d of %(all_lines)d lines" if coverage["all_lines"] else ", %(instructions)d instructions"
     cut = "; %d runs were cut after %d steps" % (search.tracer.cut, search.tracer.limit) if search.tracer.cut else ""
     waits = "; %d runs wait for the host to change the window" % search.tracer.waiting if search.tracer.waiting else ""
-    rest = waits + ("; each value was tried" if search.is_exhausted else "")
+    exhausted = "; each value was tried" if search.is_exhausted else ""
     text = "Covered: %(inputs)d inputs, %(values)d runs with other values, %(both_ways)d of %(branches)d branches both ways" + lines
-    return text % coverage + cut + rest
+    return text % coverage + cut + waits + exhausted
 
 
 def print_text(search: InputSearch, groups: Sequence[Group], printer: Printer, options: InputsOptions) -> None:
@@ -361,9 +364,9 @@ def inputs_text(search: InputSearch) -> list[str]:
         rows.setdefault(("again" if input_.is_loaded_again else "", where), []).append(name)
     lines = []
     for (again, place), named in rows.items():
-        several = list(dict.fromkeys(named))
-        more = ", ..." if len(several) > MAX_NAMES else ""
-        lines.append("input%s  %s  %s" % (" again" if again else "", ", ".join(several[:MAX_NAMES]) + more, place))
+        distinct_names = list(dict.fromkeys(named))
+        more = ", ..." if len(distinct_names) > MAX_NAMES else ""
+        lines.append("input%s  %s  %s" % (" again" if again else "", ", ".join(distinct_names[:MAX_NAMES]) + more, place))
     return lines
 
 

@@ -31,7 +31,7 @@ RUNS_AHEAD = 2  # runs that are started before the one that is traced is complet
 
 
 class TracerKnowledge(NamedTuple):
-    """The knowledge of a tracer before some runs."""
+    """The knowledge of a tracer before runs that other processes trace."""
     pcs: frozenset[int]  # the pcs of decoded instructions
     contexts: int  # the number of call contexts
     frames: Mapping[int, int]  # sp of each context
@@ -51,7 +51,7 @@ def known_to(tracer: Tracer) -> TracerKnowledge:
 
 
 def news_since(tracer: Tracer, known: TracerKnowledge) -> News:
-    """Returns the knowledge that a tracer has gained since an earlier time."""
+    """Returns the knowledge that a tracer has gained since it had the knowledge `known`."""
     contexts = tracer.contexts
     return News({pc: code for pc, code in tracer.code.items() if pc not in known.pcs},
                 list(zip(contexts.parents, contexts.calls, contexts.traps))[known.contexts:], new_frames(contexts, known), contexts.saved)
@@ -82,13 +82,14 @@ def traces_of(tracer: Tracer, parent: Trace, children: Sequence[Child], jobs: in
 
 def has_taken_over(tracer: Tracer, known: TracerKnowledge, trace: Trace, news: News) -> bool:
     """Takes over a trace of another process, with its news. Returns whether that was possible: the process knew all that the trace could use, and its
-    news do not contradict this process."""
-    contexts, numbers = tracer.contexts, list(range(known.contexts))
+    news do not contradict this process. `known` is what the processes knew before the runs."""
+    contexts, numbers = tracer.contexts, list(range(known.contexts))  # by the number of a context there, its number here
     for caller, pc, is_trap in news.contexts:
         numbers.append(contexts.called(numbers[caller], pc, is_trap))
     frames = {numbers[context]: sp for context, sp in news.frames.items()}
     visited_contexts = {numbers[context] for context in {*trace.contexts, trace.context}}
     used_contexts = {*frames, *visited_contexts, *(contexts.parents[context] for context in visited_contexts)}
+    # the process changed a known frame, decoded other code, or lacked a frame that this process has found meanwhile and that the trace may use
     if any(frame in known.frames for frame in frames) or any(tracer.code.get(pc, code) != code for pc, code in news.code.items()) or \
             any(frame in used_contexts and frames.get(frame) != sp for frame, sp in new_frames(contexts, known).items()):
         return False
@@ -136,7 +137,7 @@ class InputSearch:
         self.jobs = 1  # processes that trace the runs
 
     def start(self, secret_at: int | None, has_entry: bool) -> None:
-        """Prepares the search: the objects that values point to, the secret first, and the runs from the run itself."""
+        """Prepares the search: the addresses to try as pointers, that of the secret first, and the runs with one change. `has_entry` is --entry."""
         self.values.has_entry = has_entry
         targets = self.objects.object_starts(set(self.base.pcs))
         base = self.objects.enclave.base
@@ -161,7 +162,7 @@ class InputSearch:
         self.continued_traces += 1
 
     def requests(self, trace: Trace, details: Details) -> list[HostRequest]:
-        """Returns what each activation of a trace loads from the window. A byte that is loaded twice counts as it was first."""
+        """Returns what each activation of a trace loads from the window. If a byte is loaded twice, its first value counts."""
         loads = [reversed(list(self.values.loads(trace, details, visit))) for visit in trace.visits]
         contents = [{at + n: value for _, at, data in loads_of_visit for n, value in enumerate(data)} for loads_of_visit in loads]
         return [HostRequest(trace.steps[visit.first] - 1, visit.first, content) for visit, content in zip(trace.visits, contents)]
@@ -183,7 +184,7 @@ class InputSearch:
             batch = self.next_batch(parent, runs)
             is_parallel = self.jobs > 1 and len(batch) > 1
             for trace in traces_of(self.tracer, parent.trace, batch, self.jobs) if is_parallel else self.traced(parent.trace, batch, started):
-                self.take(trace)
+                self.judge_and_go_on(trace)
                 progress.show("%d of %d runs, %d reached something new, %d findings", self.tracer.runs, runs, self.continued_traces,
                               len(self.judge.findings))
             if parent is self.root:
@@ -195,16 +196,16 @@ class InputSearch:
         self.is_exhausted = True
 
     def traced(self, parent: Trace, children: Sequence[Child], started: deque[Started]) -> Iterator[Trace]:
-        """Yields the traces of runs. Starts each run before the RUNS_AHEAD runs before it are complete."""
+        """Yields the traces of runs. Keeps RUNS_AHEAD runs started besides the one that is traced, so that their processes run meanwhile."""
         for child in [*children, *[None] * RUNS_AHEAD]:
             if child is not None:
                 started.append(self.tracer.start(parent, child.index, child.changes))
             if started and (child is None or len(started) > RUNS_AHEAD):
                 yield self.tracer.finish(started.popleft())
 
-    def next_parent(self, last: Parent | None) -> Parent:
-        """Returns the trace whose inputs the next runs change: every second time the run itself."""
-        is_turn_of_root = last is not self.root or not self.parents
+    def next_parent(self, previous: Parent | None) -> Parent:
+        """Returns the trace whose inputs the next runs change: every second time the run itself. `previous` is the one before; None at the start."""
+        is_turn_of_root = previous is not self.root or not self.parents
         return self.root if self.root and is_turn_of_root else self.parents.popleft()
 
     def next_batch(self, parent: Parent, runs: int) -> list[Child]:
@@ -219,10 +220,10 @@ class InputSearch:
                 break
         return batch
 
-    def take(self, trace: Trace) -> None:
-        """Takes the trace of a run, and goes on from it if it reached something new."""
+    def judge_and_go_on(self, trace: Trace) -> None:
+        """Adds the findings of a trace, and goes on from the trace if it reached something new."""
         is_new = self.judge.judge_trace(trace)
         if self.rules:
-            self.rules.take(trace)
+            self.rules.judge_trace(trace)
         if is_new and len(trace.changes) < MAX_CHANGES_PER_RUN and len(trace):
             self.go_on_from(trace)

@@ -4,7 +4,7 @@ from __future__ import annotations
 from dataclasses import dataclass
 from typing import Iterator, NamedTuple, Sequence, TYPE_CHECKING
 
-from rvlook.finders.inputs.code import ENDS_BLOCK, Kind
+from rvlook.finders.inputs.code import A1, ENDS_BLOCK, Kind
 from rvlook.finders.inputs.judge import InputFinding, FindingKind
 from rvlook.finders.inputs.objects import ObjectPlace
 from rvlook.finders.inputs.trace import Change, Trace, TraceVisit, runs_of
@@ -15,6 +15,7 @@ if TYPE_CHECKING:
     from rvlook.finders.inputs.search import InputSearch
 
 ANSWER_SIZE = 4  # bytes of a1
+MAX_COMPARED_BYTES = 64  # of an output, in a run with another secret
 MIN_NONZERO_BYTES = 3  # the least number of bytes that are not 0 in a state that is loaded from another address than it was stored at
 
 
@@ -35,7 +36,7 @@ def steps_of(trace: Trace, visit: TraceVisit) -> range:
 
 
 class SecretRules:
-    """Compares which parts of a secret come out of each trace."""
+    """Finds the parts of a secret that come out of each trace, and compares them with the checks of the enclave."""
     def __init__(self, search: InputSearch, secret: Secret, public: Public) -> None:
         self.search, self.secret, self.public = search, secret, public  # `public`: the outputs that may depend on the secret
         self.reported_offsets: set[int] = set()  # offsets of bytes of the secret that come out and are not public
@@ -45,12 +46,12 @@ class SecretRules:
         self.usual_outputs = list(self.outputs(search.base))  # the outputs of the run itself
         self.report(search.base, self.usual_outputs)
 
-    def take(self, trace: Trace) -> None:
-        """Takes a trace of the search."""
+    def judge_trace(self, trace: Trace) -> None:
+        """Adds the findings of a trace of the search, and records a check that it shows."""
         outputs = list(self.outputs(trace))
         self.report(trace, outputs)
         if self.usual_outputs:
-            self.note_check(trace, {trace.visit_at(output.end) for output in outputs})
+            self.record_check(trace, {trace.visit_at(output.end) for output in outputs})
             if outputs:
                 self.traces_with_outputs.append((trace, outputs))
 
@@ -76,7 +77,7 @@ class SecretRules:
     def outputs(self, trace: Trace) -> Iterator[Output]:
         """Yields the parts of the secret that each activation stores to the window or answers."""
         for visit in trace.visits:
-            content: dict[int, tuple[int, int]] = {}
+            content: dict[int, tuple[int, int]] = {}  # by address: each byte that was stored, and the index of the step that stored it last
             for index in steps_of(trace, visit):
                 code = self.search.tracer.code[trace.pcs[index]]
                 at = trace.addresses[index]
@@ -84,13 +85,13 @@ class SecretRules:
                     content.update((at + n, (trace.values[index] >> 8 * n & 0xFF, index)) for n in range(code.width))
             last = steps_of(trace, visit)[-1]
             yield from self.stored(trace, content, last)
-            word = visit.answer[1].to_bytes(ANSWER_SIZE, "little")
-            offset = self.secret.bytes.find(word) if len(set(word)) > 1 else -1
+            word = visit.answer[1].to_bytes(ANSWER_SIZE, "little")  # a1 of the host
+            offset = self.secret.bytes.find(word) if len(set(word)) > 1 else -1  # equal bytes may be a coincidence
             if offset >= 0 and visit.ended_by in ("stop", "exit"):
                 yield Output(offset, ANSWER_SIZE, address=None, index=last, end=last, is_public=self.public.answer)
 
     def stored(self, trace: Trace, content: dict[int, tuple[int, int]], last: int) -> Iterator[Output]:
-        """Yields the copies of parts of the secret among stored bytes."""
+        """Yields the copies of parts of the secret among stored bytes. `content` has these bytes; `last` is the index of the step that leaves."""
         for first, data in runs_of({at: value for at, (value, _) in content.items()}):
             for copy in copies_in(data, self.secret.bytes):
                 addresses = range(first + copy.at, first + copy.at + copy.size)
@@ -107,22 +108,22 @@ class SecretRules:
         with run.replay() as replay:
             replay.go(trace.steps[output.end])
             if output.address is None:
-                return replay.bench.register(11) != trace.visits[trace.visit_at(output.end)].answer[1]
-            size = min(output.size, 64)
+                return replay.bench.register(A1) != trace.visits[trace.visit_at(output.end)].answer[1]
+            size = min(output.size, MAX_COMPARED_BYTES)
             return replay.bench.memory(output.address, size) != self.secret.bytes[output.offset:output.offset + size]
 
-    def note_check(self, trace: Trace, visits: set[int]) -> None:
-        """Takes a trace with one change, and records a check that the trace shows. The branch by which it leaves the trace of the run itself is a
-        check if the trace then keeps the secret inside. A branch that depends on memory of the region is also a check if the answer of the
-        activation changes."""
+    def record_check(self, trace: Trace, visits: set[int]) -> None:
+        """Records a check that a trace with one change shows. The branch by which it leaves the trace of the run itself is a check if the trace then
+        keeps the secret inside. A branch that depends on memory of the region is also a check if the answer of the activation changes. `visits` are
+        the activations of the trace with an output."""
         base = self.search.base
-        branch = first_difference(base, trace) - 1
+        branch = first_difference(base, trace) - 1  # index of the last step in common
         if len(trace.changes) != 1 or not 0 <= branch < min(len(trace), len(base)) - 1:
             return
         code, number = self.search.tracer.code[base.pcs[branch]], base.visit_at(branch)
-        withheld = {base.visit_at(output.end) for output in self.usual_outputs} - visits
+        silent_visits = {base.visit_at(output.end) for output in self.usual_outputs} - visits  # activations that keep the secret inside
         is_other_answer = number < len(trace.visits) and trace.visits[number].answer != base.visits[number].answer
-        if code.kind is Kind.BRANCH and (withheld and number <= min(withheld) or is_other_answer and self.is_private(branch)):
+        if code.kind is Kind.BRANCH and (silent_visits and number <= min(silent_visits) or is_other_answer and self.is_private(branch)):
             self.targets_of_failed_checks[base.pcs[branch]] = trace.following(branch)
 
     def is_private(self, index: int) -> bool:
@@ -135,7 +136,7 @@ class SecretRules:
         reported_pcs: set[int] = set()
         base = self.search.base
         usual_targets = branches_of(self.search, base, range(len(base) - 1))
-        usual_branches = [branches for *_, branches in self.segments([(base, self.usual_outputs)])]
+        usual_branches = [branches for *_, branches in self.segments([(base, self.usual_outputs)])]  # before each output of the run itself
         for trace, output, branches in self.segments(self.traces_with_outputs):
             for pc, target in sorted(self.targets_of_failed_checks.items()):
                 is_skipped = pc not in branches and all(pc in branch for branch in usual_branches) and not self.has_passed(trace, pc, target, output)
@@ -152,8 +153,8 @@ class SecretRules:
         return bool(branches_of(self.search, trace, range(first)).get(pc, set()) - {target})
 
     def segments(self, traces: Sequence[tuple[Trace, list[Output]]]) -> Iterator[tuple[Trace, Output, dict[int, set[int]]]]:
-        """Yields each output of some traces with the branches since the activation of the output before it. Leaves out outputs whose steps up to
-        then are the steps of the run itself, unless the trace is that of the run itself."""
+        """Yields each output of these traces with the branches since the end of the activation with the output before it. Leaves out outputs up to
+        which a trace has the same steps as the run itself, unless it is the trace of the run itself."""
         base = self.search.base
         for trace, outputs in traces:
             first, common_steps = 0, 0 if trace is base else first_difference(base, trace)
@@ -164,7 +165,7 @@ class SecretRules:
 
 
 def branches_of(search: InputSearch, trace: Trace, indices: range) -> dict[int, set[int]]:
-    """Returns where each branch goes in a range of steps."""
+    """Returns for each branch in a range of steps, by its pc, the pcs to which it goes."""
     targets: dict[int, set[int]] = {}
     for index in indices:
         if search.tracer.code[trace.pcs[index]].kind is Kind.BRANCH:
@@ -179,7 +180,7 @@ def first_difference(one: Trace, two: Trace) -> int:
 
 class OlderState(NamedTuple):
     """An older state, which the host gives to the enclave again."""
-    change: Change  # gives the state
+    change: Change  # the input that gives the state
     visit: int  # the activation that gets the state, from 0
     stored_in: int | None  # the activation that stored it, from 0; None if the host gave it
 
@@ -195,15 +196,15 @@ def older_states(search: InputSearch, loaded: dict[int, bytes]) -> Iterator[Olde
         for at, data in runs_of(loads[number]):
             for state, size in stored_states(at, data, stores[:number]):
                 address, present = at + state.offset, data[state.offset:state.offset + size]
-                for value, origin in versions(stores[:number], loads[:number], state, at, size):
+                for value, stored_in in versions(stores[:number], loads[:number], state, at, size):
                     if value != present and present in successors(stores[:number], loads[:number], state.at, value):
-                        change = Change(base.steps[visit.first] - 1, address, value, 0, search.values.name(address), present.hex())
-                        yield OlderState(change, number, origin)
+                        step, name = base.steps[visit.first] - 1, search.values.name(address)
+                        yield OlderState(Change(step, address, value, register=0, name=name, old=present.hex()), number, stored_in)
 
 
 class StoredState(NamedTuple):
-    """A state that an earlier activation stored."""
-    offset: int  # the offset in the loaded bytes
+    """A state that an earlier activation stored, and that an activation loads."""
+    offset: int  # the offset of the state in the loaded bytes
     at: int  # address at which the state was stored
 
 
@@ -213,13 +214,14 @@ def stored_states(first: int, data: bytes, stores: list[dict[int, int]]) -> Iter
     for content in reversed(stores):
         for at, value in runs_of(content):
             for copy in copies_in(data, value):
-                is_there = first + copy.at == at + copy.offset
-                if copy.size >= LEAST and (is_there or copy.size - data[copy.at:copy.at + copy.size].count(0) >= MIN_NONZERO_BYTES):
+                is_same_address = first + copy.at == at + copy.offset
+                nonzero_bytes = copy.size - data[copy.at:copy.at + copy.size].count(0)
+                if copy.size >= LEAST and (is_same_address or nonzero_bytes >= MIN_NONZERO_BYTES):
                     yield StoredState(copy.at, at + copy.offset), copy.size
 
 
 def versions(stores: list[dict[int, int]], loads: list[dict[int, int]], state: StoredState, at: int, size: int) -> Iterator[tuple[bytes, int | None]]:
-    """Yields the other values that earlier activations stored at the same address, and those that the host gave them at the loaded one."""
+    """Yields the values that activations stored at the state's address, with their numbers, and those they loaded at its new address, with None."""
     for number, content in enumerate(stores):
         if all(state.at + n in content for n in range(size)):
             yield bytes(content[state.at + n] for n in range(size)), number
@@ -273,6 +275,6 @@ def replayed_states(search: InputSearch, loaded: dict[int, bytes]) -> Iterator[I
 
 
 def visible_results(search: InputSearch, trace: Trace, number: int) -> tuple[object, ...]:
-    """Returns what an activation stores to the window, and how it ends."""
+    """Returns what the host can observe of the activation with a number: how it ends, and what it stores to the window."""
     visit = trace.visits[number]
     return visit.ended_by, visit.answer, tuple(window_bytes(search, trace, visit, Kind.STORE, {}))

@@ -15,6 +15,7 @@ from rvlook.protocol.replies import Enclave, poke_commands
 ROOT = 0  # the context outside every call
 NO_PC = -1  # the value in place of a pc when the enclave does not run
 READ_RESULT = b"reg 10\nreg 11\n"  # reads a0 and a1 of the host, after an activation
+PLACE_LENGTH = len(b" pc=80000000 mode=S world")  # characters of a reply that are compared: its pc and its mode
 
 
 class Change(NamedTuple):
@@ -53,11 +54,11 @@ class Trace:
     steps: array[int] = field(default_factory=lambda: array("I"))  # the number of each step in the run
     pcs: array[int] = field(default_factory=lambda: array("I"))  # the pc of each step
     addresses: array[int] = field(default_factory=lambda: array("I"))  # the address of each load and store; a1 of a call of the monitor
-    values: array[int] = field(default_factory=lambda: array("I"))  # stored to the window; a6 of a call of the monitor
-    contexts: array[int] = field(default_factory=lambda: array("I"))  # the number of the call context
+    values: array[int] = field(default_factory=lambda: array("I"))  # the value of each store; a6 of a call of the monitor
+    contexts: array[int] = field(default_factory=lambda: array("I"))  # the number of the call context of each step
     traps: dict[int, tuple[int, int]] = field(default_factory=dict)  # the cause and the value of each trap, by index of the step
     visits: list[TraceVisit] = field(default_factory=list)  # the activations
-    end: str = ""  # how the trace ends, see above; empty while it is not known
+    end: str = ""  # halted, limit, waits or stuck, see above; empty while it is not known
     changed_indices: list[int] = field(default_factory=list)  # the indices whose access differs from that of the parent
     new_ranges: list[tuple[int, int]] = field(default_factory=list)  # ranges of indices of steps that the parent does not have
     next_pc: int = 0  # the pc after the last step
@@ -65,13 +66,13 @@ class Trace:
     total: int = 0  # number of steps of the run, also of steps of the host
     probes: Optional[Probes] = None  # made when another run first follows this trace
     parts: list[tuple[int, Trace]] = field(default_factory=list)  # steps that other traces have too, with the index of the first
-    unusual: Optional[tuple[int, list[int]]] = None  # if it is a part: the version of the judge then, and the indices that were unusual
+    unusual: Optional[tuple[int, list[int]]] = None  # of a part that was judged: the version of the judge then, and the unusual indices
 
     def __len__(self) -> int:
         return len(self.pcs)
 
     def prefix(self, count: int, changes: Changes) -> Trace:
-        """Returns the first steps as a trace with other changes. Its last activation is open."""
+        """Returns the first `count` steps as a trace with other changes. An activation that ends later is open in it."""
         visits = [visit for visit in self.visits if visit.first < count]
         if visits:
             last = visits[-1].last
@@ -88,7 +89,7 @@ class Trace:
         return trace
 
     def cut(self, count: int) -> None:
-        """Removes all steps but the first ones."""
+        """Removes all steps but the first `count`."""
         first = self.prefix(count, self.changes)
         self.steps, self.pcs, self.addresses, self.values, self.contexts = first.steps, first.pcs, first.addresses, first.values, first.contexts
         self.traps, self.visits, self.context = first.traps, first.visits, first.context
@@ -96,8 +97,8 @@ class Trace:
         self.parts = [(at, part) for at, part in self.parts if at + len(part) <= count]
 
     def append(self, parent: Trace, first: int, end: int, later: int) -> None:
-        """Adds steps of another trace, by their indices there; each is done a number of steps later."""
-        shift = len(self) - first
+        """Adds the steps of another trace with indices from `first` to before `end`. Their numbers in the run are greater by `later`."""
+        shift = len(self) - first  # the difference of the indices of a step
         self.steps.extend([step + later for step in parent.steps[first:end]] if later else parent.steps[first:end])
         self.pcs += parent.pcs[first:end]
         self.addresses += parent.addresses[first:end]
@@ -105,7 +106,7 @@ class Trace:
         self.contexts += parent.contexts[first:end]
         self.traps.update((n + shift, trap) for n, trap in parent.traps.items() if first <= n < end)
         self.context = parent.contexts[end] if end < len(parent) else parent.context
-        is_open = bool(self.visits) and self.visits[-1].last is None
+        is_open = bool(self.visits) and self.visits[-1].last is None  # the last activation, so that the first added one may continue it
         for visit in parent.visits:
             begin, is_whole = max(first, visit.first), visit.last is not None and visit.last < end
             if begin < end and (visit.last is None or first <= visit.last):
@@ -130,7 +131,7 @@ class Trace:
         yield indices[begin:], None
 
     def visit_at(self, index: int) -> int:
-        """Returns the number, from 0, of the activation that has a step."""
+        """Returns the number, from 0, of the activation that includes the step at an index."""
         return max(n for n, visit in enumerate(self.visits) if visit.first <= index)
 
     def following(self, index: int) -> int:
@@ -142,7 +143,7 @@ class Trace:
 
 
 def runs_of(content: Mapping[int, int]) -> Iterator[tuple[int, bytes]]:
-    """Yields the address and the bytes of each range without gaps."""
+    """Yields the address and the bytes of each range without gaps. `content` has the bytes by address."""
     addresses = sorted(content)
     start = 0
     for n in range(1, len(addresses) + 1):
@@ -180,10 +181,10 @@ class Probes:
             self.texts[number] = (b"step %d\n" % count if count else b"reg 0\n") + probe.question
             self.probe_of_reply += [number] * (1 + probe.question.count(b"\n"))
             self.replies_before.append(len(self.probe_of_reply))
-        self.expected: list[bytes] = []  # the replies of the trace
+        self.expected: list[bytes] = []  # the replies to all probes in the run of the trace itself
 
     def text_from(self, first: int, position: int) -> tuple[bytes, int]:
-        """Returns the commands of the probes from one on, for a run at a position, and the number of replies."""
+        """Returns the commands of the probes from number `first` on, for a run at a position, and the number of their replies."""
         if first >= len(self.probes):
             return b"", 0
         probe = self.probes[first]
@@ -198,12 +199,12 @@ class Probes:
         expected = self.expected[start:]
         if first >= len(self.probes) or replies == expected:
             return comparison
-        for number in compress(count(), map(ne, replies, expected)):
+        for number in compress(count(), map(ne, replies, expected)):  # the replies that differ
             if not number and is_same_pc(replies[number], expected[number]):
                 continue
-            owner = self.probe_of_reply[start + number]
+            owner = self.probe_of_reply[start + number]  # the number of the probe
             probe, offset = self.probes[owner], start + number - self.replies_before[owner]
-            if not offset:
+            if not offset:  # another pc: the paths differ somewhere after the previous probe
                 before = self.probes[owner - 1] if owner > first else None
                 comparison.end = probe.step_index if before is None else before.step_index + before.is_after
                 return comparison
@@ -217,14 +218,14 @@ class Probes:
 
 
 def is_same_pc(reply: bytes, expected: bytes) -> bool:
-    """Returns whether a first reply, after another number of steps, is at the expected pc. A reply to `reg` has no pc: no step was done."""
+    """Returns whether the reply to a first probe, after any number of steps, has the expected pc and mode. After no step, a reply has no pc."""
     start, expected_start = reply.find(b" pc="), expected.find(b" pc=")
-    return start < 0 or expected_start < 0 or reply[start:start + 25] == expected[expected_start:expected_start + 25]
+    return start < 0 or expected_start < 0 or reply[start:start + PLACE_LENGTH] == expected[expected_start:expected_start + PLACE_LENGTH]
 
 
 def each_probe(trace: Trace, code: Mapping[int, Code], enclave: Enclave) -> Iterator[TraceProbe]:
     """Yields the probes of a trace: before each access whose address may change, after each branch, and at the end of each activation."""
-    last_steps, previous_kind = {visit.last for visit in trace.visits}, Kind.BRANCH
+    last_steps, previous_kind = {visit.last for visit in trace.visits}, Kind.BRANCH  # as after a branch, the first step has a probe
     for index, pc in enumerate(trace.pcs):
         instruction = code[pc]
         question = question_of(instruction, enclave.shares(trace.addresses[index]))
@@ -237,7 +238,7 @@ def each_probe(trace: Trace, code: Mapping[int, Code], enclave: Enclave) -> Iter
 
 
 def question_of(code: Code, is_window: bool) -> bytes:
-    """Returns the commands that read the registers of an access. A stored value is read only if it goes to the window."""
+    """Returns the commands that read the registers of an access; empty for one relative to sp. Reads a stored value only if it goes to the window."""
     if not code.probes or code.is_sp_relative:
         return b""
     registers = code.probes if is_window or code.kind is Kind.ECALL else code.probes[:1]

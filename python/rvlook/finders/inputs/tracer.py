@@ -261,8 +261,7 @@ class Tracer:
 
     @staticmethod
     def joined(trace: Trace, begin: int, parent: Trace, join_points: JoinPoints) -> Joined | None:
-        """Returns where the steps of a trace from index `begin` on join the parent in the same activation, and removes the steps after that. Returns
-        None if they do not join it."""
+        """Returns where steps of a trace from index `begin` on join the parent in the same activation, or None. Removes the steps after that."""
         end = len(trace) - JOIN_LENGTH
         for at in compress(range(begin, end), map(join_points.__contains__, trace.pcs[begin:end])):
             for other in join_points[trace.pcs[at]].get(trace.pcs[at:at + JOIN_LENGTH].tobytes(), ()):

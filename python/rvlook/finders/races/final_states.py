@@ -267,8 +267,7 @@ def with_preemptions(graph: Graph, bound: int) -> Graph:
 
 
 def round_of(graph: Graph, vertex: Vertex, moving: Sequence[int], part: Set[Vertex]) -> tuple[tuple[int, Move], ...]:
-    """Returns harts and their moves that lead from a vertex through its component and back. Each of the harts `moving` moves. `part` has the vertices
-    of the component."""
+    """Returns harts and moves that lead from a vertex through its component, whose vertices are `part`, and back. Each hart in `moving` moves."""
     end = start = vertex
     moves: list[tuple[int, Move]] = []
     for hart in moving:
