@@ -24,7 +24,7 @@ MUTANTS = (
     Mutant("two harts that go on change the outcome by independent steps", "finders/races/final_states.py", "if final_states.are_hidden and not search.why_cut:",
            "if False:", "test_races_endless.py::test_values_of_two_independent_endless_loops_are_combined"),
     Mutant("the state that represents a loop has a memory of another state", "finders/races/loop.py", "(pc, context, loop_digest ^ other_digest, registers)",
-           "(pc, context, work.digest, registers)",
+           "(pc, context, hart_run.digest, registers)",
            "test_races_endless.py::test_search_is_bounded_on_the_attacker_after_some_nops"),
     Mutant("the wait for the state that represents a loop is unbounded", "finders/races/loop.py", "if again.steps_done > max_steps:", "if False:",
            "test_races_endless.py::test_wait_for_the_state_of_a_loop_is_bounded"),

@@ -175,15 +175,15 @@ def test_wait_for_the_state_of_a_loop_is_bounded():
             work.steps_done, work.pc = work.steps_done + 1, (work.pc + 1) % 4
             assert work.steps_done < 1000, "it is never given up"
 
-    work, old = Round(), races_loop.Work
+    work, old = Round(), races_loop.HartRun
     work.steps_done = 12
-    races_loop.Work = Round
+    races_loop.HartRun = Round
     try:
         assert races_loop.first_arrival(Steps, None, work, (3, 0, 0, ()), 5).steps_done == 7
         with pytest.raises(RvlookError):
             races_loop.first_arrival(Steps, None, work, (9, 0, 0, ()), 0)
     finally:
-        races_loop.Work = old
+        races_loop.HartRun = old
 
 
 def test_search_is_bounded_on_the_attacker_after_some_nops(final_states):

@@ -39,7 +39,7 @@ def mode_returns(run: Run) -> Iterator[tuple[int, str, str] | End]:
             yield item
         elif isinstance(item, Stretch):
             columns, last = item.columns, item.last
-            after = zip([*columns.pcs[1:], last[0]], [*columns.modes[1:], last[1]])
+            after = zip([*columns.pcs[1:], last[0]], [*columns.modes[1:], last[1]])  # pc and mode after each step
             for step, (old_mode, (pc, mode)) in enumerate(zip(columns.modes, after), item.first):
                 if old_mode == b"M" != mode:
                     yield step, pc.decode(), mode.decode()

@@ -96,7 +96,7 @@ class TriedPairs:
 
     @property
     def differing(self) -> dict[int, ComparedPair]:
-        """Returns the pairs that differ without a verdict, by number."""
+        """Returns the pairs that differ and are not in `verdicts`, by number."""
         verdicts = self.verdicts
         return {pair.number: pair for pair in self.pairs if pair.channels and pair.number not in verdicts}
 

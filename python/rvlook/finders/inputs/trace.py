@@ -177,8 +177,8 @@ class Probes:
         self.replies_before = [0]  # number of replies before those to each probe
         self.probe_of_reply: list[int] = []  # the number of the probe of each reply
         for number, probe in enumerate(probes):
-            count = probe.position - probes[number - 1].position if number else 0
-            self.texts[number] = (b"step %d\n" % count if count else b"reg 0\n") + probe.question
+            steps = probe.position - probes[number - 1].position if number else 0
+            self.texts[number] = (b"step %d\n" % steps if steps else b"reg 0\n") + probe.question
             self.probe_of_reply += [number] * (1 + probe.question.count(b"\n"))
             self.replies_before.append(len(self.probe_of_reply))
         self.expected: list[bytes] = []  # the replies to all probes in the run of the trace itself
@@ -188,8 +188,8 @@ class Probes:
         if first >= len(self.probes):
             return b"", 0
         probe = self.probes[first]
-        count = probe.position - position
-        head = (b"step %d\n" % count if count else b"reg 0\n") + probe.question
+        steps = probe.position - position
+        head = (b"step %d\n" % steps if steps else b"reg 0\n") + probe.question  # `reg 0` takes the place of a reply with a pc
         return head + b"".join(self.texts[first + 1:]), len(self.probe_of_reply) - self.replies_before[first]
 
     def compare(self, first: int, replies: Sequence[bytes]) -> ProbeComparison:

@@ -10,7 +10,7 @@ from typing import Any, Callable, Iterable, Iterator, Mapping, NamedTuple, Optio
 from rvlook.errors import RvlookError
 from rvlook.finders.outcomes import Observed, Value, value_in
 from rvlook.finders.races.loop import Loop, do_steps
-from rvlook.finders.races.machine import CachedState, RaceMachine, Segment, Work
+from rvlook.finders.races.machine import CachedState, HartRun, RaceMachine, Segment
 from rvlook.finders.races.search import Edge, Graph, Move, ScheduleSearch, SearchNode, Vertex, schedule_of
 from rvlook.finders.races.time_limit import OutOfTime
 
@@ -163,19 +163,20 @@ class Component:
         machine, nodes = self.machine, self.graph.nodes
         pc = min(machine.pc(nodes[vertex].point.state, hart) for vertex in self.vertices)
         if hart in self.moves:
-            pc = min(pc, *(work.pc for work in self.run_alone(hart)))
+            pc = min(pc, *(hart_run.pc for hart_run in self.run_alone(hart)))
         return HartEnd(HALTS if machine.ends and not machine.limit and pc not in machine.ends else ENDED, pc)
 
-    def run_alone(self, hart: int) -> Iterator[Work]:
+    def run_alone(self, hart: int) -> Iterator[HartRun]:
         """Runs a hart alone from the component's first state back to it; yields it after each step. Raises RvlookError without a return."""
-        work, loop = Work(self.machine, self.state, hart), self.loop(hart)
-        start = full_state(work)
+        hart_run, loop = HartRun(self.machine, self.state, hart), self.loop(hart)
+        start = full_state(hart_run)
         max_steps = loop.length if loop and hart not in self.moves else sum(move.steps for move in self.moves[hart])
-        for _ in do_steps(self.machine, work, max_steps, lambda: self.graph.nodes[self.vertices[0]].schedule() + [Segment(hart, work.steps_done)]):
-            yield work
-            if full_state(work) == start:
+        first_node = self.graph.nodes[self.vertices[0]]
+        for _ in do_steps(self.machine, hart_run, max_steps, lambda: first_node.schedule() + [Segment(hart, hart_run.steps_done)]):
+            yield hart_run
+            if full_state(hart_run) == start:
                 return
-        raise RvlookError("hart %d does not return to its state in the endless loop at %08x" % (hart, work.pc))
+        raise RvlookError("hart %d does not return to its state in the endless loop at %08x" % (hart, hart_run.pc))
 
     def values(self, outcome: Sequence[Observed]) -> tuple[dict[tuple[Value, ...], OutcomeState], bool]:
         """Returns the recurring values of the outcome, each with a vertex, a state and the schedule between them; and whether some may be missing."""
@@ -200,16 +201,15 @@ class Component:
         if not watched.registers and not watched.addresses:
             return states_by_values  # only dependent steps can change the outcome, so each value has a vertex
         previous: object = None
-        for work in self.run_alone(hart):
-            present = work.digest, work.table, [work.registers[number] for owner, number in watched.registers if owner == hart]
+        for hart_run in self.run_alone(hart):
+            present = hart_run.digest, hart_run.table, [hart_run.registers[number] for owner, number in watched.registers if owner == hart]
             if present != previous:
-                state, previous = work.cached_state(), present
-                states_by_values.setdefault(values_in(self.machine, outcome, state), OutcomeState(first, state, (Segment(hart, work.steps_done),)))
+                state, tail, previous = hart_run.cached_state(), (Segment(hart, hart_run.steps_done),), present
+                states_by_values.setdefault(values_in(self.machine, outcome, state), OutcomeState(first, state, tail))
         return states_by_values
 
     def round(self, vertex: Vertex, state: CachedState, harts: Sequence[int], tail: Sequence[Segment]) -> tuple[Segment, ...]:
-        """Returns the schedule from a state back to it in which each of these harts moves. `tail` leads from the vertex to the state; it is empty
-        unless a hart runs alone."""
+        """Returns the schedule from a state back to it in which each of these harts moves. `tail` is the schedule from the vertex to the state."""
         moving = [hart for hart in harts if hart in self.moves]
         if len(moving) == 1 and tail:
             return (Segment(moving[0], sum(1 for _ in self.run_alone(moving[0]))),)
@@ -223,9 +223,9 @@ def values_in(machine: RaceMachine, outcome: Sequence[Observed], state: CachedSt
     return tuple(value_in(item, machine, state) for item in outcome)
 
 
-def full_state(work: Work) -> tuple[Any, ...]:
+def full_state(hart_run: HartRun) -> tuple[Any, ...]:
     """Returns all that may change in the steps of one hart."""
-    return work.pc, work.context, work.digest, work.table, work.host, tuple(work.registers)
+    return hart_run.pc, hart_run.context, hart_run.digest, hart_run.table, hart_run.host, tuple(hart_run.registers)
 
 
 def find_final_states(search: ScheduleSearch, outcome_of: Callable[[ScheduleSearch], Sequence[Observed]]) -> FinalStates:

@@ -12,7 +12,7 @@ from typing import Any, Callable, Iterable, Iterator, List, NamedTuple, Optional
 
 from rvlook.finders.outcomes import Watched
 from rvlook.finders.races.loop import Loop, LoopDetector, first_arrival, loop_of
-from rvlook.finders.races.machine import CachedState, CallResult, HartContext, Look, StepResult, RaceMachine, Schedule, Segment, Work
+from rvlook.finders.races.machine import CachedState, CallResult, HartContext, HartRun, Look, RaceMachine, Schedule, Segment, StepResult
 from rvlook.finders.races.time_limit import OutOfTime, TimeLimit
 from rvlook.protocol import names
 
@@ -335,85 +335,84 @@ class ScheduleSearch:
 
     def timer_move(self, state: CachedState, hart: int, schedule: Schedule) -> Move | None:
         """Returns the move of a timer interrupt, or None if no timer interrupt can come. The host under the monitor is never interrupted."""
-        work = Work(self.machine, state, hart)
-        world = work.hart_context.world
-        if world == "host" or work.hart_context.is_timer_pending or self.machine.is_over(work):
+        hart_run = HartRun(self.machine, state, hart)
+        world = hart_run.hart_context.world
+        if world == "host" or hart_run.hart_context.is_timer_pending or self.machine.is_over(hart_run):
             return None
-        pc, before = work.pc, (work.digest, work.table)
-        work.set_timer_pending()
-        look = self.machine.look(work)
-        result = self.machine.step(work, look, schedule)
+        pc, before = hart_run.pc, (hart_run.digest, hart_run.table)
+        hart_run.set_timer_pending()
+        look = self.machine.look(hart_run)
+        result = self.machine.step(hart_run, look, schedule)
         self.record_access(hart, world, pc, look, result)
         dependent = DependentStep(steps_before=0, pc=pc, look=look._replace(kind="timer"), world=world, took_timer=is_timer_taken(result))
-        return Move(self.state_after(work, result), steps=1, dependent=dependent, has_changes=(work.digest, work.table) != before)
+        return Move(self.state_after(hart_run, result), steps=1, dependent=dependent, has_changes=(hart_run.digest, hart_run.table) != before)
 
     @staticmethod
-    def state_after(work: Work, result: StepResult | None) -> CachedState:
+    def state_after(hart_run: HartRun, result: StepResult | None) -> CachedState:
         """Returns the state after a step. On the bare bench the timer interrupt is cleared after it was taken."""
-        if is_timer_taken(result) and work.hart_context.world == "bare":
-            work.set_timer_pending(is_pending=False)
-        return work.cached_state()
+        if is_timer_taken(result) and hart_run.hart_context.world == "bare":
+            hart_run.set_timer_pending(is_pending=False)
+        return hart_run.cached_state()
 
     def hart_move(self, state: CachedState, hart: int, schedule: Schedule) -> Move | None:
-        """Returns a move: independent steps, one dependent step, and the independent steps after it. Returns None if the hart stops, is given up,
-        or only returns to its state."""
-        machine, work, detector = self.machine, Work(self.machine, state, hart), LoopDetector()
+        """Returns a move: independent steps, a dependent one, and those after it; or None if the hart stops, is given up, or returns to its state."""
+        machine, hart_run, detector = self.machine, HartRun(self.machine, state, hart), LoopDetector()
         dependent: DependentStep | None = None
 
         def schedule_to_here() -> list[Segment]:
-            return schedule() + ([Segment(hart, work.steps_done)] if work.steps_done else [])
+            return schedule() + ([Segment(hart, hart_run.steps_done)] if hart_run.steps_done else [])
 
-        result, has_changes, before, skipped_steps = None, False, (work.digest, work.table), 0
-        while not machine.is_over(work):
-            look = machine.look(work)
-            is_dependent = self.is_dependent(work, look)
+        result, has_changes, before, skipped_steps = None, False, (hart_run.digest, hart_run.table), 0
+        while not machine.is_over(hart_run):
+            look = machine.look(hart_run)
+            is_dependent = self.is_dependent(hart_run, look)
             if is_dependent and dependent:
                 break
-            length = 0 if is_dependent else detector.length(work)
+            length = 0 if is_dependent else detector.length(hart_run)
             if length and machine.limit:
-                skipped_steps += work.skip(length)
+                skipped_steps += hart_run.skip(length)
                 detector = LoopDetector()
                 continue
             if length:
-                work = self.run_to_loop_state(state, work, length, dependent.steps_before + 1 if dependent else 0, schedule_to_here)
+                hart_run = self.run_to_loop_state(state, hart_run, length, dependent.steps_before + 1 if dependent else 0, schedule_to_here)
                 break
-            if work.steps_done - skipped_steps > self.bounds.steps:
+            if hart_run.steps_done - skipped_steps > self.bounds.steps:
                 self.graph.unended_in_move.add((state, hart))
                 return None
-            world, pc = work.hart_context.world, work.pc
-            result = machine.step(work, look, schedule_to_here)
-            has_changes = has_changes or (work.digest, work.table) != before
+            world, pc = hart_run.hart_context.world, hart_run.pc
+            result = machine.step(hart_run, look, schedule_to_here)
+            has_changes = has_changes or (hart_run.digest, hart_run.table) != before
             self.record_access(hart, world, pc, look, result)
             if is_dependent:
-                dependent, detector = DependentStep(work.steps_done - 1, pc, look, world, is_timer_taken(result)), LoopDetector()
+                dependent, detector = DependentStep(hart_run.steps_done - 1, pc, look, world, is_timer_taken(result)), LoopDetector()
                 if dependent.took_timer and world == "bare":
                     break
-        state_after = self.state_after(work, result if dependent and dependent.took_timer else None)
-        if not work.steps_done or not dependent and state_after._replace(steps=()) == state._replace(steps=()):
+        state_after = self.state_after(hart_run, result if dependent and dependent.took_timer else None)
+        if not hart_run.steps_done or not dependent and state_after._replace(steps=()) == state._replace(steps=()):
             return None
-        dependent = dependent or DependentStep(work.steps_done, pc=None, look=None, world=work.hart_context.world, took_timer=False)
-        return Move(state_after, work.steps_done, dependent, has_changes)
+        dependent = dependent or DependentStep(hart_run.steps_done, pc=None, look=None, world=hart_run.hart_context.world, took_timer=False)
+        return Move(state_after, hart_run.steps_done, dependent, has_changes)
 
-    def run_to_loop_state(self, state: CachedState, work: Work, length: int, min_steps: int, schedule: Schedule) -> Work:
+    def run_to_loop_state(self, state: CachedState, hart_run: HartRun, length: int, min_steps: int, schedule: Schedule) -> HartRun:
         """Runs a hart from `state`, at least `min_steps` steps, to the state that represents all states of its endless loop, and records the loop.
-        `work` is in the loop; `length` is the number of steps of a round."""
-        loop, loop_state = loop_of(self.machine, work, length, schedule)
-        arrived = first_arrival(self.machine, state, work, loop_state, min_steps)
-        self.graph.loops[arrived.cached_state()._replace(steps=()), work.hart] = loop
+        `hart_run` is in the loop; `length` is the number of steps of a round."""
+        loop, loop_state = loop_of(self.machine, hart_run, length, schedule)
+        arrived = first_arrival(self.machine, state, hart_run, loop_state, min_steps)
+        self.graph.loops[arrived.cached_state()._replace(steps=()), hart_run.hart] = loop
         return arrived
 
-    def is_dependent(self, work: Work, look: Look) -> bool:
+    def is_dependent(self, hart_run: HartRun, look: Look) -> bool:
         """Returns whether the next step of a hart is dependent: another hart could affect it or be affected."""
         if self.is_always_dependent or look.uses_table:
             return True
         shared = self.shared_bytes
-        if shared and not shared.isdisjoint(range(work.pc, work.pc + 4)):
+        if shared and not shared.isdisjoint(range(hart_run.pc, hart_run.pc + 4)):
             return True
-        if self.watched_bytes and self.is_watched(work.hart_context, look):
+        if self.watched_bytes and self.is_watched(hart_run.hart_context, look):
             return True
-        if self.is_outcome_visible and self.outcome.may_change(work.hart, look):
+        if self.is_outcome_visible and self.outcome.may_change(hart_run.hart, look):
             return True
-        if not look.kind or is_in_own_region(work.hart_context, look):
+        if not look.kind or is_in_own_region(hart_run.hart_context, look):
             return False
         return not shared.isdisjoint(range(look.address, look.address + look.width)) or self.machine.overlaps_region(look.address, look.width)
 
