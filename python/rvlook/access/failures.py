@@ -50,7 +50,7 @@ class Trapped(NamedTuple):
     step: int  # the number of the step in the run
     hart: int  # the hart that did it
     at: Location  # the location of the hart before the step
-    ran: Ran  # the reply to it
+    ran: Ran  # the decoded reply to the step
 
 
 @dataclass(frozen=True)
@@ -190,12 +190,12 @@ class Scan:
     def examine(self, part: Sequence[Turn], position: int, starts: Sequence[Location]) -> Iterator[Failure]:
         """Yields the failures of a part after a position, which it does in single steps. `starts` has where the hart of each turn is before it."""
         text = b"".join("".join(line + "\n" for line in turn.commands).encode() + b"step 1\n" * turn.steps for turn in part)
-        trapped = list(trapped_in(part, self.follower.block(text, text.count(b"\n")), position, starts))
-        ecalls = [turn for turn in trapped if turn.ran.trap and turn.ran.trap.cause == names.ECALL_FROM_S]
-        calls = [turn for turn in ecalls if turn.ran.world == turn.at.world != "bare"]
-        refused = dict(zip(calls, self.refused(part, position, calls)))
-        for trap in trapped:
-            failure = refused[trap] if trap in refused else trap_of(trap)
+        trapped_steps = list(trapped_in(part, self.follower.block(text, text.count(b"\n")), position, starts))
+        ecalls = [step for step in trapped_steps if step.ran.trap and step.ran.trap.cause == names.ECALL_FROM_S]
+        calls = [step for step in ecalls if step.ran.world == step.at.world != "bare"]  # those that stay in their world may be refused
+        failures_of_calls = dict(zip(calls, self.refused(part, position, calls)))
+        for step in trapped_steps:
+            failure = failures_of_calls[step] if step in failures_of_calls else trap_of(step)
             if failure:
                 yield failure
 
@@ -298,7 +298,7 @@ class Expectation(NamedTuple):
     place: str = ""  # function or address of the instruction; empty: any
 
     def has(self, failure: Failure, symbols: Symbols) -> bool:
-        """Returns whether a failure is expected."""
+        """Returns whether a failure has the expected name, at the expected place."""
         pc = int(failure.at.pc, 16)
         return self.name in ("", failure.name) and (not self.place or self.place == symbols.function(pc) or symbols.address(self.place) == pc)
 

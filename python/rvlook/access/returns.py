@@ -28,8 +28,8 @@ class Return(NamedTuple):
     step: int  # the number of the step
     pc: str  # the pc at which S or U continues
     mode: str  # S or U
-    event: Event  # the last change of rights up to it
-    transients: tuple[Transient, ...]  # the transients of the stay in M before it
+    event: Event  # the last change of rights up to the return
+    transients: tuple[Transient, ...]  # ranges that S could access only during the stay in M before the return
 
 
 def mode_returns(run: Run) -> Iterator[tuple[int, str, str] | End]:

@@ -46,7 +46,7 @@ class Public(NamedTuple):
     ranges: tuple[tuple[int, int], ...] = ()  # address and size: of bytes of the window, or of instructions
 
     def has(self, address: int) -> bool:
-        """Returns whether an address may differ."""
+        """Returns whether --public names the byte or the instruction at an address."""
         return any(start <= address < start + size for start, size in self.ranges)
 
 

@@ -57,7 +57,7 @@ def show_tries(leak: Leak, printer: Printer, findings: ReportedCases) -> None:
 
 
 def finish(leak: Leak, printer: Printer, tried: TriedPairs, findings: ReportedCases) -> None:
-    """Prints the result of all pairs, and the first pair that differs. Notes what was found."""
+    """Prints the result of all pairs, and the first pair that differs. Adds the findings, one case for each pair."""
     verdicts, differing = tried.verdicts, tried.differing
     for pair in tried.pairs:
         findings.add("pair %d" % pair.number, text_of_pair(pair) if pair.number in differing else "")
@@ -75,7 +75,7 @@ def finish(leak: Leak, printer: Printer, tried: TriedPairs, findings: ReportedCa
 
 
 def is_for_all(leak: Leak) -> bool:
-    """Returns whether equal runs are known to be equal for all secrets."""
+    """Returns whether runs that were equal are known to be equal for all secrets. No observation may have been cut by --steps."""
     return not leak.cut and leak.is_hidden(leak)
 
 
@@ -103,10 +103,10 @@ def print_result(leak: Leak, printer: Printer, tried: TriedPairs, differing: Map
             lines.append("no difference in %s: %s" % (which, ", ".join(leak.channels)))
         line("\n".join(lines))
         return
-    same = [number for number, pair in differing.items() if "answer" not in pair.channels]
+    same = [number for number, pair in differing.items() if "answer" not in pair.channels]  # pairs with the same answer, which show more
     number = min(same or differing)
     pair = differing[number]
-    is_picked = bool(same) and (min(differing) != number or bool(verdicts))
+    is_picked = bool(same) and (min(differing) != number or bool(verdicts))  # whether an earlier pair differs too, but in the answer
     line("pair %d of %d, the first that differs%s" % (number, len(tried.pairs), " with the same answer" if is_picked else ""))
     pair_text(leak, printer, tried.again(pair))
     numbers = ", ".join(map(str, sorted(differing)[:MAX_NUMBERS])) + (", ..." if len(differing) > MAX_NUMBERS else "")

@@ -20,16 +20,16 @@ if TYPE_CHECKING:
 
 OPERATORS = {"==": operator.eq, "!=": operator.ne, "<=": operator.le, ">=": operator.ge, "<": operator.lt, ">": operator.gt}
 CONDITION = re.compile(r"\s*([^\s=!<>]+)\s*(==|!=|<=|>=|<|>)\s*([^\s=!<>]+)\s*\Z")
-HOW = {"halts": "halts", "waits": "waits", "livelock": "runs on", "unfinished": "unfinished"}
-ALIASES = {"stays": "halts", "unended": "unfinished"}  # accepted too
-WORD_BYTES = 4
+HOW = {"halts": "halts", "waits": "waits", "livelock": "runs on", "unfinished": "unfinished"}  # how a hart ends, by its name in --forbid
+ALIASES = {"stays": "halts", "unended": "unfinished"}  # other names that --forbid accepts, and those in HOW
+WORD_BYTES = 4  # the size of a symbol without a size
 
 
 class Bytes(NamedTuple):
     """Bytes in memory."""
-    name: str  # as the user wrote it, or of a symbol
-    at: int  # address
-    count: int  # type: ignore[assignment]  # a tuple has a method of that name
+    name: str  # as the user wrote it, or the name of a symbol
+    at: int  # the address of the first byte
+    count: int  # type: ignore[assignment]  # the number of bytes; a tuple has a method of that name
 
 
 class Register(NamedTuple):
@@ -51,7 +51,7 @@ class EnclaveStates(NamedTuple):
 
 
 Observed = Union[Bytes, Register, Slot, EnclaveStates]
-Value = Union[bytes, int, str, Tuple[Tuple[int, str], ...]]  # of one of those, in this order
+Value = Union[bytes, int, str, Tuple[Tuple[int, str], ...]]  # the value of Bytes, Register, Slot, or EnclaveStates (slots and states)
 
 
 class Watched(NamedTuple):
@@ -65,7 +65,7 @@ class Watched(NamedTuple):
             return True
         if look.kind == "w":
             return not self.addresses.isdisjoint(range(look.address, look.address + look.width))
-        word = look.key[2]
+        word = look.key[2]  # the instruction; None outside RAM
         return word is not None and (hart, operands(word).writes) in self.registers
 
 
@@ -82,10 +82,10 @@ class Forbidden(NamedTuple):
     how: str = ""  # one of the values of HOW; empty for comparisons
 
     def holds(self, end: FinalState, names_of: Sequence[str]) -> bool:
-        """Returns whether a final state meets the condition."""
+        """Returns whether a final state meets the condition. `names_of` has the names of its values, in their order."""
         if self.how:
             return any(how == self.how for how, _ in end.harts)
-        values = dict(zip(names_of, end.values))
+        values = dict(zip(names_of, end.values))  # empty if the values are not known
         return bool(values) and all(OPERATORS[compared](number_of(values[name]), value) for name, compared, value in self.parts)
 
 
@@ -135,8 +135,8 @@ def outcome_of(text: str, symbols: Symbols, harts: int, members: Sequence[Member
     at, symbol = symbols.address(name), symbols.by_name.get(name)
     if at is None:
         near = nearest(text, [member.name for member in members if member.name.startswith(hart + ".")]) if dot else None
-        raise RvlookError("invalid --outcome: %s (expected PLACE[:BYTES], VARIABLE.MEMBER, HART.REGISTER, enclaves, or e0 to e12)"
-                          % ("no member '%s'; did you mean '%s'?" % (text, near) if near else no_symbol(name, symbols)))
+        problem = "no member '%s'; did you mean '%s'?" % (text, near) if near else no_symbol(name, symbols)
+        raise RvlookError("invalid --outcome: %s (expected PLACE[:BYTES], VARIABLE.MEMBER, HART.REGISTER, enclaves, or e0 to e12)" % problem)
     if count and not re.fullmatch("[0-9]{1,8}", count):
         raise RvlookError("invalid --outcome: the number of bytes must have 1 to 8 decimal digits, not '%s'" % count)
     return Bytes(text, at, int(count or (symbol and symbol.size) or WORD_BYTES))
@@ -168,14 +168,14 @@ def compared_with(name: str, value: str, symbols: Symbols) -> int | str:
 
 
 def outcomes_of(texts: Iterable[str] | None, conditions: Sequence[Forbidden], run: Run, path: str | None) -> list[Observed]:
-    """Returns the values that distinguish final states, with those of --forbid; none for all shared memory. `path` is that of --symbols."""
-    named = list(texts or ()) + [part[0] for condition in conditions for part in condition.parts]
-    members = variables_of(path, run.setup.image).fixed if any("." in name for name in named) else ()
-    return [outcome_of(name, run.setup.symbols, run.setup.harts, members) for name in dict.fromkeys(named)]
+    """Returns what --outcome (`texts`) and --forbid name, to distinguish final states; empty for all shared memory. `path` is that of --symbols."""
+    all_names = list(texts or ()) + [name for condition in conditions for name, _, _ in condition.parts]
+    members = variables_of(path, run.setup.image).fixed if any("." in name for name in all_names) else ()
+    return [outcome_of(name, run.setup.symbols, run.setup.harts, members) for name in dict.fromkeys(all_names)]
 
 
 def ranges_of(addresses: Iterable[int], symbols: Symbols) -> list[Bytes]:
-    """Returns addresses as ranges within one symbol each."""
+    """Joins adjacent addresses to ranges. Each range is in one symbol, and has its name."""
     ranges: list[Bytes] = []
     for at in sorted(addresses):
         if ranges and ranges[-1].at + ranges[-1].count == at and symbols.function(at) == symbols.function(ranges[-1].at):

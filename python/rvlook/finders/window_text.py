@@ -35,7 +35,7 @@ def show_window(run: Run, variables: Variables, printer: Printer, options: Windo
 
 def rows_that_are_findings(activation: Activation, view: ActivationView, context: WindowContext,
                            secret: Secret | None) -> list[tuple[str, int | None]]:
-    """Returns the rows of an activation that are findings, each with the first instruction that it names."""
+    """Returns the texts of an activation's findings, each with the pc of the first instruction that it names; None if it names none."""
     rows: list[tuple[str, int | None]] = [(range_text_of(activation, marked, context).strip(), next(iter(marked.pcs), None))
                                           for marked in view.ranges if marked.is_finding]
     return rows + [(copy_text(activation, copy, context, secret).strip(), None) for copy in view.copies if copy.is_finding]
@@ -55,7 +55,7 @@ def places_text(pcs: Iterable[int], symbols: Symbols) -> str:
 
 
 def range_text_of(activation: Activation, marked: MarkedBytes, context: WindowContext) -> str:
-    """Returns a range as a line."""
+    """Returns a line about a range of the window: its kind, addresses, size, field, instructions, and whether it depends on the secret."""
     symbols = context.symbols
     base = activation.enclave.window + marked.first
     parts = ["  %-11s %08x-%08x %6d" % (marked.kind, base, base + marked.size - 1, marked.size), context.fields.name(base) or ""]
@@ -92,7 +92,7 @@ def copy_text(activation: Activation, secret_copy: SecretCopy, context: WindowCo
 
 
 def rows_of(activation: Activation) -> Iterator[tuple[int, bytes]]:
-    """Yields the address and the bytes of each row of the window at the end that is not all zero."""
+    """Yields the address and the bytes of each row of WIDTH bytes that is not all zero, of the window at the end of an activation."""
     for at in range(0, len(activation.after), WIDTH):
         row = activation.after[at:at + WIDTH]
         if any(row):

@@ -108,7 +108,7 @@ class Inputs:
     models: Optional[Models]  # proposes inputs that a solver computes; None without a solver
     failures: Sequence[Failure]  # the failures of the run itself
     search: Optional[InputSearch] = None  # None if the run itself was not traced
-    states: list[InputFinding] = field(default_factory=list)  # findings about older states
+    states: list[InputFinding] = field(default_factory=list)  # findings that the enclave accepts an older state
     groups: Sequence[Group] = ()  # the findings, grouped by kind and source line
     headings: Sequence[str] = ()  # a line about each group
     cut: str = ""  # what ended the search early; empty if nothing did

@@ -232,11 +232,11 @@ class Tracer:
     def explore(self, run: Run, trace: Trace, position: int, other: tuple[Trace, int] | None) -> Joined | None:
         """Adds steps from a position of the run on, up to its end, to the limit, or to where they join another trace. `other` is that trace, and the
         index from which it is searched; None: none is. Returns where the steps join it, or None."""
-        begin = at = len(trace)
+        begin = search_start = len(trace)  # the index of the first new step; the index from which a join is searched
         with ExitStack() as benches:
-            leader = reader = benches.enter_context(run.replay())
+            leader = reader = benches.enter_context(run.replay())  # `leader` does the steps first; `reader` repeats them, and reads registers
             pc, is_own = self.go(leader, position)
-            chunk, trace.end = FIRST_STEPS, ""
+            chunk, trace.end = FIRST_STEPS, ""  # `chunk`: the most steps of the next exchange
             join_points: JoinPoints = join_points_of(*other) if other else {}
             while not trace.end:
                 count, first = max(1, min(chunk, self.limit - leader.position)), leader.position + 1
@@ -249,11 +249,11 @@ class Tracer:
                     self.mark_steps(part, first, reader)
                     self.add_part(trace, part, first, self.registers_in(part, states) if states else self.registers(reader, part, first))
                 trace.next_pc, chunk = pc, FIRST_CHUNK if chunk == FIRST_STEPS else min(2 * chunk, LAST_CHUNK)
-                joined = self.joined(trace, at, other[0], join_points) if other else None
+                joined = self.joined(trace, search_start, other[0], join_points) if other else None
                 if joined:
                     trace.new_ranges.append((begin, len(trace)))
                     return joined
-                at = max(begin, len(trace) - JOIN_LENGTH)
+                search_start = max(begin, len(trace) - JOIN_LENGTH)
                 trace.end = self.end_of(leader, part.lines, is_own)
             trace.total = leader.position
         trace.new_ranges.append((begin, len(trace)))
@@ -292,7 +292,7 @@ class Tracer:
         return "limit"
 
     def is_waiting(self, leader: Timeline) -> bool:
-        """Returns whether the enclave waits for the host: it repeats steps with the same registers, and each round loads from its window."""
+        """Returns whether the enclave waits for the host: it repeats steps with the same registers, and loads from its window in each round."""
         assert self.enclave is not None
         lines = leader.bench.block(b"regs\nstep 1\n" * MAX_LOOP_STEPS, (REGISTER_LINES + 1) * MAX_LOOP_STEPS).splitlines()
         states = [lines[at:at + REGISTER_LINES] for at in range(0, len(lines), REGISTER_LINES + 1)]
@@ -327,7 +327,7 @@ class Tracer:
             trace.append(added.trace, 0, len(added.trace), first - added.first)
         else:
             self.add_one_by_one(trace, part, first, iter(values_of(registers)))
-            if self.contexts.version != version:
+            if self.contexts.version != version:  # the part changed frames, which a copy of its steps would not
                 return
             used_frames = [(context, frames.get(context)) for context in set(trace.contexts[begin:])]
             added = part.last_added = AddedSteps(context, registers, used_frames, first, trace.since(begin))

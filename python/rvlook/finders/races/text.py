@@ -27,7 +27,7 @@ HOW_TEXT = {WAITS: "waits forever", RUNS_ON: "runs forever", NOT_SEARCHED: "not 
 
 
 class Story:
-    """A final state with its text."""
+    """Describes a final state in lines of text, or as an object."""
     def __init__(self, end: FinalState, outcome: Sequence[Observed], search: ScheduleSearch, symbols: Symbols,
                  end_pcs: Sequence[Set[int | None]]) -> None:
         # `end_pcs`: for each hart, its pcs in all final states
@@ -258,7 +258,7 @@ class RacesReport:
     final_states: FinalStates  # the final states of the search
     conditions: List[Forbidden]  # the conditions of --forbid
     stories: List[Story] = field(default_factory=list)  # describe the final states; empty before the replay
-    bad: List[Tuple[Forbidden, FinalState]] = field(default_factory=list)  # each condition that holds, with a final state that meets it
+    bad: List[Tuple[Forbidden, FinalState]] = field(default_factory=list)  # each condition of --forbid with each final state that meets it
     scripts: Dict[int, bytes] = field(default_factory=dict)  # the input of the bench for each number
 
     def title(self, end: FinalState) -> str:
@@ -327,7 +327,7 @@ def forbidden(conditions: Sequence[Forbidden], final_states: FinalStates) -> lis
 
 
 def is_whole(search: ScheduleSearch, final_states: FinalStates) -> bool:
-    """Returns whether all orders within the bounds were searched, and all final states reported."""
+    """Returns whether all orders within the bounds were searched, and all final states replayed."""
     return search.is_whole() and not final_states.is_cut
 
 
