@@ -124,7 +124,7 @@ class Overflow(NamedTuple):
 
 
 def stacks_of(symbols: Symbols) -> dict[str, list[Stack]]:
-    """Returns the stacks that the symbols define, by kind: `host`, `runtime` or `application`."""
+    """Returns the stacks that the symbols define, by kind: `host`, `runtime`, `application` or `monitor`."""
     stacks: dict[str, list[Stack]] = {}
     for name, symbol in symbols.by_name.items():
         match = NAME.match(name)
@@ -189,7 +189,7 @@ class OverflowFinder:
             if operation is None:
                 continue
             writes, (first_source, second_source), (first_factor, second_factor), memory, register, is_store, _ = operation
-            if register is None:
+            if register is None:  # a computation with another destination than sp
                 registers[writes] = first_factor * registers[first_source] + second_factor * registers[second_source]
                 continue
             address = next(values) + memory.offset & WORD_MASK if memory else next(values)

@@ -83,11 +83,11 @@ def traces_of(tracer: Tracer, parent: Trace, children: Sequence[Child], jobs: in
 def has_taken_over(tracer: Tracer, known: TracerKnowledge, trace: Trace, news: News) -> bool:
     """Takes over a trace of another process, with its news. Returns whether that was possible: the process knew all that the trace could use, and its
     news do not contradict this process. `known` is what the processes knew before the runs."""
-    contexts, numbers = tracer.contexts, list(range(known.contexts))  # by the number of a context there, its number here
+    contexts, number_here = tracer.contexts, list(range(known.contexts))  # by the number of a context there, its number here
     for caller, pc, is_trap in news.contexts:
-        numbers.append(contexts.called(numbers[caller], pc, is_trap))
-    frames = {numbers[context]: sp for context, sp in news.frames.items()}
-    visited_contexts = {numbers[context] for context in {*trace.contexts, trace.context}}
+        number_here.append(contexts.called(number_here[caller], pc, is_trap))
+    frames = {number_here[context]: sp for context, sp in news.frames.items()}
+    visited_contexts = {number_here[context] for context in {*trace.contexts, trace.context}}
     used_contexts = {*frames, *visited_contexts, *(contexts.parents[context] for context in visited_contexts)}
     # the process changed a known frame, decoded other code, or lacked a frame that this process has found meanwhile and that the trace may use
     if any(frame in known.frames for frame in frames) or any(tracer.code.get(pc, code) != code for pc, code in news.code.items()) or \
@@ -97,9 +97,9 @@ def has_taken_over(tracer: Tracer, known: TracerKnowledge, trace: Trace, news: N
         tracer.learn(pc, code)
     contexts.frames.update(frames)
     for context, saved_addresses in news.saved.items():
-        contexts.saved.setdefault(numbers[context], set()).update(saved_addresses)
+        contexts.saved.setdefault(number_here[context], set()).update(saved_addresses)
     contexts.version += 1
-    trace.contexts, trace.context = array("I", [numbers[context] for context in trace.contexts]), numbers[trace.context]
+    trace.contexts, trace.context = array("I", [number_here[context] for context in trace.contexts]), number_here[trace.context]
     tracer.runs += 1
     tracer.count_end(trace)
     return True
@@ -108,7 +108,7 @@ def has_taken_over(tracer: Tracer, known: TracerKnowledge, trace: Trace, news: N
 @dataclass
 class Parent:
     """A trace from which the search goes on."""
-    trace: Trace
+    trace: Trace  # the trace whose inputs are changed
     details: Details  # the loads and branches of the trace
     inputs: list[Input]  # the inputs that can be changed
     children: Iterator[Child]  # the runs that are still to be tried

@@ -193,10 +193,10 @@ def older_states(search: InputSearch, loaded: dict[int, bytes]) -> Iterator[Olde
     stores = [dict(window_bytes(search, base, visit, Kind.STORE, loaded)) for visit in base.visits]
     loads = [dict(window_bytes(search, base, visit, Kind.LOAD, loaded)) for visit in base.visits]
     for number, visit in enumerate(base.visits):
-        for at, data in runs_of(loads[number]):
-            for state, size in stored_states(at, data, stores[:number]):
-                address, present = at + state.offset, data[state.offset:state.offset + size]
-                for value, stored_in in versions(stores[:number], loads[:number], state, at, size):
+        for loaded_at, data in runs_of(loads[number]):
+            for state, size in stored_states(loaded_at, data, stores[:number]):
+                address, present = loaded_at + state.offset, data[state.offset:state.offset + size]
+                for value, stored_in in versions(stores[:number], loads[:number], state, loaded_at, size):
                     if value != present and present in successors(stores[:number], loads[:number], state.at, value):
                         step, name = base.steps[visit.first] - 1, search.values.name(address)
                         yield OlderState(Change(step, address, value, register=0, name=name, old=present.hex()), number, stored_in)

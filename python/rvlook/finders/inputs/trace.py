@@ -154,7 +154,7 @@ def runs_of(content: Mapping[int, int]) -> Iterator[tuple[int, bytes]]:
 
 class TraceProbe(NamedTuple):
     """Commands of a trace, and where they are sent."""
-    step_index: int  # index of a step of the trace
+    step_index: int  # index of the step of the trace to which the commands belong
     position: int  # number of steps of the run before the commands
     question: bytes = b""  # commands that read registers; empty: only the pc is compared
     is_after: bool = False  # whether the commands come after the step, not before it

@@ -99,23 +99,23 @@ class FinalStates:
         parts, component_of = components.parts, components.component_of
         paths = paths_of(graph, parts, component_of)
         for index, vertices in enumerate(parts):
-            part = Component(self.search, graph, vertices, component_of)
-            harts = part.hart_ends()
-            if harts:
+            component = Component(self.search, graph, vertices, component_of)
+            ends_of_harts = component.hart_ends()
+            if ends_of_harts:
                 self.orders += paths[index]
-                yield from self.of_component(part, harts, paths[index])
+                yield from self.of_component(component, ends_of_harts, paths[index])
 
-    def of_component(self, part: Component, harts: Sequence[str], orders: int) -> Iterator[FinalState]:
-        """Yields the final states of a component: one for each set of values, or one if the values are not known."""
-        hart_ends = tuple(part.hart_end(hart) if how == ENDED else HartEnd(how, None) for hart, how in enumerate(harts))
-        vertex = part.vertices[0]
-        states_by_values = {(): OutcomeState(vertex, part.graph.nodes[vertex].point.state)}  # type: dict[tuple[Value, ...], OutcomeState]
-        if NOT_SEARCHED not in harts and (UNFINISHED not in harts or ENDED in harts):
-            states_by_values, is_hidden = part.values(self.outcome)
+    def of_component(self, component: Component, ends_of_harts: Sequence[str], orders: int) -> Iterator[FinalState]:
+        """Yields the final states of a component: one for each set of values, or one if they are not known. `orders` counts the paths to it."""
+        hart_ends = tuple(component.hart_end(hart) if how == ENDED else HartEnd(how, None) for hart, how in enumerate(ends_of_harts))
+        vertex = component.vertices[0]
+        states_by_values = {(): OutcomeState(vertex, component.graph.nodes[vertex].point.state)}  # type: dict[tuple[Value, ...], OutcomeState]
+        if NOT_SEARCHED not in ends_of_harts and (UNFINISHED not in ends_of_harts or ENDED in ends_of_harts):
+            states_by_values, is_hidden = component.values(self.outcome)
             self.are_hidden = self.are_hidden or is_hidden
-        endless_harts = [hart for hart, how in enumerate(harts) if how in (WAITS, RUNS_ON)]
+        endless = [hart for hart, how in enumerate(ends_of_harts) if how in (WAITS, RUNS_ON)]
         for values, (vertex, state, tail) in states_by_values.items():
-            yield FinalState(hart_ends, values, part.graph.nodes[vertex], part.round(vertex, state, endless_harts, tail), orders, state, tail)
+            yield FinalState(hart_ends, values, component.graph.nodes[vertex], component.round(vertex, state, endless, tail), orders, state, tail)
 
 
 class Component:
@@ -337,23 +337,23 @@ class Components:
             parent, _ = path[-1]
             self.low[parent] = min(self.low[parent], self.low[vertex])
         if self.low[vertex] == self.number[vertex]:
-            part = [self.stack.pop()]
-            while part[-1] != vertex:
-                part.append(self.stack.pop())
-            self.on_stack.difference_update(part)
-            self.component_of.update(dict.fromkeys(part, len(self.parts)))
-            self.parts.append(part)
+            component = [self.stack.pop()]
+            while component[-1] != vertex:
+                component.append(self.stack.pop())
+            self.on_stack.difference_update(component)
+            self.component_of.update(dict.fromkeys(component, len(self.parts)))
+            self.parts.append(component)
 
 
-def paths_of(graph: Graph, parts: Sequence[Sequence[Vertex]], component_of: Mapping[Vertex, int]) -> dict[int, int]:
+def paths_of(graph: Graph, components: Sequence[Sequence[Vertex]], component_of: Mapping[Vertex, int]) -> dict[int, int]:
     """Returns for each component the number of paths to it from the start. `parts` has the vertices of each component, successors first."""
     if not graph.nodes:
         return {}
     paths, start = defaultdict(int), next(iter(graph.nodes))
     paths[component_of[start]] = 1
-    for index in range(len(parts) - 1, -1, -1):
+    for index in range(len(components) - 1, -1, -1):
         if paths[index]:
-            for vertex in parts[index]:
+            for vertex in components[index]:
                 for target, *_ in graph.edges.get(vertex, ()):
                     if component_of[target] != index:
                         paths[component_of[target]] += paths[index]

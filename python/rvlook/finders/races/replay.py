@@ -17,7 +17,7 @@ from rvlook.protocol.memory_map import RAM_BASE
 from rvlook.protocol.replies import ROW, memory_commands, step_of
 from rvlook.protocol.run import Setup
 
-LONGEST_COMMENT = 118  # characters after `# `
+LONGEST_COMMENT = 118  # characters of a comment after `# `; rvbench takes lines of at most 120
 
 
 class Replays:

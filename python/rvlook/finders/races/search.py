@@ -146,7 +146,7 @@ class Graph:
     """The orders that one round of the search has found."""
     nodes: dict[Vertex, SearchNode] = field(default_factory=dict)  # the first node of each vertex
     edges: dict[Vertex, list[Edge]] = field(default_factory=dict)  # the moves from each vertex
-    moves: dict[MoveKey, Move | None] = field(default_factory=dict)  # None: the hart stops
+    moves: dict[MoveKey, Move | None] = field(default_factory=dict)  # the computed moves; None: the hart stops
     loops: dict[tuple[CachedState, int], Loop] = field(default_factory=dict)  # endless loops that no other hart can affect, by state and hart
     unended_in_move: set[tuple[CachedState, int]] = field(default_factory=set)  # states in which a hart was given up within a move
     unended_alone: set[tuple[CachedState, int]] = field(default_factory=set)  # states in which a hart was given up after MAX_MOVES_ALONE moves
@@ -219,7 +219,7 @@ class ScheduleSearch:
         return [graph for graph in (self.reduced_graph, self.earlier_graph, self.graph) if graph]
 
     def is_hidden(self, hart: int) -> bool:
-        """Returns whether independent steps of a hart may change the outcome."""
+        """Returns whether independent steps of a hart may change the outcome, so that its values between two nodes are not in the graph."""
         if any(owner == hart for owner, _ in self.outcome.registers):
             return True
         agents = [agent for agent in self.touches.written if hart in (agent, agent[0] if isinstance(agent, tuple) else agent)]
