@@ -57,9 +57,9 @@ class Trapped(NamedTuple):
 class Failure:
     """A trap, or a refused call of the monitor, of an instruction."""
     name: str  # the name of the cause, or of the status
-    step: int  # number of the first one
-    hart: int  # the hart of the first one
-    at: Location  # pc, mode and world
+    step: int  # the number of the step in which it first occurred
+    hart: int  # the hart that did this step
+    at: Location  # pc, mode and world of the instruction
     value: str = ""  # the value of the first trap, hexadecimal digits; empty for a call
     call: str = ""  # the refused call; empty for a trap
     count: int = 1  # how often it occurred

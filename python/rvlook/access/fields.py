@@ -16,7 +16,7 @@ class WindowFields:
     """Names of the fields of a window. A field is a member of a structure to which an argument points."""
     def __init__(self, symbols: Symbols) -> None:
         self.symbols = symbols
-        self.rows: list[tuple[int, Member]] = []  # address and member of each field
+        self.rows: list[tuple[int, Member]] = []  # address and member of each field; the first that fits names an address
 
     def add(self, address: int, members: tuple[Member, ...]) -> None:
         """Adds the members of the memory at an address, unless they are known. Members of unknown size (0) come last: they have no end."""
@@ -33,14 +33,14 @@ class WindowFields:
         return next(((at, row) for at, row in self.rows if at <= address < at + row.size), None)
 
     def known(self, address: int) -> str | None:
-        """Returns the name of the field at an address, or None."""
-        for at, parameter in self.rows:
-            if at <= address < at + parameter.size:
+        """Returns the name of the field at an address, with the index of an array or an offset; None if no field is there."""
+        for at, member in self.rows:
+            if at <= address < at + member.size:
                 offset = "+%x" % (address - at) if address > at else ""
-                return parameter.name + (index_text((address - at) // parameter.element) if parameter.element else offset)
-        for at, row in self.rows:
-            if not row.size and at <= address:
-                return row.name + index_text((address - at) // row.element)
+                return member.name + (index_text((address - at) // member.element) if member.element else offset)
+        for at, member in self.rows:
+            if not member.size and at <= address:  # an array of unknown size
+                return member.name + index_text((address - at) // member.element)
         return None
 
 

@@ -147,7 +147,7 @@ def kind_of(world: str, mode: str, kinds: Container[str] = ()) -> str | None:
 
 class UniformSteps(NamedTuple):
     """Successive steps of a stretch with equal world, mode and trap."""
-    stretch: Stretch
+    stretch: Stretch  # the stretch that has the steps
     begin: int  # index of the first step in the stretch
     end: int  # index after the last step
     world: bytes  # the world before each step

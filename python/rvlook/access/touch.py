@@ -30,7 +30,7 @@ LOWER_MODE = re.compile(rb"mode=[SU]")  # in the reply to a step after which the
 
 
 class Access(NamedTuple):
-    """Accesses of one kind by a world."""
+    """The key of equal accesses, which are counted together."""
     world: str  # the world; on the bare bench it may be a mode
     kind: str  # r, w or x
     address: int  # the address of the first byte
@@ -87,7 +87,7 @@ class AccessCounter:
 
 
 class AccessKind(NamedTuple):
-    """Accesses of a world of one kind."""
+    """The key of a group of accesses: one world, one kind, all permitted or all refused."""
     world: str  # the world; on the bare bench it may be a mode
     kind: str  # r, w or x
     done: bool  # false if the accesses were refused

@@ -140,8 +140,7 @@ def drawn_pairs(own: bytes, guesses: Sequence[bytes], seed: int, first: int, las
 
 
 def near_pair(value: bytes, turn: int, rng: random.Random) -> tuple[bytes, bytes]:
-    """Returns two values that differ from `value` in one byte each: in the first four turns in its first and in its last byte, later in random bytes.
-    `turn` counts the calls from 0."""
+    """Returns two values that differ from `value` in one byte each: in turns 0 to 3 in its first and in its last byte, later in random bytes."""
     last = len(value) - 1
     indices = (0, last) if turn < 4 else sorted(rng.sample(range(last + 1), min(2, last + 1)))
     changed = [value[:index] + bytes([value[index] ^ rng.randrange(1, 256)]) + value[index + 1:] for index in indices]

@@ -25,7 +25,7 @@ class MarkedBytes(NamedTuple):
     first: int  # offset in the window
     size: int  # number of bytes
     pcs: tuple[int, ...]  # the instructions; for `remains` the instruction and the number of its activation
-    is_secret: Optional[bool] = None  # whether they change with the secret; None if this is not compared
+    is_secret: Optional[bool] = None  # whether the bytes change with the secret; None if this is not compared
     is_public: bool = False  # whether --public names the bytes or the instruction
     world: str = ""  # the world that stored the bytes which the enclave receives
 
@@ -118,7 +118,7 @@ class LeftByte(NamedTuple):
     """A byte that an activation left in the window."""
     value: int  # the value of the byte
     pc: int  # the instruction that stored it
-    activation: int  # the number of the activation
+    activation: int  # the number of the activation that left it
 
 
 class Leftovers:

@@ -107,7 +107,7 @@ def has_taken_over(tracer: Tracer, known: TracerKnowledge, trace: Trace, news: N
 
 @dataclass
 class Parent:
-    """A trace from which the search goes on."""
+    """A trace from which the search goes on: it tries further changes of the inputs of this trace."""
     trace: Trace  # the trace whose inputs are changed
     details: Details  # the loads and branches of the trace
     inputs: list[Input]  # the inputs that can be changed
@@ -177,7 +177,7 @@ class InputSearch:
                 item.replay.bench.close()
 
     def try_values(self, runs: int, progress: Progress, started: deque[Started]) -> None:
-        """Tries values up to a number of runs. `started` has the runs that are started and not complete."""
+        """Tries values until `runs` runs are done, or all values are tried. `started` has the runs that are started and not complete."""
         parent: Parent | None = None
         while self.root or self.parents:
             parent = self.next_parent(parent)

@@ -41,7 +41,7 @@ class Details:
 
 
 class DetailReader:
-    """Reads the details of traces."""
+    """Reads from runs of rvbench what traces do not have: loaded bytes, operands of branches, and arguments of functions."""
     def __init__(self, tracer: Tracer, objects: Objects, fields: WindowFields) -> None:
         self.tracer, self.objects, self.fields = tracer, objects, fields  # `fields`: names of the fields of the window
         self.parameters_of: dict[int, list[tuple[int, object]]] = {}  # by address of a function: number and members of each parameter
@@ -309,7 +309,7 @@ class Values:
 
 
 def sample_of(inputs: list[Input]) -> Iterable[Input]:
-    """Returns the first two loads of an instruction, the middle one and the last one."""
+    """Returns a sample of the inputs that one instruction loads: the first two, the middle one and the last one."""
     return [inputs[n] for n in sorted({0, min(1, len(inputs) - 1), len(inputs) // 2, len(inputs) - 1})]
 
 

@@ -281,7 +281,7 @@ class RacesReport:
 
 
 def completed(report: RacesReport, options: RacesOptions) -> RacesReport:
-    """Replays the final states, describes them, and writes their inputs if there is a folder; returns the report."""
+    """Replays the final states, and adds their texts and scripts to a report. Writes the scripts to the folder of --scripts. Returns the report."""
     search, final_states = report.search, report.final_states
     replay(search, final_states, report.conditions, options.jobs)
     end_pcs = [{end.harts[hart].pc for end in final_states.ends if hart < len(end.harts)} for hart in range(search.machine.hart_count)]
