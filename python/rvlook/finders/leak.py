@@ -102,7 +102,7 @@ class Comparison:
         old.count += 1
 
     def compare_steps(self, one: Activation, two: Activation) -> None:
-        """Compares two activations step by step, and after a divergence from where they converge again."""
+        """Compares two corresponding activations, one of each run, step by step, and after a divergence from where they converge again."""
         second_operations = dict(zip(two.operations_at, two.operations))  # the operations of `two` by index of their steps
         x = y = 0  # indices of the next steps, in `one` and `two`
         while x < len(one.pcs) and y < len(two.pcs):
@@ -117,17 +117,17 @@ class Comparison:
             x, y = self.add_divergence(one, x, two, y, second_operations)
 
     def add_divergence(self, one: Activation, x: int, two: Activation, y: int, second_operations: Mapping[int, Operation]) -> tuple[int, int]:
-        """Adds the step by which two runs diverge before x and y; returns where they are compared again. If the pcs at x and y are equal, this
-        step is the next one: it traps in one run only, or has another trap in the other. Then compares its access too."""
+        """Adds the step by which two runs diverge before the indices x and y; returns the indices from which they are compared again. If the pcs at x
+        and y are equal, this step is the next one: it traps in one run only, or has another trap in the other. Then compares its access too."""
         if x < len(one.pcs) and y < len(two.pcs) and one.pcs[x] == two.pcs[y]:
             first, second = operation_at(one, x), second_operations.get(y)
             if first and second:
                 self.compare_access(first, second, one.enclave)
-            self.add("pc", (one.steps[x], two.steps[y]), (), one.pcs[x] & -4)
+            self.add("pc", (one.steps[x], two.steps[y]), values=(), pc=one.pcs[x] & -4)  # the lowest bits of `pcs` are the mode
             x, y = x + 1, y + 1
             return (x, y) if one.pcs[x:x + 1] == two.pcs[y:y + 1] else convergence(one, x, two, y)
         steps = (one.steps[x - 1], two.steps[y - 1]) if x else (one.first, two.first)
-        self.add("pc", steps, (), one.pcs[max(0, x - 1)] & -4)
+        self.add("pc", steps, values=(), pc=one.pcs[max(0, x - 1)] & -4)
         return convergence(one, x, two, y)
 
     def compare_access(self, first: Operation, second: Operation, enclave: Enclave) -> None:
@@ -147,7 +147,7 @@ class Comparison:
         return any(enclave.shares(at) and not self.public.has(at) for at in addresses)
 
     def compare_ends(self, one: Activation, two: Activation) -> None:
-        """Compares the results and the windows at the end of two activations."""
+        """Compares the results and the windows at the end of two corresponding activations, one of each run."""
         if not self.public.answer and (one.ended_by, one.answer) != (two.ended_by, two.answer):
             self.add("answer", (one.last, two.last), tuple((side.ended_by, *side.answer) for side in (one, two)), one.pc)
         self.writers.update(writers_of(one, two))
@@ -166,7 +166,7 @@ def operation_at(activation: Activation, index: int) -> Operation | None:
 
 
 def writers_of(one: Activation, two: Activation) -> dict[int, int]:
-    """Returns the instruction that stored each byte of the window last, in either run, by address."""
+    """Returns by address the pc that stored each byte of the window last; if both runs stored the byte, the pc of the first run."""
     writers: dict[int, int] = {}
     for activation in (two, one):
         for store in stores_to_window(activation):

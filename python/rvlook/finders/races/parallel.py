@@ -36,7 +36,7 @@ class AheadMove(NamedTuple):
     move: Optional[Move]  # None: the hart stops
     touched: Sequence[Touched]  # the accessed bytes, by agent
     loop: Optional[Tuple[CachedState, Loop]]  # the endless loop in which the move ends, after its state; None for no loop
-    is_unended: bool  # whether the hart was given up
+    is_unended: bool  # whether the hart was given up in the move, after the limit of steps
 
 
 class MemoryChange(NamedTuple):

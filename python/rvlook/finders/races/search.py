@@ -39,7 +39,7 @@ class Move(NamedTuple):
 
 
 class SearchPoint(NamedTuple):
-    """A state of the search."""
+    """A state of the machine, with what decides which moves may follow it. The search visits each point once."""
     state: CachedState  # the state of the machine
     last_hart: Optional[int]  # the hart that moved last; None at the start
     timers: int  # timer interrupts so far
@@ -126,7 +126,7 @@ def schedule_of(moves: Iterable[tuple[int, Move, bool]]) -> list[Segment]:
 
 
 class TouchedBytes:
-    """The bytes that each agent loaded, stored and executed."""
+    """The bytes that each agent loaded, stored and executed. An agent is a hart; with timer interrupts it is a hart in a world."""
     def __init__(self) -> None:
         self.read: dict[Agent, set[int]] = defaultdict(set)  # addresses of loaded bytes
         self.written: dict[Agent, set[int]] = defaultdict(set)  # addresses of stored bytes
