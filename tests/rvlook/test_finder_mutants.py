@@ -103,7 +103,7 @@ MUTANTS = (
            "test_progress.py::test_no_progress_is_shown_to_a_caller_that_takes_the_messages"),
     Mutant("leak_takes_a_verdict_for_a_finding", "finders/leak_search.py", "if is_verdict else set()", "if False else set()",
            "test_leak.py::test_verdict_of_a_correct_store_is_no_finding"),
-    Mutant("leak_takes_each_answer_for_a_verdict", "finders/leak_search.py", "is_verdict = len(own_answers) == len(other_answers) == 1 and own_answers", "is_verdict = own",
+    Mutant("leak_takes_each_answer_for_a_verdict", "finders/leak_search.py", "is_verdict = len(own_answers) == len(other_answers) == 1 and own_answers", "is_verdict = own_answers",
            "test_leak.py::test_answer_that_has_a_part_of_the_secret_is_no_verdict"),
     Mutant("leak_names_the_step_before_a_trap", "finders/leak.py", "y < len(two.pcs) and one.pcs[x] == two.pcs[y]:", "y < len(two.pcs) and False:",
            "test_leak.py::test_step_that_traps_in_one_run_is_named"),
