@@ -24,9 +24,9 @@ from rvlook.finders.window import WindowOptions, WindowSearch
 from rvlook.finders.window_text import activation_text, rows_that_are_findings
 from rvlook.image.variables import variables_of
 from rvlook.monitors.conform import ScriptPlan
-from rvlook.monitors.conform_text import LEAST_RAM, MonitorFiles, find_conform, rest_of, show_counts
+from rvlook.monitors.conform_text import LEAST_RAM, MonitorFiles, find_conform, show_counts, unexamined_part
 from rvlook.monitors.guard import GuardPlan, do_runs
-from rvlook.monitors.guard_text import rest_of as rest_of_guard, show_results, show_run
+from rvlook.monitors.guard_text import show_results, show_run, unexamined_parts
 from rvlook.monitors.ranges_file import ownership_of
 from rvlook.output.findings import ReportedCases
 from rvlook.output.printer import Printer, place_text
@@ -229,7 +229,7 @@ def conform(monitor: PathLike, *, only: str = "", tries: int = 60, items: int = 
         result = find_conform(files, plan, lambda it: show_counts(it, printer))
         if result.shrunk:
             findings.append(Finding("conform", result.finding, "".join(line + "\n" for line in result.shrunk.played.own_log)))
-        findings.checks, findings.unfinished = ("conform",), rest_of(result.outcome, plan)
+        findings.checks, findings.unfinished = ("conform",), unexamined_part(result.outcome, plan)
     return findings
 
 
@@ -249,7 +249,7 @@ def guard(image: PathLike, ranges: PathLike, *, host: Optional[PathLike] = None,
         violation = results.violation
         if violation:
             findings.append(Finding(violation.check, violation.text, pc=violation.pc, step=violation.step, source=symbols.line(violation.pc)))
-        findings.checks, findings.unfinished = ("guard",), "; ".join(rest_of_guard(results, plan))
+        findings.checks, findings.unfinished = ("guard",), "; ".join(unexamined_parts(results, plan))
     return findings
 
 

@@ -29,12 +29,11 @@ def on_signed(operation: Callable[[int, int], int]) -> Callable[[int, int], int]
     return lambda one, other: operation(signed(one, 64), signed(other, 64))
 
 
-TWO = {
-    0x02: operator.add, 0x03: operator.sub, 0x04: operator.mul, 0x05: on_signed(divided), 0x06: divided,
-    0x07: on_signed(lambda one, other: one - other * divided(one, other)), 0x08: lambda one, other: one - other * divided(one, other),
-    0x09: lambda one, other: one << (other & 63), 0x0A: lambda one, other: signed(one, 64) >> (other & 63),
-    0x0B: lambda one, other: one >> (other & 63), 0x0F: operator.and_, 0x10: operator.or_, 0x11: operator.xor,
-    0x13: operator.eq, 0x14: on_signed(operator.lt), 0x15: operator.lt}
+TWO = {0x02: operator.add, 0x03: operator.sub, 0x04: operator.mul, 0x05: on_signed(divided), 0x06: divided,
+       0x07: on_signed(lambda one, other: one - other * divided(one, other)), 0x08: lambda one, other: one - other * divided(one, other),
+       0x09: lambda one, other: one << (other & 63), 0x0A: lambda one, other: signed(one, 64) >> (other & 63),
+       0x0B: lambda one, other: one >> (other & 63), 0x0F: operator.and_, 0x10: operator.or_, 0x11: operator.xor,
+       0x13: operator.eq, 0x14: on_signed(operator.lt), 0x15: operator.lt}
 
 
 def extended(value: int, bits: int) -> int:
@@ -110,12 +109,11 @@ class ExpressionStack:
         self.stack[-3:] = [self.stack[-1], *self.stack[-3:-1]]
 
 
-MOVES = {
-    0x0E: lambda it: it.push(it.stack.pop() == 0), 0x12: lambda it: it.push(~it.stack.pop()),
-    0x16: lambda it: it.push(extended(it.stack.pop(), it.number(1))), 0x20: ExpressionStack.jump_if, 0x21: ExpressionStack.jump,
-    0x26: lambda it: it.push(it.register(it.number(2))), 0x28: lambda it: it.push(it.stack[-1]), 0x29: lambda it: it.stack.pop(),
-    0x2A: lambda it: it.push(it.stack.pop() & ((1 << it.number(1)) - 1)), 0x2B: ExpressionStack.swap,
-    0x32: lambda it: it.push(it.stack[-1 - it.number(1)]), 0x33: ExpressionStack.rotate}
+MOVES = {0x0E: lambda it: it.push(it.stack.pop() == 0), 0x12: lambda it: it.push(~it.stack.pop()),
+         0x16: lambda it: it.push(extended(it.stack.pop(), it.number(1))), 0x20: ExpressionStack.jump_if, 0x21: ExpressionStack.jump,
+         0x26: lambda it: it.push(it.register(it.number(2))), 0x28: lambda it: it.push(it.stack[-1]), 0x29: lambda it: it.stack.pop(),
+         0x2A: lambda it: it.push(it.stack.pop() & ((1 << it.number(1)) - 1)), 0x2B: ExpressionStack.swap,
+         0x32: lambda it: it.push(it.stack[-1 - it.number(1)]), 0x33: ExpressionStack.rotate}
 
 
 def holds(code: bytes, register: Callable[[int], int], memory: Callable[[int, int], bytes]) -> bool:

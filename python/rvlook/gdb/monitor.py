@@ -24,10 +24,9 @@ OTHERS = ("measure", "explain")  # subcommands over a file of their own
 NOT_OFFERED = ("gdb", "conform", "guard", "new")  # subcommands that run benches of their own or this server, or make a folder
 FROM_HERE = ("leak", "timer", "races")  # subcommands over the steps after the present one
 CAUGHT = ("switch", "trap", "call")
-OWN = {
-    "catch": "catch [switch | trap | call | none]: stop after each world switch, trap, or monitor call; none removes all catchpoints",
-    "schedule": "schedule [DIGITS]: show or set the schedule of two harts, 1 to 64 digits 0 and 1 as for sched",
-    "entered": "entered: show where the host entered the enclave on this hart"}
+OWN = {"catch": "catch [switch | trap | call | none]: stop after each world switch, trap, or monitor call; none removes all catchpoints",
+       "schedule": "schedule [DIGITS]: show or set the schedule of two harts, 1 to 64 digits 0 and 1 as for sched",
+       "entered": "entered: show where the host entered the enclave on this hart"}
 STALE = "(gdb shows old registers until `maintenance flush register-cache`; load python/rvlook/gdb/client.py to refresh them)\n"
 STALE_IN_LLDB = "(lldb shows old registers until the program continues)\n"
 READ_FILES, FOLDERS = ("script", "symbols", "file", "input"), ("scripts", "sources", "folder", "junit")  # arguments that name files and folders

@@ -244,8 +244,7 @@ def file_names(program: Any) -> dict[int, str]:
     """Returns the file names of a line table by number: from 1 up to DWARF 4, from 0 in DWARF 5."""
     first = 0 if program["version"] >= 5 else 1
     spend(len(program["file_entry"]))
-    return {first + number: name_of(entry.name.split(b"/")[-1])
-            for number, entry in enumerate(program["file_entry"])}
+    return {first + number: name_of(entry.name.split(b"/")[-1]) for number, entry in enumerate(program["file_entry"])}
 
 
 def inlined_calls(dwarf: Any, unit: Any) -> Iterator[Inlined]:

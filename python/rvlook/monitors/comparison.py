@@ -9,8 +9,8 @@ from rvlook.monitors.sides import BELOW, DECIDING_BITS, EXACT_CSRS, REGISTER_LIN
 from rvlook.protocol.memory_map import RAM_BASE
 from rvlook.protocol.replies import bytes_of
 
-SHOWN_BYTES = 8
-SHOWN_RANGES = 4
+SHOWN_BYTES = 8  # bytes of memory that a difference shows, from the first different one on
+SHOWN_RANGES = 4  # ranges of each monitor that a difference of access rights shows
 
 
 class DifferenceKind(Enum):
@@ -56,12 +56,12 @@ def below_differences(own: bytes, reference: bytes) -> list[MonitorDifference]:
     if own == reference:
         return []
     pairs = zip(own.decode().splitlines(), reference.decode().splitlines())
-    differences = [below_difference(number, one, other) for number, (one, other) in enumerate(pairs) if one != other]
+    differences = [below_difference(number, *lines) for number, lines in enumerate(pairs) if lines[0] != lines[1]]
     return sorted(differences, key=lambda it: it.kind is not DifferenceKind.pc)
 
 
 def below_difference(number: int, own: str, reference: str) -> MonitorDifference:
-    """Returns the difference of two replies, which have a number in the state."""
+    """Returns the difference of two replies, `NAME=VALUE`. `number` is the index of the reply: x0 to x31, pc, then the registers in BELOW."""
     values = own.partition("=")[2], reference.partition("=")[2]
     if number == REGISTER_LINES - 1:
         return MonitorDifference(DifferenceKind.pc, "pc", *values)
@@ -80,22 +80,23 @@ def above_differences(own: tuple[int, ...], reference: tuple[int, ...], is_exact
 def entry_differences(own: bytes, reference: bytes) -> list[MonitorDifference]:
     """Returns the PMP entries that differ."""
     pairs = enumerate(zip(own.decode().splitlines(), reference.decode().splitlines()))
-    return [MonitorDifference(DifferenceKind.entry, "PMP entry %d" % index, one.split(None, 2)[2], other.split(None, 2)[2], index)
-            for index, (one, other) in pairs if one != other]
+    return [MonitorDifference(DifferenceKind.entry, "PMP entry %d" % index, own_line.split(None, 2)[2], reference_line.split(None, 2)[2], index)
+            for index, (own_line, reference_line) in pairs if own_line != reference_line]
 
 
 def rights_differences(own: SideState, reference: SideState, setup: MonitorSetup) -> list[MonitorDifference]:
     """Returns the difference of what S and U can access, or nothing."""
     if own.entries == reference.entries:
         return []
-    mine, others = rights_of(own.entries, setup.ram), rights_of(reference.entries, setup.ram)
+    own_rights, reference_rights = rights_of(own.entries, setup.ram), rights_of(reference.entries, setup.ram)
     if setup.memory:  # the reference closes only the memory below 80010000
-        others = closed_outside(others, setup.placement.first, setup.placement.end, RAM_BASE + setup.ram)
-    if shape(mine) == shape(others):
+        reference_rights = closed_outside(reference_rights, setup.placement.first, setup.placement.end, RAM_BASE + setup.ram)
+    if shape(own_rights) == shape(reference_rights):
         return []
-    only, missing = [one for one in mine if shape((one,))[0] not in shape(others)], [one for one in others if shape((one,))[0] not in shape(mine)]
-    entry = next((right.entry for right in only if right.entry is not None), None)  # the first one that decides a range
-    return [MonitorDifference(DifferenceKind.rights, "access rights of S and U", ranges_text(only), ranges_text(missing), entry)]
+    only_own = [right for right in own_rights if shape((right,))[0] not in shape(reference_rights)]
+    only_reference = [right for right in reference_rights if shape((right,))[0] not in shape(own_rights)]
+    entry = next((right.entry for right in only_own if right.entry is not None), None)  # the first PMP entry that decides a range
+    return [MonitorDifference(DifferenceKind.rights, "access rights of S and U", ranges_text(only_own), ranges_text(only_reference), entry)]
 
 
 def ranges_text(rights: list[Right]) -> str:
@@ -107,9 +108,9 @@ def memory_difference(own: bytes, reference: bytes) -> list[MonitorDifference]:
     """Returns the first difference of memory, from the replies of `mem`."""
     if own == reference:
         return []
-    one, other = next(lines for lines in zip(own.decode().splitlines(), reference.decode().splitlines()) if lines[0] != lines[1])
-    mine, its = bytes_of(one), bytes_of(other)
-    at = next(n for n in range(len(mine)) if mine[n] != its[n])
-    address = int(one[:8], 16) + at
-    return [MonitorDifference(DifferenceKind.memory, "memory at %08x" % address, mine[at:at + SHOWN_BYTES].hex(" "),
-                              its[at:at + SHOWN_BYTES].hex(" "), address)]
+    own_row, reference_row = next(lines for lines in zip(own.decode().splitlines(), reference.decode().splitlines()) if lines[0] != lines[1])
+    own_bytes, reference_bytes = bytes_of(own_row), bytes_of(reference_row)
+    offset = next(n for n in range(len(own_bytes)) if own_bytes[n] != reference_bytes[n])
+    address = int(own_row[:8], 16) + offset
+    return [MonitorDifference(DifferenceKind.memory, "memory at %08x" % address, own_bytes[offset:offset + SHOWN_BYTES].hex(" "),
+                              reference_bytes[offset:offset + SHOWN_BYTES].hex(" "), address)]

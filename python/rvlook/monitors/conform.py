@@ -15,7 +15,7 @@ from rvlook.monitors.sides import MonitorSetup
 from rvlook.output.progress import Progress
 from rvlook.protocol.jobs import results_of
 
-DEEP_RAM = 0x400000  # bytes for the scripts with large blocks
+DEEP_RAM = 0x400000  # bytes of RAM for the scripts with large blocks, with --deep
 MAX_SHRINK_RUNS, MAX_SHRINK_SECONDS = 300, 60  # after which a script is not shrunk further
 # Kinds whose name is a part of what differs. The names of the others have addresses or causes in them.
 NAMED_KINDS = (DifferenceKind.register, DifferenceKind.csr, DifferenceKind.entry)
@@ -32,7 +32,7 @@ class Task:
     is_long: bool = False  # whether memory is compared only at the end, not after each trap
 
     def setup(self, setup: MonitorSetup) -> MonitorSetup:
-        """Returns the configuration with the RAM of the script."""
+        """Returns the setup with the size of RAM that the script needs."""
         return setup.with_ram(self.ram) if self.ram else setup
 
 
@@ -55,23 +55,23 @@ class ConformOutcome:
     coverage: ScriptCoverage = field(default_factory=ScriptCoverage)  # the coverage of the scripts
     different: PlayedScript | None = None  # the first script with a difference; None if there is none
     task: Task | None = None  # the task of that script
-    left: int = 0  # scripts that were not run, because of the time limit or Ctrl-C
+    not_run: int = 0  # scripts that were not run, because of a difference, the time limit or Ctrl-C
     is_interrupted: bool = False  # whether Ctrl-C ended the comparison
 
 
 def tasks_of(plan: ScriptPlan, ram: int, placement: Placement | None = None) -> list[Task]:
     """Returns the scripts of a plan in their order, for a RAM of this many bytes. `placement` moves them."""
-    table = [Task(name, tuple(items)) for scripts in (directed_scripts, refusal_scripts) for name, items in scripts(ram)]
-    table += [Task(name, tuple(items)) for name, items in corner_scripts()]
-    large = DEEP_RAM if plan.is_deep and not plan.has_ram else ram
-    table += [Task(name, tuple(items), ram=large if large != ram else 0, is_long=True) for name, items in large_scripts(large)]
+    tasks = [Task(name, tuple(items)) for scripts in (directed_scripts, refusal_scripts) for name, items in scripts(ram)]
+    tasks += [Task(name, tuple(items)) for name, items in corner_scripts()]
+    large_ram = DEEP_RAM if plan.is_deep and not plan.has_ram else ram
+    tasks += [Task(name, tuple(items), ram=large_ram if large_ram != ram else 0, is_long=True) for name, items in large_scripts(large_ram)]
     if plan.is_deep:
-        table += [Task(name, tuple(items), is_long=True) for name, items in long_scripts()]
+        tasks += [Task(name, tuple(items), is_long=True) for name, items in long_scripts()]
     seeds = ["%s-%d" % (plan.seed, n) for n in range(plan.tries)]
-    drawn = [Task("random script " + seed, seed=seed, count=plan.count) for seed in seeds]
+    random_tasks = [Task("random script " + seed, seed=seed, count=plan.count) for seed in seeds]
     if placement:
-        table = [replace(case, items=tuple(map(placement.item, case.items))) for case in table]
-    return [case for case in table + drawn if plan.only in case.name]
+        tasks = [replace(task, items=tuple(map(placement.item, task.items))) for task in tasks]
+    return [task for task in tasks + random_tasks if plan.only in task.name]
 
 
 def perform(setup: MonitorSetup, task: Task) -> PlayedScript:
@@ -82,7 +82,7 @@ def perform(setup: MonitorSetup, task: Task) -> PlayedScript:
 
 
 def play_random(setup: MonitorSetup, task: Task) -> PlayedScript:
-    """Runs a random script, which is made while it runs."""
+    """Runs a random script. Its next items are drawn while it runs, because they depend on the state that the reference has reached."""
     placement = setup.placement
     source = RandomScript(task.seed, placement.ram)
     with BothSides(setup, task.name) as pair:
@@ -98,15 +98,15 @@ def play_random(setup: MonitorSetup, task: Task) -> PlayedScript:
 def compare(setup: MonitorSetup, plan: ScriptPlan) -> ConformOutcome:
     """Runs the scripts of a plan up to the first difference, the time limit or Ctrl-C."""
     tasks, outcome, began = tasks_of(plan, setup.placement.ram, setup.memory), ConformOutcome(), time.monotonic()
-    outcome.left = len(tasks)
+    outcome.not_run = len(tasks)
     try:
         with Progress() as progress:
             for played in all_played(setup, tasks, plan.jobs):
-                outcome.left -= 1
-                progress.bar(len(tasks) - outcome.left, len(tasks), played.name)
+                outcome.not_run -= 1
+                progress.bar(len(tasks) - outcome.not_run, len(tasks), played.name)
                 outcome.coverage.add(played.coverage)
                 if played.differences:
-                    outcome.different, outcome.task = played, tasks[len(tasks) - outcome.left - 1]
+                    outcome.different, outcome.task = played, tasks[len(tasks) - outcome.not_run - 1]
                     break
                 if plan.seconds is not None and time.monotonic() - began > plan.seconds:
                     break
@@ -121,7 +121,7 @@ def all_played(setup: MonitorSetup, tasks: Sequence[Task], jobs: int) -> Iterato
 
 
 def signature(difference: MonitorDifference) -> tuple[DifferenceKind, str]:
-    """Returns the part of a difference that a shrunk script must still show."""
+    """Returns the kind of a difference, and its name if the kind is in NAMED_KINDS. A shrunk script must show a difference with the same ones."""
     return difference.kind, difference.name if difference.kind in NAMED_KINDS else ""
 
 
@@ -130,37 +130,38 @@ class Shrinker:
 
     def __init__(self, setup: MonitorSetup, played: PlayedScript) -> None:
         self.setup, self.played, self.runs, self.is_interrupted = setup, played, 0, False  # `played`: the shortest script so far
-        self.signature, self.end = signature(played.differences[0]), float("inf")  # a shorter script must show it; when to stop (monotonic clock)
+        self.signature, self.deadline = signature(played.differences[0]), float("inf")  # `deadline`: in seconds of the monotonic clock
 
     @property
     def is_over(self) -> bool:
-        """Returns whether a limit is reached."""
-        return self.runs >= MAX_SHRINK_RUNS or time.monotonic() > self.end
+        """Returns whether the limit of runs or of seconds is reached."""
+        return self.runs >= MAX_SHRINK_RUNS or time.monotonic() > self.deadline
 
     def is_shorter(self, items: list[Item]) -> bool:
-        """Runs a part of the script. If it shows the same difference, keeps it without the items after the difference."""
+        """Runs some items of the script, and returns whether they show the same difference. If they do, they are the script from now on, without the
+        items after the difference."""
         self.runs += 1
-        played = play(self.setup, self.played.name, items, self.signature[0] is DifferenceKind.memory)
+        played = play(self.setup, self.played.name, items, compares_memory=self.signature[0] is DifferenceKind.memory)
         if not played.differences or signature(played.differences[0]) != self.signature:
             return False
         self.played = played
         return True
 
     def leave_out(self, size: int) -> bool:
-        """Leaves out each part of `size` items that is not needed; returns whether there was one."""
-        start, is_found = 0, False
+        """Tries to leave out each `size` consecutive items. Keeps them if the difference needs them. Returns whether it left out any."""
+        start, is_any_left_out = 0, False
         while start < len(self.played.items) and not self.is_over:
             items = self.played.items
             if self.is_shorter(items[:start] + items[start + size:]):
-                is_found = True
+                is_any_left_out = True
             else:
                 start += size
-        return is_found
+        return is_any_left_out
 
     def shrink(self) -> Shrinker:
         """Leaves out halves, quarters, and then single items, until no item can be left out, or until Ctrl-C."""
         size = max(1, len(self.played.items) // 2)
-        self.end = time.monotonic() + MAX_SHRINK_SECONDS
+        self.deadline = time.monotonic() + MAX_SHRINK_SECONDS
         try:
             while not self.is_over:
                 is_shorter = self.leave_out(size)

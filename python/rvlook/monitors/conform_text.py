@@ -23,7 +23,7 @@ from rvlook.protocol.commands import no_symbol, resolved_script
 from rvlook.protocol.memory_map import MONITOR_END
 from rvlook.protocol.symbols import Symbols
 
-MAX_DIFFERENCES_SHOWN = 6  # differences
+MAX_DIFFERENCES_SHOWN = 6  # the most differences of a script that are shown as text
 MAX_ITEMS_SHOWN = 40  # the most items of a script that are shown
 MAX_SOURCE_LINES = 4  # source lines before a writer
 MAX_DIFFERENCES_TRACED = 2  # differences whose writers are searched
@@ -78,17 +78,18 @@ class Conformance:
     def finding(self) -> str:
         """Returns the first difference as a text; empty without a difference."""
         first = self.shrunk.played.differences[0] if self.shrunk else None
-        return "%s: %s, not %s" % (first.name, first.own, first.reference) if first else ""
+        return "%s: %s, not %s" % (first.name, first.own, first.reference) if first else ""  # the value of the reference comes last
 
 
-def find_conform(files: MonitorFiles, plan: ScriptPlan, heard: Callable[[ConformOutcome], None] = lambda it: None) -> Conformance:
-    """Compares the monitors, calls `heard`, and shrinks the first different script. Raises RvlookError for an invalid file or no script."""
-    placement_of(files.memory, files.ram, LEAST_RAM)
+def find_conform(files: MonitorFiles, plan: ScriptPlan, compared: Callable[[ConformOutcome], None] = lambda it: None) -> Conformance:
+    """Compares the monitors, calls `compared` with the outcome, and then shrinks the script that shows a difference, if there is one. Raises
+    RvlookError for an invalid file, or if the plan selects no script."""
+    placement_of(files.memory, files.ram, LEAST_RAM)  # refuses an invalid --memory or --ram before any file is read
     setup, symbols = files.setup()
     outcome = compare(setup, plan)
     if not outcome.coverage.scripts and not outcome.is_interrupted:
         raise RvlookError("no script has '%s' in its name" % plan.only)
-    heard(outcome)
+    compared(outcome)
     conformance = Conformance(outcome, setup, symbols)
     if outcome.different and outcome.task:
         conformance.setup = outcome.task.setup(setup)
@@ -111,17 +112,17 @@ def show_conform(files: MonitorFiles, plan: ScriptPlan, printer: Printer, findin
         show_coverage(conformance.outcome, printer)
     if conformance.outcome.is_interrupted:
         raise KeyboardInterrupt
-    rest = rest_of(conformance.outcome, plan)
-    if rest:
-        findings.cut_short(rest)
+    unexamined = unexamined_part(conformance.outcome, plan)
+    if unexamined:
+        findings.cut_short(unexamined)
 
 
-def rest_of(outcome: ConformOutcome, plan: ScriptPlan) -> str:
+def unexamined_part(outcome: ConformOutcome, plan: ScriptPlan) -> str:
     """Returns what was not examined: scripts after the time limit, or empty cells of the table; empty if nothing was left out."""
     if outcome.different:
         return ""
-    if outcome.left:
-        return "the time limit of %g seconds left out %d scripts" % (plan.seconds or 0, outcome.left)
+    if outcome.not_run:
+        return "the time limit of %g seconds left out %d scripts" % (plan.seconds or 0, outcome.not_run)
     empty = [] if plan.only else outcome.coverage.empty()
     return "these cells of the coverage table are empty: %s; use --deep, or a larger --tries" % ", ".join(empty) if empty else ""
 
@@ -239,7 +240,7 @@ def show_coverage(outcome: ConformOutcome, printer: Printer) -> None:
 
 
 def wrapped(words: list[str]) -> list[str]:
-    """Returns texts in lines of at most 120 characters."""
+    """Joins words to lines, with two spaces between words. A line has at most 120 characters if each word has at most 118."""
     lines = [""]
     for word in words:
         if len(lines[-1]) + len(word) > 114:

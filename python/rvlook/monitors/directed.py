@@ -243,9 +243,9 @@ def large_window_scripts(base: int, size: int, end: int) -> Iterator[tuple[str, 
 
 def blocks_apart(size: int) -> list[Item]:
     """Returns a script with blocks whose addresses differ by a size."""
-    one, other = HOST + HOST_SIZE, HOST + HOST_SIZE + size
-    return [*host(), create(one, PAGE), create(other, PAGE), create(other + PAGE, PAGE, one + PAGE, PAGE), create(other + PAGE, PAGE, one, PAGE),
-            run(0), stop(0), run(1), stop(1), run(2), stop(2)]
+    lower, upper = HOST + HOST_SIZE, HOST + HOST_SIZE + size
+    return [*host(), create(lower, PAGE), create(upper, PAGE), create(upper + PAGE, PAGE, lower + PAGE, PAGE),
+            create(upper + PAGE, PAGE, lower, PAGE), run(0), stop(0), run(1), stop(1), run(2), stop(2)]
 
 
 def corner_scripts() -> Iterator[tuple[str, list[Item]]]:
@@ -296,7 +296,7 @@ def create_refusals(end: int) -> Iterator[tuple[str, list[Item]]]:
     """Yields scripts with each refusal of create, alone, with each later one, and with thirteen live enclaves."""
     names = ("BadRegion", "BadWindow", "Overlap", "BadEntry")
     yield "create, each refusal", [*host(), *(item for name in names for item in (bad_create(FIRST, name), destroy(0)))]
-    pairs = [bad_create(FIRST, one, other) for n, one in enumerate(names) for other in names[n + 1:]]
+    pairs = [bad_create(FIRST, earlier, later) for n, earlier in enumerate(names) for later in names[n + 1:]]
     yield "create, two refusals at once", [*host(), *(item for pair in pairs for item in (pair, destroy(0)))]
     full = [create(0x80014000 + n * PAGE, PAGE) for n in range(13)]
     late = [bad_create(end - PAGE, name) for name in names]
@@ -439,8 +439,8 @@ class RandomScript:
     def random_create(self, state: ReferenceState) -> list[Item]:
         """Returns a create, which is often valid."""
         draw = self.draw
-        size, width = draw.choice((PAGE, PAGE, PAGE, 2 * PAGE, 4 * PAGE)), draw.choice((0, PAGE, PAGE, 2 * PAGE))
-        base, window = self.block_base(size), self.block_base(width) if width else draw.getrandbits(32)
+        size, window_size = draw.choice((PAGE, PAGE, PAGE, 2 * PAGE, 4 * PAGE)), draw.choice((0, PAGE, PAGE, 2 * PAGE))
+        base, window = self.block_base(size), self.block_base(window_size) if window_size else draw.getrandbits(32)
         entry = base + draw.choice((0, 0, 0, 4, size - 4))
         if draw.random() < .12:
             base = draw.choice((self.boundary(state), 0, self.end - size, 0xFFFFF000, base + 4))
@@ -452,7 +452,7 @@ class RandomScript:
             entry = draw.choice((base + 2, base + size, base - 4))
         has_bytes = MONITOR_END <= base < self.end - 16
         data = bytes(draw.getrandbits(8) for _ in range(16))
-        return [*((poke(base, data),) if has_bytes else ()), create(base, size, window, width, entry)]
+        return [*((poke(base, data),) if has_bytes else ()), create(base, size, window, window_size, entry)]
 
     def random_measure(self, state: ReferenceState, slot: int) -> Item:
         """Returns a measure near a boundary."""

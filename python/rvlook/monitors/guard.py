@@ -23,7 +23,7 @@ from rvlook.protocol.names import CSRS, ECALL_FROM_S
 from rvlook.protocol.replies import value_of
 from rvlook.protocol.symbols import Symbols
 
-MAX_TIMER_INTERVAL = 24  # the timer is raised after fewer steps of an enclave
+MAX_TIMER_INTERVAL = 24  # the timer is raised after 0 to 23 steps of an enclave
 MARK_BITS = 0x40000001  # bits that every mark has, so that it is not a small number
 
 
@@ -59,7 +59,7 @@ class Guard:
         self.live: set[OwnedRange] = set()  # the live ranges
         self.left_worlds: dict[str, LeftWorld] = {}  # the enclaves and the host, as each was left
         self.loaded: dict[OwnedRange, int] = {}  # ranges that are not live and that M loaded, and pc of the trap
-        self.exposed: dict[OwnedRange, int] = {}  # the ranges of these to which the host may store after it, and the pc of the host
+        self.exposed: dict[OwnedRange, int] = {}  # those ranges of `loaded` to which the host may store afterwards, and pc of the host then
         # the world that was left last
         self.last_left = LeftWorld(HartState(registers=(), csrs={}, pc=0, mode="S", entries=b"", pc_in_m=0), registers={}, csrs={}, is_call=False)
 
@@ -69,8 +69,8 @@ class Guard:
             try:
                 self.run_once()
                 return self.violation
-            except NewVector as found:
-                self.vectors.add(found.address)
+            except NewVector as new_vector:
+                self.vectors.add(new_vector.address)
                 self.ownership, self.violation = self.declared, None
                 self.counts, self.activity, self.handled = Counter(), defaultdict(Counter), Counter()
                 self.__post_init__()
@@ -93,8 +93,8 @@ class Guard:
     def next_trap(self, machine: Guarded) -> str | None:
         """Runs to the next trap. Raises the timer before a random step of an enclave, and sometimes of the host."""
         steps_left = self.limit - machine.steps
-        is_raised = self.timers and (self.world != HOST or self.draw.random() < .2)
-        if is_raised:
+        is_timer_raised = self.timers and (self.world != HOST or self.draw.random() < .2)
+        if is_timer_raised:
             cause = machine.to_trap(min(steps_left, self.draw.randrange(MAX_TIMER_INTERVAL)))
             if cause is not None:
                 return cause
@@ -102,9 +102,9 @@ class Guard:
         return machine.to_trap(self.limit - machine.steps)
 
     def trap(self, machine: Guarded, cause: str) -> None:
-        """Marks the world that trapped, runs M, and makes the checks."""
+        """Puts marks into the registers of the world that trapped, runs M up to its return, and makes the checks."""
         entry = machine.state()
-        if machine.loop.is_closed(cause, entry, machine.steps):
+        if machine.loop.detects(cause, entry, machine.steps):
             self.loop = entry.pc
             return
         self.calls += cause == ECALL_FROM_S and self.world == HOST
@@ -125,27 +125,28 @@ class Guard:
         self.check(checks.zeroed_range(sorted(live & self.live, key=lambda it: it.first), memory), "integrity", machine)
 
     def set_marks(self, entry: HartState, cause: str) -> LeftWorld:
-        """Returns the state of the world that trapped, and its marks. The arguments of a call are not marked."""
+        """Draws the marks for the world that trapped; returns its state with them. The arguments of a call, a0 to a7, get no marks."""
         is_call = cause == ECALL_FROM_S
         registers = {n: self.mark() for n in range(1, 32) if not (is_call and A0 <= n <= A7)}
         csrs = {name: self.mark() for name in checks.MARKED_CSRS}
-        csrs["sepc"] &= ~3
+        csrs["sepc"] &= ~3  # these bits of sepc are always 0
         csrs["sstatus"] = SWITCHED_STATUS if cause in checks.SWITCHING else self.draw.getrandbits(32) & SWITCHED_STATUS
         return LeftWorld(entry, registers, csrs, is_call)
 
     def mark(self) -> int:
-        """Returns a value that occurs nowhere else."""
+        """Returns a random value, which very likely occurs nowhere else."""
         return self.draw.getrandbits(32) | MARK_BITS
 
     # ---- checks
 
     def check(self, text: str, name: str, machine: Guarded, pc_in_m: int = 0) -> None:
-        """Notes the violation that a check returned, unless there is one already."""
+        """Notes a violation if the check `name` has returned a text that is not empty. The first violation of the run is kept."""
         if text and not self.violation:
             self.violation = Violation(name, text, machine.steps, self.last_left.state.pc, pc_in_m)
 
     def arrive(self, machine: Guarded, stay: StayInM, memory: bytes, tval: int) -> None:
-        """Makes the checks of a return from M, and gives the world that continues its values in place of the marks."""
+        """Makes the checks of a return from M, and gives the world that continues its values in place of the marks. `memory` is all of it after the
+        range of the monitor, at the return. `tval` is mtval at the trap. Both are unused at the return from the boot."""
         self.ownership = self.declared.active(lambda at: word_at(machine.bench, at), self.calls)
         left_name, owner = self.world, self.ownership.owner_of(stay.exit.pc)
         self.handled.update(stay.handled)
@@ -201,43 +202,44 @@ class Guard:
         state = stay.exit
         rights = rights_of(state.entries, self.setup.ram)
         private, closed = self.ownership.private(), checks.closed_ranges(self.ownership, rights)
-        for part in [range_ for range_ in self.live if range_.is_timed and range_ not in private]:
-            self.give_back(machine, part, memory, rights=())
-        for part in private:
-            self.activity.setdefault(part.owner, Counter())
-            if part.is_timed:
-                self.live.add(part)
-            elif self.world == part.owner or self.world == HOST and part in closed:
-                self.check(self.exposed_text(part, stay), "access", machine)
-                self.live.add(part)
-            elif part in self.live and self.world == HOST:
-                self.give_back(machine, part, memory, rights)
+        for owned in [range_ for range_ in self.live if range_.is_timed and range_ not in private]:
+            self.give_back(machine, owned, memory, rights=())
+        for owned in private:
+            self.activity.setdefault(owned.owner, Counter())
+            if owned.is_timed:
+                self.live.add(owned)
+            elif self.world == owned.owner or self.world == HOST and owned in closed:
+                self.check(self.exposed_text(owned, stay), "access", machine)
+                self.live.add(owned)
+            elif owned in self.live and self.world == HOST:
+                self.give_back(machine, owned, memory, rights)
             elif self.world == HOST:
-                self.note_load(part, stay, rights)
+                self.note_load(owned, stay, rights)
         self.check(checks.forbidden_access(self.ownership, self.world, state.pc, rights, self.live), "access", machine)
         self.check(checks.missing_access(self.ownership, self.world, state.pc, rights, self.live), "access", machine)
 
-    def give_back(self, machine: Guarded, part: OwnedRange, memory: bytes, rights: tuple[Right, ...]) -> None:
-        """Checks a range that the host gets back, or that ends."""
-        self.check(checks.not_zeroed(part, memory, rights), "zeros", machine)
-        self.live.discard(part)
-        self.left_worlds.pop(part.owner, None)
-        self.activity[part.owner]["given_back"] += 1
+    def give_back(self, machine: Guarded, owned: OwnedRange, memory: bytes, rights: tuple[Right, ...]) -> None:
+        """Checks that the bytes of a range that the host gets back, or that no longer exists, are zeros. From now on it is not live."""
+        self.check(checks.not_zeroed(owned, memory, rights), "zeros", machine)
+        self.live.discard(owned)
+        self.left_worlds.pop(owned.owner, None)
+        self.activity[owned.owner]["given_back"] += 1
         self.counts["ranges given back"] += 1
 
-    def note_load(self, part: OwnedRange, stay: StayInM, rights: tuple[Right, ...]) -> None:
-        """Notes that M loaded a range that is not live, as for a measurement, and that the host may store to it after that."""
-        if part.first in stay.loaded:
-            self.loaded[part] = stay.entry.pc
-        if part in self.loaded and "w" in checks.may_at(rights, part.first):
-            self.exposed.setdefault(part, stay.exit.pc)
+    def note_load(self, owned: OwnedRange, stay: StayInM, rights: tuple[Right, ...]) -> None:
+        """Notes if M has loaded the first byte of a range that is not live, as for a measurement, and if the host may store to it after that."""
+        if owned.first in stay.loaded:
+            self.loaded[owned] = stay.entry.pc
+        if owned in self.loaded and "w" in checks.may_at(rights, owned.first):
+            self.exposed.setdefault(owned, stay.exit.pc)
 
-    def exposed_text(self, part: OwnedRange, stay: StayInM) -> str:
-        """Returns a text if the host could store to a range after M had loaded it and before it became live, and M does not load it again."""
-        store_pc, trap_pc = self.exposed.pop(part, None), self.loaded.pop(part, 0)
-        if store_pc is None or part in self.live or part.first in stay.loaded:
+    def exposed_text(self, owned: OwnedRange, stay: StayInM) -> str:
+        """Returns a text if the host could store to a range after M had loaded it and before it becomes live (time of check to time of use). Returns
+        an empty text if it could not, or if M loads the range again in the stay in which it becomes live."""
+        store_pc, trap_pc = self.exposed.pop(owned, None), self.loaded.pop(owned, 0)
+        if store_pc is None or owned in self.live or owned.first in stay.loaded:
             return ""
-        return "host at %08x could store to %s of %s, which M had loaded at the trap at %08x" % (store_pc, part, part.owner, trap_pc)
+        return "host at %08x could store to %s of %s, which M had loaded at the trap at %08x" % (store_pc, owned, owned.owner, trap_pc)
 
 
 class GuardPlan(NamedTuple):
@@ -287,8 +289,9 @@ class GuardResults:
     def activity(self) -> dict[str, Counter[str]]:
         """Returns the activity of each owner in all runs with marks."""
         counts_by_owner: dict[str, Counter[str]] = defaultdict(Counter)
-        for owner, activity in ((owner, counts) for guard in self.guards for owner, counts in guard.activity.items()):
-            counts_by_owner[owner].update(activity)
+        for guard in self.guards:
+            for owner, counts in guard.activity.items():
+                counts_by_owner[owner].update(counts)
         return counts_by_owner
 
     @property
@@ -327,9 +330,9 @@ def compare_pairs(plan: GuardPlan, results: GuardResults, progress: Progress) ->
     vectors = set().union(*(guard.vectors for guard in results.guards))
     secrets = secrets_of(plan.setup, plan.ownership, plan.limit, vectors)
     results.pairs = []
-    compare = [TwinRuns(plan.setup, plan.ownership, plan.limit, vectors, secret).compare for secret in secrets]
-    for pair in results_of(lambda number: compare[number](), len(compare), plan.jobs):
+    comparisons = [TwinRuns(plan.setup, plan.ownership, plan.limit, vectors, secret).compare for secret in secrets]
+    for pair in results_of(lambda number: comparisons[number](), len(comparisons), plan.jobs):
         results.pairs.append(pair)
-        progress.bar(len(results.pairs), len(compare), "pairs of runs")
+        progress.bar(len(results.pairs), len(comparisons), "pairs of runs")
         if pair.difference:
             break

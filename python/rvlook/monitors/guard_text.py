@@ -32,7 +32,7 @@ def show_guard(plan: GuardPlan, printer: Printer, findings: ReportedCases) -> No
     findings.add("guard", results.finding)
     if results.is_interrupted:
         raise KeyboardInterrupt
-    for text in rest_of(results, plan):
+    for text in unexamined_parts(results, plan):
         findings.cut_short(text)
 
 
@@ -57,29 +57,29 @@ def enclaves_of(activity: dict[str, Counter[str]], ownership: Ownership) -> list
     return list(dict.fromkeys([*(enclave for enclave in ownership.enclaves() if enclave not in tables), *unused, *seen]))
 
 
-def rest_of(results: GuardResults, plan: GuardPlan) -> list[str]:
+def unexamined_parts(results: GuardResults, plan: GuardPlan) -> list[str]:
     """Returns what was not examined: a run that ended early, and enclaves that were not entered, not left, or did not continue."""
-    texts = ["a run ended in a loop of traps at %s: the instruction traps each time it continues" % place_text("%08x" % loop, plan.symbols)
-             for loop in results.loops[:1]]
+    unexamined = ["a run ended in a loop of traps at %s: the instruction traps each time it continues" % place_text("%08x" % loop, plan.symbols)
+                  for loop in results.loops[:1]]
     if results.violation:
-        return texts
-    texts += ["guard compared only %d steps of the two runs that differ in %s: %s" % (pair.step, pair.secret.text, pair.why_cut)
-              for pair in results.pairs or () if pair.why_cut]
+        return unexamined
+    unexamined += ["guard compared only %d steps of the two runs that differ in %s: %s" % (pair.step, pair.secret.text, pair.why_cut)
+                   for pair in results.pairs or () if pair.why_cut]
     activity, ownership = results.activity, plan.ownership
     enclaves = enclaves_of(activity, ownership)
     if not any(guard.counts["returns from M"] for guard in results.guards):
-        texts.append("no world trapped, so that M never ran after its boot")
+        unexamined.append("no world trapped, so that M never ran after its boot")
     never_entered = [enclave for enclave in enclaves if not activity[enclave]["entered"]]
     never_left = [enclave for enclave in enclaves if activity[enclave]["entered"] and not activity[enclave]["left"]]
     never_continued = [name for name in enclaves if activity[name]["left"] and not activity[name]["continued"] and not ownership.runs_once(name)]
     if never_continued:
-        texts.append("after they were left, these enclaves never continued: %s; let the host continue them, or add 'once OWNER' to RANGES"
-                     % ", ".join(never_continued))
+        unexamined.append("after they were left, these enclaves never continued: %s; let the host continue them, or add 'once OWNER' to RANGES"
+                          % ", ".join(never_continued))
     if never_left:
-        texts.append("these enclaves were entered and never left: %s; use more --steps, or let them call the monitor" % ", ".join(never_left))
+        unexamined.append("these enclaves were entered and never left: %s; use more --steps, or let them call the monitor" % ", ".join(never_left))
     if never_entered:
-        texts.append("these enclaves never ran: %s; let the host enter them, or remove them from RANGES" % ", ".join(never_entered))
-    return texts
+        unexamined.append("these enclaves never ran: %s; let the host enter them, or remove them from RANGES" % ", ".join(never_entered))
+    return unexamined
 
 
 def show_handled(printer: Printer, symbols: Symbols, handled: Counter[int]) -> None:
@@ -165,10 +165,11 @@ def lines_of(symbols: Symbols, code: MonitorBlocks, unexecuted_blocks: Sequence[
 
 def places_of(symbols: Symbols, blocks: Sequence[Block]) -> str:
     """Returns the source lines of blocks. Returns the address of a block that has no source line."""
-    lines = [{source for at in range(block.first, block.end, 4) for source in [symbols.source(at)] if source} for block in blocks]
-    sources = sorted({place_of(member) for members in lines for member in members})
+    lines_of_blocks = [{source for at in range(block.first, block.end, 4) for source in [symbols.source(at)] if source} for block in blocks]
+    sources = sorted({place_of(member) for members in lines_of_blocks for member in members})
     texts = ["%s:%s" % (file, ranges_text([number for _, number in members])) for file, members in groupby(sources, lambda it: it[0])]
-    return "  ".join([*texts, *("%08x-%08x" % (first, end - 4) for first, end in joined([block for block, own in zip(blocks, lines) if not own]))])
+    without_lines = joined([block for block, lines_of_block in zip(blocks, lines_of_blocks) if not lines_of_block])
+    return "  ".join([*texts, *("%08x-%08x" % (first, end - 4) for first, end in without_lines)])
 
 
 def ranges_text(numbers: Sequence[int]) -> str:

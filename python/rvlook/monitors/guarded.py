@@ -15,16 +15,16 @@ from rvlook.protocol.names import CSRS, TIMER
 from rvlook.protocol.replies import ROW, Ran, RanTrap, poke_commands, register_values, step_of, value_of
 
 MAX_NESTED_TRAPS = 3  # traps in M, each in the handler of the one before
-MAX_EQUAL_TRAPS = 64  # equal traps in a row
-WORD = 4
+MAX_EQUAL_TRAPS = 64  # repetitions of one trap, after which it counts as a loop
+WORD = 4  # bytes of an instruction
 SUPERVISOR = ("sscratch", "sepc", "scause", "stval", "stvec", "sstatus")
 STATE_CSRS = (*SUPERVISOR, "mepc", "mstatus", "mtvec")
 STATE = "".join(["regs\n", *("csr %x\n" % CSRS[name] for name in STATE_CSRS), "pmp\n"]).encode()
 STATE_LINES = REGISTER_LINES + len(STATE_CSRS) + PMP_LINES
 MPP_SHIFT, MPP_M = 11, 3  # the position of MPP in mstatus, and its value for M
-MODES = "US?M"
+MODES = "US?M"  # the mode for each value of MPP
 SWITCHED_STATUS = 0x80122  # the bits SIE, SPIE, SPP and MXR of sstatus
-T0 = 5
+T0 = 5  # the number of the register
 STEPS_PER_RUN = 1000000  # steps of one `run` in M
 MAX_WATCHPOINTS = 32  # the most watchpoints that the bench can have
 MAX_STOPS_IN_M = 10000  # the most stops of the bench in M before M returns: at traps, at each mret, and at watchpoints
@@ -41,7 +41,7 @@ class NewVector(Exception):
 
 
 def vector_of_first_trap(setup: MonitorSetup, log: Sequence[str], steps: int) -> int:
-    """Returns the address to which the first trap goes within a number of steps after a run with this log, in which there is a trap."""
+    """Repeats a run with its log, and returns the address to which the first trap within the next `steps` steps goes. There must be such a trap."""
     low, high = 0, steps  # there is no trap within `low` steps, and one within `high`
     while high - low > 1:
         middle = (low + high) // 2
@@ -51,7 +51,7 @@ def vector_of_first_trap(setup: MonitorSetup, log: Sequence[str], steps: int) ->
 
 
 def reply_after(setup: MonitorSetup, log: Sequence[str], steps: int) -> Ran:
-    """Returns the reply of `run` for a number of steps after a run with this log."""
+    """Repeats a run with its log on a new bench; returns the reply of the bench to `run` with a number of steps after it."""
     with setup.own.bench() as bench:
         bench.replies_to(log)
         return step_of(bench.one("run %d" % steps))
@@ -91,18 +91,18 @@ class TrapsInM:
 
 
 class TrapLoop:
-    """Finds a loop of traps below M: an instruction traps again and again with the same cause and access rights, with at most one step in between."""
+    """Detects a loop of traps below M: an instruction traps again and again with the same cause and access rights, with at most one step between."""
 
     def __init__(self) -> None:
-        self.last: tuple[str, int, str, bytes] = ("", 0, "", b"")  # cause, pc, mode and PMP entries of the last trap
-        self.count, self.steps = 0, 0  # repetitions so far; steps below M at the last trap
+        self.last_trap: tuple[str, int, str, bytes] = ("", 0, "", b"")  # cause, pc, mode and PMP entries of the last trap
+        self.repetitions, self.last_steps = 0, 0  # repetitions of the last trap so far; steps below M at the last trap
 
-    def is_closed(self, cause: str, entry: HartState, steps: int) -> bool:
-        """Notes a trap, after a number of steps below M; returns whether it is one of such a loop."""
-        key = (cause, entry.pc, entry.mode, entry.entries)
-        self.count = self.count + 1 if key == self.last and steps - self.steps <= 1 else 0
-        self.last, self.steps = key, steps
-        return self.count >= MAX_EQUAL_TRAPS
+    def detects(self, cause: str, entry: HartState, steps: int) -> bool:
+        """Notes a trap that occurs after a number of steps below M; returns whether the trap has been repeated MAX_EQUAL_TRAPS times."""
+        this_trap = (cause, entry.pc, entry.mode, entry.entries)
+        self.repetitions = self.repetitions + 1 if this_trap == self.last_trap and steps - self.last_steps <= 1 else 0
+        self.last_trap, self.last_steps = this_trap, steps
+        return self.repetitions >= MAX_EQUAL_TRAPS
 
 
 class HartState(NamedTuple):
@@ -179,17 +179,17 @@ class Guarded(MonitorBench):
         return stay
 
     def to_mret(self, cause: str, entry: HartState) -> StayInM:
-        """Runs M up to its mret to S or U, with the watchpoints that are set."""
+        """Runs M up to its mret to S or U, and stops at the breakpoints and watchpoints in between; see `to_return`."""
         spent, stops, fault, traps = 0, 0, "", TrapsInM(self.is_code)
         loaded: set[int] = set()
         while True:
             stops += 1
             ran = step_of(self.do("run %d" % STEPS_PER_RUN)[0].decode())
             spent += ran.steps
-            if ran.why.startswith("watch:"):
+            if ran.why.startswith("watch:"):  # the bench stops after the instruction that accessed the byte
                 self.note_access(int(ran.why[len("watch:"):], 16), word_at(self.bench, int(ran.pc, 16) - 4), loaded)
             state = self.state()
-            fault, is_end = self.after_part(ran, state, traps)
+            fault, is_end = self.handle_stop(ran, state, traps)
             if not fault and (spent > MAX_STEPS_IN_M or stops > MAX_STOPS_IN_M):
                 fault = "%sM does not return within %d steps" % (traps.text + "; " if traps.text else "", spent)
             if fault or is_end:
@@ -197,14 +197,15 @@ class Guarded(MonitorBench):
                 return StayInM(cause, entry, state, spent, fault, fault_pc if fault else 0, tuple(traps.handled), frozenset(loaded))
 
     def note_access(self, address: int, word: int, loaded: set[int]) -> None:
-        """Clears the timer line at a store to its register, and notes a load of another watched byte."""
+        """Handles an access to a watched byte by an encoded instruction. A store to a register of the timer clears the timer line. A load of another
+        byte is added to `loaded`."""
         if address not in self.setup.lowered:
             if not is_store(word):
                 loaded.add(address)
         elif is_store(word):
             self.do("timer off")
 
-    def after_part(self, ran: Ran, state: HartState, traps: TrapsInM) -> tuple[str, bool]:
+    def handle_stop(self, ran: Ran, state: HartState, traps: TrapsInM) -> tuple[str, bool]:
         """Handles a stop of the bench in M. Returns why the stop is a violation, or an empty text; and whether M returns to S or U. Raises
         NewVector if M has trapped to an address that has no breakpoint."""
         if ran.mode != "M":
@@ -219,7 +220,7 @@ class Guarded(MonitorBench):
         return traps.end(state) if leaves_m else traps.leave(state), leaves_m
 
     def leave(self) -> None:
-        """Does the mret, and stops the bench where the next trap enters M."""
+        """Executes the mret, and sets breakpoints where the next trap will enter M."""
         self.do("step 1")
         self.stop_at(entries_of(self.mtvec()))
 
@@ -228,7 +229,7 @@ class Guarded(MonitorBench):
         return value_of(self.do("csr %x" % CSRS["mtvec"])[0])
 
     def stop_at(self, vectors: Iterable[int]) -> None:
-        """Stops the bench at addresses to which traps go. Raises Unfinished if there are too many."""
+        """Sets breakpoints at addresses to which traps go. Raises Unfinished if the bench has no room for them."""
         self.vectors.update(vectors)
         if any(reply.startswith(b"error") for reply in self.do(*("break %x" % vector for vector in vectors))):
             raise Unfinished("the monitor has %d mret instructions and %d trap vectors, which are more than %d" % (
@@ -247,7 +248,8 @@ class Guarded(MonitorBench):
         return ran.trap.cause
 
     def set_state(self, registers: dict[int, int], csrs: dict[str, int]) -> None:
-        """Sets registers. Sets S-mode registers by instructions that it stores at the pc of M and executes; it restores the code there."""
+        """Sets integer registers, by number, and S-mode registers, by name. No command of the bench sets S-mode registers. They are therefore set by
+        instructions that are stored at the pc of M and executed; then the code there is restored."""
         if csrs:
             state = self.state()
             pc, old_t0 = state.pc_in_m, state.registers[T0]
@@ -255,27 +257,27 @@ class Guarded(MonitorBench):
             commands = []
             for name, value in csrs.items():
                 commands += ["setreg %d %x" % (T0, value), *poke_commands(pc, struct.pack("<I", csrw(CSRS[name], T0))), "step 1"]
-                commands += [*poke_commands(pc + 4, struct.pack("<I", BACK)), "step 1"]
+                commands += [*poke_commands(pc + 4, struct.pack("<I", BACK)), "step 1"]  # jumps back to pc
             self.do(*commands, *poke_commands(pc, struct.pack("<II", *old_code)), "setreg %d %x" % (T0, old_t0))
-        self.do(*("setreg %d %x" % register for register in registers.items() if register[0]))
+        self.do(*("setreg %d %x" % (number, value) for number, value in registers.items() if number))  # x0 cannot be set
 
     def memory(self) -> bytes:
         """Returns all bytes after the range of the monitor."""
         return self.bytes_of(MONITOR_END, RAM_BASE + self.setup.ram)
 
     def bytes_of(self, first: int, end: int) -> bytes:
-        """Returns the bytes of a range in RAM."""
+        """Returns the bytes from `first` up to before `end`. Bytes after the end of the RAM are left out."""
         lower, upper = first & -ROW, min(-(-end // ROW) * ROW, RAM_BASE + self.setup.ram)
         replies = self.bench.block(memory_lines(lower, upper), (upper - lower) // ROW) if upper > lower else b""
-        return bytes.fromhex(b"".join(line[9:] for line in replies.splitlines()).decode())[first - lower:end - lower]
+        return bytes.fromhex(b"".join(line[9:] for line in replies.splitlines()).decode())[first - lower:end - lower]  # line[:9]: the address
 
     def rows_outside(self, hidden: Sequence[OwnedRange]) -> bytes:
-        """Returns the replies of `mem` for the rows of 64 bytes after the range of the monitor that are not whole rows of some ranges."""
-        shown, start, end = [], MONITOR_END, RAM_BASE + self.setup.ram
+        """Returns the replies of `mem` for all rows of ROW bytes after the range of the monitor, except those that lie in a hidden range."""
+        shown, start, end = [], MONITOR_END, RAM_BASE + self.setup.ram  # `shown`: first address and end of each range of rows to return
         for hidden_range in sorted(hidden, key=lambda it: it.first):
-            first, after = max(start, -(-hidden_range.first // ROW) * ROW), min(hidden_range.end & -ROW, end)
-            if first < after:
-                shown.append((start, first))
-                start = after
+            hidden_first, hidden_end = max(start, -(-hidden_range.first // ROW) * ROW), min(hidden_range.end & -ROW, end)
+            if hidden_first < hidden_end:
+                shown.append((start, hidden_first))
+                start = hidden_end
         shown.append((start, end))
         return b"".join(self.bench.block(memory_lines(first, end), (end - first) // ROW) for first, end in shown if first < end)

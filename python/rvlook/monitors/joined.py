@@ -22,13 +22,13 @@ def joined(monitor: Image, path: str) -> tuple[Image, Symbols]:
     """Returns an image with the segments of both files, which begins where the monitor does, and the symbols of the second file. Raises
     RvlookError if a file cannot be used, or if segments overlap."""
     host = image_of(path)
-    parts = [(segment, monitor) for segment in segments_of(monitor)] + [(segment, host) for segment in segments_of(host)]
-    refuse_overlap([(segment.address, segment.address + segment.in_memory, image.name) for segment, image in parts])
-    table, body, start = b"", b"", HEADER + SEGMENT.size * len(parts)
-    for (kind, offset, virtual, address, in_file, in_memory, flags, _), image in parts:
+    parts_of_both = [(segment, monitor) for segment in segments_of(monitor)] + [(segment, host) for segment in segments_of(host)]
+    refuse_overlap([(segment.address, segment.address + segment.in_memory, image.name) for segment, image in parts_of_both])
+    table, body, start = b"", b"", HEADER + SEGMENT.size * len(parts_of_both)
+    for (kind, offset, virtual, address, in_file, in_memory, flags, _), image in parts_of_both:
         table += SEGMENT.pack(kind, start + len(body), virtual, address, in_file, in_memory, flags, 1)
         body += (image.data or b"")[offset:offset + in_file]
-    data = header_of(monitor, len(parts)) + table + body
+    data = header_of(monitor, len(parts_of_both)) + table + body
     return Image(monitor.name, digits_of(data), data), symbols_of(host.name, host.data)
 
 
@@ -50,7 +50,7 @@ def header_of(image: Image, count: int) -> bytes:
     return bytes(header)
 
 
-def both(one: Symbols, other: Symbols) -> Symbols:
+def both(first: Symbols, second: Symbols) -> Symbols:
     """Returns the symbols of two files."""
-    symbols = dict.fromkeys(symbol for part in (one, other) for symbol in (*part.ordered, *part.by_name.values()))
-    return Symbols(list(symbols), [*one.units, *other.units])
+    symbols = dict.fromkeys(symbol for symbols_of_file in (first, second) for symbol in (*symbols_of_file.ordered, *symbols_of_file.by_name.values()))
+    return Symbols(list(symbols), [*first.units, *second.units])

@@ -8,9 +8,9 @@ from rvlook.monitors.items import MASK
 from rvlook.monitors.rights import Right
 
 MONITOR, HOST = "monitor", "host"  # owners that every file declares
-SHARED, HANDS, ONCE, SECRET = "shared", "hands", "once", "secret"  # other first words of a line
-ALL, DATA = "rwx", "rw-"
-Words = Callable[[int], int]  # the word of memory at an address
+SHARED, HANDS, ONCE, SECRET = "shared", "hands", "once", "secret"  # other words with which a line of the file of ranges can begin
+ALL, DATA = "rwx", "rw-"  # default access rights: of ranges, and of windows in a table
+Words = Callable[[int], int]  # returns the word in memory at an address
 
 
 class WordCondition(NamedTuple):
@@ -20,7 +20,7 @@ class WordCondition(NamedTuple):
     value: int  # the right operand
 
     def holds(self, words: Words, calls: int, base: int = 0) -> bool:
-        """Returns whether the condition holds; `base` is added to the address."""
+        """Returns whether the condition holds after a number of calls of the host; `base` is added to the address of the word."""
         return self.compare(calls if self.at is None else words(base + self.at & MASK), self.value)
 
 
@@ -39,7 +39,7 @@ class RangesTable:
         """Yields the ranges of the elements that count."""
         for number in range(self.count):
             at = self.first + number * self.stride
-            if all(condition.holds(words, calls, at) for condition in self.when):
+            if all(condition.holds(words, calls, base=at) for condition in self.when):
                 yield from self.ranges_at(words, at, "%s%d" % (self.name, number))
 
     def ranges_at(self, words: Words, at: int, owner: str) -> Iterator[OwnedRange]:
@@ -50,7 +50,7 @@ class RangesTable:
         if size and self.window:
             base, size = (words(at + offset & MASK) for offset in self.window)
             if size:
-                yield OwnedRange(base, base + size, SHARED, DATA, (owner,), is_timed=True)
+                yield OwnedRange(base, base + size, SHARED, DATA, sharers=(owner,), is_timed=True)
 
 
 class OwnedRange(NamedTuple):
@@ -90,14 +90,14 @@ class Ownership:
             return self
         ranges = [range_ for range_ in self.ranges if all(condition.holds(words, calls) for condition in range_.when)]
         ranges += [range_ for table in self.tables for range_ in table.ranges(words, calls)]
-        return Ownership(ranges, self.hands, self.once, [], self.secrets)
+        return Ownership(ranges, self.hands, self.once, tables=[], secrets=self.secrets)
 
     def enclaves(self) -> list[str]:
         """Returns the names of the enclaves, and the names of tables."""
         return [*dict.fromkeys(range_.owner for range_ in self.private()), *(table.name for table in self.tables)]
 
     def runs_once(self, owner: str) -> bool:
-        """Returns whether an enclave, or all of its table, need not continue."""
+        """Returns whether the author declares, with `once`, that an enclave or all enclaves of its table need not continue after they are left."""
         return owner in self.once or any(table.name in self.once and owner.rstrip("0123456789") == table.name for table in self.tables)
 
     def owner_of(self, at: int) -> str | None:

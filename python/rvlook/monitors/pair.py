@@ -15,7 +15,7 @@ from rvlook.protocol.replies import Enclave
 
 DONE, OTHER = "done", "other"
 HOST, ENCLAVE = "host", "enclave"
-HOST_RESULTS = {
+HOST_RESULTS = {  # the results that each call of the host can have
     Call.create.name: (DONE, "BadRegion", "BadWindow", "Overlap", "BadEntry", "NoSlot"), Call.destroy.name: (DONE, "NoEnclave"),
     Call.run.name: (DONE, "NoEnclave", "BadState"), Call.resume.name: (DONE, "NoEnclave", "BadState"),
     Call.measure.name: (DONE, "NoEnclave", "BadAddress"), Call.stop.name: ("NotSupported",), Call.exit.name: ("NotSupported",),
@@ -24,7 +24,7 @@ ENCLAVE_RESULTS = {**dict.fromkeys(HOST_RESULTS, ("NotSupported",)), Call.measur
                    Call.exit.name: (DONE,)}
 SWITCHES = ("run", "resume after stop", "resume after timer in S", "resume after timer in U", "stop", "exit", "timer in S", "timer in U",
             "destroy of Fresh", "destroy of Stopped", "destroy of Exited")
-CAUSES = {"S": (0, 1, 2, 3, 5, 7), "U": (0, 1, 2, 3, 5, 7, 8)}
+CAUSES = {"S": (0, 1, 2, 3, 5, 7), "U": (0, 1, 2, 3, 5, 7, 8)}  # causes of the exceptions that can occur in each mode
 A0 = 10
 
 
@@ -38,7 +38,7 @@ class Cell:
 
 @dataclass
 class ScriptCoverage:
-    """The coverage of scripts."""
+    """Counts of what one or more scripts have covered."""
     scripts: int = 0  # the number of scripts
     steps: int = 0  # below M
     returns: int = 0  # the number of returns from M
@@ -97,7 +97,8 @@ class PlayedScript:
 
 
 class BothSides(Closing):
-    """Both sides. `compares_memory` selects whether memory is compared after each trap."""
+    """The author's monitor and the reference, on which the items of a script are done side by side. `compares_memory` says whether memory is compared
+    after each trap, not only at the end of the script."""
 
     def __init__(self, setup: MonitorSetup, name: str, compares_memory: bool = True) -> None:
         self.setup, self.compares_memory, self.played = setup, compares_memory, PlayedScript(name)  # `played`: the script so far
@@ -150,14 +151,14 @@ class BothSides(Closing):
             self.played.differences = memory_difference(self.own.memory(), self.reference.memory())
 
     def result_of(self, item: Item, world: str, state: SideState) -> str:
-        """Returns the result of a step in words."""
+        """Returns the result of a step that `world` did: the world that runs then or the status of a call, or the trap; empty without a trap."""
         if state.cause == ECALL_FROM_S and item.call_number is not None:
             return self.world if self.world != world else STATUSES.get(state.registers[A0], DONE)
-        after = ", then %s" % self.world if self.world != world else ""
-        return "" if state.trap == "-" else "trap %s%s" % (state.trap, after)
+        next_world = ", then %s" % self.world if self.world != world else ""
+        return "" if state.trap == "-" else "trap %s%s" % (state.trap, next_world)
 
     def count(self, item: Item, world: str, mode: str, states: tuple[SideState, SideState]) -> None:
-        """Counts what a trap covers."""
+        """Counts what the trap of an item covers. `world` and `mode` are those before the item; `states` are those of both sides after it."""
         own, reference = states
         coverage, side = self.played.coverage, HOST if world == "host" else ENCLAVE
         coverage.returns += 1
@@ -186,7 +187,7 @@ class BothSides(Closing):
             self.left_by.pop(destroyed.world, None)
 
     def count_switch(self, item: Item, world: str, timer: str) -> None:
-        """Counts a switch between the host and an enclave."""
+        """Counts a switch from `world` to another one by an item or the timer. `timer` is the name of the switch by the timer, else empty."""
         if world != "host":
             kind = timer or NUMBERED[item.call_number or 0].name
             self.left_by[world] = kind

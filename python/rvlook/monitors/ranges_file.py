@@ -41,8 +41,8 @@ def ownership_of(path: str, symbols: Symbols) -> Ownership:
 
 def add_line(ownership: Ownership, words: list[str], symbols: Symbols) -> None:
     """Adds a line. Raises one of MALFORMED."""
-    cut = words.index(WHILE) if WHILE in words else len(words)
-    is_timed, words, conditions = WHILE in words, words[:cut], words[cut + 1:]
+    end_of_words = words.index(WHILE) if WHILE in words else len(words)
+    is_timed, words, conditions = WHILE in words, words[:end_of_words], words[end_of_words + 1:]
     if is_timed != bool(conditions) or not words:
         raise ValueError
     if words[0] == TABLE:

@@ -8,7 +8,7 @@ from rvlook.access.ranges import NOTHING, boundaries, entry_range
 from rvlook.protocol.memory_map import RAM_BASE
 from rvlook.protocol.replies import entry_of
 
-BITS = (("r", 1), ("w", 2), ("x", 4))
+BITS = (("r", 1), ("w", 2), ("x", 4))  # the bits R, W and X of pmpcfg
 
 
 class Right(NamedTuple):
@@ -24,13 +24,14 @@ class Right(NamedTuple):
 
 @lru_cache(maxsize=4096)
 def rights_of(lines: bytes, ram: int) -> tuple[Right, ...]:
-    """Returns the rights under the replies of `pmp`, apart for each entry that permits an access: one across their boundary is refused."""
+    """Returns the access rights of all RAM under the replies of `pmp`, for `ram` bytes. Adjacent ranges with equal rights from two entries stay
+    apart, because an access across their boundary is refused."""
     entries = [entry_of(line.decode()) for line in lines.splitlines()]
     covered = [entry_range(entries, index) for index in range(len(entries))]
     ends = boundaries(entries, ram)
     rights: list[Right] = []
     for first, end in zip(ends, ends[1:]):
-        index = next((n for n, entry in enumerate(covered) if entry and entry.first <= first < entry.end), None)
+        index = next((n for n, entry in enumerate(covered) if entry and entry.first <= first < entry.end), None)  # the lowest entry decides
         cfg = 0 if index is None else entries[index].cfg
         may = "".join(letter if cfg & bit else "-" for letter, bit in BITS)
         if rights and rights[-1].may == may and (may == NOTHING or rights[-1].entry == index):
@@ -41,7 +42,7 @@ def rights_of(lines: bytes, ram: int) -> tuple[Right, ...]:
 
 
 def closed_outside(rights: tuple[Right, ...], first: int, end: int, last: int) -> tuple[Right, ...]:
-    """Returns access rights that permit nothing outside the range from `first` up to before `end`. `last` is the end of the RAM."""
+    """Returns the given access rights from `first` up to before `end`, and no access outside this range. `last` is the end of the RAM."""
     inside = [right._replace(first=max(right.first, first), end=min(right.end, end)) for right in rights if right.first < end and first < right.end]
     closed: list[Right] = []
     for right in (Right(RAM_BASE, first, NOTHING, None), *inside, Right(end, last, NOTHING, None)):

@@ -52,9 +52,9 @@ class MonitorSetup(NamedTuple):
     memory: Placement | None = None  # the memory of host and enclaves; None: all RAM from 80010000 on
 
     def with_ram(self, ram: int) -> MonitorSetup:
-        """Returns the configuration with another size of the RAM. The default boot passes the size to the monitor."""
-        old, new = size_line(self.ram), size_line(ram)
-        return self._replace(ram=ram, boot=tuple(new if path == old else path for path in self.boot))
+        """Returns the setup with another size of the RAM in bytes, also in the line of the default boot that passes the size to the monitor."""
+        old_line, new_line = size_line(self.ram), size_line(ram)
+        return self._replace(ram=ram, boot=tuple(new_line if line == old_line else line for line in self.boot))
 
     @property
     def placement(self) -> Placement:
@@ -176,14 +176,15 @@ class Side(MonitorBench):
         return self.observation("-", "host")
 
     def step(self, item: Item) -> SideState:
-        """Does an item, and all steps in M after it."""
+        """Does an item, and then all steps in M if it traps to M; returns the state after them."""
         lines = self.lines_of(item)
         if not item.steps:
             self.do(*lines)
             return self.observation("-", "")
         ran = step_of(self.do(*lines, "step 1")[-1].decode())
         self.pc, self.mode, trap = int(ran.pc, 16), ran.mode, trap_text(ran.trap)
-        if self.is_own and trap[:8] == TIMER and not self.setup.lowered:
+        cause = trap[:8]
+        if self.is_own and cause == TIMER and not self.setup.lowered:
             self.do("timer off")  # the bare bench has no device that M could clear
         return self.stay(trap, ran.world) if self.is_own and self.mode == "M" else self.observation(trap, ran.world)
 
@@ -197,15 +198,15 @@ class Side(MonitorBench):
 
     def stay(self, trap: str, world: str) -> SideState:
         """Does the steps in M up to the return. If M does not return, the fault of the state says why."""
-        first, spent, fault = len(self.log), 0, ""
+        first_line, spent, fault = len(self.log), 0, ""
         while self.mode == "M" and not fault:
-            ran, last = (step_of(reply.decode()) for reply in self.do(RUN_TO_MRET, "step 1"))
+            ran, step = (step_of(reply.decode()) for reply in self.do(RUN_TO_MRET, "step 1"))  # `step`: usually the mret
             spent += ran.steps + 1
-            fault = self.fault_of(ran.mode, ran.trap or last.trap, spent, MAX_STEPS_IN_M + MAX_STEPS_PER_BYTE * self.setup.ram)
+            fault = self.fault_of(ran.mode, ran.trap or step.trap, spent, MAX_STEPS_IN_M + MAX_STEPS_PER_BYTE * self.setup.ram)
             if ran.why.startswith("watch") and is_store(word_at(self.bench, int(ran.pc, 16) - 4)):
                 self.do("timer off")
-            self.pc, self.mode = int(last.pc, 16), last.mode
-        self.stays.append(Stay(first, spent))
+            self.pc, self.mode = int(step.pc, 16), step.mode
+        self.stays.append(Stay(line=first_line, steps=spent))
         return self.observation(trap, world, spent, fault)
 
     @staticmethod
@@ -218,11 +219,11 @@ class Side(MonitorBench):
         return "M does not return within %d steps" % spent if spent > max_steps else ""
 
     def observation(self, trap: str, world: str, spent: int = 0, fault: str = "") -> SideState:
-        """Returns the state now, and takes over its pc."""
+        """Asks the bench for its state, and notes pc. The arguments are the fields of the state that the bench cannot show later."""
         replies = self.bench.block(STATE, STATE_LINES).splitlines()
         values = register_values(replies[VISIBLE_LINES:-PMP_LINES])
         above = tuple(value & DECIDING_BITS.get(name, MASK) for name, value in zip(CSR_LIST[len(BELOW):], values))
-        self.pc = int(replies[REGISTER_LINES - 1][3:], 16)
+        self.pc = int(replies[REGISTER_LINES - 1][3:], 16)  # `pc=ADDRESS`
         return SideState(pc=self.pc, mode=self.mode, trap=trap, world=world, below=b"\n".join(replies[:VISIBLE_LINES]), above=above,
                          entries=b"\n".join(replies[-PMP_LINES:]), spent=spent, fault=fault)
 
@@ -238,7 +239,7 @@ class Side(MonitorBench):
 
 @lru_cache(maxsize=None)
 def memory_lines(first: int, end: int) -> bytes:
-    """Returns the commands that show a range of memory."""
+    """Returns the `mem` commands that show memory from `first` up to before `end`, one in each line."""
     return "\n".join([*memory_commands(first, end - first), ""]).encode()
 
 

@@ -26,7 +26,7 @@ PAGE = 0x1000
 
 @dataclass
 class Track:
-    """One run up to a return from M.
+    """One run, which goes from one return from M to the next.
 
     A range becomes live at the return at which it is closed to the host or its owner runs. It stays live until the host gets it back."""
     machine: Guarded  # the machine that runs
@@ -43,8 +43,8 @@ class Track:
         self.ownership = self.declared
 
     def next_return(self, secret: str = "") -> StayInM | None:
-        """Goes to the next return from M; returns None at the limit, the end of the host, a loop of traps, and a fault in M. If the world `secret`
-        traps, its registers are inverted before M runs."""
+        """Goes to the next return from M; returns None at the limit, the end of the host, a loop of traps, and a fault in M. If `secret` is a world,
+        and if this world traps by a call or the timer, its private state is inverted before M runs."""
         self.inverted = []
         if not self.returns:
             stay = self.machine.begin()
@@ -54,7 +54,7 @@ class Track:
             if cause is None:
                 return None
             entry = self.machine.state()
-            if self.machine.loop.is_closed(cause, entry, self.machine.steps):
+            if self.machine.loop.detects(cause, entry, self.machine.steps):
                 return None
             self.calls += cause == ECALL_FROM_S and self.world == HOST
             if secret and self.world == secret and cause in SWITCHING:
@@ -88,9 +88,9 @@ class Track:
 class TwinSecret(NamedTuple):
     """The private state that the second run of a pair inverts. A field is empty if nothing of its kind is inverted."""
     name: str  # the name for the report
-    owners: frozenset[str] = frozenset()  # the owners of ranges
+    owners: frozenset[str] = frozenset()  # the enclaves whose ranges are inverted
     world: str = ""  # the world whose registers are inverted
-    ranges: tuple[OwnedRange, ...] = ()  # the ranges of the monitor
+    ranges: tuple[OwnedRange, ...] = ()  # ranges of the monitor that are inverted
 
     @property
     def text(self) -> str:
@@ -111,29 +111,29 @@ class TwinResult(NamedTuple):
 
 def secrets_of(setup: MonitorSetup, ownership: Ownership, limit: int, vectors: set[int]) -> list[TwinSecret]:
     """Returns the secret of each pair of runs. Unused pages of the monitor are in no segment, and all zeros after the boot and at the end."""
-    entered: dict[str, None] = {}
-    closed: dict[str, None] = {}
+    entered_owners: dict[str, None] = {}
+    closed_owners: dict[str, None] = {}
     with Guarded(setup, vectors, ownership.is_monitor) as machine:
         track = Track(machine, ownership, limit)
         stay = track.next_return()
         unused = list(zero_pages(machine, unloaded_pages(setup, ownership)))
         while stay:
-            entered[track.world] = None
-            closed.update({range_.owner: None for range_ in track.closed})
+            entered_owners[track.world] = None
+            closed_owners.update({range_.owner: None for range_ in track.closed})
             stay = track.next_return()
         unused = list(zero_pages(machine, unused))
-    secrets = [TwinSecret(owner, frozenset({owner}), owner) for owner in entered if owner in closed]
-    other_owners = frozenset(closed.keys() - entered.keys())
+    secrets = [TwinSecret(name=owner, owners=frozenset({owner}), world=owner) for owner in entered_owners if owner in closed_owners]
+    other_owners = frozenset(closed_owners.keys() - entered_owners.keys())
     if other_owners:
-        secrets.append(TwinSecret(OTHERS, other_owners))
+        secrets.append(TwinSecret(name=OTHERS, owners=other_owners))
     return secrets + [TwinSecret(name, ranges=tuple(ranges)) for name, ranges in ((UNUSED, unused), (SECRETS, ownership.secrets)) if ranges]
 
 
 def unloaded_pages(setup: MonitorSetup, ownership: Ownership) -> Iterator[OwnedRange]:
     """Yields the pages of the monitor that are in no segment of the image."""
     segments = list(setup.image.segments())
-    for part in [range_ for range_ in ownership.ranges if range_.owner == MONITOR]:
-        for first in range(-(-part.first // PAGE) * PAGE, min(part.end, RAM_BASE + setup.ram) - PAGE + 1, PAGE):
+    for owned in [range_ for range_ in ownership.ranges if range_.owner == MONITOR]:
+        for first in range(-(-owned.first // PAGE) * PAGE, min(owned.end, RAM_BASE + setup.ram) - PAGE + 1, PAGE):
             if not any(segment.address < first + PAGE and first < segment.address + segment.in_memory for segment in segments):
                 yield OwnedRange(first, first + PAGE, MONITOR)
 
@@ -157,7 +157,7 @@ class TwinRuns:
         return Guarded(self.setup, self.vectors, self.ownership.is_monitor)
 
     def compare(self) -> TwinResult:
-        """Does both runs up to the first difference."""
+        """Does both runs from return to return; ends them at the first difference, or when a run has no next return."""
         with self.machine() as one, self.machine() as other:
             tracks = Track(one, self.ownership, self.limit), Track(other, self.ownership, self.limit)
             stays = tracks[0].next_return(), tracks[1].next_return()
@@ -172,7 +172,8 @@ class TwinRuns:
             return self.result("only one of two runs has another return from M" if is_different else "", one.steps)
 
     def at_return(self, tracks: tuple[Track, Track], one: StayInM, other: StayInM) -> TwinResult | None:
-        """Returns the difference of the runs at a return from M. An owner of the secret gets the state of the first run instead."""
+        """Returns the result if the two runs differ at a return from M, else None. If an owner of the secret continues, nothing is compared:
+        the owner gets the state of the first run in both runs."""
         steps = tracks[0].machine.steps
         self.inverted += [range_ for range_ in tracks[1].inverted if range_ not in self.inverted]
         self.changes += bool(tracks[1].inverted)
@@ -189,7 +190,7 @@ class TwinRuns:
         return self.result(text, steps, one.entry.pc) if text else None
 
     def invert(self, tracks: tuple[Track, Track], ranges: list[OwnedRange] | tuple[OwnedRange, ...]) -> None:
-        """Inverts all bytes of ranges in the second run."""
+        """Writes into ranges of the second run the inverted bytes of the first run."""
         for secret_range in ranges:
             data = tracks[0].machine.bytes_of(secret_range.first, secret_range.end)
             tracks[1].machine.do(*poke_commands(secret_range.first, bytes(byte ^ 0xFF for byte in data)))
@@ -199,9 +200,9 @@ class TwinRuns:
     def restore(self, tracks: tuple[Track, Track], one: StayInM, other: StayInM) -> None:
         """Gives the owner that continues in the second run the bytes and registers of the first run."""
         for inverted in [range_ for range_ in self.inverted if range_ not in self.secret.ranges]:
-            data, old = (track.machine.bytes_of(inverted.first, inverted.end) for track in tracks)
+            data, old_data = (track.machine.bytes_of(inverted.first, inverted.end) for track in tracks)
             pokes = poke_commands(inverted.first, data)
-            tracks[1].machine.do(*(line for line, byte, other in zip(pokes, data, old) if byte != other))
+            tracks[1].machine.do(*(poke for poke, byte, old_byte in zip(pokes, data, old_data) if byte != old_byte))
         self.inverted = list(self.secret.ranges)
         registers = {n: value for n, value in enumerate(one.exit.registers) if value != other.exit.registers[n]}
         csrs = {name: one.exit.csrs[name] for name in SUPERVISOR if one.exit.csrs[name] != other.exit.csrs[name]}
@@ -227,8 +228,8 @@ def state_difference(one: StayInM, other: StayInM) -> str:
 def memory_difference(tracks: tuple[Track, Track], inverted: list[OwnedRange]) -> str:
     """Returns the first byte of memory that differs, outside the ranges of the monitor and the inverted ranges, or an empty text."""
     hidden = inverted + [range_ for range_ in tracks[0].ownership.ranges if range_.owner == MONITOR]
-    left, right = (track.machine.rows_outside(hidden) for track in tracks)
-    if left == right:
+    first_rows, second_rows = (track.machine.rows_outside(hidden) for track in tracks)
+    if first_rows == second_rows:
         return ""
     one, other = (without(track.machine.memory(), hidden) for track in tracks)
     offset = next((n for n in range(len(one)) if one[n] != other[n]), None)
@@ -236,7 +237,7 @@ def memory_difference(tracks: tuple[Track, Track], inverted: list[OwnedRange]) -
 
 
 def without(memory: bytes, hidden: list[OwnedRange]) -> bytes:
-    """Returns memory with zeros in some ranges."""
+    """Returns a copy of the memory from MONITOR_END on, with zeros in the hidden ranges."""
     shown = bytearray(memory)
     for hidden_range in hidden:
         first, end = max(0, hidden_range.first - MONITOR_END), max(0, hidden_range.end - MONITOR_END)

@@ -16,8 +16,8 @@ from rvlook.output.progress import Progress
 from rvlook.protocol.replies import step_of
 from rvlook.protocol.symbols import Symbols
 
-BREAKPOINTS = 32
-EXECUTABLE = 1  # a flag of a segment
+BREAKPOINTS = 32  # that the bench can have at a time
+EXECUTABLE = 1  # PF_X, a flag of a segment
 ENTRY_OFFSET = 24  # the offset of the first instruction's address in the header of an ELF file
 MAX_STEPS_PER_RUN = 1000000  # the most steps of one `run`
 
@@ -68,8 +68,8 @@ def segments_of(setup: MonitorSetup, ownership: Ownership) -> Iterator[tuple[int
     """Yields the address and the bytes of the part of each executable segment that is in a range of the monitor."""
     data = setup.image.data or b""
     for segment in (segment for segment in setup.image.segments() if segment.flags & EXECUTABLE):
-        for part in (part for part in ownership.ranges if part.owner == MONITOR):
-            first, end = max(segment.address, part.first), min(segment.address + segment.in_file, part.end)
+        for range_ in (range_ for range_ in ownership.ranges if range_.owner == MONITOR):
+            first, end = max(segment.address, range_.first), min(segment.address + segment.in_file, range_.end)
             if first < end:
                 yield first, data[segment.offset + first - segment.address:segment.offset + end - segment.address]
 
@@ -82,29 +82,33 @@ def words_of(first: int, data: bytes) -> Iterator[tuple[int, int]]:
 def targets_of(words: dict[int, int], at: int) -> list[int]:
     """Returns the addresses to which a branch, a jump or a call at an address goes, and the address after it if execution may come there."""
     word = words[at]
-    kind, target = word & 0x7F, word >> 7 & 31
-    targets = [at + branch_offset(word)] if kind == BRANCH else [at + jump_offset(word)] if kind == JAL else far_target(words, at)
-    is_end = kind in (JAL, JALR) and target == 0 or word in (MRET, SRET)
+    opcode, link_register = word & 0x7F, word >> 7 & 31
+    if opcode == BRANCH:
+        targets = [at + branch_offset(word)]
+    else:
+        targets = [at + jump_offset(word)] if opcode == JAL else far_target(words, at)
+    is_end = opcode in (JAL, JALR) and link_register == 0 or word in (MRET, SRET)  # a jump without a link does not come back
     return targets if is_end else [*targets, at + 4]
 
 
 def far_target(words: dict[int, int], at: int) -> list[int]:
-    """Returns the address to which an auipc and the jalr after it go; None for other instructions."""
-    first, word = words.get(at - 4, 0), words[at]
-    if word & 0x7F != JALR or first & 0x7F != AUIPC or first >> 7 & 31 != word >> 15 & 31:
+    """Returns the address to which a jalr goes whose base register the auipc before it has set; an empty list for other instructions."""
+    previous_word, word = words.get(at - 4, 0), words[at]
+    auipc_target, jalr_base = previous_word >> 7 & 31, word >> 15 & 31  # rd and rs1
+    if word & 0x7F != JALR or previous_word & 0x7F != AUIPC or auipc_target != jalr_base:
         return []
-    return [at - 4 + (first & 0xFFFFF000) + immediate_of(word) & MASK]
+    return [at - 4 + (previous_word & 0xFFFFF000) + immediate_of(word) & MASK]
 
 
 def reachable(words: dict[int, int], roots: Iterable[int]) -> set[int]:
-    """Returns the addresses of the instructions that are reached from some addresses without an indirect jump."""
+    """Returns the addresses of the instructions that execution can reach from the roots; it does not follow indirect jumps."""
     reached: set[int] = set()
-    rest = list(roots)
-    while rest:
-        at = rest.pop()
+    pending = list(roots)
+    while pending:
+        at = pending.pop()
         if at in words and at not in reached:
             reached.add(at)
-            rest += targets_of(words, at)
+            pending += targets_of(words, at)
     return reached
 
 
@@ -132,12 +136,12 @@ def blocks_of(addresses: Sequence[int], leaders: set[int]) -> dict[int, Block]:
 
 
 class BlockReplay:
-    """A repeated run with breakpoints at the first of some blocks. When a block is executed, the next one gets its breakpoint."""
+    """A repeated run with breakpoints at the first BREAKPOINTS of some blocks. When a block is executed, the next one gets its breakpoint."""
 
     def __init__(self, setup: MonitorSetup, blocks: Sequence[Block]) -> None:
         self.bench = setup.own.bench()  # does the run
         self.waiting = [block.first for block in blocks]  # blocks without a breakpoint, by first address
-        self.decided = set(self.waiting[:BREAKPOINTS])  # a breakpoint is set there during the whole run
+        self.fully_watched = set(self.waiting[:BREAKPOINTS])  # these blocks have a breakpoint from the beginning of the run on
         self.missing = set(self.waiting)  # the addresses of blocks that were not executed so far
         self.pc = 0  # the pc that the run has reached
 
@@ -145,13 +149,13 @@ class BlockReplay:
         """Repeats a run up to its end."""
         with self.bench:
             self.do([self.break_next() for _ in range(min(BREAKPOINTS, len(self.waiting)))])
-            self.pc = int(self.bench.ask("regs")[0][32][3:], 16)
+            self.pc = int(self.bench.ask("regs")[0][32][3:], 16)  # the line after x0 to x31 is `pc=ADDRESS`
             lines: list[str] = []
             try:
                 for line in log:
                     if line.startswith("run "):
                         self.do(lines)
-                        self.go(int(line[4:]))
+                        self.go(steps=int(line[4:]))
                         lines = []
                     else:
                         lines.append(line)
@@ -163,7 +167,7 @@ class BlockReplay:
         return "break %x" % self.waiting.pop(0)
 
     def do(self, lines: Sequence[str]) -> None:
-        """Does lines with one line of reply each, and notes pc."""
+        """Sends lines that have one line of reply each; takes over pc from the last reply that has it."""
         ran = next((reply for reply in reversed(self.bench.replies_to(lines)) if reply.startswith(b"ran ")), None)
         self.pc = int(step_of(ran.decode()).pc, 16) if ran else self.pc
 
@@ -191,20 +195,20 @@ def unexecuted_in(setup: MonitorSetup, logs: Sequence[Sequence[str]], blocks: Se
     """Returns the blocks that none of the runs with these logs executed."""
     missing = list(blocks)
     for number, log in enumerate(logs, 1):
-        rest, missed = missing, []
-        while rest:
-            replay = BlockReplay(setup, rest)
+        remaining, never_reached = missing, []
+        while remaining:
+            replay = BlockReplay(setup, remaining)
             replay.run(log)
-            missed += [block for block in rest if block.first in replay.missing and block.first in replay.decided]
-            rest = [block for block in rest if block.first in replay.missing and block.first not in replay.decided]
-            progress.show("code that was not executed: run %d of %d, %d blocks left", number, len(logs), len(rest))
-        missing = missed
+            never_reached += [block for block in remaining if block.first in replay.missing and block.first in replay.fully_watched]
+            remaining = [block for block in remaining if block.first in replay.missing and block.first not in replay.fully_watched]
+            progress.show("code that was not executed: run %d of %d, %d blocks left", number, len(logs), len(remaining))
+        missing = never_reached
     return missing
 
 
 def unexecuted(setup: MonitorSetup, code: MonitorBlocks, logs: Sequence[Sequence[str]], progress: Progress) -> list[Block]:
     """Returns the blocks that no run executed. Function entries are searched first: without its entry no block of a function is executed."""
-    never = {block.first for block in unexecuted_in(setup, logs, [code.blocks[address] for address in code.ordered], progress)}
-    blocks_of_functions = [block for block in code.blocks.values() if code.entry_of(block.first) in never]
-    rest = [block for block in code.blocks.values() if block.first not in code.functions and code.entry_of(block.first) not in never]
-    return sorted(blocks_of_functions + unexecuted_in(setup, logs, rest, progress), key=lambda it: it.first)
+    never_entered = {block.first for block in unexecuted_in(setup, logs, [code.blocks[address] for address in code.ordered], progress)}
+    blocks_of_functions = [block for block in code.blocks.values() if code.entry_of(block.first) in never_entered]
+    other_blocks = [block for block in code.blocks.values() if block.first not in code.functions and code.entry_of(block.first) not in never_entered]
+    return sorted(blocks_of_functions + unexecuted_in(setup, logs, other_blocks, progress), key=lambda it: it.first)

@@ -18,15 +18,16 @@ from rvlook.protocol.names import CSRS, Call, with_abi_names
 from rvlook.protocol.replies import step_of
 from rvlook.protocol.timeline import MOST_STEPS
 
-STEPS_PER_EXCHANGE = 16384  # single steps in one exchange
-MAX_PATH = 64  # instructions before a writer that are kept
+STEPS_PER_EXCHANGE = 16384  # `step 1` commands that are sent to the bench at once
+MAX_PATH = 64  # the most instructions before a writer that its `path` has
 MAX_STAYS = 20  # the most stays that are searched, from the last one back
+# The control and status registers that share bits with one, so that a write of each of them can write it.
 ALSO_WRITTEN_BY = {"sstatus": ("sstatus", "mstatus"), "mstatus": ("mstatus", "sstatus"), "sie": ("sie", "mie"), "sip": ("sip", "mip")}
 MAX_STEPS_SEARCHED = 1 << 18  # steps of a stay, its last ones, that are searched for a writer
 MAX_STEPS_TO_FAULT = 1000000  # steps of a stay that is searched for a trap in M
-Test = Callable[[int], bool]
+Test = Callable[[int], bool]  # whether an encoded instruction is one that is searched
 ARGUMENTS = range(10, 15)  # a0 to a4
-BASE, ENTRY = 10, 14  # the registers of these arguments of create
+BASE, ENTRY = 10, 14  # a0 and a4: in a create, the base of the region, and the entry
 MAX_SECONDS = 20  # the most seconds for all similar calls
 MAX_STEPS_COMPARED = 1 << 18  # steps in M of each path
 CHANGES: tuple[Callable[[int], int], ...] = (  # the changes of one argument, the smallest ones first
@@ -44,7 +45,7 @@ class WritingInstruction(NamedTuple):
 
 
 class StayReplay(Closing):
-    """The author's side of a script, brought to the begin of one of its stays in M."""
+    """A bench that has repeated the author's side of a script up to the beginning of one of its stays in M."""
 
     def __init__(self, setup: MonitorSetup, played: PlayedScript, stay: Stay) -> None:
         self.bench, self.stay = setup.own.bench(), stay  # a bench at the beginning of `stay`
@@ -55,14 +56,14 @@ class StayReplay(Closing):
         self.bench.close()
 
     def addresses(self, first: int = 0) -> list[int]:
-        """Returns the address of each instruction of the stay, from the one with a number on."""
-        return [self.go(first), *self.step(self.stay.steps - first)][:-1]
+        """Returns the address of each instruction of the stay, from the one with number `first` on."""
+        return [self.go(first), *self.step(self.stay.steps - first)][:-1]  # the last address is the one after the stay
 
-    def step(self, count: int) -> Iterator[int]:
-        """Does instructions; yields the address of the one after each."""
-        for done in range(0, count, STEPS_PER_EXCHANGE):
-            part = min(STEPS_PER_EXCHANGE, count - done)
-            yield from (int(step_of(line.decode()).pc, 16) for line in self.bench.block(b"step 1\n" * part, part).splitlines())
+    def step(self, steps: int) -> Iterator[int]:
+        """Executes so many instructions one by one; yields the pc after each of them."""
+        for first_step in range(0, steps, STEPS_PER_EXCHANGE):
+            chunk_steps = min(STEPS_PER_EXCHANGE, steps - first_step)
+            yield from (int(step_of(line.decode()).pc, 16) for line in self.bench.block(b"step 1\n" * chunk_steps, chunk_steps).splitlines())
 
     def last_match(self, test: Test) -> int | None:
         """Returns the number of the last instruction of the stay that a test accepts, or None. Searches only the last steps of a long stay."""
@@ -73,8 +74,8 @@ class StayReplay(Closing):
 
     def first_trap(self) -> int | None:
         """Returns the number of the first instruction of the stay that traps, or None."""
-        for done in range(0, min(self.stay.steps, MAX_STEPS_TO_FAULT), STEPS_PER_EXCHANGE):
-            for number, reply in enumerate(self.bench.block(b"step 1\n" * STEPS_PER_EXCHANGE, STEPS_PER_EXCHANGE).splitlines(), done):
+        for first_step in range(0, min(self.stay.steps, MAX_STEPS_TO_FAULT), STEPS_PER_EXCHANGE):
+            for number, reply in enumerate(self.bench.block(b"step 1\n" * STEPS_PER_EXCHANGE, STEPS_PER_EXCHANGE).splitlines(), first_step):
                 if not reply.endswith(b"trap=-"):
                     return number
         return None
@@ -82,19 +83,19 @@ class StayReplay(Closing):
     def last_store(self, address: int, before: int) -> int | None:
         """Returns the number of the last instruction among the first `before` ones of the stay that stores to a byte, or None."""
         self.bench.one("watch %x" % address)
-        last_step, done = None, 0
-        while done < before:
-            ran = step_of(self.bench.one("run %d" % min(before - done, MOST_STEPS)))
-            done += ran.steps
-            if ran.why.startswith("watch") and is_store(word_at(self.bench, int(ran.pc, 16) - 4)):
-                last_step = done - 1
+        last_step, steps_done = None, 0
+        while steps_done < before:
+            ran = step_of(self.bench.one("run %d" % min(before - steps_done, MOST_STEPS)))
+            steps_done += ran.steps
+            if ran.why.startswith("watch") and is_store(word_at(self.bench, int(ran.pc, 16) - 4)):  # the bench stops after the access
+                last_step = steps_done - 1
         return last_step
 
     def go(self, number: int) -> int:
-        """Does the instructions before the one with a number; returns its address."""
-        for done in range(0, number, MOST_STEPS):
-            self.bench.one("step %d" % min(MOST_STEPS, number - done))
-        return int(self.bench.ask("regs")[0][32][3:], 16)
+        """Executes the instructions before the one with a number, which counts from the beginning of the stay; returns the address of that one."""
+        for steps_done in range(0, number, MOST_STEPS):
+            self.bench.one("step %d" % min(MOST_STEPS, number - steps_done))
+        return int(self.bench.ask("regs")[0][32][3:], 16)  # the line after x0 to x31 is `pc=ADDRESS`
 
 
 def last_stays(played: PlayedScript) -> list[Stay]:
@@ -145,7 +146,7 @@ def written_csrs(difference: MonitorDifference) -> set[int]:
 
 def chain_of(setup: MonitorSetup, played: PlayedScript, test: Test) -> Iterator[WritingInstruction]:
     """Yields the last instruction that a test accepts, and the last store to the address that it loads."""
-    for index, stay in enumerate(last_stays(played)):
+    for later_stays, stay in enumerate(last_stays(played)):
         with StayReplay(setup, played, stay) as replay:
             number = replay.last_match(test)
         if number is None:
@@ -153,9 +154,9 @@ def chain_of(setup: MonitorSetup, played: PlayedScript, test: Test) -> Iterator[
         writer = writer_at(setup, played, stay, number)
         yield writer
         if writer.address is not None:
-            stored = last_store(setup, played, writer.address, index, number)
-            if stored:
-                yield stored
+            store = last_store(setup, played, writer.address, skipped=later_stays, before=number)
+            if store:
+                yield store
         return
 
 
@@ -165,10 +166,11 @@ def writer_at(setup: MonitorSetup, played: PlayedScript, stay: Stay, number: int
         first = max(0, number - MAX_PATH)
         path = [replay.go(first), *replay.step(number - first)]
         word = word_at(replay.bench, path[-1])
-        address = replay.bench.register(word >> 15 & 31) + immediate_of(word) & MASK if is_load(word) else None
-        reply = replay.bench.one("dis %x" % path[-1])
+        base_register = word >> 15 & 31  # rs1
+        address = replay.bench.register(base_register) + immediate_of(word) & MASK if is_load(word) else None
+        reply = replay.bench.one("dis %x" % path[-1])  # ADDRESS WORD TEXT, or an error
         text = reply if reply.startswith("error") else with_abi_names(reply.split(None, 2)[2])
-        return WritingInstruction(path[-1], text, address, tuple(path[-2::-1]))
+        return WritingInstruction(path[-1], text, address, path=tuple(path[-2::-1]))
 
 
 def last_store(setup: MonitorSetup, played: PlayedScript, address: int, skipped: int = 0, before: int | None = None) -> WritingInstruction | None:
@@ -206,28 +208,29 @@ def similar_calls(item: Item) -> Iterator[Item]:
 
 
 def divergence_of(setup: MonitorSetup, played: PlayedScript) -> Divergence | None:
-    """Returns where the last call leaves the path of a similar one with the result of the reference on both monitors, or None."""
-    last, end = played.steps[-1] if played.steps else None, time.monotonic() + MAX_SECONDS
-    if last is None or last.item.call_number is None or not played.stays:
+    """Finds a similar call to which both monitors give the result that the reference gives to the last call of the script. Returns where the paths
+    of the two calls in M of the author's monitor part; None if the script does not end in a call, or if no such call is found in time."""
+    last_step, deadline = played.steps[-1] if played.steps else None, time.monotonic() + MAX_SECONDS
+    if last_step is None or last_step.item.call_number is None or not played.stays:
         return None
-    for item in similar_calls(last.item):
+    for item in similar_calls(last_step.item):
         other = play(setup, played.name, [*played.items[:-1], item], compares_memory=False)
-        if not other.differences and len(other.steps) == len(played.steps) and other.steps[-1].result == last.result:
+        if not other.differences and len(other.steps) == len(played.steps) and other.steps[-1].result == last_step.result:
             return first_difference(setup, played, other)
-        if time.monotonic() > end:
+        if time.monotonic() > deadline:
             break
     return None
 
 
 def first_difference(setup: MonitorSetup, played: PlayedScript, other: PlayedScript) -> Divergence | None:
-    """Returns where the paths of the last stays in M of two scripts differ first."""
+    """Returns where the paths of the last stays in M of two scripts differ first; None if they never do, or already at the first pc."""
     paths = []
     for side in (played, other):
         stay = side.stays[-1]._replace(steps=min(side.stays[-1].steps, MAX_STEPS_COMPARED))
         with StayReplay(setup, side, stay) as replay:
             paths.append(replay.addresses())
-    one, two = paths
-    index = next((number for number, (pc, other_pc) in enumerate(zip(one, two)) if pc != other_pc), 0)
-    if not index:
+    own_path, other_path = paths
+    split = next((number for number, (pc, other_pc) in enumerate(zip(own_path, other_path)) if pc != other_pc), 0)
+    if not split:
         return None
-    return Divergence(one[index - 1], one[index], two[index], other.steps[-1].item.text, other.steps[-1].result)
+    return Divergence(own_path[split - 1], own_path[split], other_path[split], other.steps[-1].item.text, other.steps[-1].result)

@@ -119,5 +119,4 @@ def run_object(printer: ObjectWriter, run: Run, symbols: Symbols) -> None:
 def enclave_object(enclave: Enclave) -> dict[str, Json]:
     """Returns the table entry of an enclave as an object."""
     return {"slot": enclave.slot, "state": enclave.state, "base": hex8(enclave.base), "size": enclave.size,
-            "window": hex8(enclave.window), "window_size": enclave.window_size, "entry": hex8(enclave.entry),
-            "measurement": enclave.measurement}
+            "window": hex8(enclave.window), "window_size": enclave.window_size, "entry": hex8(enclave.entry), "measurement": enclave.measurement}

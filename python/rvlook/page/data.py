@@ -194,8 +194,7 @@ class Collector:
         """Returns all data as one object, and appends the columns."""
         return {
             "title": self.title, "run": self.run, "end": self.others["end"][-1], "steps": len(self.site), "points": self.drawn_points,
-            "rows": self.rows, "maps": [json.loads(text) for text in self.maps],
-            "sites": self.sites.rows("pc", *SITE, "shown"),
+            "rows": self.rows, "maps": [json.loads(text) for text in self.maps], "sites": self.sites.rows("pc", *SITE, "shown"),
             "places": self.places.rows("hart", "world", "mode"), "traps": self.traps.rows("cause", "value", "name"),
             "names": list(self.names), "site": columns.add(self.site), "place": columns.add(self.place),
             "trap": columns.add(self.trap), "changes": columns.add(self.changes), "registers": columns.add(self.registers),

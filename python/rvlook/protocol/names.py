@@ -19,12 +19,11 @@ ACCESS_FAULTS = ("00000005", "00000007")
 
 ILLEGAL = "00000002"
 MARKS = {"4348000b": "failed check", "4153000b": "failed assumption"}  # instructions of examples/shared/enclave_check.h, which are illegal
-CAUSES = {
-    "00000000": "fetch target misaligned", "00000001": "fetch access fault", "00000002": "illegal instruction", "00000003": "ebreak",
-    "00000005": "load access fault", "00000007": "store access fault", "00000008": "ecall from U", "00000009": "ecall from S",
-    "0000000b": "ecall from M", "80000001": "software interrupt of S", "80000003": "software interrupt of M",
-    "80000005": "timer interrupt of S", "80000007": "timer interrupt", "80000009": "external interrupt of S",
-    "8000000b": "external interrupt of M"}
+CAUSES = {"00000000": "fetch target misaligned", "00000001": "fetch access fault", "00000002": "illegal instruction", "00000003": "ebreak",
+          "00000005": "load access fault", "00000007": "store access fault", "00000008": "ecall from U", "00000009": "ecall from S",
+          "0000000b": "ecall from M", "80000001": "software interrupt of S", "80000003": "software interrupt of M",
+          "80000005": "timer interrupt of S", "80000007": "timer interrupt", "80000009": "external interrupt of S",
+          "8000000b": "external interrupt of M"}
 
 
 class Call(IntEnum):
@@ -40,13 +39,11 @@ class Call(IntEnum):
 
 NUMBERED = {call.value: call for call in Call}
 
-ARGUMENTS = {
-    Call.create: ("base", "size", "window", "window_size", "entry"), Call.destroy: ("slot",), Call.run: ("slot",),
-    Call.resume: ("slot",), Call.measure: ("slot", "address"), Call.stop: ("value",), Call.exit: ("value",)}
+ARGUMENTS = {Call.create: ("base", "size", "window", "window_size", "entry"), Call.destroy: ("slot",), Call.run: ("slot",),
+             Call.resume: ("slot",), Call.measure: ("slot", "address"), Call.stop: ("value",), Call.exit: ("value",)}
 
-STATUSES = {
-    0xFFFFFFFF: "NotSupported", 0xFFFFFFFE: "BadRegion", 0xFFFFFFFD: "BadWindow", 0xFFFFFFFC: "Overlap", 0xFFFFFFFB: "BadEntry",
-    0xFFFFFFFA: "NoSlot", 0xFFFFFFF9: "NoEnclave", 0xFFFFFFF8: "BadState", 0xFFFFFFF7: "BadAddress"}
+STATUSES = {0xFFFFFFFF: "NotSupported", 0xFFFFFFFE: "BadRegion", 0xFFFFFFFD: "BadWindow", 0xFFFFFFFC: "Overlap", 0xFFFFFFFB: "BadEntry",
+            0xFFFFFFFA: "NoSlot", 0xFFFFFFF9: "NoEnclave", 0xFFFFFFF8: "BadState", 0xFFFFFFF7: "BadAddress"}
 
 
 CSRS = {"sstatus": 0x100, "sie": 0x104, "stvec": 0x105, "scounteren": 0x106, "senvcfg": 0x10A, "sscratch": 0x140, "sepc": 0x141,
