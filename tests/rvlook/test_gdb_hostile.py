@@ -46,7 +46,7 @@ def test_packet_without_end_does_not_block_the_link(bench, elf):
 
 
 def test_link_keeps_no_more_than_a_packet():
-    from rvlook.gdb.link import MOST, Gone, Link
+    from rvlook.gdb.link import LONGEST_PACKET, Gone, Link
     reading, writing = os.pipe()
     out, sink = os.pipe()
     link = Link(reading, sink)
@@ -59,7 +59,7 @@ def test_link_keeps_no_more_than_a_packet():
     os.close(writing)
     with pytest.raises(Gone):
         link.packet()
-    assert max(sizes) <= MOST + 65536
+    assert max(sizes) <= LONGEST_PACKET + 65536
     for it in (reading, out, sink):
         os.close(it)
 

@@ -7,33 +7,33 @@ from typing import Callable
 
 from rvlook.monitors.encodings import signed
 
-FIRST_OF_64 = 1 << 64
-READS = {0x17: 1, 0x18: 2, 0x19: 4, 0x1A: 8}
-CONSTANTS = {0x22: 1, 0x23: 2, 0x24: 4, 0x25: 8}
-MOST = 10000  # operations
+FIRST_OF_64 = 1 << 64  # the first number that does not fit into 64 bits
+READS = {0x17: 1, 0x18: 2, 0x19: 4, 0x1A: 8}  # bytes that each operation `ref` reads from memory, by its opcode
+CONSTANTS = {0x22: 1, 0x23: 2, 0x24: 4, 0x25: 8}  # bytes of the constant that follows each opcode
+MAX_OPERATIONS = 10000  # after which an expression counts as endless
 
 
 class ExpressionError(Exception):
     """An expression that cannot be evaluated."""
 
 
-def divided(one: int, other: int) -> int:
+def divided(dividend: int, divisor: int) -> int:
     """Returns the quotient, rounded towards zero; raises ExpressionError for a division by zero."""
-    if other == 0:
+    if divisor == 0:
         raise ExpressionError("a division by zero")
-    return abs(one) // abs(other) * (1 if (one < 0) == (other < 0) else -1)
+    return abs(dividend) // abs(divisor) * (1 if (dividend < 0) == (divisor < 0) else -1)
 
 
 def on_signed(operation: Callable[[int, int], int]) -> Callable[[int, int], int]:
-    """Returns an operation on signed numbers."""
+    """Returns an operation that interprets its two operands, 64-bit numbers, as signed."""
     return lambda one, other: operation(signed(one, 64), signed(other, 64))
 
 
-TWO = {0x02: operator.add, 0x03: operator.sub, 0x04: operator.mul, 0x05: on_signed(divided), 0x06: divided,
-       0x07: on_signed(lambda one, other: one - other * divided(one, other)), 0x08: lambda one, other: one - other * divided(one, other),
-       0x09: lambda one, other: one << (other & 63), 0x0A: lambda one, other: signed(one, 64) >> (other & 63),
-       0x0B: lambda one, other: one >> (other & 63), 0x0F: operator.and_, 0x10: operator.or_, 0x11: operator.xor,
-       0x13: operator.eq, 0x14: on_signed(operator.lt), 0x15: operator.lt}
+BINARY = {0x02: operator.add, 0x03: operator.sub, 0x04: operator.mul, 0x05: on_signed(divided), 0x06: divided,  # by opcode
+          0x07: on_signed(lambda one, other: one - other * divided(one, other)), 0x08: lambda one, other: one - other * divided(one, other),
+          0x09: lambda one, other: one << (other & 63), 0x0A: lambda one, other: signed(one, 64) >> (other & 63),
+          0x0B: lambda one, other: one >> (other & 63), 0x0F: operator.and_, 0x10: operator.or_, 0x11: operator.xor,
+          0x13: operator.eq, 0x14: on_signed(operator.lt), 0x15: operator.lt}
 
 
 def extended(value: int, bits: int) -> int:
@@ -68,7 +68,7 @@ class ExpressionStack:
 
     def run(self) -> int:
         """Runs the expression; returns the top of the stack. Raises ExpressionError if it does not end."""
-        for _ in range(MOST):
+        for _ in range(MAX_OPERATIONS):
             code = self.number(1)
             if code == 0x27:
                 return self.stack.pop()
@@ -78,26 +78,26 @@ class ExpressionStack:
     def do(self, code: int) -> None:
         """Executes one operation."""
         stack = self.stack
-        if code in TWO:
-            other = stack.pop()
-            self.push(TWO[code](stack.pop(), other))
+        if code in BINARY:
+            second_operand = stack.pop()
+            self.push(BINARY[code](stack.pop(), second_operand))
         elif code in READS:
             self.read(READS[code])
         elif code in CONSTANTS:
             self.push(self.number(CONSTANTS[code]))
-        elif code in MOVES:
-            MOVES[code](self)
+        elif code in OTHER_OPERATIONS:
+            OTHER_OPERATIONS[code](self)
         else:
             raise ExpressionError("the operation %02x" % code)
 
     def jump_if(self) -> None:
-        """Jumps if the top of the stack is not zero."""
+        """Pops a value; jumps, as `jump` does, if it is not zero."""
         target = self.number(2)
         if self.stack.pop():
             self.at = target
 
     def jump(self) -> None:
-        """Jumps."""
+        """Jumps to the offset in the code that the next two bytes hold."""
         self.at = self.number(2)
 
     def swap(self) -> None:
@@ -109,11 +109,11 @@ class ExpressionStack:
         self.stack[-3:] = [self.stack[-1], *self.stack[-3:-1]]
 
 
-MOVES = {0x0E: lambda it: it.push(it.stack.pop() == 0), 0x12: lambda it: it.push(~it.stack.pop()),
-         0x16: lambda it: it.push(extended(it.stack.pop(), it.number(1))), 0x20: ExpressionStack.jump_if, 0x21: ExpressionStack.jump,
-         0x26: lambda it: it.push(it.register(it.number(2))), 0x28: lambda it: it.push(it.stack[-1]), 0x29: lambda it: it.stack.pop(),
-         0x2A: lambda it: it.push(it.stack.pop() & ((1 << it.number(1)) - 1)), 0x2B: ExpressionStack.swap,
-         0x32: lambda it: it.push(it.stack[-1 - it.number(1)]), 0x33: ExpressionStack.rotate}
+OTHER_OPERATIONS = {0x0E: lambda it: it.push(it.stack.pop() == 0), 0x12: lambda it: it.push(~it.stack.pop()),
+                    0x16: lambda it: it.push(extended(it.stack.pop(), it.number(1))), 0x20: ExpressionStack.jump_if, 0x21: ExpressionStack.jump,
+                    0x26: lambda it: it.push(it.register(it.number(2))), 0x28: lambda it: it.push(it.stack[-1]), 0x29: lambda it: it.stack.pop(),
+                    0x2A: lambda it: it.push(it.stack.pop() & ((1 << it.number(1)) - 1)), 0x2B: ExpressionStack.swap,
+                    0x32: lambda it: it.push(it.stack[-1 - it.number(1)]), 0x33: ExpressionStack.rotate}
 
 
 def holds(code: bytes, register: Callable[[int], int], memory: Callable[[int, int], bytes]) -> bool:

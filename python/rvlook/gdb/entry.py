@@ -9,8 +9,8 @@ from rvlook.gdb.target import SAVED
 from rvlook.protocol.names import NUMBER_OF
 from rvlook.protocol.timeline import ScheduledSteps, Timeline, actions_between
 
-FIRST_PART, MORE = 4096, 8  # steps of the first part that is looked through, and times as many in the next
-PC, CALL = 32, 4  # the register pc, and the bytes of an ecall
+FIRST_PART, MORE = 4096, 8  # steps of the first part that is searched, and the factor for the next
+PC, CALL = 32, 4  # the number of pc among the registers, and the bytes of an ecall
 
 
 class Entered(NamedTuple):
@@ -35,26 +35,26 @@ class LastEntries:
 
     def limit(self, position: int) -> None:
         """Limits the cache to the steps up to this one, because later steps may change."""
-        self.known = {hart: (entry, min(sure, position), witness) for hart, (entry, sure, witness) in self.known.items()}
+        self.known = {hart: (entry, min(valid_to, position), witness) for hart, (entry, valid_to, witness) in self.known.items()}
 
     def find(self, timeline: Timeline, hart: int) -> Entered | None:
         """Finds the step that entered the enclave on a hart; None if the hart is in no enclave."""
         timeline.settle()
         if not timeline.worlds[hart].startswith("e"):
             return None
-        entry, sure, witness = self.known.get(hart, (None, 0, None))
-        now = (timeline, timeline.moved[hart])
+        entry, valid_to, witness = self.known.get(hart, (None, 0, None))
+        present_witness = (timeline, timeline.moved[hart])
         if entry and timeline.position < entry.step:
-            entry, sure = None, 0
-        if not entry or witness != now and timeline.position > sure:
-            step = last_switch(timeline, hart, sure if entry else 0)
+            entry, valid_to = None, 0
+        if not entry or witness != present_witness and timeline.position > valid_to:
+            step = last_switch(timeline, hart, valid_to if entry else 0)
             entry = self.at(timeline, hart, step) if step else entry
-        self.known[hart] = entry, max(sure, timeline.position) if entry else 0, now
+        self.known[hart] = entry, max(valid_to, timeline.position) if entry else 0, present_witness
         return entry
 
     @staticmethod
     def at(timeline: Timeline, hart: int, step: int) -> Entered:
-        """Returns the entry that a step made."""
+        """Returns the entry into an enclave that a step made on a hart."""
         with timeline.again(step - 1) as before:
             before.choose(hart)
             values = [line[-8:] for line in before.ask("regs")[0]]
@@ -80,7 +80,7 @@ def blocks_with_traps(timeline: Timeline, hart: int, first: int, end: int) -> li
     with timeline.again(first) as ahead:
         for steps in blocks_of(ahead, actions_between(timeline.past, first, end)):
             start = ahead.position
-            if any(ran.trap for other, _, ran in query_steps(ahead, steps.turns, steps.count, is_single=False) if other == hart):
+            if any(ran.trap for stepped_hart, _, ran in query_steps(ahead, steps.turns, steps.count, is_single=False) if stepped_hart == hart):
                 blocks.append((start, steps))
     return blocks
 
@@ -91,7 +91,7 @@ def switch_in(timeline: Timeline, hart: int, start: int, steps: ScheduledSteps) 
     with timeline.again(start) as ahead:
         ahead.settle()
         world = ahead.worlds[hart]
-        for step, (other, _, ran) in enumerate(query_steps(ahead, steps.turns, steps.count, is_single=True), start + 1):
-            if other == hart and ran.world != world:
+        for step, (stepped_hart, _, ran) in enumerate(query_steps(ahead, steps.turns, steps.count, is_single=True), start + 1):
+            if stepped_hart == hart and ran.world != world:
                 last_switch, world = step, ran.world
     return last_switch

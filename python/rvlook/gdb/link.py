@@ -11,14 +11,14 @@ import time
 from typing import Any, Iterator, NoReturn
 
 PACKET = re.compile(rb"\$([^#$]*)#(..)", re.S)  # a dollar sign in a packet begins another one
-MOST = 1 << 16  # bytes of a packet; what is announced to a debugger is less
+LONGEST_PACKET = 1 << 16  # bytes of a packet; what is announced to a debugger is less
 NUMBER = re.compile(r"[0-9a-fA-F]{1,16}\Z")
 ESCAPED = re.compile(r"[#$}*]")
 INTERRUPT = b"\x03"
 BEFORE_PACKET = re.compile(rb"[+\-\x03]*")  # acknowledgements and Ctrl-C
 HUNG_UP = select.POLLHUP | select.POLLERR | getattr(select, "POLLRDHUP", 0)
-OFTEN = 0.2  # seconds between two checks whether the debugger has disconnected
-PATIENCE = 2  # seconds after which a waiting debugger gets a sign of life; lldb waits five for a reply
+SECONDS_BETWEEN_CHECKS = 0.2  # seconds between two checks whether the debugger has disconnected
+SECONDS_TO_SIGN = 2  # seconds after which a waiting debugger gets a sign of life; lldb waits five for a reply
 
 
 class Gone(Exception):
@@ -31,10 +31,10 @@ class Link:
     def __init__(self, reading: int, writing: int) -> None:
         # `reading`, `writing`: file descriptors; `buffer`: received bytes; `acknowledged`: whether packets are acknowledged
         self.reading, self.writing, self.buffer, self.acknowledged = reading, writing, b"", True
-        self.kept: Any = None  # what must not be closed while the descriptors are used
+        self.kept_open: Any = None  # the socket, which must not be closed while its descriptor is used; None for the standard streams
 
     def fill(self) -> None:
-        """Reads more."""
+        """Reads what the debugger has sent into the buffer; waits for at least one byte. Raises Gone if the connection has ended."""
         try:
             data = os.read(self.reading, 65536)
         except ConnectionError:
@@ -44,7 +44,7 @@ class Link:
         self.buffer += data
 
     def packet(self) -> str:
-        """Returns the next packet."""
+        """Waits for the next packet; returns its text. As long as packets are acknowledged, asks for a packet with a wrong checksum again."""
         while True:
             match = PACKET.search(self.buffer)
             if not match:
@@ -59,51 +59,51 @@ class Link:
                 return match[1].decode("latin-1")
 
     def drop(self) -> None:
-        """Drops what begins no packet, and a packet that is too long."""
+        """Removes from the buffer the bytes before the last start of a packet, and a packet that is too long."""
         start = self.buffer.rfind(b"$")
         self.buffer = self.buffer[start:] if start >= 0 else b""
-        if len(self.buffer) > MOST:
+        if len(self.buffer) > LONGEST_PACKET:
             self.buffer = b""
             if self.acknowledged:
                 self.write(b"-")
 
     def interrupted(self) -> bool:
-        """Returns whether Ctrl-C came while the harts run; no packet comes then."""
-        if len(self.buffer) < MOST and select.select([self.reading], [], [], 0)[0]:
+        """Returns whether Ctrl-C came. It is called while the harts run, when the debugger sends no packet."""
+        if len(self.buffer) < LONGEST_PACKET and select.select([self.reading], [], [], 0)[0]:
             self.fill()
-        before = BEFORE_PACKET.match(self.buffer)
-        assert before
-        self.buffer = self.buffer[before.end():]
-        return INTERRUPT in before[0]
+        leading = BEFORE_PACKET.match(self.buffer)
+        assert leading
+        self.buffer = self.buffer[leading.end():]
+        return INTERRUPT in leading[0]
 
     @contextlib.contextmanager
     def watched(self, is_impatient: bool = False) -> Iterator[None]:
-        """Raises Gone in the body if the connection ends. Shows a dot from time to time to a debugger that has a time limit."""
-        def end(*_: object) -> NoReturn:
+        """Raises Gone in the body of the `with` if the connection ends. If `is_impatient`, shows a dot every SECONDS_TO_SIGN to the debugger."""
+        def raise_gone(*_: object) -> NoReturn:
             """Raises Gone."""
             raise Gone
 
-        before, done = signal.signal(signal.SIGUSR1, end), threading.Event()
-        watcher = threading.Thread(target=self.watch, args=(done, is_impatient), daemon=True)
+        old_handler, is_over = signal.signal(signal.SIGUSR1, raise_gone), threading.Event()
+        watcher = threading.Thread(target=self.watch, args=(is_over, is_impatient), daemon=True)
         watcher.start()
         try:
             yield
         finally:
-            done.set()
+            is_over.set()
             watcher.join()
-            signal.signal(signal.SIGUSR1, before)
+            signal.signal(signal.SIGUSR1, old_handler)
 
-    def watch(self, done: threading.Event, is_impatient: bool) -> None:
-        """Wakes the main thread when the debugger has gone."""
+    def watch(self, is_over: threading.Event, is_impatient: bool) -> None:
+        """Sends a signal to the main thread if the debugger closes the connection before `is_over` is set."""
         poll, last_shown = select.poll(), time.monotonic()
         poll.register(self.reading, HUNG_UP)
-        while not done.wait(OFTEN):
+        while not is_over.wait(SECONDS_BETWEEN_CHECKS):
             if any(event & HUNG_UP for _, event in poll.poll(0)):
                 main = threading.main_thread().ident
                 assert main is not None
                 signal.pthread_kill(main, signal.SIGUSR1)
                 return
-            if is_impatient and time.monotonic() > last_shown + PATIENCE:
+            if is_impatient and time.monotonic() > last_shown + SECONDS_TO_SIGN:
                 self.send("O" + hex_of("."))
                 last_shown = time.monotonic()
 
@@ -136,12 +136,12 @@ def unescaped(text: str) -> bytes:
 
 
 def hex_of(text: str) -> str:
-    """Returns a text for the person as the protocol has it."""
+    """Returns a text that the debugger shows as the protocol has it: the hexadecimal digits of its UTF-8 bytes."""
     return text.encode("utf-8", "replace").hex()
 
 
 def number_of(text: str) -> int:
-    """Returns a hexadecimal number of the protocol. Raises ValueError for another text. `int` takes signs, blanks and `0x` too."""
+    """Returns a hexadecimal number of the protocol. Raises ValueError for another text, also for signs, blanks and `0x`, which `int` accepts."""
     if not NUMBER.match(text):
         raise ValueError(text)
     return int(text, 16)

@@ -18,17 +18,18 @@ RanState = Tuple[str, str, str, Optional[RanTrap]]  # pc, mode, world and trap
 
 
 def runs_of(turns: str, count: int, is_single: bool) -> list[tuple[int, int]]:
-    """Returns steps as runs: their harts, and the number of steps of each."""
+    """Divides `count` steps of a schedule into runs of one hart. Returns the hart and the number of steps of each; 1 step each if `is_single`."""
     if len(set(turns)) == 1 and not is_single:
         return [(int(turns[0]), count)]
-    rounds, rest = divmod(count, len(turns))
-    pieces = [[(int(digit), 1) for digit in digits] if is_single else [(int(match[0][0]), len(match[0])) for match in re.finditer("0+|1+", digits)]
-              for digits in (turns, turns[:rest])]
-    return pieces[0] * rounds + pieces[1]
+    rounds, remaining_steps = divmod(count, len(turns))
+    pattern = "0|1" if is_single else "0+|1+"
+    full_round, last_round = ([(int(match[0][0]), len(match[0])) for match in re.finditer(pattern, digits)]
+                              for digits in (turns, turns[:remaining_steps]))
+    return full_round * rounds + last_round
 
 
 def commands_of_runs(runs: Iterable[tuple[int, int]], chosen: int) -> Iterator[str]:
-    """Yields the commands that do runs; hart `chosen` is the chosen one."""
+    """Yields the commands that do runs, each a hart and its number of steps; hart `chosen` is chosen before them."""
     for hart, length in runs:
         if hart != chosen:
             yield "hart %d" % hart
@@ -46,8 +47,8 @@ def planned(turns: str, count: int, is_single: bool, chosen: int) -> tuple[list[
 
 def query_steps(timeline: Timeline, turns: str, count: int, is_single: bool,
                 is_quiet: Callable[[bytes, int], bool] | None = None) -> list[tuple[int, int, Ran]]:
-    """Does steps of a schedule, one by one or in runs; returns for each run its hart, its wanted steps and its reply. If a run met a stop, what
-    follows is not by the schedule any more. Only the last replies are decoded if `is_quiet` holds."""
+    """Does steps of a schedule, one by one or in runs, in one exchange; returns for each run its hart, its wanted steps and its reply. If a run ends
+    at a stop, the steps after it are not by the schedule any more. If `is_quiet` accepts all replies, only those of the last round are decoded."""
     timeline.settle()
     runs, text, lines = planned(turns, count, is_single, timeline.hart)
     block = timeline.bench.block(text, lines)
@@ -65,7 +66,7 @@ def query_steps(timeline: Timeline, turns: str, count: int, is_single: bool,
 
 
 def steps_of(ahead: Timeline, actions: Iterable[Action]) -> Iterator[ScheduledSteps]:
-    """Yields the steps among actions of the past, which the caller repeats on another bench. Does the commands between them there."""
+    """Yields the steps among actions of the past, which the caller then does on the bench `ahead`. Does the commands between them there itself."""
     for action in actions:
         if isinstance(action, Line):
             ahead.choose(action.hart)
@@ -83,31 +84,31 @@ def by_turns(timeline: Timeline, stops: Stops, turns: str, count: int) -> Iterat
     """Does steps of a schedule, each run in an exchange of its own, so that the bench passes no stop. Yields the halt after each run, or None."""
     end = timeline.position + count
     while timeline.position < end:
-        hart, left = int(turns[0]), min(end - timeline.position, MOST_STEPS)
+        hart, length = int(turns[0]), min(end - timeline.position, MOST_STEPS)
         if len(set(turns)) > 1:
-            left = min(left, len(turns) - len(turns.lstrip(turns[0])))
+            length = min(length, len(turns) - len(turns.lstrip(turns[0])))
         before = timeline.worlds[hart]
-        ran = timeline.run(hart, 1 if stops.is_single else left, turns)
+        ran = timeline.run(hart, 1 if stops.is_single else length, turns)
         turns = rotated(turns, ran.steps)
-        yield stops.met(timeline, hart, ran, before) if stops.may_meet(timeline, ran, before) else None
+        yield stops.halt_after(timeline, hart, ran, before) if stops.may_meet(timeline, ran, before) else None
 
 
 def judged(timeline: Timeline, stops: Stops, hart: int, count: int) -> list[tuple[int, Ran, bool | None]]:
-    """Runs a hart alone for at most `count` steps, in one exchange of several runs. Returns for each run the steps up to its end, its reply, and
-    whether it halts there, or None if that is not decided."""
+    """Runs a hart alone for at most `count` steps, in one exchange of several runs, with the queries that decide conditions after each. Returns for
+    each run the steps up to its end, its reply, and whether there is a halt, or None if the replies do not decide."""
     timeline.settle()
     timeline.choose(hart)
     questions = list(stops.questions)[-MOST_QUESTIONS:]
     runs = min(RUNS, count)
     lines = ["run %d" % max(1, count // RUNS), *questions]
     replies = timeline.bench.block(("\n".join(lines * runs) + "\n").encode(), len(lines) * runs).decode().splitlines()
-    verdicts, done = [], 0
+    verdicts, steps_done = [], 0
     for first in range(0, len(replies), len(lines)):
         ran = step_of(replies[first])
-        done += ran.steps
+        steps_done += ran.steps
         timeline.reach(hart, ran.mode, ran.world, ran.trap and ran.steps > 1)
-        verdicts.append((done, ran, stops.verdict(timeline, ran, dict(zip(questions, replies[first + 1:first + len(lines)])))))
-    timeline.add(ScheduledSteps(str(hart), done))
+        verdicts.append((steps_done, ran, stops.verdict(timeline, ran, dict(zip(questions, replies[first + 1:first + len(lines)])))))
+    timeline.add(ScheduledSteps(str(hart), steps_done))
     return verdicts
 
 
@@ -118,19 +119,19 @@ def state_of(ran: Ran) -> RanState:
 
 def ends_of(steps: Iterable[tuple[int, int, Ran]]) -> dict[int, RanState] | None:
     """Returns the state of each hart if all harts have halted, or None."""
-    last: dict[int, list[RanState]] = {}
+    states_by_hart: dict[int, list[RanState]] = {}
     for hart, _, ran in steps:
-        last.setdefault(hart, []).append(state_of(ran))
-    if any(len(states) < HALTED_AFTER or len(set(states[-HALTED_AFTER:])) > 1 for states in last.values()):
+        states_by_hart.setdefault(hart, []).append(state_of(ran))
+    if any(len(states) < HALTED_AFTER or len(set(states[-HALTED_AFTER:])) > 1 for states in states_by_hart.values()):
         return None
-    return {hart: states[-1] for hart, states in last.items()}
+    return {hart: states[-1] for hart, states in states_by_hart.items()}
 
 
 def first_equal(timeline: Timeline, first: int, ends: Mapping[int, RanState]) -> int:
-    """Returns the first step after `first` from which all harts are halted. `ends` has the present state of each hart."""
+    """Returns the first step after `first` from which all harts are halted. `ends` has the present state of each hart, in which it is halted."""
     end = timeline.position
     with timeline.again(block_before(timeline, first, ends)) as ahead:
-        since: dict[int, int] = {}
+        since: dict[int, int] = {}  # the step since which a hart has been in its end state without a change
         for block in blocks_of(ahead, actions_between(timeline.past, ahead.position, end)):
             position = ahead.position
             for hart, _, ran in query_steps(ahead, block.turns, block.count, is_single=True):
@@ -153,5 +154,5 @@ def block_before(timeline: Timeline, first: int, ends: Mapping[int, RanState]) -
         ahead.choose(hart)
         replies = ahead.do_all(["run %d" % BLOCK] * ((timeline.position - first) // BLOCK))
         states = [state_of(step_of(reply)) for reply, in replies]
-    others = [number for number, other in enumerate(states) if other != state]
-    return first + BLOCK * others[-1] if others else first
+    different = [number for number, block_state in enumerate(states) if block_state != state]
+    return first + BLOCK * different[-1] if different else first

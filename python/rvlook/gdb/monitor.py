@@ -20,13 +20,13 @@ from rvlook.protocol.names import Call
 from rvlook.protocol.run import run_of
 from rvlook.protocol.timeline import commands_of
 
-OTHERS = ("measure", "explain")  # subcommands over a file of their own
+FILE_SUBCOMMANDS = ("measure", "explain")  # subcommands whose arguments name the file that they read, not the run
 NOT_OFFERED = ("gdb", "conform", "guard", "new")  # subcommands that run benches of their own or this server, or make a folder
 FROM_HERE = ("leak", "timer", "races")  # subcommands over the steps after the present one
-CAUGHT = ("switch", "trap", "call")
-OWN = {"catch": "catch [switch | trap | call | none]: stop after each world switch, trap, or monitor call; none removes all catchpoints",
-       "schedule": "schedule [DIGITS]: show or set the schedule of two harts, 1 to 64 digits 0 and 1 as for sched",
-       "entered": "entered: show where the host entered the enclave on this hart"}
+CAUGHT = ("switch", "trap", "call")  # the events that `catch` knows
+SERVER_COMMANDS = {"catch": "catch [switch | trap | call | none]: stop after each world switch, trap, or monitor call; none removes all catchpoints",
+                   "schedule": "schedule [DIGITS]: show or set the schedule of two harts, 1 to 64 digits 0 and 1 as for sched",
+                   "entered": "entered: show where the host entered the enclave on this hart"}
 STALE = "(gdb shows old registers until `maintenance flush register-cache`; load python/rvlook/gdb/client.py to refresh them)\n"
 STALE_IN_LLDB = "(lldb shows old registers until the program continues)\n"
 READ_FILES, FOLDERS = ("script", "symbols", "file", "input"), ("scripts", "sources", "folder", "junit")  # arguments that name files and folders
@@ -45,7 +45,7 @@ class Monitor:
         self.moves, self.entry, self.refreshes = moves, LastEntries(), False  # `refreshes`: whether the debugger reads registers again
         self.session: PromptSession | None = None  # runs the commands of the prompt; None before the first one
         self.has_files, self.read = has_files, command_line.read  # whether a line may name files; parses the arguments of a subcommand
-        self.subcommands = tuple(name for name in command_line.names if name not in (*OTHERS, *NOT_OFFERED))  # over an image
+        self.subcommands = tuple(name for name in command_line.names if name not in (*FILE_SUBCOMMANDS, *NOT_OFFERED))  # over an image
 
     def line(self, text: str) -> str:
         """Runs a line of `monitor`; returns its output. The notes of `page` go to standard error."""
@@ -73,17 +73,17 @@ class Monitor:
             print("monitor takes a single line")
         elif not tokens or tokens == ["help"]:
             self.help()
-        elif tokens[0] in OWN:
+        elif tokens[0] in SERVER_COMMANDS:
             if not run_own(self, *tokens):
-                print(OWN[tokens[0]])
-        elif tokens[0] == "rvlook" or tokens[0] in OTHERS or tokens[0] in self.subcommands and not self.is_command(tokens):
+                print(SERVER_COMMANDS[tokens[0]])
+        elif tokens[0] == "rvlook" or tokens[0] in FILE_SUBCOMMANDS or tokens[0] in self.subcommands and not self.is_command(tokens):
             self.subcommand(tokens[1:] if tokens[0] == "rvlook" else tokens)
         else:
             self.opened(out).line(text)
 
     @staticmethod
     def is_command(tokens: Sequence[str]) -> bool:
-        """Returns whether a line is a command of the bench: `timer on` is, `timer --every 2` is a subcommand."""
+        """Returns whether a line is a command of the bench. For example, `timer on` is; `timer --every 2` is a subcommand."""
         return tokens[0] in COMMANDS and written(tokens[0], tokens[1:]) is not None
 
     def opened(self, out: TextIO | None = None) -> PromptSession:
@@ -97,18 +97,18 @@ class Monitor:
     def help(self) -> None:
         """Prints the commands."""
         print("debugger commands:")
-        for text in OWN.values():
+        for text in SERVER_COMMANDS.values():
             print("  " + text)
-        print("subcommands over the run so far: %s; and %s" % (" ".join(self.subcommands), " ".join(OTHERS)))
+        print("subcommands over the run so far: %s; and %s" % (" ".join(self.subcommands), " ".join(FILE_SUBCOMMANDS)))
         self.opened().help()
 
     def subcommand(self, tokens: Sequence[str]) -> None:
-        """Runs a subcommand of rvlook over a run of what was done so far."""
+        """Runs a subcommand of rvlook, over a run whose script is what the debugger has done so far."""
         tokens = [token.encode("latin-1", "replace").decode("utf-8", "surrogateescape") for token in tokens]
-        if not tokens or tokens[0] not in (*self.subcommands, *OTHERS):
-            print("rvlook requires a subcommand over the run so far: %s; or %s" % (" ".join(self.subcommands), " ".join(OTHERS)))
+        if not tokens or tokens[0] not in (*self.subcommands, *FILE_SUBCOMMANDS):
+            print("rvlook requires a subcommand over the run so far: %s; or %s" % (" ".join(self.subcommands), " ".join(FILE_SUBCOMMANDS)))
             return
-        if tokens[0] in OTHERS:
+        if tokens[0] in FILE_SUBCOMMANDS:
             arguments = self.read(tokens)
             self.check_files(arguments)
         else:
@@ -145,7 +145,7 @@ class Monitor:
         elif what in CAUGHT:
             stops.caught.add(what)
         elif what:
-            print(OWN["catch"])
+            print(SERVER_COMMANDS["catch"])
         print("catchpoints: %s" % (" ".join(kind for kind in CAUGHT if kind in stops.caught) or "none"))
 
     def schedule(self, digits: str | None = None) -> None:

@@ -14,7 +14,7 @@ FIRST_PART, MORE_BACK = 4096, 8  # steps of the first part that is searched, and
 MOST_BY_TURNS = 1 << 18  # the most steps of a part with two harts, or of single steps
 FAR, AHEAD = 200000, 3  # the distance from reset from which earlier benches are prepared, and their number
 MOST_READY = 6  # the most benches that wait at earlier steps
-AT_RESET = "replaylog:begin;"
+AT_RESET = "replaylog:begin;"  # the stop reason that tells a debugger that there is no earlier step
 
 
 class Interrupted(Exception):
@@ -25,13 +25,13 @@ class Back:
     """Moves the harts back for a debugger. Caches the stops of the part that was searched last."""
 
     def __init__(self, moves: Moves) -> None:
-        self.moves, self.first, self.end = moves, 0, 0  # steps of the part that was searched last
+        self.moves, self.first, self.end = moves, 0, 0  # `first`, `end`: the steps between which stops were searched last
         self.key: tuple[Any, ...] | None = None  # what the cached stops depend on; None: nothing is cached
-        self.found: list[tuple[int, Halt]] = []  # the cached stops, after their steps
+        self.cached_stops: list[tuple[int, Halt]] = []  # the stops between `first` and `end`, each with the number of its step
 
     def discard(self) -> None:
         """Discards the cached stops, since the steps may change."""
-        self.key, self.found = None, []
+        self.key, self.cached_stops = None, []
 
     def step(self, hart: int) -> Halt:
         """Goes before the last step of a hart."""
@@ -44,7 +44,7 @@ class Back:
         return Halt(hart)
 
     def prepare(self, positions: Iterable[int]) -> None:
-        """Sends benches to steps that may be needed next, if that takes time."""
+        """Starts benches that go to steps which may be needed next, if the way from reset is so long that it takes time."""
         ready = self.moves.ready
         for position in positions:
             if position > FAR and position not in ready:
@@ -66,19 +66,19 @@ class Back:
             return Halt(hart, signal=INTERRUPTED)
 
     def go_to_stop(self, hart: int, harts: Sequence[int]) -> Halt:
-        """Goes to the last stop of these harts before here; or a watch here, whose access the debugger undoes itself."""
-        moves, here = self.moves, self.moves.timeline.position
+        """Goes to the last stop of these harts before the present step; or stays at a watchpoint there, whose access the debugger undoes."""
+        moves, present = self.moves, self.moves.timeline.position
         by_turns_alone = moves.stops.is_single or moves.timeline.setup.harts > 1
         key = (moves.stops.key(moves.timeline), tuple(harts))
-        if key != self.key or not self.first <= here <= self.end:
-            self.key, self.first, self.end, self.found = key, here, here, []
+        if key != self.key or not self.first <= present <= self.end:
+            self.key, self.first, self.end, self.cached_stops = key, present, present, []
         size = FIRST_PART
-        while not self.before(here) and self.first > 0:
+        while not self.cached_before(present) and self.first > 0:
             first = max(0, self.first - size)
-            self.found = self.stops_between(first, self.first, harts) + self.found
+            self.cached_stops = self.stops_between(first, self.first, harts) + self.cached_stops
             self.first, size = first, size * MORE_BACK if not by_turns_alone else min(size * MORE_BACK, MOST_BY_TURNS)
             self.check_interrupt()
-        halts = self.before(here)
+        halts = self.cached_before(present)
         if halts:
             position, halt = halts[-1]
             moves.go(position)
@@ -87,23 +87,23 @@ class Back:
                 moves.link.show(halt.message)
             return halt
         moves.go(0)
-        at_break = here and moves.stops.is_break(moves.timeline, moves.view.registers(hart)[32])
+        at_break = present and moves.stops.is_break(moves.timeline, moves.view.registers(hart)[32])
         return Halt(hart, "" if at_break else AT_RESET)
 
-    def before(self, here: int) -> list[tuple[int, Halt]]:
-        """Returns the stops before a step, and a watchpoint at it."""
-        return [(position, halt) for position, halt in self.found if position < here + bool(halt.reason)]
+    def cached_before(self, present: int) -> list[tuple[int, Halt]]:
+        """Returns the cached stops before step `present`, and a watchpoint at it."""
+        return [(position, halt) for position, halt in self.cached_stops if position < present + bool(halt.reason)]
 
     def stops_between(self, first: int, end: int, harts: Sequence[int]) -> list[tuple[int, Halt]]:
-        """Returns the stops after step `first`, up to step `end`."""
+        """Searches the stops of these harts after step `first`, up to step `end`; returns each with the number of its step."""
         moves = self.moves
         halts: dict[int, Halt] = {}
-        pieces = list(actions_between(moves.timeline.past, first, end))
-        if not moves.stops.is_single and not self.may_stop(first, pieces):
+        actions = list(actions_between(moves.timeline.past, first, end))
+        if not moves.stops.is_single and not self.may_stop(first, actions):
             return []
         with moves.timeline.again(first) as ahead:
             ahead.set_stops(moves.timeline.stops)
-            for step in steps_of(ahead, pieces):
+            for step in steps_of(ahead, actions):
                 if moves.stops.is_single:
                     halts.update(self.single_stops(ahead, step))
                 elif moves.stops.has_conditions and step.chosen:
@@ -112,14 +112,14 @@ class Back:
                     halts.update(self.stops_by_turns(ahead, step))
         return sorted(((position, halt) for position, halt in halts.items() if halt.hart in harts), key=lambda it: it[0])
 
-    def may_stop(self, first: int, pieces: Sequence[Action]) -> bool:
-        """Returns whether there may be a stop in steps of two harts. Steps of one hart are searched at once."""
-        if all(piece.chosen for piece in pieces):
+    def may_stop(self, first: int, actions: Sequence[Action]) -> bool:
+        """Returns whether there may be a stop in actions from step `first` on. Checks steps of two harts; steps of one hart are searched at once."""
+        if all(action.chosen for action in actions):
             return True
         with self.moves.timeline.again(first) as ahead:
             ahead.set_stops(self.moves.timeline.stops)
             is_quiet = self.moves.stops.is_quiet(ahead)
-            return any(ran.steps < count or self.moves.stops.may_meet(ahead, ran, "") for step in steps_of(ahead, pieces)
+            return any(ran.steps < count or self.moves.stops.may_meet(ahead, ran, "") for step in steps_of(ahead, actions)
                        for _, count, ran in query_steps(ahead, step.turns, step.count, is_single=False, is_quiet=is_quiet))
 
     def stops_by_turns(self, ahead: Timeline, steps: ScheduledSteps) -> Iterator[tuple[int, Halt]]:
@@ -135,18 +135,20 @@ class Back:
         while ahead.position < end:
             self.check_interrupt()
             position = ahead.position
-            for done, ran, verdict in judged(ahead, self.moves.stops, hart, min(end - position, MOST_STEPS)):
-                halt = Halt(hart) if verdict else None if verdict is False else self.halt_there(ahead, position + done, hart, ran, "")
+            for steps_done, ran, verdict in judged(ahead, self.moves.stops, hart, min(end - position, MOST_STEPS)):
+                halt = Halt(hart) if verdict else None
+                if verdict is None:
+                    halt = self.halt_there(ahead, position + steps_done, hart, ran, before="")
                 if halt:
-                    yield position + done, halt
+                    yield position + steps_done, halt
 
     def single_stops(self, ahead: Timeline, steps: ScheduledSteps) -> Iterator[tuple[int, Halt]]:
         """Yields the stops in steps of the past that are checked one by one, with many steps in one exchange."""
         stops = self.moves.stops
-        for now in blocks_of(ahead, [steps]):
+        for block in blocks_of(ahead, [steps]):
             self.check_interrupt()
             position, worlds = ahead.position, list(ahead.worlds)
-            for hart, _, ran in query_steps(ahead, now.turns, now.count, is_single=True):
+            for hart, _, ran in query_steps(ahead, block.turns, block.count, is_single=True):
                 position += 1
                 if stops.may_meet(ahead, ran, worlds[hart]):
                     halt = self.halt_there(ahead, position, hart, ran, worlds[hart])
@@ -158,7 +160,7 @@ class Back:
         """Returns the halt after a step, or None. Uses another bench if the halt depends on registers or memory at that step."""
         stops = self.moves.stops
         if not stops.needs_query(ran):
-            return stops.met(ahead, hart, ran, before)
-        with ahead.again(position) as there:
-            there.set_stops(self.moves.timeline.stops)
-            return stops.met(there, hart, ran, before)
+            return stops.halt_after(ahead, hart, ran, before)
+        with ahead.again(position) as bench_at_step:
+            bench_at_step.set_stops(self.moves.timeline.stops)
+            return stops.halt_after(bench_at_step, hart, ran, before)

@@ -43,23 +43,23 @@ class Refused(Exception):
 
 
 class Server(Closing):
-    """Replies to packets. `shown` is the hart that is shown, `moved` the one that moves (None for any), `last` the one that halted."""
+    """Replies to packets. Each method in ACTS gets the text after the name of the packet, and returns the reply; None if it sends none."""
 
     def __init__(self, link: Link, setup: Setup, command_line: CommandLine, has_files: bool = True) -> None:
         # `has_files`: whether `monitor` may name files
         self.link, self.setup, self.has_files, self.command_line = link, setup, has_files, command_line
-        self.extended = self.over = False  # the debugger uses extended mode; the connection ends
+        self.is_extended = self.is_over = False  # whether the debugger uses extended mode; whether the connection ends
         self.running: Moves | None = None  # None after the bench was ended
-        self.moved: int | None = None  # the hart that moves; None: any
+        self.moving_hart: int | None = None  # the hart that packets without a thread move; None: any
         self.start()
 
     def start(self) -> None:
         """Starts a bench, and runs the script."""
         self.close()
         moves = self.running = Moves(Timeline.of_script(self.setup), self.link)
-        self.back, self.commands = Back(moves), Monitor(moves, self.command_line, self.has_files)  # move back; run lines of `monitor`
-        self.shown = self.last = moves.timeline.hart  # the hart that is shown; the hart that halted last
-        self.moved = None
+        self.back, self.commands = Back(moves), Monitor(moves, self.command_line, self.has_files)  # for reverse execution; for lines of `monitor`
+        self.shown_hart = self.last_halted = moves.timeline.hart  # the hart whose registers are shown; the hart that halted last
+        self.moving_hart = None
         self.consoles = consoles_of(self.setup.symbols)
 
     def close(self) -> None:
@@ -82,7 +82,7 @@ class Server(Closing):
 
     def serve(self) -> None:
         """Replies to packets until the debugger ends."""
-        while not self.over:
+        while not self.is_over:
             packet = self.link.packet()
             match = NAME.match(packet)
             name = match[0] if match else ""
@@ -100,16 +100,16 @@ class Server(Closing):
             if answer is not None:
                 self.link.send(answer)
 
-    # what there is
+    # features, threads and harts
 
     def no_acknowledgements(self, _: str) -> None:
         """Replies to QStartNoAckMode: packets after this reply are not acknowledged."""
         self.link.send("OK")
         self.link.acknowledged = False
 
-    def transfer(self, rest: str) -> str:
-        """Replies to qXfer with a part of a document."""
-        kind, _, name, location = rest[1:].split(":")
+    def transfer(self, arguments: str) -> str:
+        """Replies to qXfer, `:KIND:read:NAME:OFFSET,LENGTH`, with a part of a document; `m` begins a part before the last one, `l` the last."""
+        kind, _, name, location = arguments[1:].split(":")
         documents = {("features", "target.xml"): target_text, ("memory-map", ""): lambda: MEMORY % (RAM_BASE, self.setup.ram),
                      ("threads", ""): lambda: threads_text(map(self.hart_text, range(self.setup.harts if self.running else 0)))}
         text = documents[kind, name]()
@@ -126,105 +126,106 @@ class Server(Closing):
         return "hart %d: %s in %s" % (hart, self.timeline.worlds[hart], self.timeline.modes[hart])
 
     def hart_of(self, thread: str) -> int:
-        """Returns the hart of a thread, the last one that halted for any thread. Raises Refused if there is no such thread."""
-        hart = self.last if thread in ("", "0", "-1") else number_of(thread) - 1
+        """Returns the hart of a thread; for any thread (empty, 0 or -1) the hart that halted last. Raises Refused if there is no such thread."""
+        hart = self.last_halted if thread in ("", "0", "-1") else number_of(thread) - 1
         if not 0 <= hart < self.setup.harts:
             raise Refused("no such thread")
         return hart
 
-    def choose(self, rest: str) -> str:
-        """Replies to H: chooses the hart that is shown, or the one that moves."""
-        hart = self.hart_of(rest[1:])
-        if rest[0] == "g":
-            self.shown = hart
+    def choose(self, arguments: str) -> str:
+        """Replies to H: `g` and a thread choose the hart that is shown; `c` and a thread choose the hart that moves."""
+        hart = self.hart_of(arguments[1:])
+        if arguments[0] == "g":
+            self.shown_hart = hart
         else:
-            self.moved = None if rest[1:] in ("0", "-1") else hart
+            self.moving_hart = None if arguments[1:] in ("0", "-1") else hart
         return "OK"
 
     # registers and memory
 
     def registers(self, _: str = "") -> str:
         """Replies to g with the values of CORE_REGISTERS."""
-        return "".join(map(little, self.moves.view.registers(self.shown)))
+        return "".join(map(little, self.moves.view.registers(self.shown_hart)))
 
-    def read_register(self, rest: str) -> str:
-        """Replies to p with one of REGISTERS."""
-        number = number_of(rest)
+    def read_register(self, arguments: str) -> str:
+        """Replies to p with the register that a number names, its index in REGISTERS."""
+        number = number_of(arguments)
         if number < len(CORE_REGISTERS):
-            return little(self.moves.view.registers(self.shown)[number])
+            return little(self.moves.view.registers(self.shown_hart)[number])
         if number in (PRIV, WORLD):
             return self.state()[number]
         if REGISTERS[number] in ENTERED:
-            entered = self.commands.entry.find(self.timeline, self.shown)
-            return little(entered.registers[REGISTERS[number]]) if entered else "x" * 8
-        value = self.moves.view.csr(self.shown, names.CSRS[REGISTERS[number]])
+            entered = self.commands.entry.find(self.timeline, self.shown_hart)
+            return little(entered.registers[REGISTERS[number]]) if entered else "x" * 8  # `x`: the value is unknown
+        value = self.moves.view.csr(self.shown_hart, names.CSRS[REGISTERS[number]])
         if value is None:
-            raise ValueError(rest)
+            raise ValueError(arguments)
         return little(value)
 
     def state(self) -> dict[int, str]:
-        """Returns mode and world of the hart, by their numbers among the registers."""
+        """Returns mode and world of the hart that is shown, by their numbers among the registers."""
         self.timeline.settle()
-        return {PRIV: little("%08x" % MODES[self.timeline.modes[self.shown]]), WORLD: little("%08x" % WORLDS[self.timeline.worlds[self.shown]])}
+        mode, world = self.timeline.modes[self.shown_hart], self.timeline.worlds[self.shown_hart]
+        return {PRIV: little("%08x" % MODES[mode]), WORLD: little("%08x" % WORLDS[world])}
 
-    def changing(self) -> None:
-        """Discards what was derived from later steps, since they may change."""
+    def forget_later_steps(self) -> None:
+        """Discards what was derived from the steps after the present one, since the next command may change them."""
         self.back.discard()
         self.commands.entry.limit(self.timeline.position)
 
-    def write_register(self, rest: str) -> str:
+    def write_register(self, arguments: str) -> str:
         """Replies to P. Only x1 to x31 and pc can be written; raises Refused for others."""
-        digits, value = rest.split("=")
+        digits, value = arguments.split("=")
         number = number_of(digits)
         if not 0 < number <= PC:
             raise Refused("rvbench cannot write %s; it can write x1 to x31 and pc" % REGISTERS[number])
         if not VALUE.match(value):
             raise ValueError(value)
-        self.changing()
-        self.timeline.choose(self.shown)
+        self.forget_later_steps()
+        self.timeline.choose(self.shown_hart)
         if number == PC:
             set_pc(self.moves, int(little(value), 16))
         else:
             self.moves.apply(["setreg %d %s" % (number, little(value))])
         return "OK"
 
-    def read_memory(self, rest: str) -> str:
+    def read_memory(self, arguments: str) -> str:
         """Replies to m with bytes up to the first that is outside RAM."""
-        first, count = map(number_of, rest.split(","))
+        first, count = map(number_of, arguments.split(","))
         data = self.moves.view.bytes(first, min(count, MOST_READ))
         if count and not data:
             raise Refused("%08x is outside RAM" % first)
         return data.hex()
 
-    def write(self, rest: str, decode: Callable[[str], bytes]) -> str:
-        """Replies to M and X, which have the bytes to poke in digits and escaped. Raises Refused if one is outside RAM."""
-        location, text = rest.split(":", 1)
+    def write(self, arguments: str, decode: Callable[[str], bytes]) -> str:
+        """Replies to M and X: stores bytes, which `decode` makes of hexadecimal digits (M) or escaped text (X). Raises Refused outside RAM."""
+        location, text = arguments.split(":", 1)
         data = decode(text)
         first, count = map(number_of, location.split(","))
         if len(data) != count:
             raise Refused("got %d bytes instead of %d" % (len(data), count))
         if count and len(self.moves.view.bytes(first, count)) < count:
             raise Refused("the range is not entirely in RAM")
-        self.changing()
+        self.forget_later_steps()
         self.moves.apply(poke_commands(first, data))
         return "OK"
 
     # breakpoints and watchpoints
 
-    def set_stop(self, rest: str) -> str:
+    def set_stop(self, arguments: str) -> str:
         """Replies to Z: sets a breakpoint with its conditions, or a watchpoint."""
-        kind, first, count = self.stop_of(rest)
+        kind, first, count = self.stop_of(arguments)
         if kind in BREAKS:
-            conditions = [bytes.fromhex(match[2])[:int(match[1], 16)] for match in CONDITION.finditer(rest)]
+            conditions = [bytes.fromhex(match[2])[:int(match[1], 16)] for match in CONDITION.finditer(arguments)]
             self.moves.stops.set_break(self.timeline, kind, first, conditions)
         elif count > MOST_WATCHED or not self.moves.stops.set_watch(self.timeline, Watch(*WATCHES[kind], first, count)):
             report_error("cannot set the watchpoint: rvbench watches at most %d bytes" % MOST_WATCHED)
             raise Refused("rvbench watches at most %d bytes" % MOST_WATCHED)
         return "OK"
 
-    def clear_stop(self, rest: str) -> str:
+    def clear_stop(self, arguments: str) -> str:
         """Replies to z: removes a breakpoint or a watchpoint."""
-        kind, first, count = self.stop_of(rest)
+        kind, first, count = self.stop_of(arguments)
         if kind in BREAKS:
             self.moves.stops.clear_break(self.timeline, kind, first)
         else:
@@ -232,29 +233,29 @@ class Server(Closing):
         return "OK"
 
     @staticmethod
-    def stop_of(rest: str) -> tuple[str, int, int]:
+    def stop_of(arguments: str) -> tuple[str, int, int]:
         """Returns the kind, the address and the length of a breakpoint or watchpoint."""
-        kind, first, count = rest.split(";")[0].split(",")
+        kind, first, count = arguments.split(";")[0].split(",")
         return kind, number_of(first), number_of(count)
 
-    # on and back
+    # execution, forward and reverse
 
     def halted(self, halt: Halt) -> str:
-        """Returns the reply that reports a halt, with the registers."""
-        self.shown = self.last = halt.hart
-        values = [*enumerate(map(little, self.moves.view.registers(halt.hart))), *self.state().items()]
+        """Returns the stop reply (packet T) that reports a halt, with the registers of its hart. This hart is shown from now on."""
+        self.shown_hart = self.last_halted = halt.hart
+        values = [*enumerate(map(little, self.moves.view.registers(halt.hart))), *self.state().items()]  # number and value of each register
         return "T%02xthread:%x;%s%s" % (halt.signal, halt.hart + 1, halt.reason, "".join("%02x:%s;" % value for value in values))
 
     def where(self, _: str) -> str:
-        """Replies to ? with the present halt."""
-        return self.halted(Halt(self.shown)) if self.running else "W00"
+        """Replies to ? with the state in which the hart that is shown has halted; W00 (the process exited) if the bench was ended."""
+        return self.halted(Halt(self.shown_hart)) if self.running else "W00"
 
-    def resume(self, rest: str) -> str:
-        """Replies to vCont: each hart does the first action that names it."""
+    def resume(self, arguments: str) -> str:
+        """Replies to vCont, `;ACTION[:THREAD]` once or more: each hart does the first action that names it."""
         self.moves.show_notes()
-        self.changing()
+        self.forget_later_steps()
         actions: dict[int, str] = {}
-        for entry in rest[1:].split(";"):
+        for entry in arguments[1:].split(";"):
             action, _, thread = entry.partition(":")
             for hart in range(self.setup.harts) if thread in ("", "-1", "0") else [self.hart_of(thread)]:
                 actions.setdefault(hart, action)
@@ -262,8 +263,8 @@ class Server(Closing):
         stepping = [hart for hart, action in actions.items() if action[0] in "sSr"]
         if stepping:
             action = actions[stepping[0]]
-            inside = range(*map(number_of, action[1:].split(",", 1))) if action[0] == "r" else ()
-            halt = self.moves.step(stepping[0], running, inside)
+            addresses = range(*map(number_of, action[1:].split(",", 1))) if action[0] == "r" else ()  # r: steps while pc is in a range
+            halt = self.moves.step(stepping[0], running, addresses)
         else:
             halt = self.moves.go_on(sorted(running))
         self.moves.redo()
@@ -277,38 +278,38 @@ class Server(Closing):
                 self.link.show("%s console: %s" % (console.writer, line))
 
     def go_on(self, action: str, location: str) -> str:
-        """Replies to c and s of a debugger without vCont."""
+        """Replies to c and s of a debugger without vCont. `action` is c or s; `location`, if not empty, is the pc at which the hart resumes."""
         if location:
-            self.changing()
-            self.timeline.choose(self.shown)
+            self.forget_later_steps()
+            self.timeline.choose(self.shown_hart)
             set_pc(self.moves, number_of(location))
-        return self.resume(";%s:%s" % (action, "-1" if self.moved is None else "%x" % (self.moved + 1)))
+        return self.resume(";%s:%s" % (action, "-1" if self.moving_hart is None else "%x" % (self.moving_hart + 1)))
 
     def step_back(self, _: str) -> str:
-        """Replies to bs. The hart that is shown steps if no thread was chosen."""
-        return self.halted(self.back.step(self.shown if self.moved is None else self.moved))
+        """Replies to bs: goes to the state before the last step of a hart, which is the one that is shown if no thread was chosen."""
+        return self.halted(self.back.step(self.shown_hart if self.moving_hart is None else self.moving_hart))
 
     def go_back(self, _: str) -> str:
-        """Replies to bc: runs back to the last stop before."""
-        harts = range(self.setup.harts) if self.moved is None else [self.moved]
-        return self.halted(self.back.go(self.shown if self.moved is None else self.moved, list(harts)))
+        """Replies to bc: goes back to the last stop before the present step."""
+        harts = range(self.setup.harts) if self.moving_hart is None else [self.moving_hart]
+        return self.halted(self.back.go(self.shown_hart if self.moving_hart is None else self.moving_hart, list(harts)))
 
-    # what else
+    # `monitor`, and the end and restart of the bench
 
-    def monitor(self, rest: str) -> str:
+    def monitor(self, arguments: str) -> str:
         """Replies to qRcmd: runs a line of the bench or of the prompt, or a subcommand."""
-        self.changing()
-        self.timeline.choose(self.last if self.moves.stops_after_watch else self.shown)  # lldb reads registers of each hart, and names none here
-        text = self.commands.line(bytes.fromhex(rest[1:]).decode("latin-1"))
-        self.shown = self.timeline.hart
-        self.last = self.shown if self.moves.stops_after_watch else self.last
+        self.forget_later_steps()
+        self.timeline.choose(self.last_halted if self.moves.stops_after_watch else self.shown_hart)  # lldb names no hart before this packet
+        text = self.commands.line(bytes.fromhex(arguments[1:]).decode("latin-1"))
+        self.shown_hart = self.timeline.hart
+        self.last_halted = self.shown_hart if self.moves.stops_after_watch else self.last_halted
         for first in range(0, len(text), PIECE):
             self.link.send("O" + hex_of(text[first:first + PIECE]))
         return "OK"
 
     def detach(self, _: str) -> str:
         """Replies to D: ends the connection, unless the debugger uses extended mode."""
-        self.over = not self.extended
+        self.is_over = not self.is_extended
         return "OK"
 
     def kill(self, _: str) -> str:
@@ -318,14 +319,14 @@ class Server(Closing):
 
     def end(self, _: str) -> str | None:
         """Replies to k: lldb expects a reply, gdb none."""
-        answers_it = self.running and self.running.stops_after_watch
+        is_lldb = self.running and self.running.stops_after_watch
         self.close()
-        self.over = not self.extended
-        return GONE if answers_it else None
+        self.is_over = not self.is_extended
+        return GONE if is_lldb else None
 
     def extend(self, _: str) -> str:
-        """Replies to !."""
-        self.extended = True
+        """Replies to !: enables extended mode, in which the debugger may run the bench again after its end."""
+        self.is_extended = True
         return "OK"
 
     def run_again(self, _: str) -> str:
@@ -334,7 +335,7 @@ class Server(Closing):
         return self.where("")
 
     def host(self, _: str) -> str:
-        """Replies to qHostInfo, which only lldb sends."""
+        """Replies to qHostInfo, which only lldb sends, and which therefore shows that watchpoints must halt after the access."""
         self.moves.stops_after_watch = True
         return "triple:%s;ptrsize:4;endian:little;watchpoint_exceptions_received:after;" % hex_of(TRIPLE)
 
@@ -345,22 +346,22 @@ class Server(Closing):
 
 
 def answers(text: str) -> Callable[[Server, str], str]:
-    """Returns a function that replies a fixed text."""
-    return lambda server, rest: text
+    """Returns a function that handles a packet by a fixed reply."""
+    return lambda server, arguments: text
 
 
-MOVING = ("vCont", "c", "s", "bc", "bs")
+MOVING = ("vCont", "c", "s", "bc", "bs")  # packets with a stop reply
 ACTS: Dict[str, Callable[[Server, str], Optional[str]]] = {
     "!": Server.extend, "?": Server.where, "D": Server.detach, "H": Server.choose, "P": Server.write_register,
-    "M": lambda server, rest: server.write(rest, bytes.fromhex), "X": lambda server, rest: server.write(rest, unescaped),
-    "R": lambda server, rest: server.start(),  # without a reply
-    "T": lambda server, rest: "OK" if server.hart_of(rest) >= 0 else "", "Z": Server.set_stop,
+    "M": lambda server, arguments: server.write(arguments, bytes.fromhex), "X": lambda server, arguments: server.write(arguments, unescaped),
+    "R": lambda server, arguments: server.start(),  # without a reply
+    "T": lambda server, arguments: "OK" if server.hart_of(arguments) >= 0 else "", "Z": Server.set_stop,
     "k": Server.end, "m": Server.read_memory, "p": Server.read_register, "z": Server.clear_stop, "g": Server.registers,
-    "c": lambda server, rest: server.go_on("c", rest), "s": lambda server, rest: server.go_on("s", rest),
+    "c": lambda server, arguments: server.go_on("c", arguments), "s": lambda server, arguments: server.go_on("s", arguments),
     "bc": Server.go_back, "bs": Server.step_back, "QRvlookFresh": Server.set_refresh,
-    "QStartNoAckMode": Server.no_acknowledgements, "qAttached": answers("0"), "qC": lambda server, rest: "QC%x" % (server.last + 1),
-    "qHostInfo": Server.host, "qProcessInfo": lambda server, rest: "pid:1;" + server.host(rest), "qRcmd": Server.monitor,
-    "qSupported": answers(FEATURES), "qThreadExtraInfo": lambda server, rest: hex_of(server.hart_text(server.hart_of(rest[1:]))),
+    "QStartNoAckMode": Server.no_acknowledgements, "qAttached": answers("0"), "qC": lambda server, arguments: "QC%x" % (server.last_halted + 1),
+    "qHostInfo": Server.host, "qProcessInfo": lambda server, arguments: "pid:1;" + server.host(arguments), "qRcmd": Server.monitor,
+    "qSupported": answers(FEATURES), "qThreadExtraInfo": lambda server, arguments: hex_of(server.hart_text(server.hart_of(arguments[1:]))),
     "qXfer": Server.transfer, "qfThreadInfo": Server.threads, "qsThreadInfo": answers("l"), "vCont": Server.resume,
     "vCont?": answers("vCont;c;C;s;S;r"), "vKill": Server.kill, "vRun": Server.run_again}
 
@@ -383,7 +384,7 @@ def link_of(setup: Setup, port: int | None) -> Link:
     connection.setsockopt(socket.IPPROTO_TCP, socket.TCP_NODELAY, 1)
     threading.Thread(target=turn_away, args=(listening,), daemon=True).start()
     link = Link(connection.fileno(), connection.fileno())
-    link.kept = connection  # keeps the connection for as long as its number is used
+    link.kept_open = connection  # keeps the connection for as long as its number is used
     return link
 
 

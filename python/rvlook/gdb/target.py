@@ -7,11 +7,11 @@ from typing import Iterable
 from rvlook.protocol import names
 
 ABI_KINDS = {"ra": "code_ptr", "sp": "data_ptr", "gp": "data_ptr", "tp": "data_ptr", "s0": "data_ptr"}
-ROLES = {"sp": "sp", "s0": "fp", "ra": "ra", "pc": "pc"}  # as lldb has them
-MODES = {"U": 0, "S": 1, "M": 3}
+ROLES = {"sp": "sp", "s0": "fp", "ra": "ra", "pc": "pc"}  # the generic names that lldb has for registers
+MODES = {"U": 0, "S": 1, "M": 3}  # the number of each mode, as the debugger shows it in `priv`
 WORLDS = {**{"e%d" % slot: slot for slot in range(names.LAST_SLOT + 1)}, "host": names.LAST_SLOT + 1, "bare": names.LAST_SLOT + 2}
 CORE_REGISTERS = [*names.ABI, "pc"]  # what `regs` shows, in its order
-SAVED = ["ra", "sp", *("s%d" % number for number in range(12))]  # what a function keeps for its caller
+SAVED = ["ra", "sp", *("s%d" % number for number in range(12))]  # the registers with which the caller of a function continues
 ENTERED = ["host_pc", *("host_" + name for name in SAVED)]  # the pc at which the host that entered the enclave continues, and its registers
 REGISTERS = [*CORE_REGISTERS, *names.CSRS, "priv", "world", *ENTERED]
 NUMBERS = {name: number for number, name in enumerate(REGISTERS)}

@@ -8,7 +8,7 @@ from typing import Any
 from rvlook.protocol.replies import Ran, bytes_of, step_of
 from rvlook.protocol.timeline import Timeline
 
-LINE = 64
+LINE = 64  # bytes that are cached together, as many as one `mem` shows
 SP, PC, REGISTERS = 2, 32, 33  # numbers of registers, and lines of `regs`
 
 
@@ -53,16 +53,16 @@ class CachedView:
         lines = range(first & -LINE, first + count, LINE)
         missing = [at for at in lines if at not in self.lines]
         for at, (reply,) in zip(missing, self.timeline.ask(*map(line_of, missing)) if missing else ()):
-            self.take_line(at, reply)
+            self.cache_line(at, reply)
         data = b"".join(takewhile(bool, map(self.lines.__getitem__, lines)))
         return data[first & LINE - 1:][:count]
 
-    def take_line(self, address: int, reply: str) -> None:
-        """Keeps the bytes of a reply of `mem`."""
+    def cache_line(self, address: int, reply: str) -> None:
+        """Caches the bytes in a reply of `mem` for an address; no bytes if the reply is an error."""
         self.lines[address] = b"" if reply.startswith("error ") else bytes_of(reply)
 
     def step(self, hart: int, turns: str) -> Ran:
-        """Does a `run 1` of a hart, and returns its reply. Reads the registers and the memory nearby in the same exchange."""
+        """Does `run 1` on a hart by the schedule `turns`; returns its reply. Also caches the registers, and memory at pc and sp."""
         before = self.registers(hart)
         self.timeline.choose(hart)
         near = {address & -LINE & 0xFFFFFFFF for address in (int(before[PC], 16) + 4, int(before[SP], 16))}
@@ -70,5 +70,5 @@ class CachedView:
         self.check()
         self.values[hart] = [line.partition("=")[2] for line in seen[:REGISTERS]]
         for at, reply in zip(near, seen[REGISTERS:]):
-            self.take_line(at, reply)
+            self.cache_line(at, reply)
         return step_of(ran)

@@ -138,8 +138,7 @@ class Shrinker:
         return self.runs >= MAX_SHRINK_RUNS or time.monotonic() > self.deadline
 
     def is_shorter(self, items: list[Item]) -> bool:
-        """Runs some items of the script, and returns whether they show the same difference. If they do, they are the script from now on, without the
-        items after the difference."""
+        """Runs some items of the script; returns whether they show the same difference. If so, they become the script, up to the difference."""
         self.runs += 1
         played = play(self.setup, self.played.name, items, compares_memory=self.signature[0] is DifferenceKind.memory)
         if not played.differences or signature(played.differences[0]) != self.signature:

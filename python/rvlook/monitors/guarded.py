@@ -197,8 +197,7 @@ class Guarded(MonitorBench):
                 return StayInM(cause, entry, state, spent, fault, fault_pc if fault else 0, tuple(traps.handled), frozenset(loaded))
 
     def note_access(self, address: int, word: int, loaded: set[int]) -> None:
-        """Handles an access to a watched byte by an encoded instruction. A store to a register of the timer clears the timer line. A load of another
-        byte is added to `loaded`."""
+        """Handles an access of an instruction to a watched byte: a store to the timer clears the timer line; a loaded byte is added to `loaded`."""
         if address not in self.setup.lowered:
             if not is_store(word):
                 loaded.add(address)

@@ -97,8 +97,7 @@ class PlayedScript:
 
 
 class BothSides(Closing):
-    """The author's monitor and the reference, on which the items of a script are done side by side. `compares_memory` says whether memory is compared
-    after each trap, not only at the end of the script."""
+    """Does each item on the author's monitor and on the reference. `compares_memory`: after each trap, and not only at the end."""
 
     def __init__(self, setup: MonitorSetup, name: str, compares_memory: bool = True) -> None:
         self.setup, self.compares_memory, self.played = setup, compares_memory, PlayedScript(name)  # `played`: the script so far

@@ -24,8 +24,7 @@ class Right(NamedTuple):
 
 @lru_cache(maxsize=4096)
 def rights_of(lines: bytes, ram: int) -> tuple[Right, ...]:
-    """Returns the access rights of all RAM under the replies of `pmp`, for `ram` bytes. Adjacent ranges with equal rights from two entries stay
-    apart, because an access across their boundary is refused."""
+    """Returns the access rights of all RAM under the replies of `pmp`. Ranges of two entries stay apart: an access across them is refused."""
     entries = [entry_of(line.decode()) for line in lines.splitlines()]
     covered = [entry_range(entries, index) for index in range(len(entries))]
     ends = boundaries(entries, ram)

@@ -1,8 +1,7 @@
 """The bench, driven over a pipe by the commands of docs/COMMANDS.md.
 
 Lines are written while replies are read, so that neither pipe fills up and stops the other; a long list of commands costs one round
-trip, not one for each.
-"""
+trip, not one for each."""
 from __future__ import annotations
 
 import fcntl

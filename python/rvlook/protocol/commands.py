@@ -73,7 +73,6 @@ COMMANDS = {
     "poke": Command("A V", (Form.address, Form.byte)), "dis": Command("A", (Form.address,)), "pmp": Command("", ()),
     "enclaves": Command("", ()), "access": Command("M K A L", (Form.mode, Form.kind, Form.address, Form.width)),
     "timer": Command("on|off", (Form.line,)), "hart": Command("H", (Form.hart,)), "sched": Command("W", (Form.schedule,))}
-
 HEXADECIMAL = re.compile(r"(0x)?[0-9a-fA-F]{1,8}\Z")
 DECIMAL = re.compile(r"[0-9]{1,7}\Z")
 LIMITS = {Form.count: (1, 1000000), Form.register: (0, 31), Form.length: (1, 64)}

@@ -8,15 +8,13 @@ from typing import Sequence
 ABI = ("zero ra sp gp tp t0 t1 t2 s0 s1 a0 a1 a2 a3 a4 a5 a6 a7 s2 s3 s4 s5 s6 s7 s8 s9 s10 s11 t3 t4 t5 t6").split()
 NUMBER_OF = {name: number for number, name in enumerate(ABI)}
 NUMBER_OF.update({"fp": 8}, **{"x%d" % number: number for number in range(32)})
-
-LAST_SLOT = 12
+LAST_SLOT = 12  # the number of the last slot for an enclave
 KEY = 0x0A454E43  # a7 of each call of the monitor
 REGISTER = re.compile(r"\bx(\d+)\b")
-TIMER = "80000007"
-ECALL_FROM_S = "00000009"
+TIMER = "80000007"  # mcause of the timer interrupt of M
+ECALL_FROM_S = "00000009"  # mcause, as also below
 FETCH_FAULTS = ("00000001",)
 ACCESS_FAULTS = ("00000005", "00000007")
-
 ILLEGAL = "00000002"
 MARKS = {"4348000b": "failed check", "4153000b": "failed assumption"}  # instructions of examples/shared/enclave_check.h, which are illegal
 CAUSES = {"00000000": "fetch target misaligned", "00000001": "fetch access fault", "00000002": "illegal instruction", "00000003": "ebreak",
@@ -38,14 +36,10 @@ class Call(IntEnum):
 
 
 NUMBERED = {call.value: call for call in Call}
-
 ARGUMENTS = {Call.create: ("base", "size", "window", "window_size", "entry"), Call.destroy: ("slot",), Call.run: ("slot",),
              Call.resume: ("slot",), Call.measure: ("slot", "address"), Call.stop: ("value",), Call.exit: ("value",)}
-
 STATUSES = {0xFFFFFFFF: "NotSupported", 0xFFFFFFFE: "BadRegion", 0xFFFFFFFD: "BadWindow", 0xFFFFFFFC: "Overlap", 0xFFFFFFFB: "BadEntry",
             0xFFFFFFFA: "NoSlot", 0xFFFFFFF9: "NoEnclave", 0xFFFFFFF8: "BadState", 0xFFFFFFF7: "BadAddress"}
-
-
 CSRS = {"sstatus": 0x100, "sie": 0x104, "stvec": 0x105, "scounteren": 0x106, "senvcfg": 0x10A, "sscratch": 0x140, "sepc": 0x141,
         "scause": 0x142, "stval": 0x143, "sip": 0x144, "satp": 0x180, "mstatus": 0x300, "misa": 0x301, "medeleg": 0x302,
         "mideleg": 0x303, "mie": 0x304, "mtvec": 0x305, "mcounteren": 0x306, "menvcfg": 0x30A, "mstatush": 0x310, "menvcfgh": 0x31A,
