@@ -160,7 +160,7 @@ class Moves:
             self.redo()
             if by_turns or self.stops.watches or self.stops.has_conditions:
                 self.follow()
-            first, began, room = self.timeline.position, time.monotonic(), self.timeline.room()
+            first, began, room = self.timeline.position, time.monotonic(), self.timeline.steps_to_command()
             size = size if by_turns or not self.stops.has_conditions else MOST_STEPS  # each breakpoint that is met ends a part
             halt = self.advance(self.turns_of(harts), min(size, room or size))
             if not halt and room is None and not self.careful_steps > 0:

@@ -140,7 +140,7 @@ class Shrinker:
     def is_shorter(self, items: list[Item]) -> bool:
         """Runs some items of the script; returns whether they show the same difference. If so, they become the script, up to the difference."""
         self.runs += 1
-        played = play(self.setup, self.played.name, items, compares_memory=self.signature[0] is DifferenceKind.memory)
+        played = play(self.setup, self.played.name, items, self.signature[0] is DifferenceKind.memory)  # compares memory only if it must differ
         if not played.differences or signature(played.differences[0]) != self.signature:
             return False
         self.played = played

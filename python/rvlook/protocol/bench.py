@@ -27,7 +27,7 @@ PIPE_SIZE = 1 << 20
 SET_PIPE_SIZE = 1031  # F_SETPIPE_SZ of Linux
 MIN_LINES_TO_PAUSE = 20  # lines of reply that are worth a pause, so that they are read together
 SECONDS_PER_LINE, MAX_PAUSE = 2e-6, 0.001  # seconds in which the program writes a line, and the longest pause
-COUNTS = {"regs": 33, "pmp": 16}  # lines of reply; one for every other command
+COUNTS = {"regs": 33, "pmp": 16}  # lines of reply of a command; 1 for the others, except for `sched` and `enclaves`
 MARK = "reg 0"  # sent after `enclaves`, whose reply may have no line
 MARK_REPLY = b"x0=00000000"
 Own = TypeVar("Own", bound="Closing")
@@ -70,12 +70,12 @@ def built_program() -> str:
 
 
 def is_enclaves(command: str) -> bool:
-    """Returns whether a command's reply may have any number of lines."""
+    """Returns whether a command is a valid `enclaves`, whose reply has a line for each enclave and may have none."""
     return "enclaves" in command and tokens_of(command)[0] == "enclaves" and not is_malformed(command)
 
 
 def widen(*pipes: IO[bytes]) -> None:
-    """Makes pipes larger if the system can, for fewer exchanges."""
+    """Makes the buffers of pipes larger if the system can, so that each read or write transfers more."""
     for pipe in pipes:
         try:
             fcntl.fcntl(pipe.fileno(), SET_PIPE_SIZE, PIPE_SIZE)
@@ -111,7 +111,7 @@ class Bench(Closing):
         widen(self.stdin, self.stdout)
         self.harts = harts  # number of harts
         self.pending = memoryview(b"")  # input that is not written yet
-        self.parts: list[bytes] = []  # what was read and not yet taken
+        self.parts: list[bytes] = []  # bytes of replies that were read, but that no caller has got yet
         self.lines: list[bytes] = []  # complete lines that were read, the next one last
         self.send(image + b"--\n")
 
@@ -143,13 +143,13 @@ class Bench(Closing):
                 self.pending = memoryview(b"")
         if not readable:
             return b""
-        part = os.read(reading, 1 << 20)
-        if not part:
+        data = os.read(reading, 1 << 20)
+        if not data:
             raise BenchEnded(self.last_words())
-        return part
+        return data
 
     def last_words(self) -> str:
-        """Returns the last error of the program."""
+        """Returns the last error message of the program, which has closed its output; its exit status if it has written no message."""
         lines = b"".join(self.parts).decode("ascii", "replace").splitlines()
         self.process.wait()
         faults = [line for line in lines if line.startswith("rvbench: ")]
@@ -158,11 +158,11 @@ class Bench(Closing):
     def block(self, text: bytes, count: int) -> bytes:
         """Sends commands whose replies have `count` lines; returns the replies."""
         self.send(text)
-        lines_read = sum(part.count(b"\n") for part in self.parts)
+        lines_read = sum(data.count(b"\n") for data in self.parts)
         while lines_read < count:
-            part = self.transfer()
-            self.parts.append(part)
-            lines_read += part.count(b"\n")
+            data = self.transfer()
+            self.parts.append(data)
+            lines_read += data.count(b"\n")
             if count - lines_read > MIN_LINES_TO_PAUSE and not self.pending:
                 time.sleep(min(MAX_PAUSE, (count - lines_read) * SECONDS_PER_LINE))
         block, self.parts = b"".join(self.parts), []
@@ -185,7 +185,7 @@ class Bench(Closing):
         return line
 
     def reply(self, command: str) -> list[bytes]:
-        """Returns the lines of the reply to one command; an empty list for a comment."""
+        """Reads the reply to one command that was sent; returns its lines, none for a comment."""
         if not has_reply(command):
             return []
         if is_enclaves(command):

@@ -4,7 +4,7 @@ from __future__ import annotations
 
 import re
 
-LONGEST_LINE = 120  # bytes
+LONGEST_LINE = 120  # the most bytes of a line
 BLANKS = re.compile(r"[ \t]+")
 PLAIN = re.compile(r"[\t\x20-\x7e]{0,%d}\Z" % LONGEST_LINE)
 
@@ -31,11 +31,11 @@ def is_separator(line: str) -> bool:
 
 
 def ended(line: str) -> str:
-    """Returns the line as the bench is given it: a carriage return at its end is a part of it, and takes another one to be kept."""
+    """Returns the line with a line end. The bench removes one carriage return before a line feed; a line that ends in one gets another one."""
     return line + ("\r\n" if line.endswith("\r") else "\n")
 
 
 def lines_of(text: str) -> list[str]:
     """Returns the lines of a text. Text after the last line feed is a line if it is not empty; it keeps a carriage return."""
-    *whole, last = text.split("\n")
-    return [line[:-1] if line.endswith("\r") else line for line in whole] + ([last] if last else [])
+    *complete, unfinished = text.split("\n")
+    return [line[:-1] if line.endswith("\r") else line for line in complete] + ([unfinished] if unfinished else [])

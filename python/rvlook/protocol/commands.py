@@ -15,6 +15,7 @@ from rvlook.protocol.inputs import ScriptLine
 from rvlook.protocol.nearest import meant
 from rvlook.protocol.symbols import Symbols
 
+# The errors of the bench, by their numbers or texts: the meaning, and what to use instead, or None.
 IMAGE_ERRORS = {
     1: ("the ELF file has fewer than 52 bytes", "the complete file, or --kind raw"),
     2: ("not an ELF file", "--kind raw, or no --kind"),
@@ -28,7 +29,7 @@ IMAGE_ERRORS = {
         "a link address of 80000000 or above (80010000 under the monitor), or a larger --ram"),
     10: ("two segments overlap", "disjoint load addresses"),
     11: ("the entry point is misaligned, outside RAM, or in the monitor's range", "ENTRY(_start) with _start in the image")}
-COMMANDS_OF_OTHERS = {
+COMMANDS_OF_OTHERS = {  # commands of other debuggers, and the similar command of the bench
     "x": "mem", "print": "reg", "p": "reg", "info": "regs", "registers": "regs", "c": "run", "continue": "run", "s": "step",
     "si": "step", "stepi": "step", "n": "step", "next": "step", "b": "break", "breakpoint": "break", "delete": "clear", "set": "setreg",
     "write": "poke", "disas": "dis", "disassemble": "dis", "memory": "mem", "watchpoint": "watch", "read": "mem"}
@@ -75,7 +76,7 @@ COMMANDS = {
     "timer": Command("on|off", (Form.line,)), "hart": Command("H", (Form.hart,)), "sched": Command("W", (Form.schedule,))}
 HEXADECIMAL = re.compile(r"(0x)?[0-9a-fA-F]{1,8}\Z")
 DECIMAL = re.compile(r"[0-9]{1,7}\Z")
-LIMITS = {Form.count: (1, 1000000), Form.register: (0, 31), Form.length: (1, 64)}
+LIMITS = {Form.count: (1, 1000000), Form.register: (0, 31), Form.length: (1, 64)}  # the least and the greatest decimal number of a form
 PATTERNS = {
     Form.address: HEXADECIMAL, Form.value: HEXADECIMAL, Form.byte: re.compile(r"[0-9a-fA-F]{1,2}\Z"),
     Form.csr: re.compile(r"[0-9a-fA-F]{1,3}\Z"), Form.mode: re.compile(r"[MSU]\Z"), Form.kind: re.compile(r"[rwx]\Z"),
@@ -109,7 +110,7 @@ def rewritten(token: str, form: Form, symbols: Symbols | None = None) -> str | N
 
 
 def rewritten_number(token: str, form: Form) -> str | None:
-    """Returns a number in the base of the form, or a word in its case; None if it is not valid."""
+    """Returns a number in the base of a form (decimal or hexadecimal), or a word in its case (M, on); None if the result is not valid."""
     if form in LIMITS and re.match(r"0[xX][0-9a-fA-F]+\Z", token):
         number = str(int(token, 16))
     elif form is Form.byte and re.match(r"0[xX][0-9a-fA-F]{1,2}\Z", token) or form in (Form.address, Form.value):
@@ -159,11 +160,11 @@ def command_error(tokens: Sequence[str]) -> tuple[str, str | None]:
         return "a second -- is valid only for `rvbench twin`", None
     if token.startswith("--"):
         return "this is a command-line option, not a command", "./rvbench run %s" % " ".join(tokens)
-    near = [token.lower()] if token.lower() in COMMANDS else get_close_matches(token.lower(), COMMANDS, 1, 0.7)
-    meant = COMMANDS_OF_OTHERS.get(token.lower()) or (near[0] if near else None)
-    if meant is None:
+    similar = [token.lower()] if token.lower() in COMMANDS else get_close_matches(token.lower(), COMMANDS, 1, 0.7)
+    remedy = COMMANDS_OF_OTHERS.get(token.lower()) or (similar[0] if similar else None)
+    if remedy is None:
         return "unknown command '%s'; the commands are %s" % (token, " ".join(COMMANDS)), None
-    return "unknown command '%s'; did you mean '%s'?" % (token, meant), "%s %s" % (meant, COMMANDS[meant].letters)
+    return "unknown command '%s'; did you mean '%s'?" % (token, remedy), "%s %s" % (remedy, COMMANDS[remedy].letters)
 
 
 def operand_error(tokens: Sequence[str]) -> tuple[str, str | None]:
@@ -177,9 +178,9 @@ def operand_error(tokens: Sequence[str]) -> tuple[str, str | None]:
         return count_text(name, len(command.forms), len(operands)), (name + " " + command.letters).strip()
     for index, (token, form) in enumerate(zip(operands, command.forms)):
         if not is_form(token, form):
-            better = rewritten(token, form)
-            fixed = [*operands[:index], better, *operands[index + 1:]] if better else None
-            return "'%s' is not %s" % (token, form.value), " ".join([name, *fixed]) if fixed else None
+            valid_form = rewritten(token, form)
+            valid_operands = [*operands[:index], valid_form, *operands[index + 1:]] if valid_form else None
+            return "'%s' is not %s" % (token, form.value), " ".join([name, *valid_operands]) if valid_operands else None
     return "invalid operands of %s" % name, name + " " + command.letters
 
 
@@ -203,7 +204,7 @@ def resolved_script(lines: Iterable[ScriptLine], symbols: Symbols) -> tuple[Scri
 
 
 def resolved_line(line: ScriptLine, symbols: Symbols) -> ScriptLine:
-    """Returns a line of a script in the syntax of the bench; unchanged if a name is ambiguous, as the bench then refuses it."""
+    """Returns a line of a script in the syntax of the bench. Leaves a line with an ambiguous name unchanged, so that the bench refuses it."""
     try:
         return ScriptLine(line.given, line.location, resolved(line.given, symbols))
     except SymbolError as fault:
@@ -211,13 +212,13 @@ def resolved_line(line: ScriptLine, symbols: Symbols) -> ScriptLine:
 
 
 def error_text(line: ScriptLine, reply: str, symbols: Symbols) -> str:
-    """Returns the message for a line that the bench refuses."""
-    meant = line.refused or meaning(reply, tokens_of(line.given), symbols)
-    return visible_line("%s: %s: %s" % (line.location, line.given[:LONGEST_SHOWN], meant))
+    """Returns the message for a line of a script that the bench refuses: location, line, and meaning. `reply` is the reply of the bench."""
+    message = line.refused or meaning(reply, tokens_of(line.given), symbols)
+    return visible_line("%s: %s: %s" % (line.location, line.given[:LONGEST_SHOWN], message))
 
 
 def meaning(reply: str, tokens: Sequence[str], symbols: Symbols) -> str:
-    """Returns the meaning of an error of a line."""
+    """Returns the meaning of the error reply to a line with these words; names a symbol that does not exist."""
     unknown = reply == "error operand" and unknown_name(tokens, symbols)
     return unknown or line_error(reply, tokens)[0]
 

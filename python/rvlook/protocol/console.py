@@ -10,9 +10,9 @@ from rvlook.protocol.replies import bytes_of
 from rvlook.protocol.symbols import Symbols
 
 PLACES = {"host_console": "host", "window_console": "enclave"}  # the symbol of each console, and who writes to it
-WRITTEN, ENDED, STATUS, TEXT = 0, 4, 8, 16  # offsets in bytes
+WRITTEN, ENDED, STATUS, TEXT = 0, 4, 8, 16  # offsets in bytes: of the count, whether the program has ended, its exit status, and the ring
 SIZE = 256  # bytes of the ring
-MAX_MEM = 64  # bytes of a `mem`
+MAX_MEM = 64  # the most bytes that one `mem` shows
 Ask = Callable[..., Sequence[Sequence[str]]]  # sends commands; returns the lines of each reply
 
 
@@ -29,15 +29,15 @@ class Console:
     written: int = 0  # characters so far
     pending: str = ""  # the line that has not ended yet
     status: int | None = None  # the status of the program, once it has ended
-    ring: dict[int, str] = field(default_factory=dict)  # what stores left there, as two hexadecimal digits
+    ring: dict[int, str] = field(default_factory=dict)  # by offset in the ring: the byte that stores have left, two hexadecimal digits
 
     def take(self, characters: bytes) -> list[str]:
-        """Adds characters; returns the lines that they end."""
+        """Appends characters to the pending line; returns the lines that they complete."""
         *lines, self.pending = (self.pending + characters.decode("latin-1")).split("\n")
         return [visible_line(line) for line in lines]
 
     def flush(self) -> list[str]:
-        """Returns the last line if it has not ended, and clears it."""
+        """Returns the pending line, which has no line feed yet, as a list; an empty list if there is none. Clears the pending line."""
         lines, self.pending = [visible_line(self.pending)] if self.pending else [], ""
         return lines
 
@@ -63,15 +63,15 @@ class Console:
         return notes + self.take(new_characters)
 
     def store(self, address: int, value: str) -> list[str]:
-        """Follows a store of these hexadecimal digits; returns the lines that it ends."""
+        """Follows a store of a value, hexadecimal digits, to an address; returns the lines that it completes. A store to the count adds text."""
         offset = address - self.address
         if TEXT <= offset < TEXT + SIZE:
             for at in range(len(value) // 2):
                 self.ring[offset - TEXT + at] = value[len(value) - 2 * at - 2:len(value) - 2 * at]
         if offset != WRITTEN or len(value) != 8:
             return []
-        before, self.written = self.written, int(value, 16)
-        return self.take(bytes(int(self.ring.get(at % SIZE, "3f"), 16) for at in range(max(before, self.written - SIZE), self.written)))
+        earlier_count, self.written = self.written, int(value, 16)
+        return self.take(bytes(int(self.ring.get(at % SIZE, "3f"), 16) for at in range(max(earlier_count, self.written - SIZE), self.written)))
 
 
 def consoles_of(symbols: Symbols) -> list[Console]:
@@ -80,7 +80,7 @@ def consoles_of(symbols: Symbols) -> list[Console]:
 
 
 def followed(consoles: Sequence[Console], address: int, value: str) -> Iterator[tuple[str, str]]:
-    """Yields the lines that a store ends, each with its writer."""
+    """Follows a store to an address on all consoles; yields the lines that it completes, each after its writer."""
     for console in consoles:
         for line in console.store(address, value):
             yield console.writer, line

@@ -7,8 +7,8 @@ from typing import Iterator, NamedTuple, Optional
 ELF_MAGIC = b"\x7fELF"
 HEADER = 52  # bytes of the header of a 32-bit ELF file
 AT_SEGMENTS, AT_SIZES = 28, 42  # offsets in that header of the place, and of the size and number, of the program headers
-SEGMENT = struct.Struct("<8I")
-LOAD = 1
+SEGMENT = struct.Struct("<8I")  # a program header, as the fields of Segment
+LOAD = 1  # PT_LOAD, the kind of a segment that is loaded
 
 
 class Segment(NamedTuple):
@@ -39,7 +39,7 @@ class ScriptLine(NamedTuple):
     given: str  # the line as the file has it
     location: str  # the file and the line number
     text: str  # the text in the syntax of the bench
-    refused: str = ""  # why a name in it says no address, if one does not
+    refused: str = ""  # why a name in it has no address; empty if each name has one
 
 
 class Image(NamedTuple):

@@ -11,7 +11,7 @@ from rvlook.protocol import names
 
 OPERAND = re.compile(r"(?:\bx)?(-?(?:0x[0-9a-f]+|\d+))")
 LOADS = {"lb": 1, "lh": 2, "lw": 4, "lbu": 1, "lhu": 2}  # the number of bytes
-STORES = {"sb": 1, "sh": 2, "sw": 4}
+STORES = {"sb": 1, "sh": 2, "sw": 4}  # likewise
 BRANCHES = ("beq", "bne", "blt", "bge", "bltu", "bgeu")
 
 
@@ -31,7 +31,7 @@ class Instruction:
     text: str  # the text of the reply
     name: str  # the mnemonic, such as `addi`
     operands: tuple[int, ...]  # numbers of registers and immediates, in the order of the text
-    writes: int  # the register, 0 where there is none
+    writes: int  # the number of the register that it writes; 0 if it writes none
 
     @property
     def abi(self) -> str:
@@ -60,6 +60,7 @@ class Instruction:
     @property
     def csr(self) -> int | None:
         """Returns the control and status register that it writes, or None."""
+        # csrrw and csrrwi always write; csrrs and csrrc only if the register or immediate, their last operand, is not 0
         return self.operands[1] if self.name.startswith("csrr") and (self.name[4] == "w" or self.operands[2]) else None
 
 

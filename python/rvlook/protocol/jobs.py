@@ -14,7 +14,7 @@ from rvlook.protocol.bench import program_path
 
 Result = TypeVar("Result")
 TASKS_AHEAD = 16  # tasks per process that are sent before their results are needed
-TASKS: list[Callable[[int], object]] = []  # the task of the processes, which inherit it
+TASKS: list[Callable[[int], object]] = []  # has the one task of the forked processes, which inherit this list
 
 
 def results_of(task: Callable[[int], Result], count: int, jobs: int) -> Iterator[Result]:
@@ -45,7 +45,7 @@ def results_of(task: Callable[[int], Result], count: int, jobs: int) -> Iterator
 
 
 def do_number(number: int) -> object:
-    """Does the task of this process for a number, and returns its result."""
+    """Does the task in TASKS for a number in a forked process; returns its result."""
     return TASKS[0](number)
 
 

@@ -24,9 +24,9 @@ from rvlook.protocol.stretch import Stretch
 from rvlook.protocol.timeline import Timeline
 
 Item = TypeVar("Item")
-Need = Tuple[Item, Tuple[int, ...], bool]  # of an instruction: what its reader makes of it, registers, and whether they are read after the step
+Need = Tuple[Item, Tuple[int, ...], bool]  # of an instruction: the reader's object for it; registers to read; whether to read them after the step
 VALUE = re.compile(rb"x\d+=(.{8})")
-CALL = ECALL_FROM_S.encode()
+CALL = ECALL_FROM_S.encode()  # how the trap of a monitor call begins
 
 
 @lru_cache(maxsize=None)
@@ -36,17 +36,17 @@ def step_command(count: int) -> bytes:
 
 
 class Probe(NamedTuple):
-    """The questions about an instruction."""
-    questions: bytes  # the commands
-    registers: int  # number of the replies
+    """The commands that read the registers of an instruction."""
+    questions: bytes  # the commands, `reg N` in a line each
+    registers: int  # number of the commands
     is_after: bool  # whether the commands come after the step
     store: Optional[MemoryOperand]  # its first reply is the base of this store; None without a store
     skipped: int  # replies that are read only for the store, not for the item
-    item: Any  # what the reader makes of the instruction; None if it needs nothing
+    item: Any  # the reader's object for the instruction; None if the reader needs nothing of it
 
 
 def probe_of(line: bytes, need: Need[Item] | None, has_store: bool) -> Probe | None:
-    """Returns the questions about the instruction in a reply of `dis`: its need, and the base of its store. Returns None if there is no question."""
+    """Returns the probe of the instruction in a reply of `dis`: its need, and the base of its store if `has_store`; None without need and store."""
     code = instruction_of(line) if has_store else None
     store = code.memory if code and code.memory and code.memory.kind == "w" else None
     item, registers, is_after = need or (None, (), False)
@@ -61,8 +61,8 @@ class Reads(Generic[Item]):
     """The steps of a stretch as a reader needs them."""
     lines: Sequence[bytes]  # the reply of `dis` before each step
     indices: Sequence[int]  # the indices of the steps that need something
-    items: Sequence[Item]  # what the reader makes of each of them
-    starts: Sequence[int]  # index of the first register of each of them in `values`
+    items: Sequence[Item]  # the reader's object for the instruction of each of these steps
+    starts: Sequence[int]  # index in `values` of the first register of each of these steps
     values: Sequence[int]  # the values of all registers
 
 
@@ -71,10 +71,10 @@ class Asked(Generic[Item]):
     """The probes of a stretch as columns, with one element for each probe."""
     lines: Sequence[bytes]  # the reply of `dis` before each step of the stretch
     indices: Sequence[int]  # the indices of the steps
-    starts: Sequence[int]  # registers that earlier probes read
-    stores: Sequence[Optional[MemoryOperand]]  # None without a store
-    skipped: Sequence[int]  # registers to skip
-    items: Sequence[Optional[Item]]  # None if the reader needs nothing
+    starts: Sequence[int]  # how many registers earlier probes read
+    stores: Sequence[Optional[MemoryOperand]]  # the operand of the store; None without a store
+    skipped: Sequence[int]  # how many replies are only for the base of the store
+    items: Sequence[Optional[Item]]  # the reader's object for the instruction; None if the reader needs nothing of it
     calls: Sequence[int]  # indices of the steps after which the instructions are listed again
     text: bytes  # the commands for all probes
 
@@ -120,13 +120,13 @@ class Reader(Closing, Generic[Item]):
         return reads_of(asked, values_of(replay.bench.block(asked.text, asked.text.count(b"\n"))))
 
     def probe(self, line: bytes, has_store: bool) -> Probe | None:
-        """Returns the questions about the instruction in a reply of `dis`, or None if there is no question."""
+        """Returns the probe of the instruction in a reply of `dis`, from the cache if possible; None if there is nothing to read."""
         if (line, has_store) not in self.probes:
             self.probes[line, has_store] = probe_of(line, self.needs(line), has_store)
         return self.probes[line, has_store]
 
     def asked(self, stretch: Stretch, lines: Sequence[bytes], listing: bytes = b"") -> Asked[Item]:
-        """Returns what to ask about the steps of a stretch. `listing` lists its instructions, if a write could change them."""
+        """Returns the probes of the steps of a stretch. `listing` lists its instructions; it is empty if they are known for each step."""
         probes = {line: probe for line in set(lines) for probe in (self.probe(line, bool(listing)),) if probe}
         indices = [n for n, line in enumerate(lines) if line in probes]
         asking = [lines[n] for n in indices]
@@ -146,14 +146,14 @@ class Reader(Closing, Generic[Item]):
 
 
 def calls_in(stretch: Stretch) -> list[int]:
-    """Returns the indices of the steps that called the monitor and stayed in their world: destroy and measure do, and create."""
+    """Returns the indices of the steps that called the monitor and stayed in their world. All calls that write memory are among them."""
     columns = stretch.columns
     calls = {trap for trap in set(columns.traps) if trap.startswith(CALL)}
-    return [n for n, trap in enumerate(columns.traps) if trap in calls and columns.worlds[n] == columns.after[n]] if calls else []
+    return [index for index, trap in enumerate(columns.traps) if trap in calls and columns.worlds[index] == columns.after[index]] if calls else []
 
 
 def reads_of(asked: Asked[Item], values: Sequence[int]) -> Reads[Item]:
-    """Returns the values that the reader needs, by the steps."""
+    """Returns the steps whose instructions the reader needs, with their registers."""
     is_needed = [item is not None for item in asked.items]
     columns = asked.indices, asked.items, map(add, asked.starts, asked.skipped)
     indices, items, starts = (list(compress(column, is_needed)) for column in columns)
@@ -172,16 +172,16 @@ def is_changed(asked: Asked[Item], values: Sequence[int], stretch: Stretch, chan
     """Returns whether a step executes an instruction after a write to it. `changed` has the pcs of those that the monitor wrote, each with the index
     of the step of the first call that did."""
     pcs, traps = stretch.columns.pcs, stretch.columns.traps
-    is_store = [store is not None and traps[n] == NO_TRAP for n, store in zip(asked.indices, asked.stores)]
-    stores, bases = list(compress(asked.stores, is_store)), [values[at] for at in compress(asked.starts, is_store)]
-    stored = {address & -4 for memory, base in set(zip(stores, bases)) for address in bytes_at(base, memory)}
-    if not changed and stored.isdisjoint([int(pc, 16) for pc in set(pcs)]):
+    is_store = [store is not None and traps[index] == NO_TRAP for index, store in zip(asked.indices, asked.stores)]
+    stores, bases = list(compress(asked.stores, is_store)), [values[first_call] for first_call in compress(asked.starts, is_store)]
+    stored_words = {address & -4 for memory, base in set(zip(stores, bases)) for address in bytes_at(base, memory)}
+    if not changed and stored_words.isdisjoint([int(pc, 16) for pc in set(pcs)]):
         return False
-    written = {int(pc, 16): at for pc, at in changed.items()}
-    for n, memory, base in zip(compress(asked.indices, is_store), stores, bases):
+    written = {int(pc, 16): first_call for pc, first_call in changed.items()}
+    for index, memory, base in zip(compress(asked.indices, is_store), stores, bases):
         for address in bytes_at(base, memory):
-            written[address & -4] = min(n, written.get(address & -4, n))
-    return any(written.get(int(pc, 16), n) < n for n, pc in enumerate(pcs))
+            written[address & -4] = min(index, written.get(address & -4, index))
+    return any(written.get(int(pc, 16), index) < index for index, pc in enumerate(pcs))
 
 
 def bytes_at(base: int, memory: MemoryOperand | None) -> tuple[int, int]:
@@ -200,15 +200,15 @@ def lines_of(run: Run, stretch: Stretch) -> list[bytes]:
 
 
 def changed_after(asked: Asked[Item], block: bytes, code: Mapping[bytes, bytes]) -> dict[bytes, int]:
-    """Returns the pcs of the instructions that are others after a call, each with the index of the step of the first such call."""
+    """Returns the pcs of the instructions that a call changed, each with the index of the step of the first such call. `code`: before the stretch."""
     lines = (line for line in block.splitlines() if not line.startswith((b"x", b"ran "))) if asked.calls else iter(())
     calls: dict[bytes, int] = {}
     for call in asked.calls:
-        calls.update((pc, calls.get(pc, call)) for (pc, was), now in zip(code.items(), lines) if now != was)
+        calls.update((pc, calls.get(pc, call)) for (pc, old_line), new_line in zip(code.items(), lines) if new_line != old_line)
     return calls
 
 
 def begin(replay: Timeline, stretch: Stretch) -> None:
-    """Brings a replay to the step before a stretch, and marks the steps of the stretch as done."""
+    """Brings a replay to the step before a stretch. Records the steps of the stretch as done, since the caller does them."""
     replay.go_before(stretch.first)
     replay.lines_to(stretch.first - 1 + stretch.count)

@@ -7,7 +7,7 @@ from typing import AnyStr, Iterable, NamedTuple, Optional, Tuple
 
 RAN = re.compile(r"ran (\d+) pc=(\w+) mode=(\w) world=(\w+) why=(\S+) trap=(\S+)")
 RAN_FIELDS = re.compile(rb"ran 1 pc=(\w+) mode=(\w) world=(\w+) why=\S+ trap=(\S+)")  # finds pc, mode, world and trap in the reply to one step
-ROW = 64  # bytes that `mem` shows at once
+ROW = 64  # the most bytes that one `mem` shows
 NO_TRAP = b"-"  # the trap of a step that has none
 RanFields = Tuple[bytes, bytes, bytes, bytes]  # the groups of RAN_FIELDS: pc, mode, world and trap
 
@@ -44,7 +44,7 @@ class Enclave(NamedTuple):
     window: int  # first address of the window
     window_size: int  # bytes
     entry: int  # address of its first instruction
-    measurement: str  # the measurement in hexadecimal digits
+    measurement: str  # the measurement (SHA-256), 64 hexadecimal digits
 
     @property
     def world(self) -> str:
@@ -100,7 +100,7 @@ def entry_of(line: str) -> PmpEntry:
 
 
 def value_of(line: AnyStr) -> int:
-    """Decodes the reply of `reg` or `csr`, or a line of `regs`: a name and eight digits."""
+    """Decodes the reply of `reg` or `csr`, or a line of `regs`: a name, an equals sign and eight hexadecimal digits."""
     return int(line[-8:], 16)
 
 
@@ -110,17 +110,17 @@ def register_values(lines: Iterable[AnyStr]) -> list[int]:
 
 
 def bytes_of(line: str) -> bytes:
-    """Decodes a reply of `mem`."""
+    """Decodes a reply of `mem`: an address, a colon, and the bytes in hexadecimal digits."""
     return bytes.fromhex(line.split(":")[1])
 
 
 def memory_commands(address: int, size: int) -> list[str]:
-    """Returns the commands that show a range of memory."""
+    """Returns the commands that show `size` bytes of memory, at most ROW bytes each."""
     return ["mem %x %d" % (address + at, min(ROW, size - at)) for at in range(0, size, ROW)]
 
 
 def poke_commands(address: int, data: bytes) -> list[str]:
-    """Returns the commands that change bytes of memory."""
+    """Returns the commands that store bytes in memory, one for each byte."""
     return ["poke %x %02x" % (address + n, byte) for n, byte in enumerate(data)]
 
 

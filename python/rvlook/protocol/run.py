@@ -19,11 +19,11 @@ from rvlook.protocol.stretch import Stretch
 from rvlook.protocol.symbols import Symbols
 from rvlook.protocol.timeline import Line, ScheduledSteps, Timeline, steps_within
 
-STEPS_PER_EXCHANGE = 16384  # single steps in one exchange
+STEPS_PER_EXCHANGE = 16384  # `step 1` commands that are sent to the bench at once
 MAX_CACHED_STEPS = 2000000  # a longer run is not cached; the reply to a step has some 60 bytes
 HALTED_AFTER = 3  # equal replies (pc, mode, world and trap) after which a hart counts as halted
 SINGLE_STEP = b"step 1\n"
-OUTSIDE = "rvbench: image 9"  # the error for a segment that is not in RAM
+OUTSIDE = "rvbench: image 9"  # the error of the bench for a segment that is not in RAM
 
 
 @dataclass(frozen=True)
@@ -79,7 +79,7 @@ class End(NamedTuple):
 
 
 class Run:
-    """A configuration with the plan of its script."""
+    """The run of a setup: the plan of its script, and its single steps with their replies."""
 
     def __init__(self, setup: Setup) -> None:
         self.setup, self.hart, self.length = setup, 0, 0  # `hart`: chosen after the script; `length`: steps of the script
@@ -97,7 +97,7 @@ class Run:
                 self.add_turns(bench)
 
     def play(self, bench: Bench, given: ScriptLine) -> None:
-        """Runs a line of the script, and adds it to the plan."""
+        """Runs a line of the script on the bench, and adds what it does to the plan."""
         if not has_reply(given.text):
             return
         tokens = tokens_of(given.text)
@@ -110,7 +110,7 @@ class Run:
             self.add_steps(str(self.hart), ran.steps)
         elif tokens and tokens[0] == "sched" and not is_refused:
             self.add_steps(tokens[1], len(tokens[1]))
-            self.plan.append(Line("hart %d" % self.hart, self.hart, hidden=True))
+            self.plan.append(Line("hart %d" % self.hart, self.hart, hidden=True))  # a `sched` does not change the chosen hart; its single steps do
         else:
             if tokens and tokens[0] == "hart" and not is_refused:
                 self.hart = int(tokens[1])
@@ -140,10 +140,10 @@ class Run:
         self.ended = "halted" if min(equal) >= HALTED_AFTER else "limit"
 
     def with_lines(self, step: int, lines: Sequence[str]) -> Run:
-        """Returns the run with more lines after a step; the lines of the script stay at their steps."""
+        """Returns a run that also has these lines, right after a step; the lines of the script stay at their steps."""
         other = copy.copy(self)
         other.plan, other.cached, other.is_cached = [], [], False
-        position, is_missing = 0, True
+        position, is_missing = 0, True  # steps in the plan so far; whether the lines are still to be added
         for item in self.plan:
             count = item.count if isinstance(item, ScheduledSteps) else 0
             if isinstance(item, ScheduledSteps) and is_missing and position < step <= position + count:
@@ -186,7 +186,7 @@ class Run:
             return replay.go(step) or ""
 
     def single_steps(self) -> Iterator[Line | Stretch | End]:
-        """Runs everything in single steps."""
+        """Yields the run as `stretches` does, without the locations before the stretches. Runs it on a new bench in single steps."""
         with self.setup.bench() as bench:
             position, hart = 0, 0
             last = ("ran 0 pc=%s mode=%s world=%s why=done trap=-" % (self.pc, self.mode, self.world)).encode()
@@ -203,23 +203,24 @@ class Run:
             yield from self.tail(bench, position, hart, last)
 
     def tail(self, bench: Bench, position: int, hart: int, last: bytes) -> Iterator[Stretch | End]:
-        """Yields the steps after the script, until the hart does nothing more or the limit is reached, and then the end."""
-        pending, waiting, remaining = b"", 0, 0 if self.ended else self.setup.limit
+        """Yields the steps after the script, until the hart has halted or the limit is reached, and then the end. `last` is the reply before them.
+        The last replies of an exchange are held back: if they begin HALTED_AFTER equal ones, only the first of these is a step of the run."""
+        held_replies, held_steps, remaining = b"", 0, 0 if self.ended else self.setup.limit
         why = self.ended or "limit"
         while remaining > 0 and why == "limit":
             count = min(remaining, STEPS_PER_EXCHANGE)
             remaining -= count
-            data = pending + bench.block(SINGLE_STEP * count, count)
+            data = held_replies + bench.block(SINGLE_STEP * count, count)
             equal = equal_lines_at_end(data)
             if equal >= HALTED_AFTER:
-                why, later = "halted", equal - 1
+                why, pending_steps = "halted", equal - 1
             else:
-                later = HALTED_AFTER - 1 if remaining else 0
-            cut = begin_of_last(later, data)
-            data, pending = data[:cut], data[cut:]
-            kept, waiting, last = waiting + count - later, later, data or last
-            yield Stretch(position + 1, hart, data, kept)
-            position += kept
+                pending_steps = HALTED_AFTER - 1 if remaining else 0
+            end_of_part = begin_of_last(pending_steps, data)
+            data, held_replies = data[:end_of_part], data[end_of_part:]
+            yielded_steps, held_steps, last = held_steps + count - pending_steps, pending_steps, data or last
+            yield Stretch(position + 1, hart, data, yielded_steps)
+            position += yielded_steps
         ran = step_of(last.splitlines()[-1].decode())
         yield End(position, why, ran.pc, ran.mode, ran.world)
 
@@ -229,7 +230,7 @@ class Run:
 
 
 def equal_at_end(lines: Sequence[AnyStr]) -> int:
-    """Returns how many lines at the end are equal."""
+    """Returns how many lines at the end are equal to the last one, at least 1."""
     count = 1
     while count < len(lines) and lines[-1 - count] == lines[-1]:
         count += 1
@@ -237,17 +238,17 @@ def equal_at_end(lines: Sequence[AnyStr]) -> int:
 
 
 def equal_lines_at_end(data: bytes) -> int:
-    """Returns how many lines at the end of the replies to single steps, given as one text, are equal. No such reply is the end of another one."""
-    at = begin_of_last(1, data)
-    line, count = data[at:], 1
-    while at and data.endswith(line, 0, at):
-        at -= len(line)
+    """Does what `equal_at_end` does, for replies to single steps in one text. It relies on this: no such reply is the end of another one."""
+    start = begin_of_last(1, data)
+    line, count = data[start:], 1
+    while start and data.endswith(line, 0, start):
+        start -= len(line)
         count += 1
     return count
 
 
 def begin_of_last(count: int, data: bytes) -> int:
-    """Returns where the last lines of a text begin. Each line ends with a line feed."""
+    """Returns the offset at which the last `count` lines of a text begin. Each line ends with a line feed."""
     at = len(data)
     for _ in range(count):
         at = data.rfind(b"\n", 0, at - 1) + 1
@@ -255,7 +256,7 @@ def begin_of_last(count: int, data: bytes) -> int:
 
 
 def hidden_lines(lines: Iterable[str], hart: int) -> list[Line]:
-    """Returns commands as lines that are not in the script. `hart` is the chosen hart before them."""
+    """Returns commands as lines that the script does not have. `hart` is the chosen hart before them."""
     hidden = []
     for line in lines:
         if line.startswith("hart "):
@@ -265,9 +266,9 @@ def hidden_lines(lines: Iterable[str], hart: int) -> list[Line]:
 
 
 def single_steps(bench: Bench, position: int, hart: int, steps: ScheduledSteps) -> Iterator[Stretch]:
-    """Yields single steps, a stretch for each turn of a schedule. `hart` is the chosen one before them."""
-    for done in range(0, steps.count, STEPS_PER_EXCHANGE):
-        turns, texts = list(steps_within(steps, done, done + STEPS_PER_EXCHANGE).by_hart()), []
+    """Does steps of a schedule one by one; yields a stretch for each turn. `position` is the number of steps before; `hart` is chosen before."""
+    for first_step in range(0, steps.count, STEPS_PER_EXCHANGE):
+        turns, texts = list(steps_within(steps, first_step, first_step + STEPS_PER_EXCHANGE).by_hart()), []
         for next_hart, count in turns:
             texts += [b"hart %d\n" % next_hart if next_hart != hart else b"", SINGLE_STEP * count]
             hart = next_hart
@@ -296,7 +297,7 @@ def error_of(setup: Setup, error: BenchEnded) -> RvlookError:
 
 
 def segment_outside(setup: Setup, message: str) -> str | None:
-    """Returns the text about the first segment of an ELF file that is not in RAM, if that is the error."""
+    """Returns a text about the first segment that is not in RAM; None if that is not the error, or if the image is no ELF file."""
     first, end = MONITOR_END if setup.monitor else RAM_BASE, RAM_BASE + setup.ram
     outside = next((segment for segment in setup.image.segments() if segment.address < first or segment.address + segment.in_memory > end), None)
     if message != OUTSIDE or outside is None or first >= end:

@@ -17,10 +17,10 @@ def alternating(turn: int) -> str:
 
 def random_schedule(seed: int) -> str:
     """Returns a schedule of 64 digits whose turns are 1 to 16 steps long, the same for equal seeds."""
-    draw, digits = random.Random(seed), ""
-    hart = draw.randrange(2)
+    generator, digits = random.Random(seed), ""
+    hart = generator.randrange(2)
     while len(digits) < LONGEST:
-        digits += str(hart) * draw.randint(1, MAX_RANDOM_TURN)
+        digits += str(hart) * generator.randint(1, MAX_RANDOM_TURN)
         hart = 1 - hart
     return digits[:LONGEST]
 

@@ -10,8 +10,8 @@ from typing import Any, Dict, Iterator, Mapping, Optional, Sequence
 
 from rvlook.protocol.replies import NO_TRAP, RanFields, fields_of
 
-CACHED_STRETCHES = 16  # stretches whose columns are kept
-MODE_NUMBERS = {b"U": 0, b"S": 1, b"M": 3}
+CACHED_STRETCHES = 16  # stretches whose columns are cached
+MODE_NUMBERS = {b"U": 0, b"S": 1, b"M": 3}  # as the privileged specification encodes modes
 
 
 @dataclass(eq=False)
@@ -22,11 +22,11 @@ class Columns:
     worlds: Sequence[bytes]  # the world before each step
     traps: Sequence[bytes]  # the trap of each step, a hyphen without a trap
     after: Sequence[bytes]  # world after the step
-    questions: Dict[Any, Any] = field(default_factory=dict, init=False)  # what readers ask about the steps, by what decides it
+    questions: Dict[Any, Any] = field(default_factory=dict, init=False)  # cache of readers: their commands for these steps, by what decides them
 
     @cached_property
     def executed(self) -> Sequence[bytes]:
-        """Returns the different pcs."""
+        """Returns each executed pc once, in the order in which they were first executed."""
         return list(dict.fromkeys(self.pcs))
 
     @cached_property
@@ -35,7 +35,7 @@ class Columns:
         return array("I", map(pc_and_mode, self.pcs, self.modes))
 
     def part(self, first: int, end: int) -> Columns:
-        """Returns the columns of some of the steps."""
+        """Returns the columns of the steps with index `first` up to before `end`."""
         return Columns(*(column[first:end] for column in (self.pcs, self.modes, self.worlds, self.traps, self.after)))
 
 
@@ -61,7 +61,7 @@ class Stretch:
         return self.part or columns_of(self.data, self.before)
 
     def by_world(self) -> Iterator[Stretch]:
-        """Yields the steps in parts, each in one world."""
+        """Divides the steps where the world changes; yields each part as a stretch."""
         for at, data, before, columns in parts_of(self.data, self.before):
             count = len(columns.pcs)
             yield Stretch(self.first + at, self.hart, data, count, before, self.lines[at:at + count], columns)
@@ -75,15 +75,15 @@ def pc_and_mode(pc: bytes, mode: bytes) -> int:
 
 @lru_cache(maxsize=CACHED_STRETCHES)
 def parts_of(data: bytes, before: RanFields) -> Sequence[tuple[int, bytes, RanFields, Columns]]:
-    """Returns replies in parts, each in one world: index of the first step, replies, location of the hart before, and columns."""
-    columns, begin = columns_of(data, before), 0
-    ends = list(compress(range(1, len(columns.pcs)), map(ne, columns.worlds, columns.after)))
+    """Divides replies to single steps where the world changes. Returns of each part index of its first step, replies, location before, columns."""
+    columns, first = columns_of(data, before), 0
+    ends = list(compress(range(1, len(columns.pcs)), map(ne, columns.worlds, columns.after)))  # indices after a step that changes the world
     if not ends:
         return [(0, data, before, columns)]
     lines, parts = data.splitlines(keepends=True), []
     for end in [*ends, len(lines)]:
-        parts.append((begin, b"".join(lines[begin:end]), before, columns.part(begin, end)))
-        begin, before = end, fields_of(lines[end - 1][:-1])
+        parts.append((first, b"".join(lines[first:end]), before, columns.part(first, end)))
+        first, before = end, fields_of(lines[end - 1][:-1])
     return parts
 
 
@@ -97,7 +97,7 @@ def columns_of(data: bytes, before: RanFields) -> Columns:
 
 
 def column_of(lines: Sequence[bytes], field_of: Mapping[bytes, bytes]) -> list[bytes]:
-    """Returns a field of each line."""
+    """Returns a field of each line. `field_of` has the field for each different line."""
     if len(set(field_of.values())) == 1:
         return [field_of[lines[0]]] * len(lines)
     return list(map(field_of.__getitem__, lines))

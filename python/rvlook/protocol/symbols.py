@@ -98,7 +98,7 @@ class Symbols:
         return symbol.name if symbol else None
 
     def has_lines(self) -> bool:
-        """Returns whether there are source lines."""
+        """Returns whether a unit has source lines."""
         return any(unit.rows for unit in self.units)
 
     def source(self, address: int) -> str | None:
@@ -110,9 +110,9 @@ class Symbols:
         return None
 
     def caller(self, address: int) -> str | None:
-        """Returns the file and line of the call that was replaced by inlined code, or None."""
+        """Returns the file and line of the call whose inlined code an instruction belongs to; None if it belongs to no inlined call."""
         for unit in self.units_of(address, address + 1):
-            index = bisect_right(unit.inlined, (address, ADDRESSES)) - 1
+            index = bisect_right(unit.inlined, (address, ADDRESSES)) - 1  # the last call that begins at or before the address
             if index >= 0 and address <= unit.inlined[index][1]:
                 return unit.inlined[index][2]
         return None
@@ -125,7 +125,7 @@ class Symbols:
                 if unit.starts[at] >= end:
                     break
                 start = max(unit.starts[at], first)
-                start += (first - start) % 4
+                start += (first - start) % 4  # the next instruction: instructions lie at `first` plus multiples of 4
                 following = unit.starts[at + 1] if at + 1 < len(unit.rows) else end
                 if start < min(following, end):
                     yield unit.rows[at][1]
@@ -135,11 +135,11 @@ class Symbols:
         return (unit for unit in self.units if unit.overlaps(first, end))
 
     def place(self, address: int) -> str:
-        """Returns the source line of an instruction, its symbol, or its address."""
+        """Returns the source line of an instruction; if there is none, its symbol; and if there is none either, its address."""
         return self.source(address) or self.name(address) or "%08x" % address
 
     def line(self, address: int) -> str | None:
-        """Returns the source line of an instruction, after that of the inlined call, or None."""
+        """Returns the source line of an instruction, or None. If it belongs to an inlined call, the source line of the call comes before it."""
         source, caller = self.source(address), self.caller(address)
         return "%s, in %s" % (caller, source) if caller and source else source
 

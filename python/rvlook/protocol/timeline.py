@@ -16,20 +16,20 @@ if TYPE_CHECKING:
     from rvlook.protocol.run import Setup
 
 STATE_COMMANDS = ("poke", "setreg", "timer")  # commands that change the state without a step
-UNDONE_BY = {"break": "clear", "watch": "unwatch", "clear": "break", "unwatch": "watch"}
-MAX_DIGITS = 64  # digits of a sched, at most
-MOST_STEPS = 1000000  # the most steps of one command
+UNDONE_BY = {"break": "clear", "watch": "unwatch", "clear": "break", "unwatch": "watch"}  # the command that undoes another one
+MAX_DIGITS = 64  # the most digits of one `sched`
+MOST_STEPS = 1000000  # the most steps of one `step` or `run`
 
 
 @dataclass(frozen=True)
 class ScheduledSteps:
-    """Steps by a schedule."""
+    """Steps of the harts in an order, the schedule."""
     turns: str  # digits that name the hart of each step, and repeat
     count: int  # number of steps
 
     @property
     def chosen(self) -> list[str]:
-        """Returns the command that chooses the hart, if all steps are of one."""
+        """Returns the command that chooses the hart if all steps are of one hart; else an empty list, since `sched` needs no chosen hart."""
         return ["hart " + self.turns[0]] if len(set(self.turns)) == 1 else []
 
     @property
@@ -38,23 +38,23 @@ class ScheduledSteps:
         return int(self.turns[(self.count - 1) % len(self.turns)])
 
     def by_hart(self) -> Iterator[tuple[int, int]]:
-        """Yields the turns: each is a hart and its number of steps, at most MOST_STEPS."""
-        parts = [self.turns] if self.chosen else re.findall("0+|1+", self.turns)
+        """Yields the steps as turns, each a hart and the number of steps that it does in a row, at most MOST_STEPS."""
+        turns = [self.turns] if self.chosen else re.findall("0+|1+", self.turns)
         remaining = self.count
         while remaining:
-            for part in parts:
-                count = min(remaining, MOST_STEPS if self.chosen else len(part))
+            for turn in turns:
+                count = min(remaining, MOST_STEPS if self.chosen else len(turn))
                 if count:
-                    yield int(part[0]), count
+                    yield int(turn[0]), count
                 remaining -= count
 
     def lines(self) -> list[str]:
-        """Returns the commands that do the steps, after `chosen`."""
+        """Returns the commands that do the steps, to be sent after those of `chosen`."""
         if self.chosen:
             return ["step %d" % count for _, count in self.by_hart()]
         digits = self.turns * (MAX_DIGITS // len(self.turns))
-        full, rest = divmod(self.count, len(digits))
-        return ["sched " + digits] * full + (["sched " + digits[:rest]] if rest else [])
+        whole_lines, remaining_steps = divmod(self.count, len(digits))
+        return ["sched " + digits] * whole_lines + (["sched " + digits[:remaining_steps]] if remaining_steps else [])
 
 
 @dataclass(frozen=True)
@@ -63,8 +63,8 @@ class Line:
     text: str  # the text in the syntax of the bench
     hart: int  # the hart that is chosen after the line
     replies: tuple[str, ...] = field(default=(), compare=False)  # the replies to the line
-    hidden: bool = field(default=False, compare=False)  # whether it is a part of another line
-    given: str = field(default="", compare=False)  # the line as the script has it
+    hidden: bool = field(default=False, compare=False)  # whether the script does not have the line, so that reports leave it out
+    given: str = field(default="", compare=False)  # the line as the script has it, with symbols
 
     @property
     def is_refused(self) -> bool:
@@ -87,7 +87,7 @@ class Line:
         return ["hart %d" % self.hart]
 
     def lines(self) -> list[str]:
-        """Returns the command, after `chosen`."""
+        """Returns the command, to be sent after that of `chosen`; an empty list for `hart`, which `chosen` already does."""
         return [] if self.command == "hart" else [self.text]
 
 
@@ -95,13 +95,13 @@ Action = Union[ScheduledSteps, Line]  # a part of the history of a bench
 
 
 def rotated(turns: str, count: int) -> str:
-    """Returns a schedule as it continues after some steps."""
+    """Returns a schedule as it continues after `count` of its steps."""
     offset = count % len(turns)
     return turns[offset:] + turns[:offset]
 
 
 def actions_between(past: Iterable[Action], first: int, end: int) -> Iterator[Action]:
-    """Yields the actions after step `first`, up to step `end`, with the commands right after that."""
+    """Yields the actions after step `first` up to step `end`. Commands right after `end` are among them, and commands right after `first` are not."""
     position = 0
     for action in past:
         if isinstance(action, Line):
@@ -131,10 +131,10 @@ def commands_of(past: Iterable[Action], chosen: int, hart: int) -> Iterator[str]
         yield "hart %d" % hart
 
 
-def agree(one: str, other: str, count: int) -> bool:
+def agree(first: str, second: str, count: int) -> bool:
     """Returns whether two schedules agree for a number of steps."""
-    period = len(one) * len(other)
-    return one == other or all(one[n % len(one)] == other[n % len(other)] for n in range(min(count, period)))
+    period = len(first) * len(second)
+    return first == second or all(first[n % len(first)] == second[n % len(second)] for n in range(min(count, period)))
 
 
 class Timeline(Closing):
@@ -146,11 +146,11 @@ class Timeline(Closing):
         self.past: list[Action] = []  # the actions so far
         self.future: deque[Action] = deque(future)  # the actions that follow
         self.stops: dict[str, None] = {}  # the commands that set breakpoints and watchpoints
-        self.position = self.hart = self.changes = 0  # `position`: steps so far; `changes`: actions that may have changed a register or a byte
+        self.position = self.hart = self.changes = 0  # steps so far; chosen hart; actions so far that may have changed a register or a byte
         mode, world = ("S", "host") if setup.monitor else ("M", "bare")
         # these lists have a value for each hart; `moved` counts actions that may have changed its world
         self.modes, self.worlds, self.moved = [mode] * setup.harts, [world] * setup.harts, [0] * setup.harts
-        self.bench = setup.bench()  # the bench after all actions
+        self.bench = setup.bench()  # the bench that does the actions
         self.unread_commands: list[tuple[str, int]] = []  # commands whose replies are not read yet, and their harts
         self.follow(past, hart)
 
@@ -170,7 +170,7 @@ class Timeline(Closing):
     # queued commands
 
     def follow(self, past: Iterable[Action], hart: int | None = None) -> None:
-        """Repeats what was done elsewhere. The replies are read later."""
+        """Sends the commands that repeat actions of another timeline; `settle` reads the replies. `hart` is chosen after them; None: as before."""
         past = list(past)
         lines = list(commands_of(past, self.hart, self.hart if hart is None else hart))
         for line in lines:
@@ -183,7 +183,7 @@ class Timeline(Closing):
             self.bench.begin(*lines)
 
     def settle(self) -> None:
-        """Reads the replies to what was sent: the state of each hart from its last reply, and whether one trapped."""
+        """Reads the replies to the commands that `follow` sent. Sets mode and world of each hart from its last reply; notes if any hart trapped."""
         unread, self.unread_commands = self.unread_commands, []
         counts = [self.setup.harts if line.startswith("sched") else 1 for line, _ in unread]
         block = self.bench.block(b"", sum(counts)).decode("latin-1") if unread else ""
@@ -194,13 +194,13 @@ class Timeline(Closing):
             (line, hart), count = unread.pop(), counts.pop()
             reply, replies = replies[-count:], replies[:-count]
             if line.startswith(("step", "sched")):
-                self.take(line, hart, reply)
+                self.update_harts(line, hart, reply)
                 harts_without_step -= {hart} if line.startswith("step") else set(harts_without_step)
 
     # commands
 
     def ask(self, *commands: str) -> list[list[str]]:
-        """Sends commands that change nothing; returns the replies."""
+        """Sends commands that change nothing; returns the lines of the reply to each."""
         if self.unread_commands:
             self.settle()
         return self.bench.ask(*commands)
@@ -210,24 +210,24 @@ class Timeline(Closing):
         return self.do_all([line])[0]
 
     def do_all(self, lines: Sequence[str], turns: str | None = None) -> list[list[str]]:
-        """Runs commands in one exchange, and records changes; returns the replies. `turns`: the schedule from the first step on, or none."""
+        """Runs commands in one exchange, and records changes; returns the replies. `turns` is the schedule of the steps; None: of the hart alone."""
         replies = self.ask(*lines)
         for line, reply in zip(lines, replies):
             if reply and not reply[0].startswith("error "):
                 name = tokens_of(line)[0]
                 if name == "hart":
                     self.hart = int(tokens_of(line)[1])
-                self.take(line, self.hart, reply)
-                self.keep(name, line, reply, turns)
+                self.update_harts(line, self.hart, reply)
+                self.record(name, line, reply, turns)
         return replies
 
     def do_at_once(self, line: str, questions: Iterable[str], count: int, turns: str | None = None) -> list[str]:
-        """Runs a command with a reply of one line, and queries that change nothing; returns all `count` lines."""
+        """Runs a command that has one line of reply, and then queries, in one exchange; returns all `count` lines of the replies."""
         if self.unread_commands:
             self.settle()
         replies = self.bench.block("\n".join([line, *questions, ""]).encode(), count).decode("latin-1").splitlines()
-        self.take(line, self.hart, replies)
-        self.keep(line.split()[0], line, replies, turns)
+        self.update_harts(line, self.hart, replies)
+        self.record(line.split()[0], line, replies, turns)
         return replies
 
     def choose(self, hart: int) -> None:
@@ -242,12 +242,12 @@ class Timeline(Closing):
 
     # the record of actions
 
-    def take(self, line: str, hart: int, replies: Sequence[str]) -> None:
-        """Updates mode and world of the harts after a command."""
+    def update_harts(self, line: str, hart: int, replies: Sequence[str]) -> None:
+        """Updates mode and world of the harts after a `step`, `run` or `sched`, from its reply."""
         if line.startswith(("step", "run")):
             ran = step_of(replies[0])
             self.reach(hart, ran.mode, ran.world, ran.trap and ran.steps > 1)
-        elif line.startswith("sched"):
+        elif line.startswith("sched"):  # one line of reply for each hart
             for number, reply in enumerate(replies):
                 mode, world, trap = (field.partition("=")[2] for field in reply.split()[4:7])
                 self.reach(number, mode, world, trap != "-")
@@ -257,7 +257,7 @@ class Timeline(Closing):
         self.moved[hart] += bool(trapped or world != self.worlds[hart])
         self.modes[hart], self.worlds[hart] = mode, world
 
-    def keep(self, name: str, line: str, replies: Sequence[str], turns: str | None = None) -> None:
+    def record(self, name: str, line: str, replies: Sequence[str], turns: str | None = None) -> None:
         """Records a command as an action, or as a breakpoint or watchpoint."""
         if name in ("step", "run"):
             self.add(ScheduledSteps(turns or str(self.hart), step_of(replies[0]).steps))
@@ -274,29 +274,29 @@ class Timeline(Closing):
         """Appends an action to the past; joins steps that continue the schedule."""
         self.changes += 1
         self.spend(action)
-        last = self.past[-1] if self.past else None
+        previous = self.past[-1] if self.past else None
         if isinstance(action, ScheduledSteps):
             self.position += action.count
-            if isinstance(last, ScheduledSteps) and rotated(last.turns, last.count) == action.turns:
-                self.past[-1] = ScheduledSteps(last.turns, last.count + action.count)
+            if isinstance(previous, ScheduledSteps) and rotated(previous.turns, previous.count) == action.turns:
+                self.past[-1] = ScheduledSteps(previous.turns, previous.count + action.count)
                 return
         self.past.append(action)
 
     def spend(self, action: Action) -> None:
-        """Removes a done action from the future; drops the future if it differs."""
+        """Removes from the future what was just done; drops all of the future if it begins with another action."""
         if isinstance(action, Line):
             if not self.future or self.future.popleft() != action:
                 self.future.clear()
             return
         while self.future and action.count:
-            head = self.future.popleft()
-            done = min(action.count, head.count) if isinstance(head, ScheduledSteps) else 0
-            if isinstance(head, Line) or not done or not agree(action.turns, head.turns, done):
+            next_action = self.future.popleft()
+            common_steps = min(action.count, next_action.count) if isinstance(next_action, ScheduledSteps) else 0
+            if isinstance(next_action, Line) or not common_steps or not agree(action.turns, next_action.turns, common_steps):
                 self.future.clear()
                 return
-            if done < head.count:
-                self.future.appendleft(steps_within(head, done, head.count))
-            action = steps_within(action, done, action.count)
+            if common_steps < next_action.count:
+                self.future.appendleft(steps_within(next_action, common_steps, next_action.count))
+            action = steps_within(action, common_steps, action.count)
 
     # the way forward
 
@@ -304,22 +304,22 @@ class Timeline(Closing):
         """Returns the commands of the future up to a step, without the commands right after the step. After the future the chosen hart continues."""
         lines: list[str] = []
         while self.position < step:
-            head = self.future[0] if self.future else ScheduledSteps(str(self.hart), step - self.position)
-            lines += self.repeated(head if isinstance(head, Line) else steps_within(head, 0, step - self.position))
+            next_action = self.future[0] if self.future else ScheduledSteps(str(self.hart), step - self.position)
+            lines += self.repeated(next_action if isinstance(next_action, Line) else steps_within(next_action, 0, step - self.position))
         return lines
 
     def lines_up_to_next(self) -> list[str]:
         """Returns the commands of the future before its next step, and the choice of the hart of that step."""
         lines: list[str] = []
         while self.future:
-            head = self.future[0]
-            if not isinstance(head, Line):
-                return lines + self.choice(int(head.turns[0]))
-            lines += self.repeated(head)
+            next_action = self.future[0]
+            if not isinstance(next_action, Line):
+                return lines + self.choice(int(next_action.turns[0]))
+            lines += self.repeated(next_action)
         return lines
 
     def repeated(self, action: Action) -> list[str]:
-        """Counts an action as done; returns its commands."""
+        """Records an action as done; returns the commands that do it, which the caller sends."""
         lines = [*self.choice(action.hart), *action.lines()] if isinstance(action, Line) else \
             [line for hart, count in action.by_hart() for line in (*self.choice(hart), "step %d" % count)]
         self.add(action)
@@ -344,8 +344,8 @@ class Timeline(Closing):
         """Returns whether the future has a command."""
         return any(isinstance(action, Line) for action in self.future)
 
-    def room(self) -> int | None:
-        """Returns the number of steps before the first command of the future, or None."""
+    def steps_to_command(self) -> int | None:
+        """Returns the number of steps before the first command of the future; None if the future has no command."""
         count = 0
         for action in self.future:
             if isinstance(action, Line):
@@ -355,51 +355,51 @@ class Timeline(Closing):
 
     def redo(self) -> bool:
         """Repeats the commands of the future at this step; returns whether there were any."""
-        is_found = False
+        has_repeated = False
         while self.future:
-            head = self.future[0]
-            if not isinstance(head, Line):
+            next_action = self.future[0]
+            if not isinstance(next_action, Line):
                 break
-            is_found = True
-            self.choose(head.hart)
-            self.do(head.text)
-        return is_found
+            has_repeated = True
+            self.choose(next_action.hart)
+            self.do(next_action.text)
+        return has_repeated
 
     # the way back
 
     def again(self, position: int) -> Timeline:
-        """Returns another timeline at an earlier step, without breaks and watches."""
-        return Timeline(self.setup, actions_between(self.past, -1, position), self.hart)
+        """Returns another timeline at an earlier step, without breakpoints and watchpoints. It has a bench of its own, which runs from reset."""
+        return Timeline(self.setup, actions_between(self.past, -1, position), self.hart)  # -1: with the commands before the first step
 
     def take_future(self, old: Timeline) -> None:
-        """Takes what another timeline did after this step as the future."""
+        """Sets the future: what another timeline with the same past did after this step, and its own future."""
         self.future = deque([*actions_between(old.past, self.position, old.position), *old.future])
 
     def set_stops(self, wanted: Iterable[str]) -> None:
-        """Sets these breaks and watches, and removes all others."""
+        """Sets the breakpoints and watchpoints that these commands set, and removes all others."""
         self.do_all(["%s %s" % (UNDONE_BY[stop.split()[0]], stop.split()[1]) for stop in self.stops if stop not in wanted])
         self.do_all([command for command in wanted if command not in self.stops])
 
     def is_break(self, pc: str) -> bool:
-        """Returns whether there is a break at pc."""
+        """Returns whether a breakpoint is set at pc, hexadecimal digits."""
         return "break %x" % int(pc, 16) in self.stops
 
     # schedules
 
     def turns_of(self, schedule: str) -> str:
-        """Returns the schedule from the next step on, also if a hart ran alone meanwhile."""
+        """Returns a schedule as it continues after the last steps by it. Steps of one hart alone may have come after them."""
         for action in reversed(self.past):
             if isinstance(action, ScheduledSteps) and len(action.turns) == len(schedule) and action.turns in schedule * 2:
                 return rotated(action.turns, action.count)
         return schedule
 
     def step_before(self, hart: int) -> int | None:
-        """Returns the step before the last one of a hart, or None if the hart did no step."""
+        """Returns the position right before the last step of a hart, or None if the hart did no step."""
         position = self.position
         for action in reversed(self.past):
             if isinstance(action, ScheduledSteps):
-                for back in range(1, min(len(action.turns), action.count) + 1):
-                    if int(action.turns[(action.count - back) % len(action.turns)]) == hart:
-                        return position - back
+                for distance in range(1, min(len(action.turns), action.count) + 1):
+                    if int(action.turns[(action.count - distance) % len(action.turns)]) == hart:
+                        return position - distance
                 position -= action.count
         return None
