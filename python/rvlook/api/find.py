@@ -65,7 +65,7 @@ class Findings(List[Finding]):
 
     def __init__(self, findings: Sequence[Finding] = (), command: str = "") -> None:
         super().__init__(findings)
-        # `command` repeats the search, `report` is its output, `notes` has notes and warnings, `unfinished` says why it did not finish
+        # the command line that repeats the search; its output; its notes and warnings; why it did not finish, empty if it did
         self.command, self.report, self.notes, self.unfinished = command, "", "", ""
         self.checks: Tuple[str, ...] = ()  # names of all checks
 
@@ -95,10 +95,10 @@ def command_of(finder: str, program: Optional[Program], *words: str, **options: 
     if program is not None and program.has_boot:
         return ""
     arguments = ["rvlook", finder, *(image_arguments(program) if program else []), *words]
-    every = [(name, item) for name, value in options.items() for item in ([value] if isinstance(value, (str, bool, int, float)) else value or ())]
-    for name, item in every:
-        if item is not False:
-            arguments += ["--" + name.replace("_", "-")] + ([] if item is True else [str(item)])
+    for name, value in options.items():
+        for item in [value] if isinstance(value, (str, bool, int, float)) else value or ():
+            if item is not False:
+                arguments += ["--" + name.replace("_", "-")] + ([] if item is True else [str(item)])
     return shlex.join(arguments)
 
 
@@ -112,7 +112,7 @@ def image_arguments(program: Program) -> List[str]:
 
 
 def several(names: Optional[Names]) -> Sequence[str]:
-    """Returns names that are given as one or as a list."""
+    """Returns as a sequence what a caller passes as one name, as a list of names, or as None for no name."""
     return [names] if isinstance(names, str) else list(names or ())
 
 
@@ -122,7 +122,7 @@ def at_place(program: Program, pc: Optional[int]) -> Dict[str, Any]:
 
 
 def ordered(program: Program, finder: str) -> Run:
-    """Returns the run of a program with an order of its harts. Raises UsageError for a finder that needs a script with an order."""
+    """Returns the run of a program. Two harts without an order in the script alternate for `window` and `verify`; else raises UsageError."""
     setup = program.setup
     if setup.harts == 1 or sets_order(setup.lines):
         return program.run
@@ -155,8 +155,8 @@ def leaks(program: Program, secret: str, values: Sequence[bytes] = (), *, tries:
 
 def leak_finding(program: Program, title: str, text: str, pair: ComparedPair) -> Finding:
     """Returns a difference of two runs as a finding, at its first instruction."""
-    every = pair.comparison.all()
-    first = next((finding for finding in every if finding.channel == title), every[0])
+    all_findings = pair.comparison.all()
+    first = next((finding for finding in all_findings if finding.channel == title), all_findings[0])
     return Finding(title, text, step=first.steps[0], **at_place(program, first.pc))
 
 

@@ -53,14 +53,14 @@ class HostStepper(Stepper):
 
     def step_once(self) -> Ran:
         """Does one step of the selected hart, outside a schedule."""
-        return self.took(step_of(self.do("step 1")[0][0]))
+        return self.note_trap(step_of(self.do("step 1")[0][0]))
 
     def run_to_call(self, call: Optional[str], world: Optional[str], limit: Optional[int]) -> None:
         """Runs until the monitor has answered a call of this name, or until the selected hart is in a world. Raises NotReached if the run ends
         before, or after `limit` steps."""
         if call is not None and call not in names.Call.__members__:
             raise RvlookError("no call '%s'; the calls are %s" % (call, ", ".join(names.Call.__members__)))
-        end, ecalls = self.steps + self.most(limit), self.words(ECALL)
+        end, ecalls = self.steps + self.limit_of(limit), self.words(ECALL)
         while world is None or self.world != world:
             ran = self.advance(ecalls, limit=end - self.steps)
             if ran.why != "break":
@@ -72,7 +72,7 @@ class HostStepper(Stepper):
                 return
 
     def leave_m(self) -> None:
-        """Runs a monitor on the bare machine to its return from M."""
+        """Runs a monitor of your own, which runs on the bare machine, up to its return from M."""
         while self.mode == "M" and not self.setup.monitor:
             ran = self.advance(self.words(MRET), limit=LIMIT)
             if ran.why != "break":
@@ -87,7 +87,8 @@ class HostStepper(Stepper):
             raise RvlookError("the host does not run at %s, in %s of %s; go on to the host first" % (self.where, self.mode, self.world))
         values = self.registers_now()
         used = {A0, A1, A6, A7, *map(number_of, registers)}
-        self.calls[self.hart] = MadeCall({n: values[n] for n in sorted(used)}, values[32] + WORD, registers.get("a0", 0))
+        pc = values[32]  # after x0 to x31
+        self.calls[self.hart] = MadeCall({n: values[n] for n in sorted(used)}, left_at=pc + WORD, slot=registers.get("a0", 0))
         self.execute(ECALL, ["setreg %d %x" % (number_of(name), value & 0xFFFFFFFF) for name, value in registers.items()])
         self.leave_m()
         self.calls[self.hart] = self.calls[self.hart]._replace(has_entered=self.is_inside())
@@ -98,14 +99,14 @@ class HostStepper(Stepper):
             raise RvlookError("no call is under way on hart %d; call run() or resume() first" % self.hart)
         call = self.calls[self.hart]
         if self.is_inside() and self.interrupts and self.setup.monitor:
-            self.run_interrupted(self.interrupts, self.most(limit))
+            self.run_interrupted(self.interrupts, self.limit_of(limit))
         while self.is_inside():
             ran = self.advance([call.left_at], limit=limit)
             if self.is_inside() and ran.why != "break":
                 self.fail("answers the host", ran)
             self.leave_m()
         values = self.registers_now()
-        self.execute(BACK, ["setreg %d %x" % register for register in call.kept.items()])
+        self.execute(BACK, ["setreg %d %x" % register for register in call.saved_registers.items()])
         del self.calls[self.hart]
         if self.pc != call.left_at - WORD:
             raise NotReached("the host cannot go on at %08x after its call: it is at %s; last trap: %s" % (call.left_at, self.where, self.trap))
@@ -115,9 +116,9 @@ class HostStepper(Stepper):
         """Runs an enclave until it exits by itself. Before every Nth of its steps the timer interrupts it, and the host resumes it. An `ecall` and a
         jump back are in place of the host's code meanwhile."""
         call = self.calls[self.hart]
-        home = call.left_at - WORD
-        old = self.read_bytes(home, 2 * WORD)
-        self.do(*poke_commands(home, ECALL.to_bytes(WORD, "little") + BACK.to_bytes(WORD, "little")))
+        host_pc = call.left_at - WORD
+        old_bytes = self.read_bytes(host_pc, 2 * WORD)
+        self.do(*poke_commands(host_pc, ECALL.to_bytes(WORD, "little") + BACK.to_bytes(WORD, "little")))
         self.set_stops([call.left_at], [])
         resume = ["timer on", "step 1", "setreg %d %x" % (A0, call.slot), "setreg %d %x" % (A6, names.Call.resume), "step 1", "step 1",
                   "run %d" % every]
@@ -127,7 +128,7 @@ class HostStepper(Stepper):
                 break
             *_, last = self.do(*resume)
             ran = step_of(last[0])
-        self.do(*poke_commands(home, old))
+        self.do(*poke_commands(host_pc, old_bytes))
 
     def read_bytes(self, address: int, size: int) -> bytes:
         """Reads bytes, whatever the access rights are. Raises RvlookError outside the RAM."""
@@ -139,12 +140,12 @@ class HostStepper(Stepper):
         return self.world.startswith("e") if self.setup.monitor else self.pc != self.calls[self.hart].left_at
 
     def execute(self, word: int, before: Sequence[str]) -> None:
-        """Executes an instruction in place of the next one, whose bytes are then as before."""
-        at = self.pc
-        old = self.read_bytes(at, WORD)
-        *_, ran = self.do(*before, *poke_commands(at, word.to_bytes(WORD, "little")), "step 1")
-        self.do(*poke_commands(at, old))
-        self.took(step_of(ran[0]))
+        """Executes an encoded instruction in place of the one at pc, whose bytes are then restored. `before` has the commands to send first."""
+        pc = self.pc
+        old_bytes = self.read_bytes(pc, WORD)
+        *_, ran = self.do(*before, *poke_commands(pc, word.to_bytes(WORD, "little")), "step 1")
+        self.do(*poke_commands(pc, old_bytes))
+        self.note_trap(step_of(ran[0]))
 
 
 def number_of(register: str) -> int:

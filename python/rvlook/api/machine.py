@@ -88,7 +88,7 @@ class Machine(HostStepper):
             return self
         watched = self.watched(touches)
         ran = self.advance(addresses, watched, limit)
-        if ran.why != "break" and not (ran.why.startswith("watch:") and int(ran.why[6:], 16) in watched):
+        if ran.why != "break" and not (ran.why.startswith("watch:") and int(ran.why[len("watch:"):], 16) in watched):
             self.fail("reaches %s" % place if place is not None else "touches %s" % touches, ran)
         return self
 
@@ -115,10 +115,10 @@ class Machine(HostStepper):
             return []
         watched_place = self.program.place(place)
         size = watched_place.size or WORD
-        every = 1 if size <= MOST_WATCHED else WORD
-        if size > MOST_WATCHED * every:
+        stride = 1 if size <= MOST_WATCHED else WORD
+        if size > MOST_WATCHED * stride:
             raise RvlookError("cannot watch %d bytes of %s; name a part of at most %d bytes" % (size, place, MOST_WATCHED * WORD))
-        return [watched_place.address + n for n in range(0, size, every)]
+        return [watched_place.address + n for n in range(0, size, stride)]
 
     def raise_timer(self, is_on: bool = True) -> None:
         """Sets or clears the pending timer interrupt of the selected hart."""
@@ -197,17 +197,17 @@ class Machine(HostStepper):
         worlds = ["M", "S", "U"] if is_bare else [column.world for column in event.columns]
         if world not in worlds:
             raise RvlookError("no world '%s' after step %d; the worlds are %s" % (world, self.steps, ", ".join(dict.fromkeys(worlds))))
-        parts, different = [], {}
+        texts_of_rows, all_rights = [], {}
         for row in (row for row in event.rows if row.range.first < end and first < row.range.end):
             rights_of_world = [rights for column in event.columns if is_bare or column.world == world
                                for mode, rights in row.may[column.name].items() if not is_bare or mode == world]
-            different.update(dict.fromkeys(rights_of_world))
+            all_rights.update(dict.fromkeys(rights_of_world))
             span, letters = "%08x-%08x" % (row.range.first, row.range.end - 1), "/".join(dict.fromkeys(rights_of_world))
-            parts.append("  ".join(filter(None, (span, letters, row.what))))
-        if not parts:
+            texts_of_rows.append("  ".join(filter(None, (span, letters, row.what))))
+        if not texts_of_rows:
             raise RvlookError("%s is at %08x, outside the RAM" % (place, first))
-        what = "%s at %s, %08x-%08x, after step %d" % (world, asked_place.name, first, end - 1, self.steps)
-        return Rights("/".join(different), what + ": " + "; ".join(parts))
+        heading = "%s at %s, %08x-%08x, after step %d" % (world, asked_place.name, first, end - 1, self.steps)
+        return Rights("/".join(all_rights), heading + ": " + "; ".join(texts_of_rows))
 
     @property
     def enclaves(self) -> List[Enclave]:
@@ -222,10 +222,10 @@ class Machine(HostStepper):
     # ---- other times
 
     def restore(self, snapshot: Snapshot) -> Machine:
-        """Returns to a snapshot, by a repetition of the run from reset."""
+        """Returns to a snapshot: repeats the run from reset up to it. Returns the machine."""
         self.timeline.close()
         self.timeline = Timeline(self.setup, snapshot.past, snapshot.hart)
-        self.take(snapshot)
+        self.take_over(snapshot)
         return self
 
     def fork(self) -> Machine:

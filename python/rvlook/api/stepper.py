@@ -18,15 +18,15 @@ from rvlook.protocol.timeline import Action, Timeline
 LIMIT = 10000000  # steps of one call, unless the caller gives another limit
 LIMIT_BY_SCHEDULE = 200000  # the same with a schedule, whose steps take longer
 LONG_BATCH = 1024  # turns of a schedule in one exchange
-TURNS = 64  # the number of turns of a schedule, after which the harts are checked for an endless loop, and many turns are done at once
-PART, MORE = 1000, 4  # steps before a hart is checked for an endless loop, and the factor for the next part
+TURNS = 64  # turns of a schedule, after which the harts are checked for an endless loop, and many turns are done at once
+PART, MORE = 1000, 4  # steps before a hart is first checked for an endless loop, and the factor for the steps up to the next check
 LOOP = "jal x0, 0"  # the text of an instruction that jumps to itself
 UNTIL_THE_END = 0  # a breakpoint at an address without RAM, where a trap without a handler leads
 
 
 class MadeCall(NamedTuple):
     """A call that the test has made as the host."""
-    kept: Dict[int, int]  # registers that the call used, with their values before
+    saved_registers: Dict[int, int]  # number and earlier value of each register that the call used
     left_at: int  # the address after its ecall
     slot: int  # a0 of the call
     has_entered: bool = False  # whether the call has entered an enclave
@@ -57,7 +57,7 @@ class Stepper(Closing):
         # the simulator, and all that was done since reset
         self.timeline = Timeline.of_script(setup) if at is None else Timeline(setup, at.past, at.hart)
         if at is not None:
-            self.take(at)
+            self.take_over(at)
 
     def close(self) -> None:
         """Ends the simulator."""
@@ -79,7 +79,7 @@ class Stepper(Closing):
     @property
     def pc(self) -> int:
         """The address of the next instruction of the selected hart."""
-        return int(self.ask("regs")[0][32][3:], 16)
+        return int(self.ask("regs")[0][32][3:], 16)  # the line after x0 to x31 is `pc=ADDRESS`
 
     @property
     def where(self) -> str:
@@ -137,24 +137,24 @@ class Stepper(Closing):
         places = set(breaks)
         self.ask()
         self.set_stops(places, watched)
-        remaining, part, turns, pause = self.most(limit), PART, 0, TURNS
+        remaining, run_steps, turns, leap_after = self.limit_of(limit), PART, 0, TURNS
         ran = Ran(steps=0, pc="", mode="", world="", why="done", trap=None)
         self.trap = None
         while remaining > 0:
-            is_long = bool(self.schedule) and turns == pause
+            is_long = bool(self.schedule) and turns == leap_after
             if is_long:
-                done = self.leap(places, remaining)
-                remaining, turns, pause = max(1, remaining - done), 0, TURNS if done > LONG_BATCH else 2 * pause
-            ran = self.turn(min(remaining, part))
+                leap_steps = self.leap(places, remaining)
+                remaining, turns, leap_after = max(1, remaining - leap_steps), 0, TURNS if leap_steps > LONG_BATCH else 2 * leap_after
+            ran = self.turn(min(remaining, run_steps))
             remaining -= max(1, ran.steps)
             if ran.why.startswith("watch:"):
-                if int(ran.why[6:], 16) in watched or self.has_finished():
+                if int(ran.why[len("watch:"):], 16) in watched or self.has_finished():
                     break
                 continue
             if ran.why == "break" or int(ran.pc, 16) in places:  # a `run` whose last step leads to a breakpoint replies `done`
                 ran = ran._replace(why="break")
                 break
-            turns, part = turns + 1, part * MORE
+            turns, run_steps = turns + 1, run_steps * MORE
             if self.is_halted(ran, is_long or turns % TURNS == 0):
                 ran = ran._replace(why="halted")
                 break
@@ -172,7 +172,7 @@ class Stepper(Closing):
         self.read_consoles()
         return self.status is not None
 
-    def most(self, limit: Optional[int]) -> int:
+    def limit_of(self, limit: Optional[int]) -> int:
         """Returns the most steps of one call: the limit of the caller, or the default."""
         default = LIMIT_BY_SCHEDULE if self.schedule else LIMIT
         return default if limit is None else limit
@@ -180,13 +180,13 @@ class Stepper(Closing):
     def turn(self, most: int) -> Ran:
         """Does at most this many steps of the selected hart. With a schedule, the steps are of its next turn, which may end before."""
         if not self.schedule:
-            return self.took(self.timeline.run(self.hart, most))
+            return self.note_trap(self.timeline.run(self.hart, most))
         hart, count = next(self.turns)
         ran = self.timeline.run(hart, min(count, most))
         self.scheduled += ran.steps
         if ran.steps < count:  # the turn goes on later
             self.turns = chain([(hart, count - ran.steps)], self.turns)
-        return self.took(ran)
+        return self.note_trap(ran)
 
     def next_harts(self, count: int) -> str:
         """Returns the harts of the next steps of the schedule as digits, and goes on in the schedule."""
@@ -201,29 +201,29 @@ class Stepper(Closing):
     def leap(self, places: Iterable[int], most: int) -> int:
         """Does turns of the schedule in long exchanges, up to the turn that leads to a stop; another machine finds it. Returns the number of
         steps, which is at most `most`."""
-        done = 0
+        steps_done = 0
         with self.timeline.again(self.steps) as ahead:
             ahead.set_stops(list(self.timeline.stops))
             while True:
                 batch = list(islice(self.turns, LONG_BATCH))
                 rans = runs_of(ahead, batch)
-                stop = next((n for n, ran in enumerate(rans) if ran.why != "done" or int(ran.pc, 16) in places), len(batch))
-                stop = stop if done + sum(ran.steps for ran in rans) <= most else 0
-                self.turns = chain(batch[stop:], self.turns)
-                self.step_by("".join(str(hart) * steps for hart, steps in batch[:stop]))
-                done += sum(ran.steps for ran in rans[:stop])
-                if stop < len(batch) or self.are_all_in_loops():
-                    return done
+                before_stop = next((n for n, ran in enumerate(rans) if ran.why != "done" or int(ran.pc, 16) in places), len(batch))
+                before_stop = before_stop if steps_done + sum(ran.steps for ran in rans) <= most else 0
+                self.turns = chain(batch[before_stop:], self.turns)
+                self.step_by("".join(str(hart) * steps for hart, steps in batch[:before_stop]))
+                steps_done += sum(ran.steps for ran in rans[:before_stop])
+                if before_stop < len(batch) or self.are_all_in_loops():
+                    return steps_done
 
     def step_by(self, digits: str) -> None:
         """Does a step of the hart that each digit names, as the schedule has it, and keeps the last trap."""
-        parts = [digits[n:n + LONGEST] for n in range(0, len(digits), LONGEST)]
-        for n in range(0, len(parts), LONG_BATCH):
-            begin, batch = self.timeline.position, parts[n:n + LONG_BATCH]
+        schedules = [digits[n:n + LONGEST] for n in range(0, len(digits), LONGEST)]  # the operands of `sched`
+        for n in range(0, len(schedules), LONG_BATCH):
+            position, batch = self.timeline.position, schedules[n:n + LONG_BATCH]
             replies = self.do(*["sched " + digits for digits in batch])
-            last = max((number for number, lines in enumerate(replies) if not all(line.endswith("trap=-") for line in lines)), default=None)
-            if last is not None:
-                self.trap = self.last_trap(begin + LONGEST * last, batch[last])
+            last_with_trap = max((number for number, lines in enumerate(replies) if not all(line.endswith("trap=-") for line in lines)), default=None)
+            if last_with_trap is not None:
+                self.trap = self.last_trap(position + LONGEST * last_with_trap, batch[last_with_trap])
         if digits:
             self.do("hart " + digits[-1])
         self.scheduled += len(digits)
@@ -235,14 +235,14 @@ class Stepper(Closing):
         traps = [step.trap for step in (step_of(reply[0]) for reply in replies[1::2]) if step.trap]
         return trap_from(traps[-1])
 
-    def took(self, ran: Ran) -> Ran:
-        """Keeps the trap of steps that were done."""
+    def note_trap(self, ran: Ran) -> Ran:
+        """Sets `trap` if the steps with this reply ended in a trap; returns the reply."""
         if ran.trap:
             self.trap = trap_from(ran.trap)
         return ran
 
     def is_halted(self, ran: Ran, is_due: bool) -> bool:
-        """Returns whether no hart will do anything else. With a schedule this is examined only if it is due."""
+        """Returns whether the machine repeats an instruction of each hart for ever; with a schedule only if `is_due`. `ran` is the last reply."""
         if self.schedule:
             return is_due and self.are_all_in_loops()
         return LOOP in self.ask("dis %s" % ran.pc)[0][0] or bool(ran.trap) and self.traps_forever()
@@ -260,7 +260,7 @@ class Stepper(Closing):
         return "trap=-" not in replies[0][0] and all(reply == replies[0] for reply in replies)
 
     def fail(self, what: str, ran: Ran) -> None:
-        """Raises NotReached: the machine never does what was wanted."""
+        """Raises NotReached: the machine never did `what`, such as `reaches main`. `ran` is the reply to the last steps."""
         why = "it is in an endless loop at" if ran.why == "halted" else "it has finished at" if self.status is not None else "it is still running at"
         raise NotReached("the machine never %s: %s %s, in %s, after step %d%s" % (
             what, why, self.where, self.world, self.steps, "; last trap: %s" % self.trap if self.trap else ""))
@@ -273,8 +273,8 @@ class Stepper(Closing):
         return Snapshot(tuple(self.timeline.past), self.timeline.hart, self.scheduled, consoles, tuple(self.lines), self.trap,
                         tuple(self.calls.items()))
 
-    def take(self, snapshot: Snapshot) -> None:
-        """Takes the parts of a snapshot that are not in the timeline."""
+    def take_over(self, snapshot: Snapshot) -> None:
+        """Takes over from a snapshot the state that is not in the timeline: consoles, trap, calls, and the position in the schedule."""
         self.lines, self.trap, self.calls, self.scheduled = list(snapshot.lines), snapshot.trap, dict(snapshot.calls), snapshot.scheduled
         for console, state in zip(self.consoles, snapshot.consoles):
             console.written, console.pending, console.status = state
@@ -292,7 +292,7 @@ def checked(commands: Iterable[str], replies: List[List[str]]) -> List[List[str]
 
 
 def runs_of(timeline: Timeline, turns: Sequence[Tuple[int, int]]) -> List[Ran]:
-    """Does turns of a schedule; returns the result of each. They are not kept in the timeline."""
+    """Does turns of a schedule on the bench of a timeline; returns the reply to each. The timeline does not record them."""
     text = "".join("hart %d\nrun %d\n" % turn for turn in turns)
     return [step_of(line.decode()) for line in timeline.bench.block(text.encode(), 2 * len(turns)).splitlines()[1::2]]
 

@@ -51,10 +51,10 @@ class Budget:
         try:
             with limited_time(self.seconds), limited_memory():
                 yield
-        except Exception as error:  # pyelftools hides what its parser meets behind an exception of its own
+        except Exception as error:  # pyelftools replaces the exceptions that occur in its parser by exceptions of its own
             if not any(isinstance(cause, (BudgetExceeded, MemoryError)) for cause in causes(error)):
                 raise
-            self.entries = -1
+            self.entries = -1  # later readings of the file fail at once
             raise BudgetExceeded from None
         finally:
             ACTIVE.pop()
@@ -88,30 +88,30 @@ def budget_of(data: bytes) -> Budget:
 @contextmanager
 def limited_time(seconds: float) -> Iterator[None]:
     """Raises BudgetExceeded in a body that takes more processor time, in seconds. Only the main thread has a timer."""
-    def stop(*_: Any) -> NoReturn:
+    def raise_exceeded(*_: Any) -> NoReturn:
         raise BudgetExceeded
 
     if threading.current_thread() is not threading.main_thread():
         yield
         return
-    before = signal.signal(signal.SIGVTALRM, stop)
+    old_handler = signal.signal(signal.SIGVTALRM, raise_exceeded)
     try:
         signal.setitimer(signal.ITIMER_VIRTUAL, max(seconds, 0.001), AGAIN)
         yield
     finally:
         signal.setitimer(signal.ITIMER_VIRTUAL, 0)
-        signal.signal(signal.SIGVTALRM, before)
+        signal.signal(signal.SIGVTALRM, old_handler)
 
 
 @contextmanager
 def limited_memory() -> Iterator[None]:
     """Causes a MemoryError in a body that takes more than MOST_MEMORY."""
     soft, hard = resource.getrlimit(resource.RLIMIT_AS)
-    most = address_space() + MOST_MEMORY
-    if soft != resource.RLIM_INFINITY and soft <= most:
+    limit = address_space() + MOST_MEMORY
+    if soft != resource.RLIM_INFINITY and soft <= limit:
         yield
         return
-    resource.setrlimit(resource.RLIMIT_AS, (most, hard))
+    resource.setrlimit(resource.RLIMIT_AS, (limit, hard))
     try:
         yield
     finally:

@@ -17,7 +17,7 @@ AT_FLAGS = 36  # the offset of the flags in the header of an ELF file
 COMPRESSED = 1  # EF_RISCV_RVC
 KEY_HIGH, KEY_HIGH_MASK = 0x0A455037, 0xFFFFF07F  # lui of any register, 0xa455
 KEY_LOW, KEY_LOW_MASK = 0xE4300893, 0xFFF07FFF  # addi a7 of any register, -445
-ECALL = 0x00000073
+ECALL = 0x00000073  # the encoded instruction
 KEY_SET = re.compile(r"\s*setreg\s+(17|x17|a7)\s+(0x)?0?a454e43\s*\Z", re.I)
 # offsets in an ELF32 header of the place, and of the size and number, of the section headers; a section header
 SECTIONS_AT, SECTIONS, SECTION = 32, 46, struct.Struct("<10I")
@@ -25,8 +25,8 @@ SECTIONS_AT, SECTIONS, SECTION = 32, 46, struct.Struct("<10I")
 SYMBOL_TABLE, SYMBOL, FUNCTION = 2, struct.Struct("<IIIBBH"), 2
 WORD = 4  # bytes of an instruction
 OPCODE, ATOMIC, FENCE = 0x7F, 0x2F, 0x0F  # the bits of the opcode, and two opcodes
-FENCE_I, FENCE_I_MASK = 0x100F, 0x707F
-FLOATING = (0x07, 0x27, 0x43, 0x47, 0x4B, 0x4F, 0x53)
+FENCE_I, FENCE_I_MASK = 0x100F, 0x707F  # the opcode and funct3 of fence.i, and the bits that they have
+FLOATING = (0x07, 0x27, 0x43, 0x47, 0x4B, 0x4F, 0x53)  # the opcodes of floating-point instructions
 IS_CANDIDATE = bytes(byte & OPCODE in (ATOMIC, FENCE, *FLOATING) for byte in range(256))  # whether a word may be one of these, by its lowest byte
 MOST_SHOWN = 3  # functions in a message
 PAGE = "docs/FIRMWARE.md"
@@ -74,7 +74,7 @@ def extension_of(word: int) -> str | None:
 
 
 def lacking_in(image: Image) -> Mapping[str, list[str]]:
-    """Returns the functions that have such instructions, by their kind. Looks only at symbols of functions with a size."""
+    """Returns for each kind of `extension_of` the functions that have such instructions. Considers only functions whose symbols have a size."""
     functions_by_kind: dict[str, dict[str, None]] = {}
     data = image.data if image.is_elf_32 and image.data else b""
     words = [word for part in segments_of(data) for word in candidates_in(part.address, data[part.offset:part.offset + part.in_file])] if data else []
@@ -90,10 +90,10 @@ def lacking_in(image: Image) -> Mapping[str, list[str]]:
 def candidates_in(first: int, code: bytes) -> Iterator[tuple[int, int]]:
     """Yields the address and the value of each word of a segment whose opcode is that of such an extension, or of fence.i."""
     marks = code[:len(code) // WORD * WORD:WORD].translate(IS_CANDIDATE)
-    at = marks.find(1)
-    while at >= 0:
-        yield first + WORD * at, int.from_bytes(code[WORD * at:WORD * at + WORD], "little")
-        at = marks.find(1, at + 1)
+    index = marks.find(1)
+    while index >= 0:
+        yield first + WORD * index, int.from_bytes(code[WORD * index:WORD * index + WORD], "little")
+        index = marks.find(1, index + 1)
 
 
 def sections_of(data: bytes) -> list[Section]:
@@ -120,7 +120,7 @@ def lacking_texts(image: Image) -> list[str]:
     """Returns a warning for each kind of instruction that the functions of an image have and the machine does not."""
     texts = []
     for kind, names in lacking_in(image).items():
-        more = len(names) - MOST_SHOWN
-        shown = ", ".join(names[:MOST_SHOWN]) + (" and %d more functions" % more if more > 0 else "")
+        not_shown = len(names) - MOST_SHOWN
+        shown = ", ".join(names[:MOST_SHOWN]) + (" and %d more functions" % not_shown if not_shown > 0 else "")
         texts.append("%s has %ss in %s; rvbench does not have them (%s)" % (image.name, kind, shown, PAGE))
     return texts

@@ -9,7 +9,7 @@ from rvlook.errors import RvlookError
 from rvlook.image.budget import budget_of
 from rvlook.protocol.inputs import Image, ScriptLine
 
-DIGITS_A_LINE = 120
+DIGITS_A_LINE = 120  # hexadecimal digits in a line of the text of an image
 MOST_BYTES = 33554432  # the most bytes of an image, as the bench has it
 MOST_READ = 3 * MOST_BYTES  # bytes of a file; two digits for each byte of an image, line ends and a script
 CHUNK = 1 << 20  # bytes that are read at once
@@ -33,19 +33,19 @@ def read_file(path: str) -> bytes:
 
 def bounded(file: BinaryIO, path: str) -> bytes:
     """Returns all bytes of an open file; a RvlookError if there are more than MOST_READ. A device without end is such a file."""
-    parts: list[bytes] = []
+    chunks: list[bytes] = []
     size = 0
     while size <= MOST_READ:
-        part = file.read(CHUNK)
-        if not part:
-            return b"".join(parts)
-        parts.append(part)
-        size += len(part)
+        chunk = file.read(CHUNK)
+        if not chunk:
+            return b"".join(chunks)
+        chunks.append(chunk)
+        size += len(chunk)
     raise RvlookError("'%s' is too large: it has more than %d bytes" % (path, MOST_READ))
 
 
 def digits_of(data: bytes) -> bytes:
-    """Returns bytes as the text of an image."""
+    """Returns bytes as the text of an image that the bench reads: lines of hexadecimal digits."""
     digits = data.hex()
     lines = [digits[i:i + DIGITS_A_LINE] for i in range(0, len(digits), DIGITS_A_LINE)]
     return "".join(line + "\n" for line in lines).encode("ascii")
@@ -75,13 +75,13 @@ def image_of(path: str, kind: str = "auto") -> Image:
     file cannot be read, is a text but no hex image, or is too large."""
     data = read_file(path)
     budget_of.cache_clear()
-    cut = next((match for match in SEPARATOR.finditer(data) if len(match[1]) <= LONGEST_LINE), None)
-    head, rest = (data[:cut.start()], data[cut.end():]) if cut else (data, b"")
+    separator = next((match for match in SEPARATOR.finditer(data) if len(match[1]) <= LONGEST_LINE), None)
+    head, script_text = (data[:separator.start()], data[separator.end():]) if separator else (data, b"")
     printable = PRINTABLE.match(data) is not None
-    if TEXT.match(head) or cut and PRINTABLE.match(head):
+    if TEXT.match(head) or separator and PRINTABLE.match(head):
         text = head if head.endswith(b"\n") or not head else ended(head.decode("latin-1")).encode("latin-1")
-        before = data.count(b"\n", 0, cut.end()) if cut else 0
-        return Image(path, text, decoded(head), script_lines(rest, path, before) if cut else ())
+        before = data.count(b"\n", 0, separator.end()) if separator else 0
+        return Image(path, text, decoded(head), script_lines(script_text, path, before) if separator else ())
     if kind != "raw" and (printable or is_marked_text(data)):
         mark = "" if printable else " with a byte order mark"
         raise RvlookError("'%s' is a text file%s, not a hex image; use --kind raw to load its bytes" % (path, mark))

@@ -22,7 +22,7 @@ NM_LINE = re.compile(r"([0-9a-fA-F]{8})\s+(?:[A-Za-z]\s+)?([A-Za-z_.$][\w.$]*)\s
 LABEL, OBJECT, FUNCTION = 0, 1, 2  # types of a symbol (ELF, Symbol Table)
 PREFERRED = (FUNCTION, OBJECT)
 GLOBAL, ABSOLUTE = 1, 0xFFF1  # a binding, and the section of a symbol that is in none
-LEAST_HEADER = 40  # bytes of a section header
+LEAST_HEADER = 40  # the least bytes of a section header: those of a 32-bit file
 MOST_SECTIONS = 65536
 MOST_NAMED = 1 << 24  # characters of all names of symbols, which may share the bytes of one string
 MOST_INFLATED = 1 << 24  # bytes of all compressed sections after decompression
@@ -118,7 +118,7 @@ def checked(file: Any, data: bytes) -> Any:
 
 def inflated_size(data: bytes) -> int:
     """Returns the size of the zlib stream of a compressed section after decompression, at most MOST_INFLATED + 1; the stream follows a header."""
-    for header in (12, 24):  # of ELF; .zdebug has 12 bytes too
+    for header in (12, 24):  # bytes of the header before the stream: in a 32-bit ELF file or a .zdebug section, and in a 64-bit ELF file
         try:
             return len(zlib.decompressobj().decompress(data[header:], MOST_INFLATED + 1))
         except zlib.error:
@@ -185,14 +185,14 @@ def units_of(path: str, file: Any, budget: Budget) -> Iterator[Unit]:
     """Yields the compilation units. A line table that several units share belongs to the first of them, whose ranges are then unknown."""
     entries = [(dwarf, unit, unit.get_top_DIE()) for dwarf, unit in compilation_units(file)]
     tables = Counter(value_of(top, "DW_AT_stmt_list") for _, _, top in entries)
-    seen: set[int | None] = {None}
+    seen_tables: set[int | None] = {None}
     for dwarf, unit, top in entries:
         table = value_of(top, "DW_AT_stmt_list")
         ranges = list(ranges_of(dwarf, unit, top)) if tables[table] == 1 else []
         spend(UNIT_RANGE * len(ranges))
-        yield Unit(ranges or ALL, reader(path, "no source lines", partial(source_lines, dwarf, unit), budget) if table not in seen else lambda: (),
-                   reader(path, "no inlined calls", partial(inlined_calls, dwarf, unit), budget))
-        seen.add(table)
+        read_rows = reader(path, "no source lines", partial(source_lines, dwarf, unit), budget) if table not in seen_tables else lambda: ()
+        yield Unit(ranges or ALL, read_rows, reader(path, "no inlined calls", partial(inlined_calls, dwarf, unit), budget))
+        seen_tables.add(table)
 
 
 def compilation_units(file: Any) -> Iterator[tuple[Any, Any]]:
@@ -232,11 +232,11 @@ def line_states(program: Any) -> list[Any]:
 
 def line_programs(file: Any) -> Iterator[tuple[Any, Any]]:
     """Yields each unit with its line table. A shared table comes once."""
-    seen = set()
+    seen_offsets = set()
     for dwarf, unit in compilation_units(file):
         program = dwarf.line_program_for_CU(unit)
-        if program and program.program_start_offset not in seen:
-            seen.add(program.program_start_offset)
+        if program and program.program_start_offset not in seen_offsets:
+            seen_offsets.add(program.program_start_offset)
             yield unit, program
 
 
@@ -260,18 +260,18 @@ def inlined_calls(dwarf: Any, unit: Any) -> Iterator[Inlined]:
 
 def outermost(dwarf: Any, unit: Any) -> Iterator[Any]:
     """Yields the inlined calls of a unit that are in no other inlined call."""
-    inside = [True]  # for each entry that is open, whether it is the unit, or a function or block in such
+    is_inside_of_open = [True]  # for each entry that is open, whether it is the unit, or a function or block in such
     for entry in entries_of(dwarf, unit):
         if entry.is_null():
-            inside.pop()
-            if len(inside) <= 1:
+            is_inside_of_open.pop()
+            if len(is_inside_of_open) <= 1:
                 return
             continue
-        is_inside = inside[-1]
-        if is_inside and entry.tag == "DW_TAG_inlined_subroutine":
+        is_candidate = is_inside_of_open[-1]
+        if is_candidate and entry.tag == "DW_TAG_inlined_subroutine":
             yield entry
         if entry.has_children:
-            inside.append(is_inside and (len(inside) == 1 or entry.tag in ("DW_TAG_subprogram", "DW_TAG_lexical_block")))
+            is_inside_of_open.append(is_candidate and (len(is_inside_of_open) == 1 or entry.tag in ("DW_TAG_subprogram", "DW_TAG_lexical_block")))
 
 
 def entries_of(dwarf: Any, unit: Any) -> Iterator[Any]:
@@ -305,13 +305,13 @@ def ranges_of(dwarf: Any, unit: Any, entry: Any) -> Iterator[tuple[int, int]]:
 
 def placed(unit: Any, items: Iterable[Any]) -> Iterator[tuple[int, int, Any]]:
     """Yields the items of a range list or a location list of a unit, each with its first address and its end."""
-    at = value_of(unit.get_top_DIE(), "DW_AT_low_pc") or 0
+    base = value_of(unit.get_top_DIE(), "DW_AT_low_pc") or 0
     for item in items:
         spend()
         if hasattr(item, "base_address"):
-            at = item.base_address
+            base = item.base_address
         elif hasattr(item, "begin_offset"):
-            start = 0 if getattr(item, "is_absolute", False) else at
+            start = 0 if getattr(item, "is_absolute", False) else base
             yield start + item.begin_offset, start + item.end_offset, item
 
 

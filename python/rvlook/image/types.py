@@ -69,7 +69,7 @@ def read_types(file: Any) -> Types:
     for dwarf, unit in compilation_units(file):
         reader = TypeReader(dwarf, unit)
         for entry in reader.entries.values():
-            reader.take(entry, types)
+            reader.add_entry(entry, types)
     for name in types.ambiguous:
         del types.variables[name]
     return types
@@ -78,8 +78,8 @@ def read_types(file: Any) -> Types:
 class TypeReader(UnitEntries):
     """Reads the types of a compilation unit."""
 
-    def take(self, entry: Any, types: Types) -> None:
-        """Adds what an entry names."""
+    def add_entry(self, entry: Any, types: Types) -> None:
+        """Adds to `types` the structure, variable, constant or inlined function that an entry names."""
         if entry.tag == "DW_TAG_inlined_subroutine":
             begin = min((first for first, end in ranges_of(self.dwarf, self.unit, entry) if first < end), default=None)
             if begin is not None:

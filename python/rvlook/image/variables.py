@@ -22,7 +22,7 @@ QUALIFIERS = ("DW_TAG_typedef", "DW_TAG_volatile_type", "DW_TAG_const_type", "DW
 AGGREGATES = ("DW_TAG_structure_type", "DW_TAG_union_type", "DW_TAG_class_type")
 VARIABLES = ("DW_TAG_variable", "DW_TAG_formal_parameter")
 SCOPES = ("DW_TAG_inlined_subroutine", "DW_TAG_lexical_block")  # entries with address ranges of their own
-DEEPEST = 12  # nested types
+DEEPEST = 12  # the most nested types or scopes that are followed; a damaged file may have cycles
 ADDRESSES = range(-1 << 31, 1 << 32)  # the values that an address or an offset may have; a damaged number has thousands of digits
 Ranges = Sequence[Tuple[int, int]]  # first addresses and ends
 MOST_ELEMENTS = 256  # the most elements of an array of structures
@@ -88,13 +88,13 @@ def read_variables(file: Any) -> Variables:
 
 
 class UnitEntries:
-    """The entries of a compilation unit."""
+    """The DWARF entries of a compilation unit, and the variables that they describe."""
 
     def __init__(self, dwarf: Any, unit: Any) -> None:
         self.dwarf, self.unit = dwarf, unit
         self.entries: dict[int, Any] = {}  # the entries by offset
         self.children: dict[int, list[Any]] = {}  # the entries below each entry, by offset
-        opened: list[list[Any]] = [[]]
+        opened: list[list[Any]] = [[]]  # the children of the unit, and of each entry whose children are being read
         for entry in entries_of(dwarf, unit):
             if entry.is_null():
                 del opened[max(1, len(opened) - 1):]
@@ -148,8 +148,8 @@ class UnitEntries:
         """Yields the parameters of functions that point to memory."""
         for function in self.entries.values():
             if function.tag == "DW_TAG_subprogram" and "DW_AT_low_pc" in function.attributes:
-                own = [child for child in self.children.get(function.offset, ()) if child.tag == "DW_TAG_formal_parameter"]
-                for number, entry in enumerate(own[:8]):
+                own_parameters = [child for child in self.children.get(function.offset, ()) if child.tag == "DW_TAG_formal_parameter"]
+                for number, entry in enumerate(own_parameters[:8]):
                     pointer, address = self.plain(self.type_of(entry)), function.attributes["DW_AT_low_pc"].value
                     if pointer is not None and pointer.tag == "DW_TAG_pointer_type":
                         yield Parameter(address, number, tuple(self.pointed(self.name(entry), self.type_of(pointer))))
@@ -164,7 +164,7 @@ class UnitEntries:
             yield Member(at=0, size=0, name=name, element=self.size(kind))
 
     def members(self, at: int, name: str, kind: Any, depth: int = 0) -> Iterator[Member]:
-        """Yields a variable of a type, or the members of a structure; elements of an array of structures have the same names."""
+        """Yields a variable of a type at an address or offset; of a structure its members. Elements of an array of structures share their names."""
         spend()
         kind = self.plain(kind)
         if kind is None or depth > DEEPEST or not ADDRESSES.start <= at < ADDRESSES.stop:
@@ -174,12 +174,12 @@ class UnitEntries:
                 yield from self.members(at + offset, "%s.%s" % (name, self.name(member)), self.type_of(member), depth + 1)
             return
         element = self.plain(self.type_of(kind)) if kind.tag == "DW_TAG_array_type" else None
-        size, part = self.size(kind), self.size(element)
-        if is_aggregate(element) and part:
-            for n in range(min(size // part, MOST_ELEMENTS)):
-                yield from self.members(at + n * part, name + "[]", element, depth + 1)
+        size, element_size = self.size(kind), self.size(element)
+        if is_aggregate(element) and element_size:
+            for n in range(min(size // element_size, MOST_ELEMENTS)):
+                yield from self.members(at + n * element_size, name + "[]", element, depth + 1)
         elif 0 < size < ADDRESSES.stop:
-            yield Member(at, size, name, part, self.row(kind, size), kind.tag == "DW_TAG_union_type")
+            yield Member(at, size, name, element_size, self.row(kind, size), kind.tag == "DW_TAG_union_type")
 
     def placed_members(self, kind: Any) -> Iterator[tuple[Any, int]]:
         """Yields the members of a structure or union, each with its offset in bytes, which must be constant."""
@@ -203,7 +203,7 @@ class UnitEntries:
         return count * self.size(self.type_of(kind), depth + 1)
 
     def row(self, kind: Any, size: int) -> int:
-        """Returns the size of a row of an array with more than one dimension, else 0."""
+        """Returns the bytes of a row of an array with more than one dimension, else 0. `size` is the number of bytes of the array."""
         bounds = self.children.get(kind.offset, []) if kind.tag == "DW_TAG_array_type" else []
         if len(bounds) < 2:
             return 0
@@ -211,7 +211,7 @@ class UnitEntries:
         return size // count if count > 0 else 0
 
     def plain(self, kind: Any) -> Any:
-        """Returns a type without names and qualifiers, or None."""
+        """Returns the type that typedefs and qualifiers lead to; None if there is no type, or more than DEEPEST of them."""
         for _ in range(DEEPEST):
             if kind is None or kind.tag not in QUALIFIERS:
                 return kind
@@ -220,8 +220,8 @@ class UnitEntries:
 
     def type_of(self, entry: Any) -> Any:
         """Returns the type of an entry, or of the entry that it is an instance of; or None."""
-        own, origin = self.referenced(entry, "DW_AT_type"), self.origin(entry)
-        return own if own is not None or origin is None else self.referenced(origin, "DW_AT_type")
+        own_type, origin = self.referenced(entry, "DW_AT_type"), self.origin(entry)
+        return own_type if own_type is not None or origin is None else self.referenced(origin, "DW_AT_type")
 
     def name(self, entry: Any) -> str:
         """Returns the name of an entry."""
@@ -286,10 +286,10 @@ def is_aggregate(kind: Any) -> bool:
 
 def elements_in(dimension: Any) -> int:
     """Returns the number of elements in a dimension of an array, 0 if it is not known."""
-    known, most = (dimension.attributes.get(attribute) for attribute in ("DW_AT_count", "DW_AT_upper_bound"))
-    if known and isinstance(known.value, int):
-        return known.value
-    return most.value + 1 if most and isinstance(most.value, int) else 0
+    count, upper_bound = (dimension.attributes.get(attribute) for attribute in ("DW_AT_count", "DW_AT_upper_bound"))
+    if count and isinstance(count.value, int):
+        return count.value
+    return upper_bound.value + 1 if upper_bound and isinstance(upper_bound.value, int) else 0
 
 
 def places_of(location: bytes) -> list[tuple[int, int]]:
@@ -332,13 +332,13 @@ def frames_of(path: str | None, image: Image, executed: Sequence[int]) -> Sequen
 
 
 def has_any(ranges: Iterable[tuple[int, int]], executed: Sequence[int]) -> bool:
-    """Returns whether an address is in one of the ranges, or there are no ranges."""
-    each = list(ranges)
-    return not each or any(bisect_left(executed, first) < bisect_left(executed, end) for first, end in each)
+    """Returns whether an executed address is in one of the ranges, or there are no ranges, so that the unit may have any address."""
+    all_ranges = list(ranges)
+    return not all_ranges or any(bisect_left(executed, first) < bisect_left(executed, end) for first, end in all_ranges)
 
 
 def where_of(expression: bytes, is_sp: bool) -> Optional[Where]:
-    """Decodes a location expression of one operation; returns None for any other."""
+    """Decodes a location expression of one operation. Returns None for other expressions. `is_sp`: whether frame offsets are from sp."""
     if len(expression) == 1 and FIRST_REGISTER <= expression[0] <= LAST_REGISTER:
         return "register", expression[0] - FIRST_REGISTER
     places = places_of(expression)

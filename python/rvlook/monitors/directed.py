@@ -115,9 +115,8 @@ def slot_scripts() -> Iterator[tuple[str, list[Item]]]:
     yield "thirteen enclaves, some of them run", [
         *host(), *full[:12], run(6), *set_up(0x8001A000, "s"), stop(1), run(2), leave(2), run(8), timer(is_on=True), nop(), full[12], run(6),
         resume(6), nop(), stop(3), run(2), resume(8), leave(1), destroy(2), full[2]]
-    yield "thirteen enclaves", [
-        *host(), *full, run(12), *set_up(0x80020000, "t"), stop(1), run(3), stop(2), destroy(12), destroy(5), destroy(2),
-        create(0x80016000, PAGE), create(0x80019000, PAGE), create(0x80020000, PAGE), resume(3), leave(1)]
+    yield "thirteen enclaves", [*host(), *full, run(12), *set_up(0x80020000, "t"), stop(1), run(3), stop(2), destroy(12), destroy(5), destroy(2),
+                                create(0x80016000, PAGE), create(0x80019000, PAGE), create(0x80020000, PAGE), resume(3), leave(1)]
 
 
 def window_scripts() -> Iterator[tuple[str, list[Item]]]:

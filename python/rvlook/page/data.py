@@ -192,12 +192,11 @@ class Collector:
 
     def data(self, columns: NumberColumns) -> dict[str, Any]:
         """Returns all data as one object, and appends the columns."""
-        return {
-            "title": self.title, "run": self.run, "end": self.others["end"][-1], "steps": len(self.site), "points": self.drawn_points,
-            "rows": self.rows, "maps": [json.loads(text) for text in self.maps], "sites": self.sites.rows("pc", *SITE, "shown"),
-            "places": self.places.rows("hart", "world", "mode"), "traps": self.traps.rows("cause", "value", "name"),
-            "names": list(self.names), "site": columns.add(self.site), "place": columns.add(self.place),
-            "trap": columns.add(self.trap), "changes": columns.add(self.changes), "registers": columns.add(self.registers),
-            "values": columns.add(self.values),
-            "touch": {name: columns.add(array("I", map(itemgetter(n), self.touches))) for n, name in enumerate(TOUCH)},
-            "calls": self.calls, "commands": self.others["command"], "consoles": self.others["console"], "events": self.events}
+        return {"title": self.title, "run": self.run, "end": self.others["end"][-1], "steps": len(self.site), "points": self.drawn_points,
+                "rows": self.rows, "maps": [json.loads(text) for text in self.maps], "sites": self.sites.rows("pc", *SITE, "shown"),
+                "places": self.places.rows("hart", "world", "mode"), "traps": self.traps.rows("cause", "value", "name"),
+                "names": list(self.names), "site": columns.add(self.site), "place": columns.add(self.place),
+                "trap": columns.add(self.trap), "changes": columns.add(self.changes), "registers": columns.add(self.registers),
+                "values": columns.add(self.values),
+                "touch": {name: columns.add(array("I", map(itemgetter(n), self.touches))) for n, name in enumerate(TOUCH)},
+                "calls": self.calls, "commands": self.others["command"], "consoles": self.others["console"], "events": self.events}

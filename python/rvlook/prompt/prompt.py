@@ -31,8 +31,7 @@ OWN = {
     "until": "until switch | trap | below: run to the next world switch, trap, or return from M to S or U, at most 1000000 steps",
     "back": "back [N]: go back N steps (default 1), by a replay from reset",
     "map": "map: show the current access rights and the enclaves",
-    "where": "where: show the next instruction, its symbol and its source line",
-    "help": "help: show this list",
+    "where": "where: show the next instruction, its symbol and its source line", "help": "help: show this list",
     "quit": "quit: leave the prompt; so does the end of the input"}
 LONGEST_INPUT = 1 << 16  # characters of a line; a longer one is read in parts
 

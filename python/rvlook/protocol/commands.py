@@ -15,8 +15,7 @@ from rvlook.protocol.inputs import ScriptLine
 from rvlook.protocol.nearest import meant
 from rvlook.protocol.symbols import Symbols
 
-# The errors of the bench, by their numbers or texts: the meaning, and what to use instead, or None.
-IMAGE_ERRORS = {
+IMAGE_ERRORS = {  # by the number of the error of the bench: the meaning, and what to use instead
     1: ("the ELF file has fewer than 52 bytes", "the complete file, or --kind raw"),
     2: ("not an ELF file", "--kind raw, or no --kind"),
     3: ("the ELF file is 64-bit or big-endian", "a build with -march=rv32im -mabi=ilp32"),
@@ -65,23 +64,21 @@ class Command(NamedTuple):
     forms: tuple[Form, ...]  # the forms of the operands, in order
 
 
-COMMANDS = {
-    "step": Command("N", (Form.count,)), "run": Command("N", (Form.count,)),
-    "break": Command("A", (Form.address,)), "clear": Command("A", (Form.address,)),
-    "watch": Command("A", (Form.address,)), "unwatch": Command("A", (Form.address,)),
-    "reg": Command("N", (Form.register,)), "regs": Command("", ()), "setreg": Command("N V", (Form.register, Form.value)),
-    "csr": Command("C", (Form.csr,)), "mem": Command("A N", (Form.address, Form.length)),
-    "poke": Command("A V", (Form.address, Form.byte)), "dis": Command("A", (Form.address,)), "pmp": Command("", ()),
-    "enclaves": Command("", ()), "access": Command("M K A L", (Form.mode, Form.kind, Form.address, Form.width)),
-    "timer": Command("on|off", (Form.line,)), "hart": Command("H", (Form.hart,)), "sched": Command("W", (Form.schedule,))}
+COMMANDS = {"step": Command("N", (Form.count,)), "run": Command("N", (Form.count,)),
+            "break": Command("A", (Form.address,)), "clear": Command("A", (Form.address,)),
+            "watch": Command("A", (Form.address,)), "unwatch": Command("A", (Form.address,)),
+            "reg": Command("N", (Form.register,)), "regs": Command("", ()), "setreg": Command("N V", (Form.register, Form.value)),
+            "csr": Command("C", (Form.csr,)), "mem": Command("A N", (Form.address, Form.length)),
+            "poke": Command("A V", (Form.address, Form.byte)), "dis": Command("A", (Form.address,)), "pmp": Command("", ()),
+            "enclaves": Command("", ()), "access": Command("M K A L", (Form.mode, Form.kind, Form.address, Form.width)),
+            "timer": Command("on|off", (Form.line,)), "hart": Command("H", (Form.hart,)), "sched": Command("W", (Form.schedule,))}
 HEXADECIMAL = re.compile(r"(0x)?[0-9a-fA-F]{1,8}\Z")
 DECIMAL = re.compile(r"[0-9]{1,7}\Z")
 LIMITS = {Form.count: (1, 1000000), Form.register: (0, 31), Form.length: (1, 64)}  # the least and the greatest decimal number of a form
-PATTERNS = {
-    Form.address: HEXADECIMAL, Form.value: HEXADECIMAL, Form.byte: re.compile(r"[0-9a-fA-F]{1,2}\Z"),
-    Form.csr: re.compile(r"[0-9a-fA-F]{1,3}\Z"), Form.mode: re.compile(r"[MSU]\Z"), Form.kind: re.compile(r"[rwx]\Z"),
-    Form.width: re.compile(r"[124]\Z"), Form.line: re.compile(r"(on|off)\Z"), Form.hart: re.compile(r"[01]\Z"),
-    Form.schedule: re.compile(r"[01]{1,64}\Z")}
+PATTERNS = {Form.address: HEXADECIMAL, Form.value: HEXADECIMAL, Form.byte: re.compile(r"[0-9a-fA-F]{1,2}\Z"),
+            Form.csr: re.compile(r"[0-9a-fA-F]{1,3}\Z"), Form.mode: re.compile(r"[MSU]\Z"), Form.kind: re.compile(r"[rwx]\Z"),
+            Form.width: re.compile(r"[124]\Z"), Form.line: re.compile(r"(on|off)\Z"), Form.hart: re.compile(r"[01]\Z"),
+            Form.schedule: re.compile(r"[01]{1,64}\Z")}
 
 
 def is_form(token: str, form: Form) -> bool:

@@ -60,8 +60,7 @@ class Instruction:
     @property
     def csr(self) -> int | None:
         """Returns the control and status register that it writes, or None."""
-        # csrrw and csrrwi always write; csrrs and csrrc only if the register or immediate, their last operand, is not 0
-        return self.operands[1] if self.name.startswith("csrr") and (self.name[4] == "w" or self.operands[2]) else None
+        return self.operands[1] if self.name.startswith("csrr") and (self.name[4] == "w" or self.operands[2]) else None  # csrrs x0: no write
 
 
 @lru_cache(maxsize=65536)
@@ -77,19 +76,18 @@ def instruction_of(line: bytes) -> Instruction | None:
 
 
 # The manual's table of assembler pseudoinstructions: a text with ABI names, and the short form of it, in the order of preference.
-SHORT = (
-    (r"addi zero, zero, 0", "nop"), (r"addi (\w+), zero, (\S+)", r"li \1, \2"), (r"addi (\w+), (\w+), 0", r"mv \1, \2"),
-    (r"xori (\w+), (\w+), -1", r"not \1, \2"), (r"sub (\w+), zero, (\w+)", r"neg \1, \2"),
-    (r"sltiu (\w+), (\w+), 1", r"seqz \1, \2"), (r"sltu (\w+), zero, (\w+)", r"snez \1, \2"),
-    (r"slt (\w+), (\w+), zero", r"sltz \1, \2"), (r"slt (\w+), zero, (\w+)", r"sgtz \1, \2"),
-    (r"beq (\w+), zero, (.+)", r"beqz \1, \2"), (r"bne (\w+), zero, (.+)", r"bnez \1, \2"),
-    (r"bge zero, (\w+), (.+)", r"blez \1, \2"), (r"bge (\w+), zero, (.+)", r"bgez \1, \2"),
-    (r"blt (\w+), zero, (.+)", r"bltz \1, \2"), (r"blt zero, (\w+), (.+)", r"bgtz \1, \2"),
-    (r"jal zero, (.+)", r"j \1"), (r"jal ra, (.+)", r"jal \1"), (r"jalr zero, 0\(ra\)", "ret"),
-    (r"jalr zero, 0\((\w+)\)", r"jr \1"), (r"jalr ra, 0\((\w+)\)", r"jalr \1"),
-    (r"csrrs (\w+), (\w+), zero", r"csrr \1, \2"), (r"csrrw zero, (\w+), (\w+)", r"csrw \1, \2"),
-    (r"csrrs zero, (\w+), (\w+)", r"csrs \1, \2"), (r"csrrc zero, (\w+), (\w+)", r"csrc \1, \2"),
-    (r"csrr([wsc])i zero, (\w+), (\w+)", r"csr\1i \2, \3"))
+SHORT = ((r"addi zero, zero, 0", "nop"), (r"addi (\w+), zero, (\S+)", r"li \1, \2"), (r"addi (\w+), (\w+), 0", r"mv \1, \2"),
+         (r"xori (\w+), (\w+), -1", r"not \1, \2"), (r"sub (\w+), zero, (\w+)", r"neg \1, \2"),
+         (r"sltiu (\w+), (\w+), 1", r"seqz \1, \2"), (r"sltu (\w+), zero, (\w+)", r"snez \1, \2"),
+         (r"slt (\w+), (\w+), zero", r"sltz \1, \2"), (r"slt (\w+), zero, (\w+)", r"sgtz \1, \2"),
+         (r"beq (\w+), zero, (.+)", r"beqz \1, \2"), (r"bne (\w+), zero, (.+)", r"bnez \1, \2"),
+         (r"bge zero, (\w+), (.+)", r"blez \1, \2"), (r"bge (\w+), zero, (.+)", r"bgez \1, \2"),
+         (r"blt (\w+), zero, (.+)", r"bltz \1, \2"), (r"blt zero, (\w+), (.+)", r"bgtz \1, \2"),
+         (r"jal zero, (.+)", r"j \1"), (r"jal ra, (.+)", r"jal \1"), (r"jalr zero, 0\(ra\)", "ret"),
+         (r"jalr zero, 0\((\w+)\)", r"jr \1"), (r"jalr ra, 0\((\w+)\)", r"jalr \1"),
+         (r"csrrs (\w+), (\w+), zero", r"csrr \1, \2"), (r"csrrw zero, (\w+), (\w+)", r"csrw \1, \2"),
+         (r"csrrs zero, (\w+), (\w+)", r"csrs \1, \2"), (r"csrrc zero, (\w+), (\w+)", r"csrc \1, \2"),
+         (r"csrr([wsc])i zero, (\w+), (\w+)", r"csr\1i \2, \3"))
 
 
 @lru_cache(maxsize=65536)

@@ -16,8 +16,8 @@ from rvlook.protocol.schedule import turns_of
 from rvlook.protocol.timeline import MOST_STEPS
 
 FIRST_PART, MORE = 1000, 4  # steps of the first `run`, and the factor for the next one
-BATCH, SINGLY = 1024, 128  # steps of two harts in one exchange, and those at its end that are done one by one
-LONG_BATCH = 16384  # the same without a console
+BATCH, SINGLY = 1024, 128  # steps of two harts in one exchange, and those at its end that are done one by one to detect a halt
+LONG_BATCH = 16384  # steps of two harts in one exchange if the program has no console, whose characters would have to be read
 AT_ZERO = "break 0"  # a trap goes there if its vector was never set
 HOSTS = ("host", "bare")  # the worlds that may halt
 NONE = "00000000"  # cause and pc of a trap before the first one
@@ -44,15 +44,15 @@ class Emulator:
     """A program that runs on rvbench, with its consoles."""
 
     def __init__(self, run: Run, schedule: str, printer: Printer) -> None:
-        self.run, self.schedule, self.printer, self.left = run, schedule, printer, run.setup.limit  # `left`: steps to the limit
+        self.run, self.schedule, self.printer, self.remaining = run, schedule, printer, run.setup.limit  # `remaining`: steps to the limit
         self.symbols = run.setup.symbols  # name addresses
-        self.probed = 0  # steps that do not count for the limit
+        self.probed = 0  # steps that were done only to detect a halt, and that do not count for the limit
         self.consoles = consoles_of(self.symbols)  # the consoles that the program has
 
     @property
     def steps(self) -> int:
         """Returns the number of steps up to the end, with those of the script."""
-        return self.run.length + self.run.setup.limit - self.left + self.probed
+        return self.run.length + self.run.setup.limit - self.remaining + self.probed
 
     def ending(self) -> ProgramEnd:
         """Runs the program to its end."""
@@ -85,17 +85,17 @@ class Emulator:
     # a run of one hart
 
     def alone(self) -> ProgramEnd:
-        """Runs the selected hart."""
+        """Runs the selected hart until the program ends or the limit is reached; returns the end."""
         watches = ["watch %x" % (console.address + offset) for console in self.consoles for offset in (WRITTEN, ENDED)]
         self.bench.ask(AT_ZERO, *watches)
-        part, ran = FIRST_PART, Ran(steps=0, pc=self.run.pc, mode=self.run.mode, world=self.run.world, why="done", trap=None)
-        while self.left:
-            ran = step_of(self.bench.one("run %d" % min(part, self.left, MOST_STEPS)))
-            self.left -= ran.steps
+        run_steps, ran = FIRST_PART, Ran(steps=0, pc=self.run.pc, mode=self.run.mode, world=self.run.world, why="done", trap=None)
+        while self.remaining:
+            ran = step_of(self.bench.one("run %d" % min(run_steps, self.remaining, MOST_STEPS)))
+            self.remaining -= ran.steps
             if ran.why == "break":
                 return self.fault(ran)
             halted = self.halted_step() if ran.why == "done" else None
-            part *= MORE if ran.why == "done" else 1
+            run_steps *= MORE if ran.why == "done" else 1  # a `run` that ended at a console would also end there if it were longer
             self.show()
             if self.status() is not None:
                 return self.finished(ran)
@@ -112,44 +112,44 @@ class Emulator:
     # a run of two harts
 
     def by_turns(self) -> ProgramEnd:
-        """Runs both harts by the schedule."""
+        """Runs both harts by the schedule until the program ends or the limit is reached; returns the end."""
         turns, ran = turns_of(self.schedule), Ran(steps=0, pc=self.run.pc, mode=self.run.mode, world=self.run.world, why="done", trap=None)
-        while self.left:
-            batch = list(batch_of(turns, min(BATCH if self.consoles else LONG_BATCH, self.left)))
-            self.left -= sum(count for _, count in batch)
-            last = self.batch(batch)
-            ran = step_of(last[batch[-1][0]][-1])
+        while self.remaining:
+            batch = list(batch_of(turns, min(BATCH if self.consoles else LONG_BATCH, self.remaining)))
+            self.remaining -= sum(count for _, count in batch)
+            last_replies = self.batch(batch)
+            ran = step_of(last_replies[batch[-1][0]][-1])
             self.show()
             if self.status() is not None:
                 return self.finished(ran)
-            if len(last) > 1 and all(len(replies) == HALTED_AFTER and len(set(replies)) == 1 for replies in last.values()):
-                harts = [step_of(replies[0]) for replies in last.values()]  # a hart which traps or hangs comes before one that ends
+            if len(last_replies) > 1 and all(len(replies) == HALTED_AFTER and len(set(replies)) == 1 for replies in last_replies.values()):
+                harts = [step_of(replies[0]) for replies in last_replies.values()]  # all have halted; reports first one that traps or hangs
                 return self.halted(next((hart for hart in harts if hart.trap), next((hart for hart in harts if self.hangs(hart)), ran)))
         return self.cut(ran)
 
     def batch(self, turns: Sequence[tuple[int, int]]) -> dict[int, list[str]]:
-        """Does turns in one exchange; returns the last replies of each hart, of single steps if it did enough of them at the end."""
+        """Does turns in one exchange; returns the last HALTED_AFTER replies of each hart. Does the steps of the last turns one by one."""
         lines: list[tuple[int, str]] = []
         remaining = sum(count for _, count in turns)
         for hart, count in turns:
             lines.append((hart, "hart %d\n" % hart))
             lines += [(hart, "step %d\n" % count)] if remaining > SINGLY else [(hart, "step 1\n")] * count
             remaining -= count
-        last: dict[int, list[str]] = {}
+        last_replies: dict[int, list[str]] = {}
         replies = self.bench.block("".join(line for _, line in lines).encode(), len(lines)).decode().splitlines()
         for (hart, _), reply in zip(lines[-SINGLY - 2 * len(turns):], replies[-SINGLY - 2 * len(turns):]):
             if reply.startswith("ran "):
-                last.setdefault(hart, []).append(reply)
-        return {hart: rans[-HALTED_AFTER:] for hart, rans in last.items()}
+                last_replies.setdefault(hart, []).append(reply)
+        return {hart: rans[-HALTED_AFTER:] for hart, rans in last_replies.items()}
 
     # ends
 
     def place(self, ran: Ran) -> str:
-        """Returns where a hart is, as a text."""
+        """Returns the pc, mode and world of a hart after a step or run, as a text."""
         return "%s in %s of %s" % (place_text(ran.pc, self.symbols), ran.mode, ran.world)
 
     def ended(self, why: Why, ran: Ran, status: int, text: str) -> ProgramEnd:
-        """Returns an end at the location of a reply."""
+        """Returns the end of a program whose hart is where the reply `ran` says; `status` is the exit status."""
         return ProgramEnd(why, Location(ran.pc, ran.mode, ran.world), status, text)
 
     def finished(self, ran: Ran) -> ProgramEnd:
@@ -193,12 +193,12 @@ class Emulator:
         return self.ended(Why.limit, ran, UNFINISHED, "the program did not end in %d steps; it is at %s" % (self.run.setup.limit, self.place(ran)))
 
 
-def batch_of(turns: Iterator[tuple[int, int]], most: int) -> Iterator[tuple[int, int]]:
-    """Yields turns until they have `most` steps."""
+def batch_of(turns: Iterator[tuple[int, int]], remaining: int) -> Iterator[tuple[int, int]]:
+    """Yields turns, each a hart and its steps, up to a number of steps in all; the last turn is shortened."""
     for hart, count in turns:
-        yield hart, min(count, most)
-        most -= count
-        if most <= 0:
+        yield hart, min(count, remaining)
+        remaining -= count
+        if remaining <= 0:
             return
 
 

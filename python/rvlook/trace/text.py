@@ -19,7 +19,7 @@ SHOWN_REGISTERS = 2  # if more changed, as at a switch, a0 and the number of the
 SHOWN_REPLY = 60  # characters of a reply to a line of the script
 ARGUMENT_FORMS = {"base": "%x", "size": "%x", "window": " window %x", "window_size": "%x", "entry": " entry %x", "slot": "e%d",
                   "address": " to %x"}  # the formats of these arguments of a call; every other one is printed with its name
-A0 = 10
+A0 = 10  # the number of the register
 PRIVILEGE = {"M": 3, "S": 1, "U": 0}  # the numbers of the modes in the log of Spike
 
 
@@ -31,8 +31,8 @@ class Filter(NamedTuple):
     function: Optional[str] = None  # the only function; None: any
     traps: bool = False  # whether only steps that trap are wanted
 
-    def takes(self, step: TracedStep, symbols: Symbols) -> bool:
-        """Returns whether a step is wanted. On the bare bench a mode selects a world, too."""
+    def matches(self, step: TracedStep, symbols: Symbols) -> bool:
+        """Returns whether a step is wanted. On the bare bench, where `bare` is the only world, `world` may also be a mode."""
         worlds = (step.at.world, step.at.mode) if step.at.world == "bare" else (step.at.world,)
         if self.world and self.world not in worlds or self.traps and step.trap is None:
             return False
@@ -52,11 +52,11 @@ def show_trace(run: Run, symbols: Symbols, printer: Printer, wanted: Filter, is_
     shown, consoles = 0, consoles_of(symbols)
     for item in RunTracer(run, wanted.first, wanted.last).events():
         if isinstance(item, TracedStep):
-            if wanted.takes(item, symbols):
+            if wanted.matches(item, symbols):
                 writer.step(item)
                 shown += 1
-            for of, line in lines_of(item, consoles):
-                writer.console(item.number, of, line)
+            for console_writer, line in lines_of(item, consoles):
+                writer.console(item.number, console_writer, line)
         elif isinstance(item, End):
             if not shown and item.steps >= wanted.first:
                 writer.none()
@@ -66,7 +66,7 @@ def show_trace(run: Run, symbols: Symbols, printer: Printer, wanted: Filter, is_
 
 
 def lines_of(step: TracedStep, consoles: Sequence[Console]) -> Iterable[tuple[str, str]]:
-    """Returns the lines of consoles that a step ends, each with its writer."""
+    """Returns the lines of consoles that the store of a step completes, each after its writer."""
     touch = step.touch
     if not (consoles and touch and touch.done and touch.kind == "w" and touch.value):
         return ()
@@ -91,7 +91,7 @@ class ObjectTrace:
             call=self.call(step.call), trap=self.trap(step.trap), next={"pc": step.next.pc, "mode": step.next.mode, "world": step.next.world})
 
     def site(self, step: TracedStep) -> dict[str, str | None]:
-        """Returns the members that depend only on the pc and the instruction."""
+        """Returns the members of a step's object that depend only on its pc and instruction."""
         key = step.at.pc, step.instruction
         if key not in self.sites:
             pc, instruction = int(step.at.pc, 16), step.instruction
@@ -184,7 +184,7 @@ class Lines:
         return Site(short_form(text) if self.is_short else text, self.symbols.function(pc), self.symbols.line(pc))
 
     def address_text(self, address: int) -> str:
-        """Returns an address as objdump writes it."""
+        """Returns an address with its symbol as objdump writes them: `80000010 <main+10>`."""
         name = self.symbols.name(address)
         return "%08x <%s>" % (address, name) if name else "%08x" % address
 
@@ -213,12 +213,12 @@ class Lines:
 
     def command(self, command: TracedCommand) -> None:
         """Prints a line of the script, and the first line of its reply."""
-        first = command.replies[0] if command.replies else "(no reply)"
-        shown = first if len(first) <= SHOWN_REPLY else first[:SHOWN_REPLY] + " .."
-        more = len(command.replies) - 1
+        first_line = command.replies[0] if command.replies else "(no reply)"
+        shown = first_line if len(first_line) <= SHOWN_REPLY else first_line[:SHOWN_REPLY] + " .."
+        hidden_lines = len(command.replies) - 1
         sent_line = "" if command.line == command.given else "  (%s)" % visible_line(command.line)
         self.printer.line("%s%s  %s%s" % (self.printer.styled("> " + visible_line(command.given), Style.aside), sent_line, shown,
-                                          "  and %d more lines" % more if more > 0 else ""))
+                                          "  and %d more lines" % hidden_lines if hidden_lines > 0 else ""))
 
     def console(self, number: int, writer: str, text: str) -> None:
         """Prints a line of a console."""
@@ -256,14 +256,14 @@ def show_spike(run: Run, wanted: Filter, printer: Printer) -> None:
     symbols = run.setup.symbols
     with run.replay() as follower:
         for item in RunTracer(run, wanted.first, wanted.last).events():
-            if isinstance(item, TracedStep) and item.trap is None and wanted.takes(item, symbols):
+            if isinstance(item, TracedStep) and item.trap is None and wanted.matches(item, symbols):
                 printer.line(commit_text(item, follower))
             elif isinstance(item, End):
                 return
 
 
 def commit_text(step: TracedStep, follower: Timeline) -> str:
-    """Returns a commit as a line. Reads the value of a control and status register after the step."""
+    """Returns a step as a line of Spike's log. Reads the control and status register that it wrote from `follower`, a replay of the run."""
     instruction = step.instruction
     assert instruction is not None
     text = "core%4d: %d 0x%s (0x%s)" % (step.hart, PRIVILEGE[step.at.mode], step.at.pc, instruction.word)
@@ -275,5 +275,5 @@ def commit_text(step: TracedStep, follower: Timeline) -> str:
         text += " c%d_%s 0x%s" % (instruction.csr, names.CSR_NAMES.get(instruction.csr, "unknown"), reply.split("=")[-1])
     if step.touch:
         text += " mem 0x%08x" % step.touch.address
-        text += " 0x" + (step.touch.value or "") if step.touch.kind == "w" else ""
+        text += " 0x" + (step.touch.value or "") if step.touch.kind == "w" else ""  # Spike shows no value of a load here
     return text

@@ -17,9 +17,9 @@ from rvlook.protocol.stretch import Stretch
 from rvlook.protocol.timeline import Line, Timeline
 
 REGISTERS = 32
-ALL = b"regs\n"  # shows them and pc, in a line each
+ALL = b"regs\n"  # the command that shows all registers and pc, in a line each
 STEP_AND = [b"step 1\n", *(b"step 1\nreg %d\n" % number for number in range(1, REGISTERS))]  # by the register that the step writes, 0 for none
-STEP_AND_ALL = b"step 1\n" + ALL
+STEP_AND_ALL = b"step 1\n" + ALL  # after a trap, which may have changed any register
 VALUE = re.compile(r"x\d+=(.{8})")  # finds the value of a register in a reply
 
 
@@ -62,8 +62,8 @@ class TracedStep(NamedTuple):
         """Returns whether the word at pc was fetched: no interrupt came, and the fetch was not refused."""
         if self.trap is None:
             return True
-        refused = self.trap.cause in names.FETCH_FAULTS and self.trap.value == self.at.pc
-        return not refused and not self.is_interrupt
+        is_refused = self.trap.cause in names.FETCH_FAULTS and self.trap.value == self.at.pc
+        return not is_refused and not self.is_interrupt
 
     @property
     def target(self) -> int | None:
@@ -99,7 +99,7 @@ class RunTracer:
     """The steps from `first` to `last`, with the lines of the script between them."""
 
     def __init__(self, run: Run, first: int = 1, last: int | None = None) -> None:
-        self.run, self.first, self.last = run, first, last  # `last`: None: to the end
+        self.run, self.first, self.last = run, first, last  # `last`: the number of the last step; None: to the end of the run
         start = Location(run.pc, run.mode, run.world)
         self.harts = [Hart(start) for _ in range(run.setup.harts)]  # the harts as they are before their next steps
         self.position = self.hart = 0  # steps so far; the chosen hart
@@ -130,21 +130,21 @@ class RunTracer:
     def steps(self, decoder: Reader[None], reader: Timeline, stretch: Stretch) -> Iterator[TracedStep]:
         """Yields the wanted steps of a stretch; raises Unfinished if the registers do not agree."""
         self.hart, hart, end = stretch.hart, self.harts[stretch.hart], stretch.first + stretch.count - 1
-        begin, stop = max(self.first, stretch.first), min(end, self.last or end)
-        if begin > end:
+        first, last = max(self.first, stretch.first), min(end, self.last or end)
+        if first > end:
             hart.location, hart.registers, self.position = location_of(stretch.last), [], end
             return
         rans = step_fields(stretch.data)
-        if begin > stretch.first:
-            hart.location, hart.registers = location_of(rans[begin - stretch.first - 1]), []
-        part = slice(begin - stretch.first, stop - stretch.first + 1)
-        rans, instructions = rans[part], list(map(instruction_of, decoder.read(stretch).lines[part]))
-        values = registers_after(reader, hart, begin, rans, instructions)
-        for number, done in enumerate(zip(rans, instructions), begin):
+        if first > stretch.first:
+            hart.location, hart.registers = location_of(rans[first - stretch.first - 1]), []
+        shown = slice(first - stretch.first, last - stretch.first + 1)
+        rans, instructions = rans[shown], list(map(instruction_of, decoder.read(stretch).lines[shown]))
+        values = registers_after(reader, hart, first, rans, instructions)
+        for number, done in enumerate(zip(rans, instructions), first):
             yield traced(number, stretch.hart, hart, done, values)
         if list(values) != hart.registers:
-            raise Unfinished("the registers after step %d differ from those derived from its steps" % stop)
-        self.position = stop
+            raise Unfinished("the registers after step %d differ from those derived from its steps" % last)
+        self.position = last
 
 
 @lru_cache(maxsize=65536)
@@ -154,25 +154,25 @@ def location_of(ran: RanFields) -> Location:
     return Location(pc.decode(), mode.decode(), world.decode())
 
 
-def registers_after(reader: Timeline, hart: Hart, begin: int, rans: Sequence[RanFields], instructions: Sequence[Instruction | None]) -> Iterator[str]:
-    """Returns the values of registers after these steps: of the one that each writes, of all after a trap, and of all after the last."""
-    reader.go_before(begin)
+def registers_after(reader: Timeline, hart: Hart, first: int, rans: Sequence[RanFields], instructions: Sequence[Instruction | None]) -> Iterator[str]:
+    """Does the steps from number `first` on. Yields the value of the register that each step writes; of all registers after a trap and at the end."""
+    reader.go_before(first)
     if not hart.registers:
         hart.registers = [line[-8:] for line in reader.bench.ask("regs")[0][:REGISTERS]]
     queries = [STEP_AND_ALL if ran[3] != NO_TRAP else STEP_AND[code.writes if code else 0] for ran, code in zip(rans, instructions)]
     text = b"".join(queries) + ALL
     block = reader.bench.block(text, text.count(b"\n") + text.count(ALL) * REGISTERS)
-    reader.lines_to(begin - 1 + len(rans))
+    reader.lines_to(first - 1 + len(rans))
     return iter(VALUE.findall(block.decode()))
 
 
 def traced(number: int, hart_number: int, hart: Hart, done: Done, values: Iterator[str]) -> TracedStep:
-    """Returns a step, from what was before it and the values of registers after it; `hart` becomes what is after it."""
-    at, (ran, instruction) = hart.location, done
+    """Returns a step. `hart` is the hart before the step, and is updated to the state after it. `values` yields the registers that the step wrote."""
+    before, (ran, instruction) = hart.location, done
     after = hart.location = location_of(ran)
     if ran[3] != NO_TRAP:
         trap = trap_of(ran[3].decode())
-        return trapped(TracedStep(number, hart_number, at, instruction, changed={}, touch=None, call=None, trap=trap, next=after), hart, values)
+        return trapped(TracedStep(number, hart_number, before, instruction, changed={}, touch=None, call=None, trap=trap, next=after), hart, values)
     touch, changed, value = None, {}, None
     if instruction is not None:
         registers, memory, writes = hart.registers, instruction.memory, instruction.writes
@@ -184,12 +184,12 @@ def traced(number: int, hart_number: int, hart: Hart, done: Done, values: Iterat
                 changed = {writes: value}
         if memory:
             touch = touched(memory, address, registers[memory.register])
-    return TracedStep(number, hart_number, at, instruction, changed, touch, None, None, after, value)
+    return TracedStep(number, hart_number, before, instruction, changed, touch, None, None, after, value)
 
 
 def touched(memory: MemoryOperand, address: int, value: str) -> Touch:
     """Returns a load or store that was done; `value` is its register after it."""
-    has_value = memory.kind == "w" or memory.register
+    has_value = memory.kind == "w" or memory.register  # a load to x0 discards the value
     return Touch(memory.kind, address, memory.width, True, value[8 - 2 * memory.width:] if has_value else None)
 
 
@@ -208,7 +208,7 @@ def trapped(step: TracedStep, hart: Hart, values: Iterator[str]) -> TracedStep:
 
 
 def call_of(world: str, registers: Sequence[int], after: Sequence[int]) -> CallMade | None:
-    """Returns the call that an ecall from S made in a world, or None."""
+    """Returns the call that an ecall from S made in a world, or None. `registers` are those before the ecall, `after` those after it."""
     call = names.call_of(registers)
     if call is None:
         return None
@@ -217,7 +217,7 @@ def call_of(world: str, registers: Sequence[int], after: Sequence[int]) -> CallM
     if world != "host":
         slot = int(world[1:])
     elif call is names.Call.create:
-        slot = after[11] if after[10] == 0 else None
+        slot = after[11] if after[10] == 0 else None  # a0 of 0: create has succeeded, and a1 is the slot
     else:
         slot = arguments.get("slot")
     return CallMade(call, arguments, slot if slot is not None and slot <= names.LAST_SLOT else None)
