@@ -36,7 +36,7 @@ from rvlook.escapes import visible
 
 USAGE = "usage: examples/build [--clang|--gcc] [--stack BYTES] [--with-monitor MONITOR] DIR [FILE]"
 BYTES = re.compile(r"[0-9]{1,9}\Z")
-INTERRUPTED = 130
+INTERRUPTED = 130  # the exit status after Ctrl-C
 
 
 @dataclass
@@ -46,7 +46,7 @@ class Request:
     least: int = 1024  # bytes of the stack, at least
     monitor: str = ""  # the folder of the monitor, as it was given; empty for no monitor
     folder: str = ""  # the folder of the sources, as it was given
-    kept: str = ""  # the file of the ELF; empty: the default
+    elf_path: str = ""  # the file that receives the ELF file; empty: the ELF file is not kept
 
 
 class Folders(NamedTuple):
@@ -63,32 +63,32 @@ class Folders(NamedTuple):
 def request_of(arguments: Sequence[str]) -> Request:
     """Parses the command line. Options come first; the first argument that is no option is the folder, even if it begins with a dash. Raises
     BuildError if the command line is invalid."""
-    request, rest = Request(), list(arguments)
-    while rest and take_option(request, rest):
+    request, words = Request(), list(arguments)
+    while words and take_option(request, words):
         pass
-    if rest[:1] == ["--"]:
-        rest.pop(0)
-    if len(rest) not in (1, 2) or not all(rest):
+    if words[:1] == ["--"]:
+        words.pop(0)
+    if len(words) not in (1, 2) or not all(words):
         raise BuildError(USAGE)
-    request.folder, request.kept = rest[0], rest[1] if len(rest) == 2 else ""
+    request.folder, request.elf_path = words[0], words[1] if len(words) == 2 else ""
     return request
 
 
-def take_option(request: Request, rest: List[str]) -> bool:
+def take_option(request: Request, words: List[str]) -> bool:
     """Takes an option from the front of the arguments; returns whether there was one. Raises BuildError if its value is invalid."""
-    value = rest[1] if len(rest) > 1 else ""
-    if rest[0] in ("--clang", "--gcc"):
-        request.compiler = rest.pop(0)[2:]
+    value = words[1] if len(words) > 1 else ""
+    if words[0] in ("--clang", "--gcc"):
+        request.compiler = words.pop(0)[2:]
         return True
-    if rest[0] not in ("--stack", "--with-monitor"):
+    if words[0] not in ("--stack", "--with-monitor"):
         return False
-    if rest[0] == "--stack" and BYTES.match(value):
+    if words[0] == "--stack" and BYTES.match(value):
         request.least = int(value)
-    elif rest[0] == "--with-monitor" and value:
+    elif words[0] == "--with-monitor" and value:
         request.monitor = value
     else:
         raise BuildError(USAGE)
-    del rest[:2]
+    del words[:2]
     return True
 
 
@@ -116,21 +116,21 @@ def folders_of(request: Request, examples: str) -> Folders:
 def build(request: Request, examples: str) -> None:
     """Builds a folder. Raises BuildError if the folder cannot be built."""
     folders = folders_of(request, examples)
-    kept, shared = os.path.abspath(request.kept) if request.kept else "", os.path.join(examples, "shared")
+    elf_path, shared = os.path.abspath(request.elf_path) if request.elf_path else "", os.path.join(examples, "shared")
     cflags = tuple(os.environ.get("CFLAGS", "").split())
     toolchain = toolchain_of(request.compiler)
     with tempfile.TemporaryDirectory(prefix="build.") as temporary_folder:
         workshop = Workshop(toolchain, folders.folder, shared, temporary_folder, cflags)
         elf = link_folders(workshop, folders, request.folder)
-        report_lacking(elf, request.kept or request.folder)
+        report_lacking(elf, request.elf_path or request.folder)
         if not folders.is_monitor:
             report_stacks(workshop, elf, request.least)
-        if kept and not any(flag.startswith("-O") for flag in cflags):
+        if elf_path and not any(flag.startswith("-O") for flag in cflags):
             print("build: optimised for size; to debug, build with CFLAGS=-Og", flush=True)
-        if kept and folders.monitor and not folders.is_monitor:
-            install_file(kept, Path(elf).read_bytes())
+        if elf_path and folders.monitor and not folders.is_monitor:
+            install_file(elf_path, Path(elf).read_bytes())
         else:
-            install_outputs(workshop, elf, kept)
+            install_outputs(workshop, elf, elf_path)
 
 
 def link_folders(workshop: Workshop, folders: Folders, given: str) -> str:
@@ -171,5 +171,5 @@ def main(arguments: Sequence[str], examples: str) -> int:
 
 
 def stop(number: int, _: Any) -> NoReturn:
-    """Ends the process by a signal, after the temporary folder is removed."""
+    """Handles a signal: ends the process with the status of the signal. The exception removes the temporary folder first."""
     sys.exit(128 + number)

@@ -17,7 +17,7 @@ from rvlook.protocol.inputs import Image
 
 TOO_SMALL = re.compile(r"region [`']([A-Z]*)'.*overflowed by ([0-9]+) bytes")
 UNDEFINED = (re.compile(r"undefined reference to [`']([^']*)'"), re.compile(r"undefined symbol: (.*)"))
-LINKED = ("-nostdlib", "-Wl,-n,-X")
+LINKED = ("-nostdlib", "-Wl,-n,-X")  # no standard libraries, no alignment to pages, no local labels
 STACKS = {"host": "HOST", "application": "REGION", "runtime": "REGION"}  # the programs, and the part of link.ld that has their stacks
 BAD_NAME = re.compile(rb"[\x01-\x1f\x7f]")
 STRING_TABLE = 3  # a type of a section (ELF, Section Headers)
@@ -35,24 +35,26 @@ class Script(NamedTuple):
 
 def link(workshop: Workshop, script: Script, options: Sequence[str]) -> str:
     """Links all objects; returns the path of the ELF file. Raises BuildError if the linker fails, or if a symbol has a control character."""
-    target = os.path.join(workshop.made, "program.elf")
-    objects = [os.path.join(workshop.made, name) for name in sorted(os.listdir(workshop.made)) if name.endswith(".o") and not name.startswith(".")]
-    done = run([*workshop.toolchain.link, *options, *LINKED, *script.options, "-o", target, *objects], workshop.folder)
-    if done.returncode:
-        raise BuildError(reason(printable(done.stderr), script))
+    target = os.path.join(workshop.objects_folder, "program.elf")
+    names = [name for name in sorted(os.listdir(workshop.objects_folder)) if name.endswith(".o") and not name.startswith(".")]
+    objects = [os.path.join(workshop.objects_folder, name) for name in names]
+    linker = run([*workshop.toolchain.link, *options, *LINKED, *script.options, "-o", target, *objects], workshop.folder)
+    if linker.returncode:
+        raise BuildError(reason(printable(linker.stderr), script))
     check_names(target)
     return target
 
 
 def reason(output: str, script: Script) -> str:
     """Returns why the link failed: three lines if the reason is known, else the output of the linker."""
-    part = TOO_SMALL.search(output)
+    overflow = TOO_SMALL.search(output)
     missing = sorted({symbol for each in UNDEFINED for symbol in each.findall(output)})
-    if part:
+    if overflow:
+        region, excess_bytes = overflow.groups()
         return ("error: %s of %s is too small by %s bytes\n"
                 "  the size of a region or window is a power of two, at least 4096; its address is a multiple of its size\n"
                 "  %sincrease the LENGTH of %s"
-                % (part[1], script.name, part[2], "copy %s to %s, and " % (script.name, script.copied_to) if script.copied_to else "", part[1]))
+                % (region, script.name, excess_bytes, "copy %s to %s, and " % (script.name, script.copied_to) if script.copied_to else "", region))
     if missing:
         return ("error: undefined functions: %s\n"
                 "  memcpy, memmove, memset and memcmp are provided; the folder must define every other function\n"
@@ -65,9 +67,9 @@ def check_names(path: str) -> None:
     print. Raises BuildError if a name has one."""
     data = Path(path).read_bytes()
     tables = (data[section.offset:section.offset + section.size] for section in sections_of(data) if section.kind == STRING_TABLE)
-    bad = next((name for table in tables for name in table.split(b"\0") if BAD_NAME.search(name)), None)
-    if bad is not None:
-        raise BuildError("error: the symbol '%s' has a control character; rename it" % visible(bad.decode("utf-8", "replace")))
+    bad_name = next((name for table in tables for name in table.split(b"\0") if BAD_NAME.search(name)), None)
+    if bad_name is not None:
+        raise BuildError("error: the symbol '%s' has a control character; rename it" % visible(bad_name.decode("utf-8", "replace")))
 
 
 def report_stacks(workshop: Workshop, path: str, least: int) -> None:
@@ -108,15 +110,15 @@ def install_file(path: str, data: bytes) -> None:
         raise BuildError("error: cannot write '%s': %s" % (visible(path), fault.strerror)) from None
 
 
-def install_outputs(workshop: Workshop, elf: str, kept: str) -> None:
-    """Writes symbols, listing and image into the folder, and the ELF file to `kept`. Strips the ELF file."""
+def install_outputs(workshop: Workshop, elf: str, elf_path: str) -> None:
+    """Writes symbols, listing and image into the folder, and the ELF file to `elf_path`. Strips the ELF file."""
     placed = [symbol for symbol in symbols_in(workshop.toolchain, elf, "-n") if symbol.kind != DEBUGGING and symbol.address]
     symbols = "".join("%s  %s\n" % (symbol.address, symbol.name) for symbol in placed)
     listing = output_of([*workshop.toolchain.disassemble, "-d", "-M", "no-aliases,numeric", elf])
     install_file(os.path.join(workshop.folder, "symbols"), symbols.encode("utf-8", "surrogateescape"))
     install_file(os.path.join(workshop.folder, "listing"), (symbols + "".join(listing_of(listing))).encode("utf-8", "surrogateescape"))
-    if kept:
-        install_file(kept, Path(elf).read_bytes())
+    if elf_path:
+        install_file(elf_path, Path(elf).read_bytes())
     output_of([*workshop.toolchain.object_copy, "--strip-all", elf])
     install_file(os.path.join(workshop.folder, "image"), digits_of(Path(elf).read_bytes()))
 

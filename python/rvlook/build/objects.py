@@ -11,7 +11,7 @@ from rvlook.build.toolchain import BuildError, Toolchain, output_of, printable, 
 from rvlook.escapes import visible
 
 C, CPP = (".c",), (".cpp", ".cc", ".cxx")  # endings of sources in C and in C++
-OF_CPP = ("-fno-exceptions", "-fno-rtti", "-fno-threadsafe-statics", "-fno-asynchronous-unwind-tables")  # what needs a runtime library
+OF_CPP = ("-fno-exceptions", "-fno-rtti", "-fno-threadsafe-statics", "-fno-asynchronous-unwind-tables")  # no features that need a library
 OF_C = ("-ffreestanding", "-fno-builtin", "-Wall", "-Wextra", "-Os", "-I")
 APART = ("-ffunction-sections", "-fdata-sections")  # so that the linker can drop a function that is not used
 NM_LINE = re.compile(r"([0-9a-f]{8,16}|-{8,16}|)\s+(\S) (.*)\Z")  # an address, dashes in bitcode, or nothing if it is undefined
@@ -37,9 +37,9 @@ class Workshop:
     toolchain: Toolchain  # the compiler and its tools
     folder: str  # the folder of the sources
     shared: str  # the shared folder
-    made: str  # a temporary folder for objects
+    objects_folder: str  # a temporary folder for objects
     cflags: Tuple[str, ...]  # the options of CFLAGS
-    listed: dict[str, Sequence[NamedSymbol]] = field(default_factory=dict)  # symbols of objects, by path
+    cached_symbols: dict[str, Sequence[NamedSymbol]] = field(default_factory=dict)  # symbols of objects, by path
 
     def compile(self, source: str, name: str, *options: str) -> str:
         """Compiles a source to the object of this name; returns its path. Prints the warnings of the compiler. Raises BuildError if the source is no
@@ -50,16 +50,16 @@ class Workshop:
         path = source if os.path.isabs(source) else "./" + source
         if not os.path.isfile(os.path.join(self.folder, source)):
             raise BuildError("error: '%s' is not a regular file" % visible(source))
-        target = os.path.join(self.made, name)
+        target = os.path.join(self.objects_folder, name)
         words = [*self.toolchain.compile, "-gdwarf-4"]
         is_compiled = source.endswith((*C, *CPP))
         if is_compiled:
             words += [*(OF_CPP if source.endswith(CPP) else ()), *OF_C, self.shared, *options, *self.cflags]
-        done = run([*words, "-c", "-o", target, path], self.folder if is_compiled else os.path.dirname(os.path.join(self.folder, source)))
-        if done.returncode:
-            raise BuildError(printable(done.stderr) or "error: '%s' cannot be compiled" % visible(source))
-        if done.stderr:
-            print(printable(done.stderr), file=sys.stderr, flush=True)
+        process = run([*words, "-c", "-o", target, path], self.folder if is_compiled else os.path.dirname(os.path.join(self.folder, source)))
+        if process.returncode:
+            raise BuildError(printable(process.stderr) or "error: '%s' cannot be compiled" % visible(source))
+        if process.stderr:
+            print(printable(process.stderr), file=sys.stderr, flush=True)
         return target
 
     def string_functions(self, objects: Sequence[str], name: str) -> list[str]:
@@ -77,18 +77,18 @@ class Workshop:
 
     def symbols(self, path: str) -> Sequence[NamedSymbol]:
         """Returns the global symbols of an object that does not change any more."""
-        if path not in self.listed:
-            self.listed[path] = symbols_in(self.toolchain, path, "-g")
-        return self.listed[path]
+        if path not in self.cached_symbols:
+            self.cached_symbols[path] = symbols_in(self.toolchain, path, "-g")
+        return self.cached_symbols[path]
 
     def copy_object(self, path: str, target: str, *options: str) -> None:
         """Writes an object with changed sections or symbols to `target`, which may be `path`."""
         output_of([*self.toolchain.object_copy, *options, path, target])
-        self.listed.pop(target, None)
+        self.cached_symbols.pop(target, None)
 
     def merge(self, objects: Sequence[str], name: str) -> str:
         """Joins objects to one of this name, and removes them; returns its path."""
-        target = os.path.join(self.made, name)
+        target = os.path.join(self.objects_folder, name)
         output_of([*self.toolchain.merge, "-o", target, *objects])
         for path in objects:
             os.unlink(path)

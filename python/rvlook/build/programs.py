@@ -51,7 +51,7 @@ def compile_monitor(workshop: Workshop, folder: str) -> None:
     objects = [workshop.compile(os.path.join(prefix, source), "monitor.%s.o" % source, "-O1") for source in sources_in(folder)]
     objects += workshop.string_functions(objects, "monitor.string.o")
     merged = workshop.merge(objects, "merged")
-    target = os.path.join(workshop.made, "monitor.o")
+    target = os.path.join(workshop.objects_folder, "monitor.o")
     workshop.copy_object(merged, target, "--prefix-alloc-sections=.monitor", "--keep-global-symbol=monitor_entry")
 
 

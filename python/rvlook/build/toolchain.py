@@ -66,10 +66,10 @@ def run(words: Sequence[str], folder: str | None = None) -> subprocess.Completed
 
 def output_of(words: Sequence[str]) -> str:
     """Returns what a program that must succeed prints. Raises BuildError with its errors."""
-    done = run(words)
-    if done.returncode:
-        raise BuildError(printable(done.stderr))
-    return done.stdout.decode("utf-8", "surrogateescape")
+    process = run(words)
+    if process.returncode:
+        raise BuildError(printable(process.stderr))
+    return process.stdout.decode("utf-8", "surrogateescape")
 
 
 def printable(data: bytes) -> str:

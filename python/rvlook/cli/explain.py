@@ -30,14 +30,14 @@ class Explained(NamedTuple):
 def replies_to(arguments: Sequence[str], data: bytes) -> list[str]:
     """Returns the lines that the bench writes for an input. Raises Unfinished if the bench cannot be run."""
     try:
-        done = subprocess.run([program_path(), *arguments], input=data, capture_output=True, check=False)
+        process = subprocess.run([program_path(), *arguments], input=data, capture_output=True, check=False)
     except OSError as error:
         raise Unfinished("cannot run '%s': %s" % (program_path(), error.strerror)) from None
-    return done.stdout.decode("latin-1").splitlines()
+    return process.stdout.decode("latin-1").splitlines()
 
 
 def explained(arguments: Sequence[str], data: bytes) -> list[Explained]:
-    """Returns all errors of an input, in order."""
+    """Returns all errors of an input, in order. `arguments` are those of rvbench; `data` is the input: an image, `--` and a script."""
     replies = replies_to(arguments, data)
     lines = lines_of(data.decode("latin-1"))
     last = replies[-1] if replies and replies[-1].startswith("rvbench: ") else None
@@ -93,7 +93,7 @@ def shown(text: str) -> str:
 
 
 def script_errors(lines: Iterable[tuple[int, str]], replies: Sequence[str], is_twin: bool) -> list[Explained]:
-    """Returns the lines of a script that have an error reply."""
+    """Returns the lines of a script, each with its number, that have an error reply. `is_twin`: the replies are those of two benches."""
     errors: list[Explained] = []
     index = 0
     for number, line in lines:
@@ -127,7 +127,7 @@ def marked_end(replies: Sequence[str], index: int) -> int:
 
 
 def end_of(tokens: Sequence[str], replies: Sequence[str], index: int) -> int:
-    """Returns the index after the reply to a command."""
+    """Returns the index after the reply to a command with these words, which begins at `index`."""
     if tokens[0] == "enclaves":
         return end_of_run(replies, index, "enclave ")
     if tokens[0] == "sched":

@@ -16,7 +16,7 @@ from rvlook.protocol import names
 from rvlook.protocol.inputs import ELF_MAGIC
 from rvlook.protocol.memory_map import MONITOR_END, RAM_BASE
 
-LEAST_SIZE = 4096
+LEAST_SIZE = 4096  # the least bytes of a region or window
 
 
 def region_bytes(path: str, data: bytes, base: int, size: int) -> bytes:
@@ -54,7 +54,7 @@ def measurement(record: Sequence[int], region: bytes) -> str:
 
 
 def is_valid(base: int, size: int) -> bool:
-    """Returns whether `create` accepts such a range."""
+    """Returns whether the size of a region or window is a power of two that `create` accepts, and its base a multiple of it, not below the RAM."""
     return size >= LEAST_SIZE and size & (size - 1) == 0 and base % size == 0 and base >= RAM_BASE
 
 

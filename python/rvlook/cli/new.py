@@ -16,7 +16,7 @@ EXAMPLES = ("../../examples", "../../../../share/rvbench/examples")  # the folde
 TEMPLATES = {"Makefile": "Makefile", "ci": "ci", "pytest.ini": "pytest.ini", "tasks.json": os.path.join(".vscode", "tasks.json"),
              "test_enclave.py": os.path.join("tests", "test_enclave.py")}
 SPECIAL = re.compile(r"""["'`$\\#\x00-\x1f\x7f]""")  # characters that make or a shell reads in another way
-START = os.path.join("enclaves", "hello")
+START = os.path.join("enclaves", "hello")  # the example whose sources a new folder gets
 
 
 def examples() -> str:
@@ -39,17 +39,17 @@ def perform(arguments: Namespace) -> None:
         raise RvlookError("the name of the folder is empty; name a new folder")
     if os.path.lexists(folder) and (not os.path.isdir(folder) or os.listdir(folder)):
         raise RvlookError("'%s' exists and is not empty; name a new folder" % folder)
-    was_there, folder_to_remove = os.path.isdir(folder), folder
+    was_there, has_failed = os.path.isdir(folder), False
     try:
         for target, template in files_of(source).items():
             os.makedirs(os.path.join(folder, os.path.dirname(target)), exist_ok=True)
             fill(template, os.path.join(folder, target), commands)
     except (OSError, ValueError) as fault:  # ValueError: a NUL in the name
-        folder_to_remove = ""
+        has_failed = True
         raise Unfinished("cannot write '%s': %s" % (folder, getattr(fault, "strerror", None) or fault)) from None
     finally:
-        if not folder_to_remove:
-            remove(folder, was_there)
+        if has_failed:
+            remove(folder, keeps_folder=was_there)
     Printer().line("made %s; next: cd %s && make run" % (folder, folder))
 
 
@@ -71,7 +71,7 @@ def fill(template: str, target: str, commands: dict[str, str]) -> None:
 
 
 def remove(folder: str, keeps_folder: bool) -> None:
-    """Removes what was written into a folder that was new or empty."""
+    """Removes all that is in a folder, which was new or empty; removes the folder too unless `keeps_folder`."""
     for entry in os.listdir(folder) if os.path.isdir(folder) else ():
         path = os.path.join(folder, entry)
         if os.path.isdir(path) and not os.path.islink(path):

@@ -68,7 +68,7 @@ def has_monitor(arguments: Namespace, image: Image, script: Iterable[ScriptLine]
 
 
 def run_from(arguments: Namespace, setup: Setup) -> Run:
-    """Returns the run. Reports the script lines that rvbench rejects; the exit status is then 2."""
+    """Returns the run of a setup. Reports the script lines that rvbench rejects as findings; the exit status is then 2."""
     run = run_of(setup)
     for line, reply in run.errors:
         arguments.findings.refuse(error_text(line, reply, run.setup.symbols))

@@ -53,7 +53,7 @@ def later(name: str) -> Callable[[Namespace], None]:
 
 
 def add_subcommand(subparsers: Any, name: str, about: str, *more: Callable[[ArgumentParser], object]) -> None:
-    """Adds a subcommand; each function of `more` adds options."""
+    """Adds a subcommand whose help begins with `about`; each function of `more` adds options to its parser."""
     parser = subparsers.add_parser(name, help=about, description=about + ".")
     for options in more:
         options(parser)
@@ -116,10 +116,10 @@ def complete() -> None:
 
 def with_secrets(parser: Parser, arguments: Sequence[str]) -> Namespace:
     """Parses the arguments of `leak`, whose two secrets may be anywhere after the image."""
-    parsed, rest = parser.parse_known_args(arguments)
-    if len(rest) > 2 or any(word.startswith("-") for word in rest):
-        parser.error("unrecognized arguments: %s" % " ".join(rest))
-    parsed.secrets = rest
+    parsed, unrecognized = parser.parse_known_args(arguments)
+    if len(unrecognized) > 2 or any(word.startswith("-") for word in unrecognized):
+        parser.error("unrecognized arguments: %s" % " ".join(unrecognized))
+    parsed.secrets = unrecognized
     return parsed
 
 

@@ -15,7 +15,6 @@ MOST_MEMORY = 1 << 28  # bytes more than before
 AGAIN = 1.0  # seconds after which the timer interrupts again, if Python dropped the exception in a finalizer
 PAGE = resource.getpagesize()
 LIMIT = "its symbols and debugging information take more than %d entries, %d seconds or %d MiB" % (MOST_ENTRIES, MOST_SECONDS, MOST_MEMORY >> 20)
-
 UNIT, UNIT_RANGE = 100, 10  # entries that a compilation unit and an address range of it count as, since each lookup of an address scans them
 
 

@@ -7,8 +7,8 @@ from typing import Callable, Iterable, Iterator
 
 from rvlook.errors import Unfinished
 
-WRITTEN = os.O_WRONLY | os.O_CREAT | os.O_EXCL | os.O_NOFOLLOW | os.O_CLOEXEC
-TRIES = 100
+WRITTEN = os.O_WRONLY | os.O_CREAT | os.O_EXCL | os.O_NOFOLLOW | os.O_CLOEXEC  # opens only a file that does not exist yet
+TRIES = 100  # random names that are tried for a temporary file
 
 
 @contextmanager

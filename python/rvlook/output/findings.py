@@ -33,7 +33,7 @@ class ReportedCases:
         self.cases.append(Case(name, finding, self.seconds()))
 
     def seconds(self) -> float:
-        """Returns the seconds since the last call, or since the start."""
+        """Returns the seconds since the last call of this method, or since this object was made."""
         before, self.since = self.since, time.monotonic()
         return self.since - before
 
@@ -48,7 +48,7 @@ class ReportedCases:
         self.cut = line
 
     def leave_open(self, line: str, is_distrusted: bool = False) -> None:
-        """Notes that a question has no answer, which the output says already. A result that is not to be trusted counts more than its findings."""
+        """Notes that a question has no answer, without a warning: the output says it already. If `is_distrusted`, the status ignores the findings."""
         self.cut, self.distrusted = line, is_distrusted
 
     def status(self, is_report: bool) -> int:

@@ -23,7 +23,7 @@ class ObjectWriter(Protocol):
     """A consumer of the objects of a run."""
 
     def object(self, __kind: str, **members: Json) -> None:
-        """Takes an object by its kind and its members."""
+        """Prints or stores an object of a kind, such as `step`, with its members."""
 
 
 class Style(Enum):

@@ -8,7 +8,7 @@ from typing import TextIO
 from rvlook.errors import MESSAGE_LISTS
 from rvlook.escapes import visible
 
-EVERY = 0.2  # seconds
+EVERY = 0.2  # the least seconds between two updates
 
 
 class Progress:
@@ -34,11 +34,11 @@ class Progress:
         self.stream.flush()
         self.width = len(line)
 
-    def bar(self, done: int, of: int, note: str) -> None:
-        """Shows how much of a known amount is done, and what was found."""
-        if self.is_shown and of:
-            filled = 30 * done // of
-            self.show("[%s%s] %d of %d  %s", "#" * filled, "." * (30 - filled), done, of, note)
+    def bar(self, done: int, total: int, note: str) -> None:
+        """Shows a bar for `done` of `total` tasks, and a note after it."""
+        if self.is_shown and total:
+            filled = 30 * done // total
+            self.show("[%s%s] %d of %d  %s", "#" * filled, "." * (30 - filled), done, total, note)
 
     def clear(self) -> None:
         """Removes the line."""

@@ -21,13 +21,13 @@ from rvlook.trace.text import ObjectTrace
 from rvlook.trace.tracer import Touch, TracedStep
 
 GRANULE = 16  # bytes; accessed memory is noted in units of this size, which bounds the memory for the notes
-KINDS = {"r": 0, "w": 1}
+KINDS = {"r": 0, "w": 1}  # the numbers of load and store
 ARRAY_TYPES = "BHI"  # type codes of arrays of unsigned numbers, in ascending order of their width
 COMMON = ("stdin", "image", "program.elf")  # names that do not identify a run
 MAP = ("enclaves", "columns", "rows")  # the members of an event that equal maps share
 REFUSED, NO_VALUE = 2, 4  # added to the kind of an access that trapped, and to that of an access without a value
 LEVEL = 4  # the level of zlib; level 6 takes twice the time, for 2 % fewer bytes
-BRANCH = re.compile(r"b|jal ")
+BRANCH = re.compile(r"b|jal ")  # the text of an instruction whose last operand is an offset from pc
 TOUCH = ("step", "address", "width", "kind", "name", "value")  # the columns for loads and stores; `name` is a number in the list of names
 SITE = ("word", "abi", "symbol", "function", "source", "caller")  # the fields of a site, after its pc
 
@@ -62,7 +62,7 @@ class NumberColumns:
 
 
 def compressed(data: Mapping[str, Any], columns: NumberColumns) -> str:
-    """Returns the data of a page and its columns as text."""
+    """Returns the data of a page and its columns as text: compressed by zlib, in base 64."""
     header = json.dumps(data, separators=(",", ":")).encode("utf-8")
     header += b" " * (-len(header) % 4)
     return base64.b64encode(zlib.compress(struct.pack("<I", len(header)) + header + bytes(columns.bytes), LEVEL)).decode("ascii")
@@ -71,7 +71,7 @@ def compressed(data: Mapping[str, Any], columns: NumberColumns) -> str:
 def refusal(step: TracedStep) -> str | None:
     """Returns the status with which the monitor refused a call, or None. It is in a0 if no other world continues."""
     assert step.call
-    status = int(step.changed[10], 16) if 10 in step.changed else next(iter(step.call.arguments.values()))
+    status = int(step.changed[10], 16) if 10 in step.changed else next(iter(step.call.arguments.values()))  # else a0 is unchanged
     return names.STATUSES.get(status) if step.next.world == step.at.world else None
 
 
@@ -124,9 +124,9 @@ class Collector:
         """Adds an event. Equal maps are stored once."""
         self.rows += len(record["rows"])
         self.boundaries.update(row["first"] for row in record["rows"])
-        shown = json.dumps({name: record[name] for name in MAP})
-        rest = {name: value for name, value in record.items() if name not in MAP}
-        self.events.append({**rest, "map": self.maps[shown]})
+        map_text = json.dumps({name: record[name] for name in MAP})
+        other_members = {name: value for name, value in record.items() if name not in MAP}
+        self.events.append({**other_members, "map": self.maps[map_text]})
 
     def step(self, step: TracedStep) -> None:
         """Adds a step: its numbers in the tables, its changed registers, its call of the monitor and its access."""

@@ -23,7 +23,7 @@ from rvlook.trace.tracer import RunTracer, TracedStep
 FOLDER = os.path.dirname(os.path.abspath(__file__))
 STYLES = ("page.css",)
 SCRIPTS = ("data.js", "chart.js", "marks.js", "panel.js", "stack.js", "find.js", "keys.js")
-JOINED = 1024  # touched places nearer than that are one segment
+JOINED = 1024  # bytes; accessed granules that are at most so far apart are in one segment
 
 
 def page_template() -> Any:
@@ -78,8 +78,8 @@ def collected(run: Run, symbols: Symbols) -> Collector:
     for item in RunTracer(run).events():
         if isinstance(item, TracedStep):
             collector.step(item)
-            for of, line in lines_of(item, consoles) if consoles else ():
-                writer.console(item.number, of, line)
+            for console_writer, line in lines_of(item, consoles) if consoles else ():
+                writer.console(item.number, console_writer, line)
         elif isinstance(item, End):
             writer.end(item)
         else:
@@ -110,17 +110,17 @@ def segments_of(collector: Collector) -> list[dict[str, Any]]:
 
 
 def unmapped(first: int, end: int) -> dict[str, Any]:
-    """Returns a segment without memory that was accessed."""
+    """Returns a segment of addresses outside the RAM, where the run has tried to access memory."""
     return {"first": "%08x" % first, "last": "%08x" % (end - 1), "range": "%08x" % first, "open": True, "outside": True, "labels": []}
 
 
 def parts_of_range(first: int, end: int, touched: Sequence[int]) -> Iterator[tuple[int, int, bool]]:
     """Yields the parts of a range: first address, end, and whether it is accessed."""
-    start, at = first, 0
-    while at < len(touched):
-        low = high = touched[at]
-        while at < len(touched) and touched[at] - high <= JOINED:
-            high, at = touched[at], at + 1
+    start, index = first, 0
+    while index < len(touched):
+        low = high = touched[index]
+        while index < len(touched) and touched[index] - high <= JOINED:
+            high, index = touched[index], index + 1
         high = min(high + GRANULE, end)
         if low > start:
             yield start, low, False

@@ -16,7 +16,7 @@ ENDINGS = (".c", ".h", ".s", ".S", ".asm", ".inc", ".cc", ".cpp", ".cxx", ".C", 
 
 
 def roots_of(folders: Sequence[str]) -> list[str]:
-    """Returns the folders of `--sources`, without symbolic links."""
+    """Returns the paths of the folders of `--sources`, with symbolic links resolved. Raises RvlookError if one is no folder."""
     for folder in folders:
         if not os.path.isdir(folder):
             raise RvlookError("--sources: no directory '%s'" % folder)

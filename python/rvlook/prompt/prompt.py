@@ -21,16 +21,15 @@ from rvlook.protocol.run import HALTED_AFTER, Run, equal_at_end
 from rvlook.protocol.symbols import Symbols
 from rvlook.protocol.timeline import MOST_STEPS, Timeline
 
-CHUNK = 2048  # steps that are searched at once
-UNTIL = ("switch", "trap", "below")
-IN_M = "mode=M"
-LONGEST_COUNT = 18  # digits of the operand of `back`
-PLACES = (Form.address, Form.value)
+CHUNK = 2048  # steps that `until` searches in one exchange
+UNTIL = ("switch", "trap", "below")  # the operands of `until`
+IN_M = "mode=M"  # a part of the reply to a step after which the hart is in M
+LONGEST_COUNT = 18  # the most digits of the operand of `back`
+PLACES = (Form.address, Form.value)  # the forms of operands that may be symbols
 
-OWN = {
+OWN = {  # the commands of the prompt itself, with their help
     "until": "until switch | trap | below: run to the next world switch, trap, or return from M to S or U, at most 1000000 steps",
-    "back": "back [N]: go back N steps (default 1), by a replay from reset",
-    "map": "map: show the current access rights and the enclaves",
+    "back": "back [N]: go back N steps (default 1), by a replay from reset", "map": "map: show the current access rights and the enclaves",
     "where": "where: show the next instruction, its symbol and its source line", "help": "help: show this list",
     "quit": "quit: leave the prompt; so does the end of the input"}
 LONGEST_INPUT = 1 << 16  # characters of a line; a longer one is read in parts
@@ -51,14 +50,14 @@ class TimelineKeeper:
         self.timeline = timeline  # the present one
 
     def go(self, position: int) -> None:
-        """Goes back to a step. Keeps breaks and watches."""
-        old, self.timeline = self.timeline, self.timeline.again(position)
-        self.timeline.set_stops(old.stops)
-        old.close()
+        """Goes back to the state after a step. The breakpoints and watchpoints stay set."""
+        old_timeline, self.timeline = self.timeline, self.timeline.again(position)
+        self.timeline.set_stops(old_timeline.stops)
+        old_timeline.close()
 
 
 class PromptSession:
-    """The session of a prompt. Its keeper has the timeline."""
+    """The session of a prompt. `keeper` owns its timeline, and replaces the timeline if the user goes back."""
 
     def __init__(self, keeper: Keeper, run: Run, symbols: Symbols, printer: Printer) -> None:
         # `finder`: reads access rights
@@ -109,7 +108,7 @@ class PromptSession:
         self.printer.line(self.printer.styled(text, style) if style else text)
 
     def command(self, line: str) -> None:
-        """Runs a command of the bench."""
+        """Runs a command of the bench, and prints its reply. After steps also prints console output and the next instruction."""
         replies = self.timeline.do(line)
         for reply in replies:
             self.print(reply, Style.bad if reply.startswith("error ") else None)
@@ -126,15 +125,15 @@ class PromptSession:
                 self.print("%s console: %s" % (console.writer, line))
 
     def refused(self, reply: str, tokens: Sequence[str]) -> None:
-        """Prints the meaning of an error, and what to write instead."""
+        """Prints the meaning of an error reply to a command with these words, and what to write instead."""
         meaning, suggestion = line_error(reply, tokens)
         unknown = self.unknown_symbol(tokens) if reply == "error operand" else None
         if unknown:
-            near = nearest(unknown, self.symbols.by_name)
+            similar = nearest(unknown, self.symbols.by_name)
             meaning = "no symbol '%s'%s" % (unknown, "" if self.symbols else ": no symbols are loaded")
             suggestion = None if self.symbols else "an ELF file, or --symbols FILE"
-            if near:
-                suggestion = " ".join(near if token == unknown else token for token in tokens)
+            if similar:
+                suggestion = " ".join(similar if token == unknown else token for token in tokens)
         self.print("  " + meaning)
         if suggestion:
             self.print("  try: " + suggestion)
@@ -165,9 +164,10 @@ class PromptSession:
 
     def map(self) -> None:
         """Prints the present access rights."""
-        pc, now = self.pc, self.timeline
-        self.finder.state = self.finder.state_of(now, now.worlds)
-        event = self.finder.event(now.position, now.hart, Cause("now"), Location(pc, now.modes[now.hart], now.worlds[now.hart]))
+        pc, timeline = self.pc, self.timeline
+        self.finder.state = self.finder.state_of(timeline, timeline.worlds)
+        location = Location(pc, timeline.modes[timeline.hart], timeline.worlds[timeline.hart])
+        event = self.finder.event(timeline.position, timeline.hart, Cause("now"), location)
         print_event(self.printer, event, self.symbols)
 
     def back(self, count: str = "1") -> None:
@@ -199,7 +199,7 @@ class PromptSession:
             self.command("step %d" % count)
 
     def end_of(self, what: str) -> Callable[[str, str], bool]:
-        """Returns the test for the replies of the step before the one at which `until` ends, and of that step."""
+        """Returns the test whether `until` ends at a step, from the replies to the step before it and to it."""
         if what == "below":
             return lambda before, after: IN_M in before and IN_M not in after
         usual = "trap=-" if what == "trap" else "world=%s " % self.timeline.worlds[self.hart]
@@ -221,11 +221,11 @@ def steps_to(ahead: Timeline, is_end: Callable[[str, str], bool]) -> int | None:
     """Returns the number of steps to the first step that a test accepts by its reply and the reply before it. Returns None if the test accepts no
     step, or if the hart does nothing more."""
     before = "mode=%s" % ahead.modes[ahead.hart]
-    for done in range(0, MOST_STEPS, CHUNK):
+    for first_step in range(0, MOST_STEPS, CHUNK):
         lines = ahead.bench.block(b"step 1\n" * CHUNK, CHUNK).decode().splitlines()
         steps = next((n for n, replies in enumerate(zip([before, *lines], lines), 1) if is_end(*replies)), None)
         if steps:
-            return done + steps
+            return first_step + steps
         if equal_at_end(lines) >= HALTED_AFTER:
             return None
         before = lines[-1]
@@ -233,7 +233,7 @@ def steps_to(ahead: Timeline, is_end: Callable[[str, str], bool]) -> int | None:
 
 
 def completions(session: PromptSession, tokens: Sequence[str]) -> Sequence[str]:
-    """Returns the completions of the last word."""
+    """Returns the completions of the last of the words of a line; all commands if it is the first word."""
     if len(tokens) <= 1:
         return sorted([*COMMANDS, *OWN])
     if tokens[0] == "until":
@@ -290,7 +290,7 @@ def terminal_lines(session: PromptSession) -> Iterator[str]:
 
 
 def bytes_text(line: str) -> str:
-    """Returns a line of standard input as the text of ISO 8859-1 that has its bytes, without the line feed."""
+    """Returns a line of standard input, without its line feed, in the form of `bench_line`: a character of ISO 8859-1 for each byte."""
     data = line.encode(sys.stdin.encoding or "utf-8", "surrogateescape")
     return next(iter(lines_of(data.decode("latin-1"))), "")
 

@@ -14,7 +14,6 @@ from rvlook.protocol.memory_map import RAM_BASE
 
 ADDRESSES = 1 << 32
 ALL = ((0, ADDRESSES),)  # the ranges of a unit that does not say which addresses it has
-
 Row = Tuple[int, Optional[str]]  # an address, and the source line from there on, or None at the end of a sequence
 Inlined = Tuple[int, int, str]  # the first and the last address of an inlined call, and the source line of the call
 UNSIZED = 4096  # bytes that a symbol without a size has at most
