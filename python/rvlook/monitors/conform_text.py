@@ -82,8 +82,7 @@ class Conformance:
 
 
 def find_conform(files: MonitorFiles, plan: ScriptPlan, compared: Callable[[ConformOutcome], None] = lambda it: None) -> Conformance:
-    """Compares the monitors, calls `compared` with the outcome, and then shrinks the script that shows a difference, if there is one. Raises
-    RvlookError for an invalid file, or if the plan selects no script."""
+    """Compares the monitors, calls `compared`, and shrinks the script with a difference. Raises RvlookError for an invalid file or no script."""
     placement_of(files.memory, files.ram, LEAST_RAM)  # refuses an invalid --memory or --ram before any file is read
     setup, symbols = files.setup()
     outcome = compare(setup, plan)

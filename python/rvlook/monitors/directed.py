@@ -15,8 +15,8 @@ from rvlook.protocol.memory_map import MONITOR_END, RAM_BASE
 from rvlook.protocol.names import CSRS, KEY
 from rvlook.protocol.replies import Enclave
 
-PAGE = 0x1000
-HOST = MONITOR_END
+PAGE = 0x1000  # bytes of the smallest region or window
+HOST = MONITOR_END  # the address at which the host begins
 HOST_HANDLER, HANDLER = HOST + 0x800, 0x800  # stvec of the host, and of an enclave, from its base on
 WINDOW, OTHER_WINDOW = 0x80012000, 0x80013000  # two windows
 FIRST, SECOND, THIRD = 0x80014000, 0x80018000, 0x8001C000  # bases of three regions
@@ -28,25 +28,25 @@ FAULTS = (("illegal instruction", 0), ("ebreak", EBREAK), ("mret", MRET), ("csrr
 HOST_SIZE = 16 * PAGE  # bytes that the host has before the first large block
 CORNER_VALUES = (0, 1, 0x7F, 0x80, 0x7FFF, 0x8000, 0x7FFFFFFF, 0x80000000, 0x80000001, 0xFFFF0000, MASK, RAM_BASE + PAGE, HOST, FIRST)
 MANY_CREATES, MANY_CALLS = 260, 1030  # more than eight bits count, and more than ten
-VALID_CREATE = {"a0": FIRST, "a1": PAGE, "a2": WINDOW, "a3": PAGE, "a4": FIRST}
-ODD_SIZE = 0x1800
+VALID_CREATE = {"a0": FIRST, "a1": PAGE, "a2": WINDOW, "a3": PAGE, "a4": FIRST}  # base and size of region and window, and entry
+ODD_SIZE = 0x1800  # no power of two, which the size of a region or window must be
 INVALID_SLOTS = (1, 12, 13, 14, 16, 32, 64, 0x80000000, MASK, 0x100, 0x10000000)
 BOUNDARY_OFFSETS = (-33, -32, -31, -30, -16, -2, -1, 0, 1, 31)  # bytes around a boundary, for the 32 bytes of a measurement
 ITEM_WEIGHTS = {"call": 50, "access": 16, "csr": 8, "registers": 5, "sret": 4, "fault": 6, "timer": 6, "jump": 5}  # the weights of the kinds of items
 CSRS_SET = ("sscratch", "sepc", "scause", "stval", "sstatus", "sie", "sip", "satp", "scounteren")
-STATES = {"run": ("Fresh",), "resume": ("Stopped",)}
-ANY_STATE = ("Fresh", "Stopped", "Exited")
+STATES = {"run": ("Fresh",), "resume": ("Stopped",)}  # the states of an enclave for which a call is valid
+ANY_STATE = ("Fresh", "Stopped", "Exited")  # the same for other calls
 RANDOM_CALLS = ("create", "create", "run", "run", "resume", "resume", "resume", "destroy", "measure", "odd")
-MAX_ENCLAVES = 13
+MAX_ENCLAVES = 13  # the number of slots
 
 
 def host() -> list[Item]:
-    """Returns items that give the host values of its own."""
+    """Returns items that give the registers of the host values of its own."""
     return set_up(HOST, "host")
 
 
 def set_up(base: int, name: str) -> list[Item]:
-    """Returns items that give the host, or an enclave that was just entered, values of its own, and a handler in its memory from `base` on."""
+    """Returns items that give the running world register values that `name` determines, and a trap handler (stvec) in its memory from `base` on."""
     return [*set_supervisor(name, base + HANDLER), set_registers(name)]
 
 
@@ -57,13 +57,13 @@ def create0() -> Item:
 
 def directed_scripts(ram: int) -> Iterator[tuple[str, list[Item]]]:
     """Yields the name and the items of each script, for a RAM of this many bytes."""
-    end = RAM_BASE + ram
+    ram_end = RAM_BASE + ram
     yield "reset", [nop(), nop()]
     yield "three creates", [*host(), poke(FIRST, bytes(range(256)) * 16), create0(), create(SECOND, PAGE),
                             create(THIRD, PAGE, WINDOW, PAGE, THIRD + 0xFFC)]
     for scripts in (life_scripts, user_scripts, measured_scripts, slot_scripts, window_scripts, interrupt_scripts, exception_scripts, access_scripts):
         yield from scripts()
-    yield from size_scripts(end)
+    yield from size_scripts(ram_end)
 
 
 def life_scripts() -> Iterator[tuple[str, list[Item]]]:
@@ -111,11 +111,11 @@ def measured_scripts() -> Iterator[tuple[str, list[Item]]]:
 
 def slot_scripts() -> Iterator[tuple[str, list[Item]]]:
     """Yields scripts with thirteen enclaves."""
-    full = [create(0x80014000 + n * PAGE, PAGE, WINDOW, PAGE) for n in range(13)]
+    creates = [create(0x80014000 + n * PAGE, PAGE, WINDOW, PAGE) for n in range(13)]
     yield "thirteen enclaves, some of them run", [
-        *host(), *full[:12], run(6), *set_up(0x8001A000, "s"), stop(1), run(2), leave(2), run(8), timer(is_on=True), nop(), full[12], run(6),
-        resume(6), nop(), stop(3), run(2), resume(8), leave(1), destroy(2), full[2]]
-    yield "thirteen enclaves", [*host(), *full, run(12), *set_up(0x80020000, "t"), stop(1), run(3), stop(2), destroy(12), destroy(5), destroy(2),
+        *host(), *creates[:12], run(6), *set_up(0x8001A000, "s"), stop(1), run(2), leave(2), run(8), timer(is_on=True), nop(), creates[12], run(6),
+        resume(6), nop(), stop(3), run(2), resume(8), leave(1), destroy(2), creates[2]]
+    yield "thirteen enclaves", [*host(), *creates, run(12), *set_up(0x80020000, "t"), stop(1), run(3), stop(2), destroy(12), destroy(5), destroy(2),
                                 create(0x80016000, PAGE), create(0x80019000, PAGE), create(0x80020000, PAGE), resume(3), leave(1)]
 
 
@@ -171,10 +171,10 @@ def access_scripts() -> Iterator[tuple[str, list[Item]]]:
     yield "accesses of the host after destroy", [*host(), create0(), destroy(0), *accesses]
 
 
-def size_scripts(end: int) -> Iterator[tuple[str, list[Item]]]:
+def size_scripts(ram_end: int) -> Iterator[tuple[str, list[Item]]]:
     """Yields scripts with large regions, whose last bytes are zeroed by destroy."""
     for base, size in ((SECOND, 2 * PAGE), (SECOND, 4 * PAGE), (WIDE, 8 * PAGE)):
-        if base + size <= end:
+        if base + size <= ram_end:
             yield "region of %x bytes" % size, [*host(), poke(base + size - 16, b"\x77" * 16), poke(base, b"\x66" * 16), create(base, size),
                                                 run(0), leave(0), destroy(0)]
 
@@ -195,17 +195,17 @@ def large_scripts(ram: int) -> Iterator[tuple[str, list[Item]]]:
 
 
 def accesses(base: int, size: int) -> list[Item]:
-    """Returns loads and stores at both ends and in the middle of a block."""
+    """Returns loads and stores right before and right after the beginning, the middle and the end of a block."""
     return [item for at in (base, base + size // 2, base + size) for item in (load_at(at - 4), store_at(at - 4), load_at(at), store_at(at))]
 
 
 def misaligned(base: int, size: int, end: int) -> list[int]:
-    """Returns addresses in RAM that are not a multiple of a size."""
+    """Returns addresses near a block at which another block of this size is in RAM, but not at a multiple of its size."""
     return [at for at in (base + PAGE, base + size // 2, base + 4, base - size // 2, base - PAGE) if MONITOR_END <= at and at + size <= end]
 
 
 def large_region_scripts(base: int, size: int, end: int) -> Iterator[tuple[str, list[Item]]]:
-    """Yields the scripts with a region of a size."""
+    """Yields the scripts with a region of `size` bytes from `base` on. `end` is the end of the RAM."""
     ends = accesses(base, size)
     yield "block: region of %x bytes" % size, [
         *host(), poke(base + size // 2, b"\x55" * 16), poke(base + size - 16, b"\x77" * 16), poke(base, b"\x66" * 16),
@@ -231,7 +231,7 @@ def large_region_scripts(base: int, size: int, end: int) -> Iterator[tuple[str, 
 
 
 def large_window_scripts(base: int, size: int, end: int) -> Iterator[tuple[str, list[Item]]]:
-    """Yields the scripts with a window of a size."""
+    """Yields the scripts with a window of `size` bytes from `base` on. `end` is the end of the RAM."""
     ends = accesses(base, size)
     yield "block: window of %x bytes" % size, [
         *host(), create(FIRST, PAGE, base, size), run(0), *set_up(FIRST, "w"), *ends, measure(base + size - 32), measure(base + size - 31), stop(0),
@@ -241,7 +241,7 @@ def large_window_scripts(base: int, size: int, end: int) -> Iterator[tuple[str, 
 
 
 def blocks_apart(size: int) -> list[Item]:
-    """Returns a script with blocks whose addresses differ by a size."""
+    """Returns a script with regions and windows at addresses that differ by `size` bytes."""
     lower, upper = HOST + HOST_SIZE, HOST + HOST_SIZE + size
     return [*host(), create(lower, PAGE), create(upper, PAGE), create(upper + PAGE, PAGE, lower + PAGE, PAGE),
             create(upper + PAGE, PAGE, lower, PAGE), run(0), stop(0), run(1), stop(1), run(2), stop(2)]
@@ -269,16 +269,16 @@ def long_scripts() -> Iterator[tuple[str, list[Item]]]:
 
 def refusal_scripts(ram: int) -> Iterator[tuple[str, list[Item]]]:
     """Yields the name and the items of each script, for a RAM of this many bytes."""
-    end = RAM_BASE + ram
-    yield from create_refusals(end)
+    ram_end = RAM_BASE + ram
+    yield from create_refusals(ram_end)
     yield from number_scripts()
     yield from state_scripts()
-    yield from measure_scripts(end)
-    yield from boundary_scripts(end)
+    yield from measure_scripts(ram_end)
+    yield from boundary_scripts(ram_end)
 
 
 def bad_create(at: int, *refusals: str) -> Item:
-    """Returns a create in a region at an address that has several errors at once."""
+    """Returns a create of a region at an address whose arguments have the errors for which the monitor gives these refusals."""
     arguments = {**VALID_CREATE, "a0": at, "a4": at}
     if "Overlap" in refusals:
         arguments.update(a2=at, a3=PAGE)
@@ -291,27 +291,28 @@ def bad_create(at: int, *refusals: str) -> Item:
     return call(1, **arguments)
 
 
-def create_refusals(end: int) -> Iterator[tuple[str, list[Item]]]:
+def create_refusals(ram_end: int) -> Iterator[tuple[str, list[Item]]]:
     """Yields scripts with each refusal of create, alone, with each later one, and with thirteen live enclaves."""
     names = ("BadRegion", "BadWindow", "Overlap", "BadEntry")
     yield "create, each refusal", [*host(), *(item for name in names for item in (bad_create(FIRST, name), destroy(0)))]
     pairs = [bad_create(FIRST, earlier, later) for n, earlier in enumerate(names) for later in names[n + 1:]]
     yield "create, two refusals at once", [*host(), *(item for pair in pairs for item in (pair, destroy(0)))]
-    full = [create(0x80014000 + n * PAGE, PAGE) for n in range(13)]
-    late = [bad_create(end - PAGE, name) for name in names]
-    yield "create, each refusal before NoSlot", [*host(), *full, *late]
-    yield "create, NoSlot", [*host(), *full, create(end - PAGE, PAGE), destroy(7), create(end - PAGE, PAGE), create(end - 2 * PAGE, PAGE)]
+    creates = [create(0x80014000 + n * PAGE, PAGE) for n in range(13)]
+    refused = [bad_create(ram_end - PAGE, name) for name in names]
+    yield "create, each refusal before NoSlot", [*host(), *creates, *refused]
+    last = create(ram_end - PAGE, PAGE)
+    yield "create, NoSlot", [*host(), *creates, last, destroy(7), last, create(ram_end - 2 * PAGE, PAGE)]
     yield "create, window of size 0", [*host(), call(1, **{**VALID_CREATE, "a2": 0xDEADBEEF, "a3": 0}), run(0), stop(1)]
 
 
 def number_scripts() -> Iterator[tuple[str, list[Item]]]:
-    """Yields scripts with other values of a7 and a6, and with calls of the other world."""
+    """Yields scripts with wrong values of a7 (the key) and a6 (the number of the call), and with calls that only the other world may make."""
     yield "a7", [*host(), *(call(1, key, **VALID_CREATE) for key in (0, KEY - 1, KEY | 0x80000000)), call(1, 8, **VALID_CREATE)]
     yield "a6", [*host(), *(call(number, **VALID_CREATE) for number in (0, 8, 9, 0x101, 0x80000001, MASK, 0x10001))]
     yield "a7 of a call with a bad slot", [*host(), *(call(number, 0, a0=13, a1=0) for number in (2, 3, 4, 5))]
-    yield "calls of the other world", [
-        *host(), call(6, a0=1), call(7, a0=1), create0(), call(6, a0=0), call(7, a0=0), run(0),
-        *(call(number, **VALID_CREATE) for number in (0, 1, 2, 3, 4, 8, MASK)), create(SECOND, PAGE), destroy(0), call(6, 0, a0=1), leave(0)]
+    calls_of_host = [*(call(number, **VALID_CREATE) for number in (0, 1, 2, 3, 4, 8, MASK)), create(SECOND, PAGE), destroy(0)]
+    yield "calls of the other world", [*host(), call(6, a0=1), call(7, a0=1), create0(), call(6, a0=0), call(7, a0=0), run(0), *calls_of_host,
+                                       call(6, 0, a0=1), leave(0)]
 
 
 def state_scripts() -> Iterator[tuple[str, list[Item]]]:
@@ -319,8 +320,8 @@ def state_scripts() -> Iterator[tuple[str, list[Item]]]:
     states: tuple[tuple[str, list[Item]], ...] = (
         ("that does not exist", []), ("that is Fresh", [create0()]), ("that is Stopped", [create0(), run(0), stop(1)]),
         ("that is Exited", [create0(), run(0), leave(1)]), ("that was interrupted", [create0(), run(0), timer(is_on=True), nop()]))
-    for name, before in states:
-        items = [item for ask in (run(0), resume(0), destroy(0), measure(WINDOW)) for item in (*before, ask, nop(), leave(9), destroy(0))]
+    for name, setup in states:
+        items = [item for request in (run(0), resume(0), destroy(0), measure(WINDOW)) for item in (*setup, request, nop(), leave(9), destroy(0))]
         yield "each call of an enclave " + name, [*host(), *items]
     for number in (2, 3, 4):
         yield "slots of call %d" % number, [*host(), create0(), run(0), stop(1), *(call(number, a0=slot) for slot in INVALID_SLOTS)]
@@ -328,9 +329,9 @@ def state_scripts() -> Iterator[tuple[str, list[Item]]]:
     yield "NoEnclave before BadAddress", [*host(), measure(0, 0), measure(0, 13), create0(), measure(0, 1), measure(0, 0)]
 
 
-def measure_scripts(end: int) -> Iterator[tuple[str, list[Item]]]:
+def measure_scripts(ram_end: int) -> Iterator[tuple[str, list[Item]]]:
     """Yields scripts that store the 32 bytes of a measurement around each boundary."""
-    places = (FIRST, FIRST + PAGE, end, MONITOR_END, 1 << 32, 0, WINDOW, WINDOW + PAGE)
+    places = (FIRST, FIRST + PAGE, ram_end, MONITOR_END, 1 << 32, 0, WINDOW, WINDOW + PAGE)
     addresses = [at + n & MASK for at in places for n in BOUNDARY_OFFSETS]
     yield "measure by the host", [*host(), create0(), *(measure(at) for at in addresses)]
     yield "measure by the enclave", [*host(), create0(), run(0), *set_up(FIRST, "m"), *(measure(at, 0xFFFF) for at in addresses), leave(0)]
@@ -343,17 +344,18 @@ def measure_scripts(end: int) -> Iterator[tuple[str, list[Item]]]:
         measure(FIRST + PAGE)]
 
 
-def boundary_scripts(end: int) -> Iterator[tuple[str, list[Item]]]:
+def boundary_scripts(ram_end: int) -> Iterator[tuple[str, list[Item]]]:
     """Yields scripts with regions, windows and entries at the boundaries of what create accepts."""
     blocks = [(FIRST, n) for n in (0, 1, 4, 8, 0x800, 0xFFF, 0x1001, 0x3000, 0x8000, 0x20000, 0x80000000, MASK)]
     blocks += [(FIRST + n, PAGE) for n in (1, 4, 0x800)]
-    blocks += [(at, PAGE) for at in (0, 0x7FFFF000, RAM_BASE, 0x8000F000, HOST, end - PAGE, end, 0xFFFFF000)]
-    blocks += [(end - 2 * PAGE, 2 * PAGE), (end - PAGE, 2 * PAGE), (RAM_BASE, 0x10000), (RAM_BASE, 0x20000), (0, RAM_BASE), (RAM_BASE, RAM_BASE)]
-    after = [run(0), stop(1), destroy(0)]
-    yield "regions", [*host(), *(item for base, size in blocks for item in (create(base, size, WINDOW, PAGE), *after))]
-    yield "windows", [*host(), *(item for base, size in blocks for item in (create(THIRD, PAGE, base, size), *after))]
+    blocks += [(at, PAGE) for at in (0, 0x7FFFF000, RAM_BASE, 0x8000F000, HOST, ram_end - PAGE, ram_end, 0xFFFFF000)]
+    blocks += [(ram_end - 2 * PAGE, 2 * PAGE), (ram_end - PAGE, 2 * PAGE)]
+    blocks += [(RAM_BASE, 0x10000), (RAM_BASE, 0x20000), (0, RAM_BASE), (RAM_BASE, RAM_BASE)]
+    uses = [run(0), stop(1), destroy(0)]
+    yield "regions", [*host(), *(item for base, size in blocks for item in (create(base, size, WINDOW, PAGE), *uses))]
+    yield "windows", [*host(), *(item for base, size in blocks for item in (create(THIRD, PAGE, base, size), *uses))]
     offsets = (-4, -1, 0, 1, 2, 3, 4, PAGE - 4, PAGE - 2, PAGE, -FIRST, MASK - FIRST)
-    yield "entries", [*host(), *(item for n in offsets for item in (create(FIRST, PAGE, WINDOW, PAGE, FIRST + n), *after))]
+    yield "entries", [*host(), *(item for n in offsets for item in (create(FIRST, PAGE, WINDOW, PAGE, FIRST + n), *uses))]
 
 
 class ReferenceState(NamedTuple):
@@ -407,7 +409,7 @@ class RandomScript:
         return self.draw.choice(boundaries)
 
     def block_base(self, size: int) -> int:
-        """Returns a base in RAM for a block of a size."""
+        """Returns a random base in RAM for a block of `size` bytes, a multiple of its size."""
         return (MONITOR_END + self.draw.randrange(2, (self.end - MONITOR_END) // PAGE) * PAGE) & -size
 
     def call(self, state: ReferenceState) -> list[Item]:
@@ -422,7 +424,7 @@ class RandomScript:
         return self.random_create(state) if kind == "create" else self.slot_call(state, kind)
 
     def slot_call(self, state: ReferenceState, kind: str) -> list[Item]:
-        """Returns a call of the host that names a slot."""
+        """Returns a call of the host, of a kind in RANDOM_CALLS without `create`, that names a slot; often one for which the call is valid."""
         draw = self.draw
         slots = [enclave.slot for enclave in state.table if enclave.state in STATES.get(kind, ANY_STATE)]
         slot = draw.choice(slots) if slots and draw.random() < .8 else draw.choice((0, 1, 2, 3, 12, 13, MASK, draw.getrandbits(32)))
@@ -441,7 +443,7 @@ class RandomScript:
         size, window_size = draw.choice((PAGE, PAGE, PAGE, 2 * PAGE, 4 * PAGE)), draw.choice((0, PAGE, PAGE, 2 * PAGE))
         base, window = self.block_base(size), self.block_base(window_size) if window_size else draw.getrandbits(32)
         entry = base + draw.choice((0, 0, 0, 4, size - 4))
-        if draw.random() < .12:
+        if draw.random() < .12:  # from here on, replaces values by ones that are often invalid
             base = draw.choice((self.boundary(state), 0, self.end - size, 0xFFFFF000, base + 4))
         if draw.random() < .12:
             window = self.boundary(state)

@@ -4,8 +4,8 @@ from __future__ import annotations
 from rvlook.protocol.names import CSRS
 
 ECALL, EBREAK, MRET, SRET, NOP = 0x73, 0x100073, 0x30200073, 0x10200073, 0x13  # instructions
-BACK = 0xFFDFF06F  # jal zero, -4
-WORD = 2  # the width of a load or store of four bytes, as funct3
+BACK = 0xFFDFF06F  # jal zero, -4: a jump to the instruction before
+WORD = 2  # the field funct3 of a load or store of four bytes: the logarithm of its width
 BRANCH, LOAD, STORE, SYSTEM = 0x63, 0x03, 0x23, 0x73  # opcodes
 JAL, JALR, AUIPC = 0x6F, 0x67, 0x17  # opcodes
 READ_SET = (2, 3, 6, 7)  # funct3 of csrrs and csrrc, which write nothing if rs1 is x0

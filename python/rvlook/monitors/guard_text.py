@@ -127,7 +127,7 @@ def report(printer: Printer, symbols: Symbols, violation: Violation) -> None:
 
 
 def show_unexecuted(printer: Printer, symbols: Symbols, code: MonitorBlocks, unexecuted_blocks: Sequence[Block]) -> None:
-    """Shows blocks that were not executed: as objects, or a line for each function."""
+    """Shows how many instructions of the monitor were executed, and the blocks that were not: as objects, or in a line for each function."""
     if printer.as_json:
         for first, end in joined(unexecuted_blocks):
             printer.object("unexecuted", first=hex8(first), last=hex8(end - 4), function=symbols.function(first), line=symbols.source(first))
@@ -143,7 +143,7 @@ def show_unexecuted(printer: Printer, symbols: Symbols, code: MonitorBlocks, une
 
 
 def joined(ranges: Iterable[tuple[int, int]]) -> list[tuple[int, int]]:
-    """Joins adjacent ones of sorted ranges, each its first address or number and its end."""
+    """Joins the adjacent ranges among sorted ranges. Each range is its first address, or line number, and its end."""
     joined_ranges: list[tuple[int, int]] = []
     for first, end in ranges:
         if joined_ranges and joined_ranges[-1][1] == first:
@@ -164,7 +164,7 @@ def lines_of(symbols: Symbols, code: MonitorBlocks, unexecuted_blocks: Sequence[
 
 
 def places_of(symbols: Symbols, blocks: Sequence[Block]) -> str:
-    """Returns the source lines of blocks. Returns the address of a block that has no source line."""
+    """Returns the source lines of blocks as a text, by file; and the addresses of blocks that have no source line."""
     lines_of_blocks = [{source for at in range(block.first, block.end, 4) for source in [symbols.source(at)] if source} for block in blocks]
     sources = sorted({place_of(member) for members in lines_of_blocks for member in members})
     texts = ["%s:%s" % (file, ranges_text([number for _, number in members])) for file, members in groupby(sources, lambda it: it[0])]

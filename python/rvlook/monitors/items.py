@@ -9,19 +9,19 @@ from typing import NamedTuple
 from rvlook.monitors.encodings import ECALL, NOP, SRET, csrr, csrw, jump, load, store
 from rvlook.protocol.names import CSRS, KEY, NUMBERED, Call
 
-MASK = 0xFFFFFFFF
+MASK = 0xFFFFFFFF  # a word with all bits set
 SSTATUS_VALUES = (0x100, 0x20, 2, 0x80000, 0, 0x122, 0x80122)  # values of sstatus with each of SIE, SPIE, SPP and MXR
 T0, T1, T2 = 5, 6, 7  # registers that the instructions of the items use
 
 
 class Item(NamedTuple):
     """One item of a script. The parts are done in the order of the fields `data`, `registers`, `word`, `line` and `steps`."""
-    text: str  # describes the item
+    text: str  # the description of the item in a report
     word: int | None = None  # instruction that is poked at pc; None: the instruction there stays
     registers: tuple[tuple[int, int], ...] = ()  # number and value of each register that is set
     line: str = ""  # the new value of the timer line, on or off; empty: unchanged
     data: tuple[tuple[int, bytes], ...] = ()  # address and bytes that are poked
-    steps: int = 1  # 0 or 1
+    steps: int = 1  # single steps that are done at the end: 0 or 1
 
     @property
     def call_number(self) -> int | None:
@@ -52,17 +52,17 @@ destroy, run, resume, stop, leave = (partial(call_with, call) for call in (Call.
 
 
 def measure(address: int, slot: int = 0) -> Item:
-    """Returns a measure that stores at an address."""
+    """Returns a measure: the monitor stores the measurement of the enclave in a slot at an address."""
     return call(Call.measure, a0=slot, a1=address)
 
 
 def instruction(text: str, word: int, **registers: int) -> Item:
-    """Returns an instruction; the registers have the names x1 to x31."""
+    """Returns an item that executes an encoded instruction, after it has set `registers`, whose names are x1 to x31."""
     return Item(text, word, tuple((int(name[1:]), value & MASK) for name, value in registers.items()))
 
 
 def set_csr(name: str, value: int) -> Item:
-    """Returns a write of a control and status register by csrw."""
+    """Returns an item that writes a value to a control and status register by csrw, from t0."""
     return instruction("csrw %s, %x" % (name, value), csrw(CSRS[name], T0), x5=value)
 
 
@@ -72,17 +72,17 @@ def get_csr(name: str) -> Item:
 
 
 def load_at(address: int, target: int = T2, width: int = 2) -> Item:
-    """Returns a load of 1 << width bytes."""
+    """Returns a load of 1 << width bytes from an address, which t1 gets, into the register with number `target`."""
     return instruction("load %d bytes at %x" % (1 << width, address & MASK), load(target, T1, width), x6=address)
 
 
 def store_at(address: int, source: int = T2, width: int = 2) -> Item:
-    """Returns a store of 1 << width bytes."""
+    """Returns a store of 1 << width bytes of the register with number `source` to an address, which t1 gets."""
     return instruction("store %d bytes at %x" % (1 << width, address & MASK), store(source, T1, width), x6=address)
 
 
 def jump_to(address: int) -> Item:
-    """Returns a jump."""
+    """Returns a jump to an address, which t0 gets."""
     return instruction("jump to %x" % (address & MASK), jump(T0), x5=address)
 
 
@@ -97,7 +97,7 @@ def nop() -> Item:
 
 
 def ecall_from_user(number: int) -> Item:
-    """Returns an ecall that looks like a call of the monitor; U makes it."""
+    """Returns an ecall with the registers of a call of the monitor, for U, whose ecalls are no calls of the monitor."""
     return instruction("ecall, a6=%x" % number, ECALL, x17=KEY, x16=number)
 
 

@@ -41,7 +41,7 @@ def refuse_overlap(spans: list[tuple[int, int, str]]) -> None:
 
 
 def header_of(image: Image, count: int) -> bytes:
-    """Returns the header of an ELF file with a number of segments after it, and without sections."""
+    """Returns the header of an ELF file, changed so that `count` program headers follow it, and so that it has no sections."""
     header = bytearray((image.data or b"")[:HEADER])
     struct.pack_into("<I", header, AT_SEGMENTS, HEADER)
     struct.pack_into("<HH", header, AT_SIZES, SEGMENT.size, count)

@@ -10,8 +10,8 @@ from rvlook.monitors.items import Item
 from rvlook.protocol.memory_map import MONITOR_END, RAM_BASE
 from rvlook.protocol.replies import Enclave
 
-STEP = 0x10000  # the ends of a placement are multiples of it
-ADDRESS = re.compile(r"\b[0-9a-f]{8}\b")
+STEP = 0x10000  # bytes; the first byte and the end of a placement are multiples of it
+ADDRESS = re.compile(r"\b[0-9a-f]{8}\b")  # finds the addresses in the text of an item
 RANGE = re.compile(r"([0-9a-f]{1,8})-([0-9a-f]{1,8})\Z", re.I)
 
 
@@ -45,7 +45,7 @@ class Placement(NamedTuple):
         return value - self.offset if self.host <= value <= self.end else value
 
     def item(self, item: Item) -> Item:
-        """Moves an item."""
+        """Returns an item of a script with its addresses moved: in its registers, its bytes and its text."""
         if not self.offset:
             return item
         text = ADDRESS.sub(lambda match: "%08x" % self.address(int(match[0], 16)), item.text)
@@ -53,7 +53,7 @@ class Placement(NamedTuple):
                              data=tuple((self.address(at), data) for at, data in item.data))
 
     def enclave_before(self, enclave: Enclave) -> Enclave:
-        """Returns an entry of the enclave table as a script has it."""
+        """Returns an entry of the enclave table with the addresses that they have in a script, before they are moved."""
         base, window, entry = map(self.address_before, (enclave.base, enclave.window, enclave.entry))
         return enclave._replace(base=base, window=window, entry=entry)
 

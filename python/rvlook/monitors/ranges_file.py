@@ -17,8 +17,8 @@ RANGE = re.compile(r"([0-9a-fA-F]{1,8})-([0-9a-fA-F]{1,8})\Z")
 LETTERS = re.compile(r"[r-][w-][x-]\Z")
 CONDITION = re.compile(r"([^=!<>]+)(=|!=|<|>=)([0-9a-fA-F]{1,8})\Z")
 COMPARISONS: dict[str, Callable[[int, int], bool]] = {"=": eq, "!=": ne, "<": lt, ">=": ge}
-MOST_ELEMENTS = 1024
-MALFORMED = (ValueError, KeyError, IndexError)
+MOST_ELEMENTS = 1024  # the most elements of a table
+MALFORMED = (ValueError, KeyError, IndexError)  # the exceptions that the readers of a malformed line raise
 
 
 def ownership_of(path: str, symbols: Symbols) -> Ownership:
@@ -40,7 +40,7 @@ def ownership_of(path: str, symbols: Symbols) -> Ownership:
 
 
 def add_line(ownership: Ownership, words: list[str], symbols: Symbols) -> None:
-    """Adds a line. Raises one of MALFORMED."""
+    """Adds what a line of these words declares. Raises one of MALFORMED if the line is malformed."""
     end_of_words = words.index(WHILE) if WHILE in words else len(words)
     is_timed, words, conditions = WHILE in words, words[:end_of_words], words[end_of_words + 1:]
     if is_timed != bool(conditions) or not words:
@@ -60,12 +60,12 @@ def add_line(ownership: Ownership, words: list[str], symbols: Symbols) -> None:
 
 
 def condition_of(text: str, symbols: Symbols | None) -> WordCondition:
-    """Returns a condition; without symbols its place is an offset. Raises ValueError if the text is malformed."""
+    """Reads a condition. Without symbols its place is an offset in the element of a table. Raises ValueError if the text is malformed."""
     match = CONDITION.match(text)
     if not match:
         raise ValueError
     if match[1] == CALLS:
-        return WordCondition(None, COMPARISONS[match[2]], int(match[3]))
+        return WordCondition(at=None, compare=COMPARISONS[match[2]], value=int(match[3]))
     return WordCondition(int(match[1], 16) if symbols is None else address_of(match[1], symbols), COMPARISONS[match[2]], int(match[3], 16))
 
 
@@ -84,7 +84,7 @@ def range_of(words: list[str], when: tuple[WordCondition, ...]) -> OwnedRange:
     may = sharers.pop() if sharers and LETTERS.match(sharers[-1]) else ALL
     if not match or not owner or bool(sharers) != (owner == SHARED) or int(match[1], 16) > int(match[2], 16):
         raise ValueError
-    return OwnedRange(int(match[1], 16), int(match[2], 16) + 1, owner, may, tuple(sharers), bool(when), when)
+    return OwnedRange(int(match[1], 16), int(match[2], 16) + 1, owner, may, tuple(sharers), is_timed=bool(when), when=when)
 
 
 def secret_of(words: list[str], symbols: Symbols) -> OwnedRange:

@@ -172,8 +172,7 @@ class TwinRuns:
             return self.result("only one of two runs has another return from M" if is_different else "", one.steps)
 
     def at_return(self, tracks: tuple[Track, Track], one: StayInM, other: StayInM) -> TwinResult | None:
-        """Returns the result if the two runs differ at a return from M, else None. If an owner of the secret continues, nothing is compared:
-        the owner gets the state of the first run in both runs."""
+        """Returns the result if the runs differ at a return from M, else None. If an owner of the secret continues, it gets the first run's state."""
         steps = tracks[0].machine.steps
         self.inverted += [range_ for range_ in tracks[1].inverted if range_ not in self.inverted]
         self.changes += bool(tracks[1].inverted)
