@@ -11,7 +11,7 @@ from rvlook.cli.new import examples
 from rvlook.errors import RvlookError
 
 PathLike = Union[str, "os.PathLike[str]"]
-LEFT_OUT = shutil.ignore_patterns(".*", "__pycache__", "tests", "*.elf")
+LEFT_OUT = shutil.ignore_patterns(".*", "__pycache__", "tests", "*.elf")  # the entries of a folder that are not copied
 
 
 def build(folder: PathLike, target: PathLike, monitor: Union[PathLike, None] = None) -> str:
@@ -22,11 +22,11 @@ def build(folder: PathLike, target: PathLike, monitor: Union[PathLike, None] = N
         options = ["--with-monitor", os.path.realpath(monitor)] if monitor is not None else []
         try:
             command = [os.path.join(examples(), "build"), *options, copy_of(source, copies), os.fspath(target)]
-            done = subprocess.run(command, capture_output=True, text=True, errors="replace", check=False)
+            process = subprocess.run(command, capture_output=True, text=True, errors="replace", check=False)
         except OSError as fault:
             raise RvlookError("cannot build '%s': %s" % (folder, fault)) from None
-    if done.returncode:
-        raise RvlookError("cannot build '%s': %s" % (folder, done.stderr.strip()))
+    if process.returncode:
+        raise RvlookError("cannot build '%s': %s" % (folder, process.stderr.strip()))
     return os.fspath(target)
 
 

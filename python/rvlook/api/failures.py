@@ -12,8 +12,8 @@ from rvlook.api.views import View
 from rvlook.output.printer import counted
 from rvlook.protocol.bench_line import lines_of
 
-SHOWN = 8  # bytes of a member that differs
-CONSOLE_LINES = 3
+SHOWN = 8  # bytes that are shown of a member that differs, from the first different one on
+CONSOLE_LINES = 3  # the last lines of the console that are shown
 COMMANDS = ("# rvbench ", "# ./rvbench ")  # the beginning of the line of a script with its command
 
 
@@ -42,14 +42,14 @@ def difference(view: View, name: str, wanted: Any) -> List[str]:
     rows = ["  %s: %r; expected: %r" % (name, actual, wanted)]
     if isinstance(actual, bytes) and isinstance(wanted, bytes):
         first = next((n for n, pair in enumerate(zip(actual, wanted)) if pair[0] != pair[1]), min(len(actual), len(wanted)))
-        rows = ["  %s, from byte %d on: %s; expected: %s" % (name, first, part(actual, first), part(wanted, first))]
+        rows = ["  %s, from byte %d on: %s; expected: %s" % (name, first, hex_digits(actual, first), hex_digits(wanted, first))]
         address += first
     writer = view._memory.writer_of(address) if isinstance(view._memory, Machine) else None
     return rows + (["    last stored by " + writer] if writer else [])
 
 
-def part(data: bytes, first: int) -> str:
-    """Returns the first bytes of a difference in hexadecimal digits."""
+def hex_digits(data: bytes, first: int) -> str:
+    """Returns at most SHOWN bytes of some data, from index `first` on, in hexadecimal digits."""
     return data[first:first + SHOWN].hex() + ("..." if len(data) > first + SHOWN else "")
 
 

@@ -12,9 +12,9 @@ from rvlook.protocol.nearest import nearest
 from rvlook.protocol.symbols import Symbols
 
 PlaceLike = Union[int, str]  # an address; or a name as docs/TESTS.md, Places, has it
-UNTYPED = Type("bytes", 0)
-LINE = re.compile(r"(?P<file>[^:+]+\.\w+):(?P<number>\d+)")
-PART = re.compile(r"\.(\w+)|\[(\d+)\]")
+UNTYPED = Type("bytes", 0)  # the type of a place whose type is unknown
+LINE = re.compile(r"(?P<file>[^:+]+\.\w+):(?P<number>\d+)")  # a source line, such as `host.c:12`
+PART = re.compile(r"\.(\w+)|\[(\d+)\]")  # a member or an element, such as `.status` or `[1]`
 
 
 @dataclass(frozen=True)
@@ -52,20 +52,20 @@ class Places:
             return Place(where, inlined[0], inlined=inlined[1:])
         address = self.symbols.address(where)
         if address is None:
-            near = nearest(where, [*self.types.variables, *self.types.inlined, *self.symbols.by_name])
-            raise SymbolError("no symbol '%s'; did you mean '%s'?" % (where, near) if near else no_symbol(where, self.symbols))
+            similar = nearest(where, [*self.types.variables, *self.types.inlined, *self.symbols.by_name])
+            raise SymbolError("no symbol '%s'; did you mean '%s'?" % (where, similar) if similar else no_symbol(where, self.symbols))
         symbol = self.symbols.by_name.get(where)
         return Place(where, address, symbol.size if symbol else 0, inlined=inlined)
 
     def of_variable(self, path: str) -> Optional[Place]:
         """Returns the place of a variable, or of a member or an element of one, such as `left.status` and `answers[1]`. Returns None if the name
         is not that of a variable. Raises SymbolError if the variable has no such member or element."""
-        head = re.split(r"[.\[]", path, maxsplit=1)[0]
-        rest = path[len(head):]
-        if head not in self.types.variables or PART.sub("", rest):
+        name = re.split(r"[.\[]", path, maxsplit=1)[0]
+        suffixes = path[len(name):]
+        if name not in self.types.variables or PART.sub("", suffixes):
             return None
-        address, kind = self.types.variables[head]
-        for member, index in PART.findall(rest):
+        address, kind = self.types.variables[name]
+        for member, index in PART.findall(suffixes):
             offset, kind = kind.member(member) if member else element_of(kind, int(index), path)
             address += offset
         return Place(path, address, kind.size, kind)

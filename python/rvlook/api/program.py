@@ -24,7 +24,7 @@ from rvlook.protocol.run import Run, Setup, run_of
 from rvlook.protocol.schedule import LONGEST, alternating, random_schedule
 
 SEED = "seed "  # the prefix of a random schedule
-RAM = 1 << 20  # bytes
+RAM = 1 << 20  # the default size of the RAM in bytes
 STEPS = 1000000  # the number of steps of a run that a finder examines
 
 
@@ -130,7 +130,8 @@ def load(image: Union[str, os.PathLike[str]], *, monitor: Optional[bool] = None,
     data = image_of(os.fspath(image))
     names = symbols_from(symbols, data)
     lines = resolved_script(data.script + script_of(script), names)
-    setup = Setup(data, lines, bool(reason_for_monitor(data, lines)) if monitor is None else monitor, ram, "auto", harts, steps, "", names)
+    has_monitor = bool(reason_for_monitor(data, lines)) if monitor is None else monitor
+    setup = Setup(data, lines, has_monitor, ram, kind="auto", harts=harts, limit=steps, symbols=names)
     if harts > 1 and not setup.monitor:
         raise RvlookError("two harts require the monitor of rvbench; load the program with monitor=True")
     if boot:

@@ -15,7 +15,7 @@ from rvlook.protocol.symbols import Symbols
 
 LEFT = ("exited", "stopped", "interrupted")  # how the enclave left, by a0 of the host
 COLOURS = {"---": "#eee", "rwx": "#9d9", "rw-": "#bdf"}  # the colours of access rights in a notebook
-OTHER_COLOUR = "#fd9"
+OTHER_COLOUR = "#fd9"  # of all other access rights
 
 
 class NotReached(RvlookError):
@@ -84,8 +84,7 @@ def interrupted() -> CallResult:
 
 
 def refused(why: str) -> CallResult:
-    """Returns the answer of a monitor that refuses a call with this status (docs/MONITOR.md), such as `refused("BadState")`. Raises ValueError for
-    another name."""
+    """Returns the answer of a monitor that refuses a call with a status such as `BadState` (docs/MONITOR.md). Raises ValueError for other names."""
     if why not in names.STATUSES.values():
         raise ValueError("no status '%s'; the statuses are %s" % (why, ", ".join(names.STATUSES.values())))
     return CallResult("refused", why)

@@ -26,28 +26,28 @@ def writer_of(setup: Setup, past: Sequence[Action], address: int) -> Optional[st
 
 
 def accesses(setup: Setup, past: Iterable[Action], address: int) -> List[Access]:
-    """Returns the accesses to a byte, in the order of the run."""
+    """Repeats the run with a watchpoint; returns the accesses to the byte at an address, in the order of the run."""
     accesses: List[Access] = []
-    with Timeline(setup) as again:
-        again.do("watch %x" % address)
+    with Timeline(setup) as replay:
+        replay.do("watch %x" % address)
         for action in past:
             if isinstance(action, ScheduledSteps):
-                accesses += [(step, False) for step in watched_steps(again, action)]
+                accesses += [(step, False) for step in watched_steps(replay, action)]
             else:
-                again.do_all([*action.chosen, action.text])
+                replay.do_all([*action.chosen, action.text])
                 if action.text.startswith("poke") and int(action.text.split()[1], 16) == address:
-                    accesses.append((again.position, True))
+                    accesses.append((replay.position, True))
     return accesses
 
 
-def watched_steps(again: Timeline, steps: ScheduledSteps) -> Iterator[int]:
+def watched_steps(replay: Timeline, steps: ScheduledSteps) -> Iterator[int]:
     """Repeats steps; yields the number of each one that accesses the watched byte."""
     for hart, count in steps.by_hart():
         while count:
-            ran = again.run(hart, count)
+            ran = replay.run(hart, count)
             count -= ran.steps
             if ran.why.startswith("watch"):
-                yield again.position
+                yield replay.position
 
 
 def store_at(setup: Setup, past: Iterable[Action], step: int) -> Optional[str]:
@@ -55,8 +55,8 @@ def store_at(setup: Setup, past: Iterable[Action], step: int) -> Optional[str]:
     before = tuple(actions_between(past, -1, step - 1))
     hart = next((action.last for action in actions_between(past, step - 1, step) if isinstance(action, ScheduledSteps)), 0)
     with Timeline(setup, before, hart) as timeline:
-        pc = timeline.ask("regs")[0][32][3:]
-        done = instruction_of(timeline.ask("dis " + pc)[0][0].encode())
-        if done is None or done.memory is None or done.memory.kind != "w":
+        pc = timeline.ask("regs")[0][32][3:]  # the line after x0 to x31 is `pc=ADDRESS`
+        instruction = instruction_of(timeline.ask("dis " + pc)[0][0].encode())
+        if instruction is None or instruction.memory is None or instruction.memory.kind != "w":
             return None
-        return "%s at %s, step %d, in %s" % (done.abi, place_text(pc, setup.symbols), step, timeline.worlds[hart])
+        return "%s at %s, step %d, in %s" % (instruction.abi, place_text(pc, setup.symbols), step, timeline.worlds[hart])

@@ -159,34 +159,34 @@ class TwinRuns:
     def compare(self) -> TwinResult:
         """Does both runs from return to return; ends them at the first difference, or when a run has no next return."""
         with self.machine() as one, self.machine() as other:
-            tracks = Track(one, self.ownership, self.limit), Track(other, self.ownership, self.limit)
-            stays = tracks[0].next_return(), tracks[1].next_return()
-            if stays[0]:
+            first, second = tracks = Track(one, self.ownership, self.limit), Track(other, self.ownership, self.limit)
+            stay, other_stay = first.next_return(), second.next_return()
+            if stay:
                 self.invert(tracks, self.secret.ranges)
-            while stays[0] and stays[1]:
-                result = self.at_return(tracks, stays[0], stays[1])
+            while stay and other_stay:
+                result = self.at_return(tracks, stay, other_stay)
                 if result:
                     return result
-                stays = tracks[0].next_return(), tracks[1].next_return(self.secret.world)
-            is_different = stays[0] is not stays[1] and tracks[0].world not in self.secret.owners
+                stay, other_stay = first.next_return(), second.next_return(self.secret.world)
+            is_different = stay is not other_stay and first.world not in self.secret.owners
             return self.result("only one of two runs has another return from M" if is_different else "", one.steps)
 
     def at_return(self, tracks: tuple[Track, Track], one: StayInM, other: StayInM) -> TwinResult | None:
         """Returns the result if the runs differ at a return from M, else None. If an owner of the secret continues, it gets the first run's state."""
-        steps = tracks[0].machine.steps
-        self.inverted += [range_ for range_ in tracks[1].inverted if range_ not in self.inverted]
-        self.changes += bool(tracks[1].inverted)
-        if tracks[0].world in self.secret.owners and tracks[1].world == tracks[0].world:
+        first, second = tracks
+        self.inverted += [range_ for range_ in second.inverted if range_ not in self.inverted]
+        self.changes += bool(second.inverted)
+        if first.world in self.secret.owners and second.world == first.world:
             if (one.exit.pc, one.exit.mode) != (other.exit.pc, other.exit.mode):
-                places = tracks[0].world, one.exit.pc, other.exit.pc
-                return self.result("", steps, why_cut="%s then continues at %08x in one run, and at %08x in the other" % places)
+                places = first.world, one.exit.pc, other.exit.pc
+                return self.result("", first.machine.steps, why_cut="%s then continues at %08x in one run, and at %08x in the other" % places)
             self.restore(tracks, one, other)
             return None
-        self.inverted = [range_ for range_ in self.inverted if range_ in tracks[0].closed or range_ in self.secret.ranges]
+        self.inverted = [range_ for range_ in self.inverted if range_ in first.closed or range_ in self.secret.ranges]
         self.returns += 1
         text = state_difference(one, other) or memory_difference(tracks, self.inverted)
-        self.invert(tracks, [range_ for range_ in tracks[0].closed if range_.owner in self.secret.owners and range_ not in self.inverted])
-        return self.result(text, steps, one.entry.pc) if text else None
+        self.invert(tracks, [range_ for range_ in first.closed if range_.owner in self.secret.owners and range_ not in self.inverted])
+        return self.result(text, first.machine.steps, one.entry.pc) if text else None
 
     def invert(self, tracks: tuple[Track, Track], ranges: list[OwnedRange] | tuple[OwnedRange, ...]) -> None:
         """Writes into ranges of the second run the inverted bytes of the first run."""

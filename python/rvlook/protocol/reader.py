@@ -112,7 +112,7 @@ class Reader(Closing, Generic[Item]):
         return reads_of(asked, values)
 
     def registers(self, replay: Timeline, stretch: Stretch) -> Reads[Item]:
-        """Reads the registers of the steps of a stretch whose instructions are known."""
+        """Reads the registers of the steps of a stretch from a replay. The instructions of the stretch are known: they are in its `lines`."""
         asked = self.asked(stretch, stretch.lines)
         if not asked.text:
             return reads_of(asked, ())
@@ -129,18 +129,18 @@ class Reader(Closing, Generic[Item]):
         """Returns the probes of the steps of a stretch. `listing` lists its instructions; it is empty if they are known for each step."""
         probes = {line: probe for line in set(lines) for probe in (self.probe(line, bool(listing)),) if probe}
         indices = [n for n, line in enumerate(lines) if line in probes]
-        asking = [lines[n] for n in indices]
-        fields: Iterator[list[Any]] = (
-            list(map({line: probe[n] for line, probe in probes.items()}.__getitem__, asking)) for n in range(len(Probe._fields)))
+        lines_with_probe = [lines[n] for n in indices]
+        fields: Iterator[list[Any]] = (  # a column for each field of Probe
+            list(map({line: probe[n] for line, probe in probes.items()}.__getitem__, lines_with_probe)) for n in range(len(Probe._fields)))
         questions, counts, is_after, stores, skipped, items = fields
         starts = list(accumulate(counts, initial=0))
         calls = calls_in(stretch) if self.run.setup.monitor and listing else []
-        positions, texts = list(map(add, indices, is_after)), questions
-        for n in calls:
-            at = bisect(positions, n + 1)
-            positions.insert(at, n + 1)
-            texts.insert(at, listing)
-        steps = map(step_command, map(sub, [*positions, stretch.count], [0, *positions]))
+        positions, texts = list(map(add, indices, is_after)), questions  # the steps before each text, and the texts that are sent there
+        for n in calls:  # lists the instructions right after the step of the call
+            index = bisect(positions, n + 1)
+            positions.insert(index, n + 1)
+            texts.insert(index, listing)
+        steps = map(step_command, map(sub, [*positions, stretch.count], [0, *positions]))  # the steps between the texts
         text = b"".join(chain.from_iterable(zip(steps, [*texts, b""]))) if listing or starts[-1] else b""
         return Asked(lines, indices, starts, stores, skipped, items, calls, text)
 

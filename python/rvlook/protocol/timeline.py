@@ -190,7 +190,7 @@ class Timeline(Closing):
         if block.count("trap=") > block.count("trap=-"):
             self.moved = [position + 1 for position in self.moved]
         replies, harts_without_step = block.splitlines(), set(range(self.setup.harts))
-        while unread and harts_without_step:
+        while unread and harts_without_step:  # from the last command back
             (line, hart), count = unread.pop(), counts.pop()
             reply, replies = replies[-count:], replies[:-count]
             if line.startswith(("step", "sched")):
