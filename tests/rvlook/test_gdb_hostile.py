@@ -198,8 +198,8 @@ def test_monitor_of_lldb_acts_on_the_hart_that_halted_and_advises_for_lldb(bench
 def test_impatient_debugger_is_shown_that_there_is_still_work(monkeypatch):
     import select
     from rvlook.gdb import link as gdb_link
-    monkeypatch.setattr(gdb_link, "PATIENCE", 0.1)
-    monkeypatch.setattr(gdb_link, "OFTEN", 0.05)
+    monkeypatch.setattr(gdb_link, "SECONDS_TO_DOT", 0.1)
+    monkeypatch.setattr(gdb_link, "SECONDS_BETWEEN_CHECKS", 0.05)
     reading, writing = os.pipe()
     out, sink = os.pipe()
     with gdb_link.Link(reading, sink).watched(is_impatient=True):

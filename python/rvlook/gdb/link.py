@@ -18,7 +18,7 @@ INTERRUPT = b"\x03"
 BEFORE_PACKET = re.compile(rb"[+\-\x03]*")  # acknowledgements and Ctrl-C
 HUNG_UP = select.POLLHUP | select.POLLERR | getattr(select, "POLLRDHUP", 0)
 SECONDS_BETWEEN_CHECKS = 0.2  # seconds between two checks whether the debugger has disconnected
-SECONDS_TO_SIGN = 2  # seconds after which a waiting debugger gets a sign of life; lldb waits five for a reply
+SECONDS_TO_DOT = 2  # seconds after which a waiting debugger gets a sign of life; lldb waits five for a reply
 
 
 class Gone(Exception):
@@ -78,7 +78,7 @@ class Link:
 
     @contextlib.contextmanager
     def watched(self, is_impatient: bool = False) -> Iterator[None]:
-        """Raises Gone in the body of the `with` if the connection ends. If `is_impatient`, shows a dot every SECONDS_TO_SIGN to the debugger."""
+        """Raises Gone in the body of the `with` if the connection ends. If `is_impatient`, shows a dot every SECONDS_TO_DOT to the debugger."""
         def raise_gone(*_: object) -> NoReturn:
             """Raises Gone."""
             raise Gone
@@ -103,7 +103,7 @@ class Link:
                 assert main is not None
                 signal.pthread_kill(main, signal.SIGUSR1)
                 return
-            if is_impatient and time.monotonic() > last_shown + SECONDS_TO_SIGN:
+            if is_impatient and time.monotonic() > last_shown + SECONDS_TO_DOT:
                 self.send("O" + hex_of("."))
                 last_shown = time.monotonic()
 
