@@ -208,7 +208,7 @@ class Stepper(Closing):
                 batch = list(islice(self.turns, LONG_BATCH))
                 rans = runs_of(ahead, batch)
                 before_stop = next((n for n, ran in enumerate(rans) if ran.why != "done" or int(ran.pc, 16) in places), len(batch))
-                before_stop = before_stop if steps_done + sum(ran.steps for ran in rans) <= most else 0
+                before_stop = before_stop if steps_done + sum(ran.steps for ran in rans) <= most else 0  # turns of the batch before the stop
                 self.turns = chain(batch[before_stop:], self.turns)
                 self.step_by("".join(str(hart) * steps for hart, steps in batch[:before_stop]))
                 steps_done += sum(ran.steps for ran in rans[:before_stop])

@@ -17,7 +17,7 @@ from rvlook.protocol.schedule import TURN, alternating, random_schedule
 from rvlook.protocol.symbols import Symbols
 
 Options = TypeVar("Options")
-MOVING = (["step"], ["run"], ["sched"], ["hart"])  # commands of a script that sets the order of the harts itself
+MOVING = (["step"], ["run"], ["sched"], ["hart"])  # the first words of lines of a script that sets the order of the harts itself
 
 
 def setup_of(arguments: Namespace) -> Setup:

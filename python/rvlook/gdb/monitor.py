@@ -50,7 +50,7 @@ class Monitor:
     def line(self, text: str) -> str:
         """Runs a line of `monitor`; returns its output. The notes of `page` go to standard error."""
         out, moves = io.StringIO(), self.moves
-        before, had_command = (moves.timeline, moves.timeline.changes), moves.timeline.has_command
+        old_state, had_command = (moves.timeline, moves.timeline.changes), moves.timeline.has_command
         errors = contextlib.nullcontext() if "page" in tokens_of(text)[:2] else contextlib.redirect_stderr(out)
         with contextlib.redirect_stdout(out), errors, moves.link.watched(moves.stops_after_watch):
             try:
@@ -59,9 +59,9 @@ class Monitor:
                 out.write(visible(str(fault)) + "\n")
             except SystemExit:
                 pass  # after the help of a subcommand
-        if before != (moves.timeline, moves.timeline.changes):
+        if old_state != (moves.timeline, moves.timeline.changes):
             moves.discard(moves.timeline.position)
-            if had_command and moves.timeline is before[0] and not moves.timeline.has_command:
+            if had_command and moves.timeline is old_state[0] and not moves.timeline.has_command:
                 out.write(DISCARDED % moves.timeline.position + "\n")
             out.write("" if self.refreshes else STALE_IN_LLDB if moves.stops_after_watch else STALE)
         return out.getvalue()

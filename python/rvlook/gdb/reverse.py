@@ -6,7 +6,7 @@ from typing import Any, Iterable, Iterator, Sequence
 
 from rvlook.gdb.lookahead import blocks_of, by_turns, judged, query_steps, steps_of
 from rvlook.gdb.moves import Moves
-from rvlook.gdb.stops import INTERRUPTED, Halt
+from rvlook.gdb.stops import INTERRUPTED, PC, Halt
 from rvlook.protocol.replies import Ran
 from rvlook.protocol.timeline import MOST_STEPS, Action, ScheduledSteps, Timeline, actions_between
 
@@ -87,7 +87,7 @@ class Back:
                 moves.link.show(halt.message)
             return halt
         moves.go(0)
-        at_break = present and moves.stops.is_break(moves.timeline, moves.view.registers(hart)[32])
+        at_break = present and moves.stops.is_break(moves.timeline, moves.view.registers(hart)[PC])  # a breakpoint at the first instruction
         return Halt(hart, "" if at_break else AT_RESET)
 
     def cached_before(self, present: int) -> list[tuple[int, Halt]]:

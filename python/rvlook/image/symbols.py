@@ -155,9 +155,9 @@ def named(file: Any) -> Iterator[Symbol]:
         length += len(name)
         if length > MOST_NAMED:
             raise BudgetExceeded
-        kind, is_global = entry.info % 16, entry.info // 16 == GLOBAL
+        kind, is_global = entry.info % 16, entry.info // 16 == GLOBAL  # the low four bits are the type, the others the binding
         if not name.startswith(("$", ".L")) and entry.section in sections and kind in (*PREFERRED, LABEL):
-            rank = 0 if kind in PREFERRED else 1 if is_global else 2
+            rank = 0 if kind in PREFERRED else 1 if is_global else 2  # of several symbols at an address, the lowest rank names it
             yield Symbol(entry.value, entry.size, visible(name), kind == FUNCTION, rank)
         elif entry.section == ABSOLUTE and kind == LABEL:
             yield Symbol(entry.value, 0, visible(name), is_function=False, rank=3)

@@ -170,8 +170,8 @@ class Guarded(MonitorBench):
                          values[REGISTER_LINES - 1])
 
     def to_return(self, cause: str, entry: HartState, watched: Sequence[int] = ()) -> StayInM:
-        """Runs M up to its mret to S or U, which is the next instruction then. Traps in M may come before, from which M must return. Notes which
-        of the watched bytes M loads. Raises NewVector if M traps to an address that has no breakpoint."""
+        """Runs M up to its mret to S or U, and stops before it. M must return from traps in M that come before. Notes which of the watched bytes M
+        loads; `watched` has their addresses. Raises NewVector if M traps to an address that has no breakpoint."""
         watched = watched[:MAX_WATCHPOINTS - len(self.setup.lowered)]
         self.do(*("watch %x" % address for address in watched))
         stay = self.to_mret(cause, entry)

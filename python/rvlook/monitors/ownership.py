@@ -93,7 +93,7 @@ class Ownership:
         return Ownership(ranges, self.hands, self.once, tables=[], secrets=self.secrets)
 
     def enclaves(self) -> list[str]:
-        """Returns the names of the enclaves, and the names of tables."""
+        """Returns the names of the enclaves that own a range, and then the names of the tables."""
         return [*dict.fromkeys(range_.owner for range_ in self.private()), *(table.name for table in self.tables)]
 
     def runs_once(self, owner: str) -> bool:
@@ -110,7 +110,7 @@ class Ownership:
         return self.owner_of(at) == MONITOR
 
     def private(self) -> list[OwnedRange]:
-        """Returns the ranges of enclaves."""
+        """Returns the ranges that an enclave owns: neither shared ones nor those of monitor and host."""
         return [range_ for range_ in self.ranges if range_.owner not in (SHARED, MONITOR, HOST)]
 
     def open_to(self, world: str) -> list[OwnedRange]:

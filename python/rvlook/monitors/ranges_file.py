@@ -32,7 +32,7 @@ def ownership_of(path: str, symbols: Symbols) -> Ownership:
         except MALFORMED:
             raise RvlookError("%s:%d: %s" % (path, number, FORMS)) from None
     owners = {range_.owner for range_ in ownership.ranges} - {SHARED} | {table.name for table in ownership.tables}
-    missing = sorted({MONITOR, HOST} - owners, reverse=True) or [
+    missing = sorted({MONITOR, HOST} - owners, reverse=True) or [  # or names after `once` that are neither an owner nor in a table
         name for name in sorted(ownership.once) if not any(name == owner or re.fullmatch(re.escape(owner) + r"\d+", name) for owner in owners)]
     if missing:
         raise RvlookError("'%s' has no range of %s" % (path, missing[0]))
@@ -70,7 +70,7 @@ def condition_of(text: str, symbols: Symbols | None) -> WordCondition:
 
 
 def address_of(text: str, symbols: Symbols) -> int:
-    """Returns the address of a place. Raises ValueError if the place is unknown."""
+    """Returns the address of a PLACE: a symbol, SYMBOL+OFFSET, or hexadecimal digits. Raises ValueError if there is no such symbol."""
     address = symbols.address(text)
     if address is None:
         raise ValueError
