@@ -118,7 +118,7 @@ def state_of(ran: Ran) -> RanState:
 
 
 def ends_of(steps: Iterable[tuple[int, int, Ran]]) -> dict[int, RanState] | None:
-    """Returns the state of each hart if all harts have halted, or None."""
+    """Returns the last state of each hart if all harts have halted: if their last HALTED_AFTER states are equal. Else returns None."""
     states_by_hart: dict[int, list[RanState]] = {}
     for hart, _, ran in steps:
         states_by_hart.setdefault(hart, []).append(state_of(ran))

@@ -85,7 +85,7 @@ def entry_differences(own: bytes, reference: bytes) -> list[MonitorDifference]:
 
 
 def rights_differences(own: SideState, reference: SideState, setup: MonitorSetup) -> list[MonitorDifference]:
-    """Returns the difference of what S and U can access, or nothing."""
+    """Returns one difference if S and U can access different memory under the two monitors; else an empty list."""
     if own.entries == reference.entries:
         return []
     own_rights, reference_rights = rights_of(own.entries, setup.ram), rights_of(reference.entries, setup.ram)

@@ -21,7 +21,7 @@ HOST_HANDLER, HANDLER = HOST + 0x800, 0x800  # stvec of the host, and of an encl
 WINDOW, OTHER_WINDOW = 0x80012000, 0x80013000  # two windows
 FIRST, SECOND, THIRD = 0x80014000, 0x80018000, 0x8001C000  # bases of three regions
 WIDE = 0x80020000  # the region of a larger enclave
-SUPERVISOR_CSRS = ("stvec", "sscratch", "sepc", "scause", "stval", "sstatus")
+SUPERVISOR_CSRS = ("stvec", "sscratch", "sepc", "scause", "stval", "sstatus")  # the S-mode registers that a script reads after a switch
 FAULTS = (("illegal instruction", 0), ("ebreak", EBREAK), ("mret", MRET), ("csrr mstatus", csrr(7, CSRS["mstatus"])),
           ("csrw pmpcfg0", csrw(CSRS["pmpcfg0"], 7)), ("csrw mie", csrw(CSRS["mie"], 7)), ("csrr mscratch", csrr(7, CSRS["mscratch"])),
           ("load from 0", load(7, 0)), ("store to 0", store(7, 0)), ("jump to 2", jump(0, 2)), ("jump to 0", jump(0)))

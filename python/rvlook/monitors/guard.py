@@ -91,9 +91,9 @@ class Guard:
             self.counts["steps below M"] = machine.steps
 
     def next_trap(self, machine: Guarded) -> str | None:
-        """Runs to the next trap. Raises the timer before a random step of an enclave, and sometimes of the host."""
+        """Runs to the next trap; returns its cause, or None at the limit. In a run with timer interrupts raises the timer after random steps."""
         steps_left = self.limit - machine.steps
-        is_timer_raised = self.timers and (self.world != HOST or self.draw.random() < .2)
+        is_timer_raised = self.timers and (self.world != HOST or self.draw.random() < .2)  # for the host less often
         if is_timer_raised:
             cause = machine.to_trap(min(steps_left, self.draw.randrange(MAX_TIMER_INTERVAL)))
             if cause is not None:
@@ -287,7 +287,7 @@ class GuardResults:
 
     @property
     def activity(self) -> dict[str, Counter[str]]:
-        """Returns the activity of each owner in all runs with marks."""
+        """Returns how often each owner was entered, left, continued and given back, in all runs with marks together."""
         counts_by_owner: dict[str, Counter[str]] = defaultdict(Counter)
         for guard in self.guards:
             for owner, counts in guard.activity.items():

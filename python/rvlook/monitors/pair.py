@@ -173,10 +173,10 @@ class BothSides(Closing):
             self.table = self.reference.enclaves()
 
     def count_call(self, item: Item, side: str, state: SideState) -> None:
-        """Counts the result of a call, and the state of an enclave that was destroyed."""
+        """Counts the result of a call by the host or an enclave (`side`), and the state of an enclave that the call destroyed."""
         number = item.call_number
         name = NUMBERED[number].name if number in NUMBERED and number is not None else OTHER
-        is_switch = self.world == "host" if side == ENCLAVE else self.world != "host"
+        is_switch = self.world == "host" if side == ENCLAVE else self.world != "host"  # a0 is then no status
         status = DONE if is_switch else STATUSES.get(state.registers[A0], DONE)
         self.played.coverage.calls[side, name, status] += 1
         if (name, status) == ("destroy", DONE):

@@ -90,7 +90,7 @@ def is_form(token: str, form: Form) -> bool:
 
 
 def rewritten(token: str, form: Form, symbols: Symbols | None = None) -> str | None:
-    """Returns a word (an ABI name, CSR, symbol, or number in the other base) in the syntax of a form, or None if its meaning is not clear."""
+    """Returns a word in the syntax of a form: an ABI name, CSR, symbol or number in the other base as the number; None if its meaning is unclear."""
     if form is Form.address and symbols and token.split("+")[0].split("@")[0] in symbols.addresses_by_name:
         at = symbols.address(token)
         return None if at is None else "%x" % at

@@ -236,7 +236,7 @@ class Timeline(Closing):
             self.do("hart %d" % hart)
 
     def run(self, hart: int, count: int, turns: str | None = None) -> Ran:
-        """Does a `run` of a hart; returns its reply."""
+        """Runs a hart for at most `count` steps, up to a stop; returns the reply. `turns` is the schedule of the steps; None: of the hart alone."""
         self.choose(hart)
         return step_of(self.do_all(["run %d" % min(count, MOST_STEPS)], turns)[0][0])
 
