@@ -115,7 +115,7 @@ class Machine(HostStepper):
             return []
         watched_place = self.program.place(place)
         size = watched_place.size or WORD
-        stride = 1 if size <= MOST_WATCHED else WORD
+        stride = 1 if size <= MOST_WATCHED else WORD  # bytes from one watched byte to the next
         if size > MOST_WATCHED * stride:
             raise RvlookError("cannot watch %d bytes of %s; name a part of at most %d bytes" % (size, place, MOST_WATCHED * WORD))
         return [watched_place.address + n for n in range(0, size, stride)]

@@ -250,7 +250,7 @@ class Stepper(Closing):
     def are_all_in_loops(self) -> bool:
         """Returns whether each hart is at an instruction that jumps to itself."""
         harts, selected = range(self.setup.harts), self.hart
-        pcs = [self.ask("hart %d" % hart, "regs")[1][32][3:] for hart in harts]
+        pcs = [self.ask("hart %d" % hart, "regs")[1][32][3:] for hart in harts]  # the line after x0 to x31 is `pc=ADDRESS`
         return all(LOOP in reply[0] for reply in self.ask(*["dis %s" % pc for pc in pcs], "hart %d" % selected)[:-1])
 
     def traps_forever(self) -> bool:
@@ -280,7 +280,7 @@ class Stepper(Closing):
             console.written, console.pending, console.status = state
         if self.schedule:
             self.turns = turns_of(self.schedule)
-            self.next_harts(self.scheduled)
+            self.next_harts(self.scheduled)  # skips the steps that are done
 
 
 def checked(commands: Iterable[str], replies: List[List[str]]) -> List[List[str]]:

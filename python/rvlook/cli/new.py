@@ -14,7 +14,7 @@ from rvlook.output.printer import Printer
 PACKAGE = os.path.dirname(os.path.dirname(os.path.realpath(__file__)))
 EXAMPLES = ("../../examples", "../../../../share/rvbench/examples")  # the folders of examples of a clone, and of an installation
 TEMPLATES = {"Makefile": "Makefile", "ci": "ci", "pytest.ini": "pytest.ini", "tasks.json": os.path.join(".vscode", "tasks.json"),
-             "test_enclave.py": os.path.join("tests", "test_enclave.py")}
+             "test_enclave.py": os.path.join("tests", "test_enclave.py")}  # the path in a new folder of each template in examples/new
 SPECIAL = re.compile(r"""["'`$\\#\x00-\x1f\x7f]""")  # characters that make or a shell reads in another way
 START = os.path.join("enclaves", "hello")  # the example whose sources a new folder gets
 

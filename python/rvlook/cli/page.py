@@ -9,7 +9,7 @@ from rvlook.page.page import page_template, show_page
 
 
 def perform(arguments: Namespace) -> None:
-    """Writes the page."""
+    """Writes a run as an HTML page. Raises RvlookError for --json, which the page does not have."""
     if arguments.json:
         raise RvlookError("page does not support --json; use map --json and trace --json")
     template = page_template()

@@ -30,7 +30,7 @@ class LastEntries:
     """Caches for each hart the entry that was found last."""
 
     def __init__(self) -> None:
-        # By hart: the entry, and the step up to which it is valid. The timeline and its count in `moved` show that the hart stayed.
+        # By hart: the entry; the step up to which it is valid; and a timeline with its `moved`, which are unchanged as long as the hart stays.
         self.known: dict[int, tuple[Entered | None, int, tuple[Timeline, int] | None]] = {}
 
     def limit(self, position: int) -> None:

@@ -91,7 +91,7 @@ class Stops:
             timeline.do("clear %x" % at)
 
     def set_watch(self, timeline: Timeline, watch: Watch) -> bool:
-        """Sets a watchpoint; returns False if the bench has no room."""
+        """Sets a watchpoint on each of its bytes; returns False, and sets nothing, if the bench has no room for all of them."""
         self.watches.append(watch)
         if any("ok" not in replies for replies in timeline.do_all(["watch %x" % at for at in watch.bytes])):
             self.clear_watch(timeline, watch)

@@ -191,7 +191,7 @@ class Collector:
         return {source.rsplit(":", 1)[0] for source in sources}
 
     def data(self, columns: NumberColumns) -> dict[str, Any]:
-        """Returns all data as one object, and appends the columns."""
+        """Returns all data of the page as one object. Appends the arrays of numbers to `columns`; the object has their locations."""
         return {"title": self.title, "run": self.run, "end": self.others["end"][-1], "steps": len(self.site), "points": self.drawn_points,
                 "rows": self.rows, "maps": [json.loads(text) for text in self.maps], "sites": self.sites.rows("pc", *SITE, "shown"),
                 "places": self.places.rows("hart", "world", "mode"), "traps": self.traps.rows("cause", "value", "name"),
